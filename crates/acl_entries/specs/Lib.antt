@@ -1,0 +1,3 @@
+pub mod AccessList
+pub mod JudgedEntry
+pub mod Kept

@@ -1,0 +1,13 @@
+pub mod Blocks
+pub mod Names
+pub mod Fields
+pub mod Texts
+pub mod Differences
+pub mod Usable
+pub mod Ascending
+pub mod Grants
+pub mod Updates
+pub mod Expiries
+pub mod Taking
+pub mod Bringing
+pub mod Vectors

@@ -1,0 +1,9 @@
+pub mod Hmac
+pub mod TokenText
+pub mod Reading
+pub mod Keys
+pub mod Refusals
+pub mod TokenTest
+pub mod Ring
+pub mod Shown
+pub mod Laws

@@ -1,0 +1,179 @@
+ghost use Rattle.std.specs.Prelude.{◌≡◌, ◌+◌, [], Some, None, length, OnOk, OnErr, option_copied};
+ghost use Rattle.hdfs_types.specs.Text.{same};
+ghost use Rattle.block_tokens.specs.Keys as spec;
+ghost use Rattle.block_tokens.specs.TokenTest.{Answers, access_test, token_test};
+
+use crate::code::has_code;
+use crate::key::{HeldKey, KeyList};
+use crate::refusal::TokenRefusal;
+use crate::token::{Body, decode};
+use hdfs_types::ids::{BlockId, Serial};
+use hdfs_types::modes::Modes;
+use hdfs_types::moment::Moment;
+use hdfs_types::who::Who;
+use std::alloc::{AllocError, Global};
+use std::collections::BTreeMap;
+use std::marker::Model;
+
+/// The keys that a DataNode holds, by their serials.
+#[derive(Debug, Drop)]
+pub struct KeyCache {
+    keys: BTreeMap<u32, HeldKey>,
+}
+
+impl Model for KeyCache {
+    ghost use Rattle.block_tokens.specs.Keys.{Keys, AreKeys};
+
+    ghost Value = { Keys };
+
+    ghost view = { λ cache. cache.keys.entries };
+
+    ghost invariant = { λ cache. AreKeys cache.keys.entries };
+}
+
+// What is held of a key once it comes with an update.
+fn learned(known: Option<&HeldKey>, new: HeldKey) -> HeldKey
+    ensures { result ≡ spec.learned (option_copied known.entry) new }
+{
+    match known {
+        None => new,
+        Some(known) => HeldKey {
+            key: known.key,
+            expiry: known.expiry.or(new.expiry),
+        },
+    }
+}
+
+// Adds one key of an update to what is held.
+fn merge_one(
+    keys: &mut BTreeMap<u32, HeldKey>,
+    serial: Serial,
+    key: HeldKey,
+) -> Result<(), AllocError>
+    ensures ok { OnOk result (keys.new.entries ≡ spec.merged_one keys.old.entries (serial, key)) }
+    ensures ordered { OnOk result (spec.AreKeys keys.new.entries) }
+{
+    let key = learned(keys.get(&serial.get()), key);
+    keys.insert(serial.get(), key)?;
+    Ok(())
+}
+
+fn unless_expired(now: Moment, known: Option<&HeldKey>) -> Option<HeldKey>
+    ensures { result ≡ spec.unless_expired now (option_copied known.entry) }
+{
+    match known {
+        Some(held) if held.is_usable(now) => Some(*held),
+        _ => None,
+    }
+}
+
+fn is_user(user: &str, caller: &Who) -> bool
+    ensures { result ≡ same user.now caller.now }
+{
+    user == caller.as_str()
+}
+
+// What a token with a right code is refused for.
+fn judge(
+    body: &Body,
+    now: Moment,
+    caller: &Who,
+    block: BlockId,
+    mode: Modes,
+) -> Result<(), TokenRefusal>
+    ensures { Answers result (access_test body.now (record { now = now; caller = caller.now; block = block; mode = mode.0 })) }
+{
+    if now.milliseconds() >= body.expiry {
+        return Err(TokenRefusal::Expired);
+    }
+    if !is_user(body.user, caller) {
+        return Err(TokenRefusal::WrongUser);
+    }
+    if body.block != block {
+        return Err(TokenRefusal::WrongBlock);
+    }
+    if !body.modes.covers(mode) {
+        return Err(TokenRefusal::WrongMode);
+    }
+    Ok(())
+}
+
+impl KeyCache {
+    /// No key is held.
+    pub fn new(alloc: Global) -> KeyCache
+        ensures { result ≡ [] }
+    {
+        KeyCache {
+            keys: BTreeMap::new(alloc),
+        }
+    }
+
+    /// How many keys are held, with those whose expiry has come and that weren't dropped.
+    pub fn len(&self) -> usize
+        ensures count { result ≡ length self.now }
+        ensures keys { spec.AreKeys self.now }
+    {
+        self.keys.len()
+    }
+
+    /// Drops the keys whose known expiry has come. It takes no memory.
+    pub fn drop_expired(&mut self, now: Moment)
+        ensures { self.new ≡ spec.usable_keys now self.old }
+    {
+        self.keys.retain(|_, held| held.is_usable(now));
+    }
+
+    /// Takes in an update: keys that weren't known are held from now on, and of a known key an expiry is learned where none
+    /// was known. A known key stays, and so does a known expiry. Time O((k + n) log k) for k keys held and n that come.
+    ///
+    /// # Errors
+    /// Want of memory: all is as before.
+    #[tactic(auto, unfolding(crate::specs::Keys::merged))]
+    pub fn merge(&mut self, update: &KeyList) -> Result<(), AllocError>
+        ensures ok { OnOk result (self.new ≡ spec.merged self.old update.now) }
+        ensures err { OnErr result (self.new ≡ self.old) }
+    {
+        let mut keys = self.keys.clone()?;
+        for (serial, key) in update.as_slice() {
+            merge_one(&mut keys, *serial, *key)?;
+        }
+        self.keys = keys;
+        Ok(())
+    }
+
+    // The key with a serial, where no known expiry of it has come.
+    fn usable_key(&self, now: Moment, serial: Serial) -> Option<HeldKey>
+        ensures { result ≡ spec.key_with serial (spec.usable_keys now self.now) }
+    {
+        unless_expired(now, self.keys.get(&serial.get()))
+    }
+
+    /// Judges a token that a caller presents for a block and a mode: the first refusal that applies. Keys whose known expiry
+    /// has come are ignored. It takes no memory and changes nothing; its time is that of one HMAC over the bytes and a
+    /// look-up. Codes are compared in the same steps wherever they differ; no proof speaks of time.
+    ///
+    /// # Errors
+    /// The first refusal that applies, in the order of `TokenRefusal`.
+    #[tactic(auto, unfolding(crate::specs::TokenTest::token_test))]
+    pub fn check(
+        &self,
+        now: Moment,
+        caller: &Who,
+        block: BlockId,
+        mode: Modes,
+        bytes: &[u8],
+    ) -> Result<(), TokenRefusal>
+        ensures { Answers result (token_test self.now (record { now = now; caller = caller.now; block = block; mode = mode.0 }) bytes.now) }
+    {
+        let Some(body) = decode(bytes) else {
+            return Err(TokenRefusal::Malformed);
+        };
+        let Some(held) = self.usable_key(now, body.serial) else {
+            return Err(TokenRefusal::UnknownKey);
+        };
+        if !has_code(&held.key, bytes, &body.code) {
+            return Err(TokenRefusal::CodeMismatch);
+        }
+        judge(&body, now, caller, block, mode)
+    }
+}

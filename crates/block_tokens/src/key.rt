@@ -1,0 +1,117 @@
+ghost use Rattle.std.specs.Prelude.{◌≡◌, ◌++◌, [], ◌∷◌, length, OnOk, OnErr};
+ghost use Rattle.block_tokens.specs.Keys as spec;
+
+use hdfs_types::ids::Serial;
+use hdfs_types::moment::Moment;
+use std::alloc::{AllocError, Global};
+use std::fmt;
+use std::marker::Model;
+
+/// A key under which the codes of tokens are made: 20 bytes.
+#[derive(Clone, Copy)]
+pub struct Key {
+    bytes: [u8; 20],
+}
+
+impl Model for Key {
+    ghost use Rattle.std.specs.Prelude.{List, ℕ};
+
+    ghost Value = { List ℕ };
+
+    ghost view = { λ key. key.bytes };
+
+    ghost inverse = { λ bytes. record { bytes = bytes } };
+}
+
+impl Key {
+    pub fn new(bytes: [u8; 20]) -> Key
+        ensures { result ≡ bytes }
+    {
+        Key { bytes }
+    }
+
+    pub fn as_bytes(&self) -> &[u8; 20]
+        ensures { result.now ≡ self.now }
+    {
+        &self.bytes
+    }
+}
+
+/// Prints no byte of the key.
+impl fmt::Debug for Key {
+    fn fmt<W: fmt::Write>(&self, f: &mut fmt::Formatter<W>) -> fmt::Result {
+        f.write_str("Key { .. }")
+    }
+}
+
+/// A key, and the moment in milliseconds from which it serves no more, where that is known.
+#[derive(Clone, Copy, Debug)]
+pub struct HeldKey {
+    pub key: Key,
+    pub expiry: Option<u64>,
+}
+
+impl HeldKey {
+    /// Whether no known expiry has come.
+    pub fn is_usable(&self, now: Moment) -> bool
+        ensures { result ≡ spec.expires_after now self.now.expiry }
+    {
+        match self.expiry {
+            None => true,
+            Some(expiry) => now.milliseconds() < expiry,
+        }
+    }
+}
+
+/// Keys with their serials, as a NameNode sends them.
+#[derive(Debug, Drop)]
+pub struct KeyList {
+    keys: Vec<(Serial, HeldKey)>,
+}
+
+impl Model for KeyList {
+    ghost use Rattle.block_tokens.specs.Keys.{Keys};
+
+    ghost Value = { Keys };
+
+    ghost view = { λ list. list.keys.items };
+}
+
+impl KeyList {
+    /// The empty list.
+    pub fn new(alloc: Global) -> KeyList
+        ensures { result ≡ [] }
+    {
+        KeyList {
+            keys: Vec::new(alloc),
+        }
+    }
+
+    /// Adds a key at the end.
+    ///
+    /// # Errors
+    /// Want of memory: the list is as before.
+    pub fn push(&mut self, serial: Serial, key: HeldKey) -> Result<(), AllocError>
+        ensures ok { OnOk result (self.new ≡ self.old ++ (serial, key) ∷ []) }
+        ensures err { OnErr result (self.new ≡ self.old) }
+    {
+        self.keys.push((serial, key))?;
+        Ok(())
+    }
+
+    pub fn as_slice(&self) -> &[(Serial, HeldKey)]
+        ensures { result.now ≡ self.now }
+    {
+        self.keys.as_slice()
+    }
+}
+
+impl Clone for KeyList {
+    ghost is_clone = { λ list copy. copy ≡ list };
+
+    fn clone(&self) -> Result<KeyList, AllocError> {
+        Ok(KeyList {
+            keys: self.keys.clone()?,
+        })
+    }
+}

@@ -1,0 +1,135 @@
+ghost use Rattle.std.specs.Prelude.{◌≡◌, Some, IfOk, IfSome, IsTrue};
+ghost use Rattle.hdfs_types.specs.Modes.{is_modes};
+ghost use Rattle.block_tokens.specs.TokenText.{Parts, TokenText, coded_bytes, token_bytes};
+ghost use Rattle.block_tokens.specs.Reading.{parts_of};
+
+use crate::reading;
+use hdfs_types::ids::{BlockId, Serial};
+use hdfs_types::modes::Modes;
+use std::alloc::{AllocError, Global};
+use std::marker::Model;
+
+/// What a block access token says. The modes allow something, and the user is a user's name, borrowed from where it
+/// stands.
+#[derive(Drop)]
+pub struct Body<'a> {
+    /// In milliseconds: the token is taken before this moment.
+    pub expiry: u64,
+    /// Of the key under which the code was made.
+    pub serial: Serial,
+    pub block: BlockId,
+    pub modes: Modes,
+    pub user: &'a str,
+    pub code: [u8; 20],
+}
+
+impl<'a> Model for Body<'a> {
+    ghost use Rattle.std.specs.Prelude.{IsTrue};
+    ghost use Rattle.hdfs_types.specs.Modes.{is_modes};
+    ghost use Rattle.hdfs_types.specs.Who.{IsWho};
+    ghost use Rattle.block_tokens.specs.TokenText.{Parts};
+
+    ghost Value = { Parts };
+
+    ghost view = { λ body. record {
+      expiry = body.expiry;
+      serial = body.serial;
+      block = body.block;
+      modes = body.modes.0;
+      user = body.user.now;
+      code = body.code;
+    } };
+
+    ghost invariant = { λ body. IsTrue (is_modes body.modes.0) × IsWho body.user.now };
+}
+
+/// The bytes of a token's text.
+#[derive(Debug, Drop)]
+pub struct TokenBytes {
+    bytes: Vec<u8>,
+}
+
+impl Model for TokenBytes {
+    ghost use Rattle.std.specs.Prelude.{List, ℕ};
+
+    ghost Value = { List ℕ };
+
+    ghost view = { λ token. token.bytes.items };
+}
+
+impl TokenBytes {
+    pub(crate) fn new(bytes: Vec<u8>) -> TokenBytes
+        ensures { result ≡ bytes.items }
+    {
+        TokenBytes { bytes }
+    }
+
+    pub fn as_bytes(&self) -> &[u8]
+        ensures { result.now ≡ self.now }
+    {
+        self.bytes.as_slice()
+    }
+}
+
+impl Clone for TokenBytes {
+    ghost is_clone = { λ token copy. copy ≡ token };
+
+    fn clone(&self) -> Result<TokenBytes, AllocError> {
+        Ok(TokenBytes {
+            bytes: self.bytes.clone()?,
+        })
+    }
+}
+
+fn modes_byte(modes: Modes) -> u8
+    requires { IsTrue (is_modes modes.0) }
+    ensures { result ≡ modes.0 }
+{
+    if modes == Modes::READ {
+        1
+    } else if modes == Modes::WRITE {
+        2
+    } else {
+        3
+    }
+}
+
+// The bytes before the code, with room for the code.
+#[tactic(auto, unfolding(crate::specs::TokenText::version_1_fields))]
+pub(crate) fn coded(alloc: Global, body: &Body) -> Result<Vec<u8>, AllocError>
+    ensures { IfOk result (λ bytes. bytes.items ≡ coded_bytes body.now) }
+{
+    let mut bytes = Vec::with_capacity(alloc, 43 + body.user.len())?;
+    bytes.push(1)?;
+    bytes.extend_from_slice(&body.expiry.to_be_bytes())?;
+    bytes.extend_from_slice(&body.serial.get().to_be_bytes())?;
+    bytes.extend_from_slice(&body.block.get().to_be_bytes())?;
+    bytes.push(modes_byte(body.modes))?;
+    bytes.push(body.user.len() as u8)?;
+    bytes.extend_from_slice(body.user.as_bytes())?;
+    Ok(bytes)
+}
+
+/// The text of a token with these parts, in time linear in it.
+///
+/// # Errors
+/// Want of memory.
+pub fn encode(alloc: Global, body: &Body) -> Result<TokenBytes, AllocError>
+    ensures { IfOk result (λ token. token ≡ token_bytes body.now) }
+{
+    let mut bytes = coded(alloc, body)?;
+    bytes.extend_from_slice(&body.code)?;
+    Ok(TokenBytes::new(bytes))
+}
+
+/// The parts of a token's text, in time linear in the text; it takes no memory. `None` where the bytes are no token's text.
+pub fn decode(bytes: &[u8]) -> Option<Body<'_>>
+    // What is read is the text of its parts.
+    ensures found { IfSome result (λ body. TokenText bytes.now body) }
+    // What is the text of any parts is read, and as these.
+    ensures only { (parts : Parts) → TokenText bytes.now parts → result ≡ Some parts }
+    // The same, reading from left to right.
+    ensures read { result ≡ parts_of bytes.now }
+{
+    reading::body_of(bytes)
+}

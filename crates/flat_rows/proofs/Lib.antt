@@ -1,0 +1,4 @@
+pub mod Tests
+pub mod PathOrders
+pub mod Namespaces
+pub mod NewDirectories

@@ -1,0 +1,11 @@
+pub mod First
+pub mod Rows
+pub mod Namespace
+pub mod Opening
+pub mod RequiredRights
+pub mod NeedText
+pub mod Denied
+pub mod DenialText
+pub mod Kept
+pub mod Decision
+pub mod Outcome

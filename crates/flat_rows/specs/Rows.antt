@@ -1,0 +1,59 @@
+-- A row of the namespace, and which rows a path concerns. Each question is a filter over the rows.
+-- (HDFS Architecture, "The File System Namespace".)
+use Rattle.std.specs.Prelude.{ℕ, Bool, true, false, ◌&&◌, not, List, [], ◌∷◌, ◌++◌, Option, Some, None, filter}
+use Rattle.std.specs.List.{last_or}
+use Rattle.std.specs.Ordering.{is_gt, is_lt}
+use Rattle.hdfs_types.specs.Path.{is_beneath, is_prefix}
+use Rattle.hdfs_types.specs.PathOrder.{path_cmp, same_path}
+use Rattle.hdfs_types.specs.declared.reply.ObjectKind.{ObjectKind}
+use Rattle.hdfs_types.specs.declared.reply.ObjectKind.TheVariants.{File, Directory}
+use Rattle.flat_rows.specs.declared.row.Row.{Row}
+use Rattle.flat_rows.specs.First.{first}
+
+abbrev pub is_directory_kind : ObjectKind → Bool
+is_directory_kind File = false
+is_directory_kind Directory = true
+
+abbrev pub is_directory : Row → Bool
+is_directory row = is_directory_kind row.kind
+
+-- the row that has a path
+abbrev pub row_at : List (List ℕ) → List Row → Option Row
+row_at path rows = first (filter (λ row. same_path path row.path) rows)
+
+abbrev pub is_none : Option Row → Bool
+is_none None = true
+is_none (Some row) = false
+
+-- nothing has that path
+abbrev pub is_missing : List (List ℕ) → List Row → Bool
+is_missing path rows = is_none (row_at path rows)
+
+-- the existing directories above a path, from the root down
+abbrev pub directories_above : List (List ℕ) → List Row → List Row
+directories_above path rows = filter (λ row. is_beneath path row.path && is_directory row) rows
+
+-- the first file above a path
+abbrev pub file_above : List (List ℕ) → List Row → Option Row
+file_above path rows = first (filter (λ row. is_beneath path row.path && not (is_directory row)) rows)
+
+-- the last existing component above a path
+abbrev pub ancestor : List (List ℕ) → List Row → Option Row
+ancestor path rows = last_or None (filter (λ row. is_beneath path row.path) rows)
+
+-- the row stands before the path
+abbrev pub is_before : List (List ℕ) → Row → Bool
+is_before path row = is_gt (path_cmp path row.path)
+
+-- the row stands behind the path and all that is beneath it
+abbrev pub is_beyond : List (List ℕ) → Row → Bool
+is_beyond path row = is_lt (path_cmp path row.path) && not (is_prefix path row.path)
+
+-- the rows in which these stand at and beneath the path
+abbrev pub replaced : List (List ℕ) → List Row → List Row → List Row
+replaced path block rows = filter (is_before path) rows ++ (block ++ filter (is_beyond path) rows)
+
+-- the rows with those of a new sub-tree, the first of which is its top
+abbrev pub with_sub_tree : List Row → List Row → List Row
+with_sub_tree rows [] = rows
+with_sub_tree rows (top ∷ beneath) = replaced top.path (top ∷ beneath) rows

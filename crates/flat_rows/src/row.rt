@@ -1,0 +1,51 @@
+ghost use Rattle.std.specs.Prelude.{◌≡◌};
+ghost use Rattle.flat_rows.specs.Rows as spec;
+ghost use Rattle.flat_rows.specs.Denied.{judgement};
+
+use acl_entries::access_check::chosen;
+use acl_entries::acl::Acl;
+use acl_entries::deciding_entry::Chosen;
+use hdfs_types::path::Path;
+use hdfs_types::reply::ObjectKind;
+use hdfs_types::rights::Rights;
+use hdfs_types::who::Who;
+use std::alloc::AllocError;
+
+/// A file or a directory, by its path (HDFS Architecture, "The File System Namespace").
+#[derive(Debug, Drop)]
+pub struct Row {
+    pub path: Path,
+    pub kind: ObjectKind,
+    pub owner: Who,
+    pub group: Who,
+    pub acl: Acl,
+}
+
+impl Row {
+    pub fn is_directory(&self) -> bool
+        ensures { result ≡ spec.is_directory self.now }
+    {
+        self.kind == ObjectKind::Directory
+    }
+
+    /// The entry of the row that decides for a caller with these groups.
+    pub fn judged<'a>(&'a self, caller: &Who, groups: &[Who], need: Rights) -> Chosen<'a>
+        ensures { result ≡ judgement self.now caller.now groups.now need }
+    {
+        chosen(&self.owner, &self.group, &self.acl, caller, groups, need)
+    }
+}
+
+impl Clone for Row {
+    ghost is_clone = { λ row copy. copy ≡ row };
+
+    fn clone(&self) -> Result<Row, AllocError> {
+        Ok(Row {
+            path: self.path.clone()?,
+            kind: self.kind,
+            owner: self.owner.clone()?,
+            group: self.group.clone()?,
+            acl: self.acl.clone()?,
+        })
+    }
+}

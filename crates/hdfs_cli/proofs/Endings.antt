@@ -1,0 +1,92 @@
+-- What is written of a script that was not run to its end, or not all written.
+use Rattle.std.proofs.Common.{◌≡◌, ℕ, zero, suc, ◌+◌, ◌<◌, Bool, true, false, List, [], ◌∷◌, ◌++◌, length, take, drop, Option, Some, None, Result, Ok, Err, refl, sym, ap, ◌∙◌, arith, append_assoc, append-nil, eqb}
+use Rattle.std.specs.Prelude.{fold, OnOk, OnErr, IfSome, if◌then◌else◌}
+use Rattle.std.specs.List.{flat_map, slice_split}
+use Rattle.std.specs.Io.KnownBytes.{Appends}
+use Rattle.std.proofs.lemmas.List.Splits.{length-slice_split}
+use Rattle.std.proofs.lemmas.List.Concat.{flat_map-append}
+use Rattle.hdfs_types.specs.declared.fault.IllFormed.{IllFormed}
+use Rattle.hdfs_types.specs.declared.op.Request.{Request}
+use Rattle.principals.specs.Principals.{Principals}
+use Rattle.hdfs_cli.specs.Words.{lines_of, is_skipped, words_of, without_return}
+use Rattle.hdfs_cli.specs.Script.{request_of}
+use Rattle.hdfs_cli.specs.AnswerText.{answer_line}
+use Rattle.hdfs_cli.specs.Channel.{AppendsFront}
+use Rattle.hdfs_cli.specs.Output.{State, Numbered, opening, opening_users, answered, after_answer, after_trimmed, after_line, after_lines, answers_of, answers_of_first, text_of, output_of}
+use Rattle.hdfs_cli.specs.Ended.{IsAnswersBefore, AppendsAnswersBefore}
+
+pub appends_none : (old : Option (List ℕ)) → Appends old old []
+appends_none None = tt
+appends_none (Some x) = sym (append-nil x)
+
+pub none_before : (script : List ℕ) → IsAnswersBefore script []
+none_before script = record { count = 0; within = omega (arith, length-slice_split (λ b. eqb b 10) script); is = refl }
+
+pub nothing_written : (known old : Option (List ℕ)) → IfSome known (λ script. AppendsAnswersBefore old old script)
+nothing_written None old = tt
+nothing_written (Some script) old = record { text = []; before = none_before script; written = appends_none old }
+
+-- answers are only added
+
+record Goes (state later : State) : Type 0 where
+  more : List Numbered
+  is : later.answers ≡ state.answers ++ more
+
+goes_self : (state : State) → Goes state state
+goes_self state = record { more = []; is = sym (append-nil state.answers) }
+
+goes_on : (a b c : State) → Goes a b → Goes b c → Goes a c
+goes_on a b c p q = record { more = p.more ++ q.more; is = q.is ∙ ap (λ l. l ++ q.more) p.is ∙ append_assoc a.answers p.more q.more }
+
+goes_line : (users : Principals) (state : State) (line : List ℕ) → Goes state (after_line users state line)
+goes_line users state line = by_test (is_skipped (without_return line))
+  where
+    by_test : (b : Bool) → Goes state (if b then record { number = state.number + 1; rows = state.rows; answers = state.answers } else after_answer state (answered users state.rows (request_of (words_of (without_return line)))))
+    by_test true = record { more = []; is = sym (append-nil state.answers) }
+    by_test false = record { more = record { number = state.number + 1; answer = (answered users state.rows (request_of (words_of (without_return line)))).answer } ∷ []; is = refl }
+
+goes_lines : (users : Principals) (state : State) (lines : List (List ℕ)) → Goes state (fold (after_line users) state lines)
+goes_lines users state [] = goes_self state
+goes_lines users state (line ∷ lines) = goes_on state (after_line users state line) (fold (after_line users) (after_line users state line) lines) (goes_line users state line) (goes_lines users (after_line users state line) lines)
+
+goes_first : (users : Principals) (state : State) (lines : List (List ℕ)) (count : ℕ) → Goes (fold (after_line users) state (take count lines)) (fold (after_line users) state lines)
+goes_first users state lines zero = goes_lines users state lines
+goes_first users state [] (suc count) = goes_self state
+goes_first users state (line ∷ lines) (suc count) = goes_first users (after_line users state line) lines count
+
+pub record Front (text whole : List ℕ) : Type 0 where
+  pub more : List ℕ
+  pub is : whole ≡ text ++ more
+
+pub before_is_front : (script text : List ℕ) → IsAnswersBefore script text → Front text (output_of script)
+before_is_front script text b =
+    let rest = goes_first opening_users opening (lines_of script) b.count in
+    record { more = text_of rest.more; is = ap text_of rest.is ∙ flat_map-append (λ numbered. answer_line numbered.number numbered.answer) (answers_of_first b.count script) rest.more ∙ ap (λ t. t ++ text_of rest.more) (sym b.is) }
+
+pub ended_front : {S E : Type 0} (r : Result S E) (script text : List ℕ) → OnOk r (text ≡ output_of script) → OnErr r (IsAnswersBefore script text) → Front text (output_of script)
+ended_front (Ok s) script text ok err = record { more = []; is = sym ok ∙ sym (append-nil text) }
+ended_front (Err e) script text ok err = before_is_front script text err
+
+-- a front of a front
+
+take_front : (n : ℕ) (text more : List ℕ) → (m : ℕ) × (take m (text ++ more) ≡ take n text)
+take_front zero text more = (0, refl)
+take_front (suc n) [] more = (0, refl)
+take_front (suc n) (b ∷ text) more = let rest = take_front n text more in (suc rest.0, ap (λ t. b ∷ t) rest.1)
+
+moved : (old new : Option (List ℕ)) (a b : List ℕ) → a ≡ b → Appends old new a → Appends old new b
+moved old new a b e h = rw (← e) h
+
+pub front_written : (old new : Option (List ℕ)) (text whole : List ℕ) → Front text whole → AppendsFront old new text → AppendsFront old new whole
+front_written old new text whole f h =
+    let m = take_front h.0 text f.more in
+    (m.0, moved old new (take h.0 text) (take m.0 whole) (sym m.1 ∙ ap (take m.0) (sym f.is)) h.1)
+
+pub on_err : {S E : Type 0} {P : Type 0} (r : Result S E) → P → OnErr r P
+on_err (Ok s) p = tt
+on_err (Err e) p = p
+
+pub partly_written : (known old new : Option (List ℕ)) (script text : List ℕ) → IfSome known (λ input. script ≡ input) → Front text (output_of script) → AppendsFront old new text
+    → IfSome known (λ input. AppendsFront old new (output_of input))
+partly_written None old new script text h front written = tt
+partly_written (Some input) old new script text h front written = rw (← h) (front_written old new text (output_of script) front written)

@@ -1,0 +1,6 @@
+pub mod Vectors
+pub mod Forming
+pub mod Known
+pub mod Lines
+pub mod Directories
+pub mod Endings

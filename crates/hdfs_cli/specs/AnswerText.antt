@@ -1,0 +1,29 @@
+-- The answer to a line, and how it is printed.
+use Rattle.std.specs.Prelude.{ℕ, List, [], ◌∷◌, ◌++◌, codes}
+use Rattle.std.specs.Fmt.{decimal}
+use Rattle.hdfs_types.specs.Faults.{ill_formed_text}
+use Rattle.hdfs_types.specs.Reply.{status_text, refusal_text}
+use Rattle.hdfs_types.specs.declared.reply.Reply.{Reply}
+use Rattle.hdfs_types.specs.declared.reply.Reply.TheVariants.{Empty, Status}
+use Rattle.flat_rows.specs.DenialText.{denial_text}
+use Rattle.flat_rows.specs.declared.verdict.Verdict.{Verdict}
+use Rattle.flat_rows.specs.declared.verdict.Verdict.TheVariants.{Done, Denied, Refused}
+use Rattle.hdfs_cli.specs.declared.answer.Answer.{Answer}
+use Rattle.hdfs_cli.specs.declared.answer.Answer.TheVariants.{Bad, Given}
+
+abbrev pub reply_text : Reply → List ℕ
+reply_text Empty = codes "ok"
+reply_text (Status status) = codes "ok " ++ status_text status
+
+abbrev pub verdict_text : Verdict → List ℕ
+verdict_text (Done reply) = reply_text reply
+verdict_text (Denied denial) = codes "denied " ++ denial_text denial
+verdict_text (Refused refusal) = codes "refused " ++ refusal_text refusal
+
+abbrev pub answer_text : Answer → List ℕ
+answer_text (Bad fault) = codes "bad " ++ ill_formed_text fault
+answer_text (Given verdict) = verdict_text verdict
+
+-- the line's number, a blank, the answer and a line feed
+abbrev pub answer_line : ℕ → Answer → List ℕ
+answer_line number answer = decimal number ++ (32 ∷ (answer_text answer ++ (10 ∷ [])))

@@ -1,0 +1,45 @@
+ghost use Rattle.std.specs.Prelude.{◌≡◌, Some};
+
+use flat_rows::verdict::Verdict;
+use hdfs_types::fault::IllFormed;
+use hdfs_types::reply::Reply;
+use std::fmt;
+
+/// What is printed for a line of a script.
+#[derive(Debug, Drop)]
+pub enum Answer {
+    /// The line is no request.
+    Bad(IllFormed),
+    /// What the NameNode answered.
+    Given(Verdict),
+}
+
+impl Answer {
+    ghost use Rattle.hdfs_cli.specs.Output.{is_bad};
+
+    /// Whether the line was ill-formed.
+    pub fn is_bad(&self) -> bool
+        ensures { result ≡ is_bad self.now }
+    {
+        match self {
+            Answer::Bad(_) => true,
+            Answer::Given(_) => false,
+        }
+    }
+}
+
+impl fmt::Display for Answer {
+    ghost use Rattle.hdfs_cli.specs.AnswerText.{answer_text};
+
+    ghost output = { λ answer. Some (answer_text answer) };
+
+    fn fmt<W: fmt::Write>(&self, f: &mut fmt::Formatter<W>) -> fmt::Result {
+        match self {
+            Answer::Bad(fault) => write!(f, "bad {fault}"),
+            Answer::Given(Verdict::Done(Reply::Empty)) => write!(f, "ok"),
+            Answer::Given(Verdict::Done(Reply::Status(status))) => write!(f, "ok {status}"),
+            Answer::Given(Verdict::Denied(denial)) => write!(f, "denied {denial}"),
+            Answer::Given(Verdict::Refused(refusal)) => write!(f, "refused {refusal}"),
+        }
+    }
+}

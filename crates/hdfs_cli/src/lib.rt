@@ -1,0 +1,11 @@
+//! Scripts of requests: lines in, and lines of answers out.
+#![tactic(auto)]
+
+pub mod answer;
+pub mod channel;
+mod flat;
+pub mod line;
+pub mod script;
+#[cfg(test)]
+mod tests;
+mod words;

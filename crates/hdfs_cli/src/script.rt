@@ -1,0 +1,211 @@
+ghost use Rattle.std.specs.Prelude.{◌≡◌, ◌+◌, ◌<◌, ◌^◌, ◌||◌, ℕ, [], ◌∷◌, ◌++◌, take, length, IfOk, OnOk, OnErr, IfSome, map};
+ghost use Rattle.std.specs.Io.KnownBytes.{Appends, Keeps};
+ghost use Rattle.std.specs.String.{string_bytes};
+ghost use Rattle.std.specs.Str.{IsUtf8};
+ghost use Rattle.hdfs_types.specs.Who.{IsWho};
+ghost use Rattle.hdfs_cli.specs.AnswerText.{answer_line};
+ghost use Rattle.hdfs_cli.specs.Channel.{AppendsFront};
+ghost use Rattle.hdfs_cli.specs.Output as spec;
+ghost use Rattle.hdfs_cli.specs.Shown.{Shows};
+ghost use Rattle.hdfs_cli.specs.Ended.{IsAnswersBefore, AppendsAnswersBefore};
+ghost use Rattle.hdfs_cli.specs.Script.{request_of as request_said};
+ghost use Rattle.hdfs_cli.specs.Words as words;
+
+use crate::answer::Answer;
+use crate::channel::{ReadFault, read_all, write_text};
+use crate::flat::step;
+use crate::line::request_of;
+use crate::words::{is_skipped, pieces_between, without_return, words_in};
+use flat_rows::rows::Rows;
+use hdfs_types::fault::ParseFault;
+use hdfs_types::who::Who;
+use principals::users::Users;
+use std::alloc::{AllocError, Global};
+use std::io::{Read, Write};
+
+/// How a script ended that was run to its end.
+#[derive(Clone, Copy, Debug, PartialEq, Eq)]
+pub enum Status {
+    Clean,
+    /// A line was ill-formed.
+    IllFormed,
+}
+
+impl Status {
+    /// How a script ends with or without an ill-formed line.
+    fn by(has_bad: bool) -> Status
+        ensures { result ≡ spec.status_by has_bad }
+    {
+        if has_bad {
+            Status::IllFormed
+        } else {
+            Status::Clean
+        }
+    }
+}
+
+/// Why a script was not run to its end, or not all that it prints was written.
+#[derive(Clone, Copy, Debug, PartialEq, Eq)]
+pub enum ScriptFault {
+    OutOfMemory,
+    CannotRead,
+    NotUtf8,
+    CannotWrite,
+}
+
+/// The answer to a line. Where memory runs out the rows stay as they were.
+fn answer_to(
+    alloc: Global,
+    rows: &mut Rows,
+    users: &Users,
+    line: &str,
+) -> Result<Answer, AllocError>
+    ensures ok { IfOk result (λ answer. record { answer = answer; rows = rows.new } ≡ spec.answered users.now rows.old (request_said (words.words_of line.now))) }
+    ensures err { OnErr result (rows.new ≡ rows.old) }
+{
+    let words = words_in(alloc, line)?;
+    match request_of(alloc, &words) {
+        Ok(request) => {
+            let verdict = step(alloc, rows, users, &request.caller, &request.op)?;
+            Ok(Answer::Given(verdict))
+        }
+        Err(ParseFault::IllFormed(fault)) => Ok(Answer::Bad(fault)),
+        Err(ParseFault::OutOfMemory) => Err(AllocError),
+    }
+}
+
+/// Adds an answer behind the number of its line.
+fn print_answer(
+    alloc: Global,
+    number: usize,
+    answer: &Answer,
+    out: &mut String,
+) -> Result<(), AllocError>
+    ensures ok { OnOk result (string_bytes out.new ≡ string_bytes out.old ++ answer_line number answer.now) }
+    ensures err { OnErr result (string_bytes out.new ≡ string_bytes out.old) }
+{
+    let text = format!(in alloc; "{number} {answer}\n")?;
+    out.push_str(text.as_str())
+}
+
+/// A script that is being run: the namespace, the lines so far, and what they print.
+#[derive(Debug, Drop)]
+struct Session {
+    rows: Rows,
+    users: Users,
+    /// How many lines were run.
+    number: usize,
+    /// Whether one of them was ill-formed.
+    has_bad: bool,
+    out: String,
+}
+
+impl Session {
+    /// The root alone, of the superuser `hdfs` and the supergroup `supergroup`.
+    fn open(alloc: Global) -> Result<Session, AllocError>
+        ensures users { IfOk result (λ session. session.users ≡ spec.opening_users) }
+        ensures shows { IfOk result (Shows spec.opening) }
+    {
+        let superuser = known_who(alloc, "hdfs")?;
+        let supergroup = known_who(alloc, "supergroup")?;
+        let rows = Rows::new(alloc, &superuser, &supergroup)?;
+        Ok(Session {
+            rows,
+            users: Users::new(alloc, superuser, supergroup),
+            number: 0,
+            has_bad: false,
+            out: String::new(alloc),
+        })
+    }
+
+    /// Runs a line, and adds its answer to the output where it has one. Where memory runs out the output stays as it was.
+    fn serve(&mut self, alloc: Global, line: &str) -> Result<(), AllocError>
+        requires { self.old.number + 1 < 2 ^ 64 }
+        ensures users { self.new.users ≡ self.old.users }
+        ensures number { self.new.number ≡ self.old.number + 1 }
+        ensures ok { (state : spec.State) → Shows state self.old → OnOk result (Shows (spec.after_line self.old.users state line.now) self.new) }
+        ensures err { OnErr result (string_bytes self.new.out ≡ string_bytes self.old.out) }
+    {
+        self.number += 1;
+        let line = without_return(line);
+        if is_skipped(line) {
+            return Ok(());
+        }
+        let answer = answer_to(alloc, &mut self.rows, &self.users, line)?;
+        print_answer(alloc, self.number, &answer, &mut self.out)?;
+        self.has_bad = self.has_bad || answer.is_bad();
+        Ok(())
+    }
+}
+
+/// A name that is known to be well-formed.
+fn known_who(alloc: Global, text: &str) -> Result<Who, AllocError>
+    requires { IsWho text.now }
+    ensures { IfOk result (λ who. who ≡ text.now) }
+{
+    match Who::parse(alloc, text) {
+        Ok(who) => Ok(who),
+        Err(ParseFault::IllFormed(_)) => unreachable!(),
+        Err(ParseFault::OutOfMemory) => Err(AllocError),
+    }
+}
+
+/// Runs the lines of a script from its beginning. An `Err` leaves what the lines before the one that failed print.
+fn run_lines(alloc: Global, session: &mut Session, lines: &[&str]) -> Result<(), AllocError>
+    requires users { session.old.users ≡ spec.opening_users }
+    requires shows { Shows spec.opening session.old }
+    ensures ok { OnOk result (Shows (spec.after_lines (map (λ line. line.now) lines.now)) session.new) }
+    ensures err { OnErr result ((count : ℕ) × (count < length lines.now) × (string_bytes session.new.out ≡ spec.text_of (spec.after_lines (take count (map (λ line. line.now) lines.now))).answers)) }
+{
+    for line in lines {
+        session.serve(alloc, line)?;
+    }
+    Ok(())
+}
+
+/// Runs a script from the opening of a namespace. An `Err` leaves what its lines before the one that failed print.
+fn run_text(alloc: Global, session: &mut Session, script: &str) -> Result<Status, AllocError>
+    requires users { session.old.users ≡ spec.opening_users }
+    requires shows { Shows spec.opening session.old }
+    ensures ok { OnOk result (string_bytes session.new.out ≡ spec.output_of script.now) }
+    ensures status { IfOk result (λ status. status ≡ spec.status_of (spec.answers_of script.now)) }
+    ensures err { OnErr result (IsAnswersBefore script.now (string_bytes session.new.out)) }
+{
+    let lines = pieces_between(alloc, script, '\n')?;
+    run_lines(alloc, session, &lines)?;
+    Ok(Status::by(session.has_bad))
+}
+
+/// Reads a script whole, runs its lines, and writes what they print and nothing else. Linear in the script beside the
+/// requests.
+///
+/// # Errors
+/// `CannotRead` where the reader fails, or hasn't ended after 4,294,967,295 reads, and `NotUtf8`: nothing is written.
+/// `OutOfMemory`: the answers of the lines before the one that failed are written. `CannotWrite`: a front of the text is
+/// written.
+pub fn run_script<R: Read, W: Write>(
+    alloc: Global,
+    reader: &mut R,
+    writer: &mut W,
+) -> Result<Status, ScriptFault>
+    ensures ok { IfOk result (λ status. IfSome (R.remaining reader.old) (λ script. IsUtf8 script × Appends (W.contents writer.old) (W.contents writer.new) (spec.output_of script) × (status ≡ spec.status_of (spec.answers_of script)))) }
+    ensures unread { result ≡ Err ScriptFault.CannotRead → Keeps (W.contents writer.old) (W.contents writer.new) }
+    ensures not_text { result ≡ Err ScriptFault.NotUtf8 → Keeps (W.contents writer.old) (W.contents writer.new) × IfSome (R.remaining reader.old) (λ script. ¬ (IsUtf8 script)) }
+    ensures no_memory { result ≡ Err ScriptFault.OutOfMemory → IfSome (R.remaining reader.old) (λ script. AppendsAnswersBefore (W.contents writer.old) (W.contents writer.new) script) }
+    ensures unwritten { result ≡ Err ScriptFault.CannotWrite → IfSome (R.remaining reader.old) (λ script. AppendsFront (W.contents writer.old) (W.contents writer.new) (spec.output_of script)) }
+{
+    let script = match read_all(alloc, reader) {
+        Ok(script) => script,
+        Err(ReadFault::OutOfMemory) => return Err(ScriptFault::OutOfMemory),
+        Err(ReadFault::CannotRead) => return Err(ScriptFault::CannotRead),
+    };
+    let Ok(text) = str::from_utf8(&script) else {
+        return Err(ScriptFault::NotUtf8);
+    };
+    let Ok(mut session) = Session::open(alloc) else {
+        return Err(ScriptFault::OutOfMemory);
+    };
+    let ended = run_text(alloc, &mut session, text);
+    write_text(writer, session.out.as_bytes()).map_err(|_| ScriptFault::CannotWrite)?;
+    ended.map_err(|_| ScriptFault::OutOfMemory)
+}

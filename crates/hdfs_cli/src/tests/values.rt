@@ -1,0 +1,132 @@
+use hdfs_types::entry::{Entry, EntryKind, Scope};
+use hdfs_types::fault::IllFormed;
+use hdfs_types::groups::Groups;
+use hdfs_types::ids::{BlockId, Serial};
+use hdfs_types::mode::Mode;
+use hdfs_types::modes::Modes;
+use hdfs_types::moment::Moment;
+use hdfs_types::node_id::{NodeId, node_of};
+use hdfs_types::op::{Op, Request, is_look};
+use hdfs_types::path::Path;
+use hdfs_types::reply::Refusal;
+use hdfs_types::rights::Rights;
+use hdfs_types::who::Who;
+use std::test::Fail;
+
+#[test]
+fn paths_have_parents(rt: HostRuntime) -> Result<(), Fail> {
+    let alloc = rt.alloc();
+    let (a, b) = (Path::parse(alloc, "/a")?, Path::parse(alloc, "/a/b")?);
+    assert!(rt; b.parent(alloc)? == Some(a.clone()?));
+    assert!(rt; Path::root(alloc).parent(alloc)?.is_none());
+    assert!(rt; b.is_under(&a) && !a.is_under(&a) && a.is_at_or_under(&a));
+    Ok(())
+}
+
+#[test]
+fn paths_are_ordered_by_component(rt: HostRuntime) -> Result<(), Fail> {
+    let alloc = rt.alloc();
+    assert!(rt; Path::parse(alloc, "/a/c")? < Path::parse(alloc, "/a-b")?);
+    assert!(rt; Path::parse(alloc, "/a")? < Path::parse(alloc, "/a/c")?);
+    Ok(())
+}
+
+#[test]
+fn principals_of_nodes(rt: HostRuntime) -> Result<(), Fail> {
+    let alloc = rt.alloc();
+    for name in [
+        "dn-0",
+        "dn-01",
+        "dn-",
+        "dn-4294967296",
+        "dn-1x",
+        "DN-1",
+        "hdfs",
+    ] {
+        assert!(rt; node_of(&Who::parse(alloc, name)?).is_none(), "of {name}");
+    }
+    let last = node_of(&Who::parse(alloc, "dn-4294967295")?);
+    assert!(rt; last == NodeId::new(u32::MAX));
+    assert!(rt; last.is_some());
+    Ok(())
+}
+
+#[test]
+fn numbers_have_ranges(rt: HostRuntime) {
+    assert!(rt; Moment::new((1 << 62) + 1).is_none());
+    assert!(rt; Moment::new(5).max(Moment::new(1 << 62)) == Moment::new(1 << 62));
+    assert_eq!(rt;
+        Serial::new(4294967293).next(),
+        Some(Serial::new(4294967294))
+    );
+    assert!(rt; Serial::new(4294967294).next().is_none());
+    assert_eq!(rt; BlockId::new(9).get(), 9);
+}
+
+#[test]
+fn codes_are_those_of_the_texts(rt: HostRuntime) -> Result<(), Fail> {
+    let alloc = rt.alloc();
+    assert_eq!(rt; IllFormed::BadName.code(), 19);
+    let file = Refusal::NotDirectory(Path::parse(alloc, "/d/f")?);
+    assert_eq!(rt; file.code(), 3);
+    assert_eq!(rt; file.to_string(alloc)?.as_str(), "3 NotDirectory /d/f");
+    Ok(())
+}
+
+#[test]
+fn rights_are_read_and_printed(rt: HostRuntime) -> Result<(), Fail> {
+    let alloc = rt.alloc();
+    for text in ["---", "--x", "-w-", "-wx", "r--", "r-x", "rw-", "rwx"] {
+        assert_eq!(rt;
+            Rights::parse(text)
+                .ok_or("rights")?
+                .to_string(alloc)?
+                .as_str(),
+            text
+        );
+    }
+    assert!(rt; Rights::parse("xwr").is_none() && Rights::parse("rw").is_none());
+    Ok(())
+}
+
+#[test]
+fn modes_of_tokens(rt: HostRuntime) -> Result<(), Fail> {
+    assert_eq!(rt;
+        Modes::of_bits(3)
+            .ok_or("modes")?
+            .to_string(rt.alloc())?
+            .as_str(),
+        "rw"
+    );
+    assert!(rt; Modes::of_bits(0).is_none() && Modes::of_bits(4).is_none());
+    Ok(())
+}
+
+#[test]
+fn entries_are_copied_and_printed(rt: HostRuntime) -> Result<(), Fail> {
+    let alloc = rt.alloc();
+    let entry = Entry {
+        scope: Scope::Default,
+        kind: EntryKind::User,
+        name: Some(Who::parse(alloc, "bruce")?),
+        rights: Rights::READ,
+    };
+    assert_eq!(rt;
+        entry.clone()?.to_string(alloc)?.as_str(),
+        "default:user:bruce:r--"
+    );
+    Ok(())
+}
+
+#[test]
+fn requests_and_groups_are_copied(rt: HostRuntime) -> Result<(), Fail> {
+    let alloc = rt.alloc();
+    let request = Request {
+        caller: Who::parse(alloc, "ann")?,
+        moment: Moment::new(3).ok_or("moment")?,
+        op: Op::Mkdirs(Path::parse(alloc, "/a")?, Mode::parse("700")?),
+    };
+    assert!(rt; !is_look(&request.clone()?.op));
+    assert_eq!(rt; Groups::new(Vec::new(alloc)).clone()?.into_vec().len(), 0);
+    Ok(())
+}

@@ -1,0 +1,8 @@
+pub mod Numbers
+pub mod Texts
+pub mod Paths
+pub mod Fronts
+pub mod Spelling
+pub mod Beneath
+pub mod Nodes
+pub mod RightsText

@@ -1,0 +1,17 @@
+pub mod Text
+pub mod Faults
+pub mod Parsed
+pub mod Entry
+pub mod Request
+pub mod Reply
+pub mod Name
+pub mod Who
+pub mod Groups
+pub mod NodeId
+pub mod Number
+pub mod Path
+pub mod PathOrder
+pub mod Rights
+pub mod Mode
+pub mod Moment
+pub mod Modes

@@ -1,0 +1,106 @@
+//! The program `hdfsns`: its command line, and the standard streams and files that a script is read from and answered to.
+#![tactic(auto)]
+
+use clap::error::ErrorKind;
+use clap::{Arg, ArgMatches, Command, Error};
+use hdfs_cli::script::{ScriptFault, Status, run_script};
+use std::alloc::{AllocError, Global};
+use std::process::ExitCode;
+use std::{env, fs, io};
+
+/// The exit status where a line of the script was ill-formed.
+const ILL_FORMED: u8 = 1;
+
+/// The exit status for a fault of the command line.
+const BAD_COMMAND_LINE: u8 = 2;
+
+/// The exit status where the script was not run to its end, or not all that it prints was written.
+const FAULT: u8 = 3;
+
+fn command<'a>(alloc: Global) -> Result<Command<'a>, AllocError> {
+    let script = Arg::new(alloc, "SCRIPT")
+        .help("The script: a file, or - for standard input")
+        .required(true);
+    let run = Command::new(alloc, "run")
+        .about("Runs a script of requests, and prints an answer for each line")
+        .arg(script)?;
+    Command::new(alloc, "hdfsns")
+        .about("The namesystem of HDFS, proved")
+        .subcommand_required(true)
+        .subcommand(run)
+}
+
+/// Runs the script that a path or `-` names.
+fn run(rt: &HostRuntime, path: &str) -> Result<Status, ScriptFault> {
+    let mut writer = io::writer(rt);
+    if path == "-" {
+        return run_script(rt.alloc(), &mut rt.reader(), &mut writer);
+    }
+    match fs::open(rt, path) {
+        Ok(mut file) => run_script(rt.alloc(), &mut file, &mut writer),
+        Err(_) => Err(ScriptFault::CannotRead),
+    }
+}
+
+fn report(rt: &HostRuntime, fault: ScriptFault, path: &str) {
+    let _ = match fault {
+        ScriptFault::OutOfMemory => eprintln!(rt; "hdfsns: out of memory"),
+        ScriptFault::CannotRead => eprintln!(rt; "hdfsns: cannot read {path}"),
+        ScriptFault::NotUtf8 => eprintln!(rt; "hdfsns: not UTF-8"),
+        ScriptFault::CannotWrite => eprintln!(rt; "hdfsns: cannot write"),
+    };
+}
+
+fn run_matches(rt: &HostRuntime, matches: &ArgMatches) -> ExitCode {
+    let path = match matches.subcommand_matches("run") {
+        Some(run) => run.get_str("SCRIPT"),
+        None => None,
+    };
+    let Some(path) = path else {
+        return ExitCode::from(BAD_COMMAND_LINE);
+    };
+    match run(rt, path) {
+        Ok(Status::Clean) => ExitCode::SUCCESS,
+        Ok(Status::IllFormed) => ExitCode::from(ILL_FORMED),
+        Err(fault) => {
+            report(rt, fault, path);
+            ExitCode::from(FAULT)
+        }
+    }
+}
+
+fn no_memory(rt: &HostRuntime) -> ExitCode {
+    report(rt, ScriptFault::OutOfMemory, "");
+    ExitCode::from(FAULT)
+}
+
+fn refuse(rt: &HostRuntime, error: &Error) -> ExitCode {
+    if error.kind() == ErrorKind::OutOfMemory {
+        return no_memory(rt);
+    }
+    let _ = error.print(rt);
+    if error.use_stderr() {
+        ExitCode::from(BAD_COMMAND_LINE)
+    } else {
+        ExitCode::SUCCESS
+    }
+}
+
+fn main(rt: HostRuntime) -> ExitCode {
+    let alloc = rt.alloc();
+    let words = match env::args(&rt) {
+        Ok(words) => words,
+        Err(error) if error.kind() == io::ErrorKind::OutOfMemory => return no_memory(&rt),
+        Err(_) => {
+            let _ = eprintln!(rt; "hdfsns: an argument is not UTF-8");
+            return ExitCode::from(BAD_COMMAND_LINE);
+        }
+    };
+    let (Ok(words), Ok(command)) = (words.collect::<Vec<String>>(alloc), command(alloc)) else {
+        return no_memory(&rt);
+    };
+    match command.try_get_matches_from(words.as_slice()) {
+        Ok(matches) => run_matches(&rt, &matches),
+        Err(error) => refuse(&rt, &error),
+    }
+}

@@ -1,0 +1,4 @@
+//! Who is known, in which groups, and who may do everything.
+#![tactic(auto)]
+
+pub mod users;
