@@ -15,6 +15,6 @@ pub record Principals : Type 0 where
 abbrev pub groups_of : Principals → List ℕ → List (List ℕ)
 groups_of users user = unwrap_or (lookup (same user) users.known) []
 
--- the superuser, and the known known of the supergroup
+-- the superuser, and the known members of the supergroup
 abbrev pub is_super : Principals → List ℕ → Bool
 is_super users user = same user users.superuser || has_group (groups_of users user) users.supergroup
