@@ -70,6 +70,13 @@ fn new_directories(
     Ok(made)
 }
 
+/// The last existing component above a path.
+fn last_above<'a>(rows: &'a [Row], path: &Path) -> Option<&'a Row>
+    ensures { option_copied result ≡ rows_spec.ancestor path.now rows.now }
+{
+    ancestor(rows, path.names())
+}
+
 /// Makes the missing directories of a path that nothing has.
 fn make_directories(
     alloc: Global,
@@ -82,7 +89,7 @@ fn make_directories(
     ensures ok { OnOk result (rows.new ≡ spec.with_directories path.now mode owner.now (rows_spec.ancestor path.now rows.old) rows.old) }
     ensures err { OnErr result (rows.new ≡ rows.old) }
 {
-    let made = match ancestor(rows.as_slice(), path.names()) {
+    let made = match last_above(rows.as_slice(), path) {
         Some(above) => new_directories(alloc, above, owner, mode, path)?,
         None => return Ok(()),
     };

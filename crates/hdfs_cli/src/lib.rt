@@ -3,6 +3,7 @@
 
 pub mod answer;
 pub mod channel;
+pub mod explain;
 mod flat;
 pub mod line;
 pub mod script;
