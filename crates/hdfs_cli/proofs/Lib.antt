@@ -4,3 +4,4 @@ pub mod Known
 pub mod Lines
 pub mod Directories
 pub mod Endings
+pub mod TokenVectors

@@ -6,3 +6,4 @@ pub mod AnswerText
 pub mod Output
 pub mod Shown
 pub mod Ended
+pub mod TokenLine

@@ -8,4 +8,5 @@ pub mod line;
 pub mod script;
 #[cfg(test)]
 mod tests;
+pub mod token;
 mod words;
