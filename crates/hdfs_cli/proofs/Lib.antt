@@ -5,3 +5,4 @@ pub mod Lines
 pub mod Directories
 pub mod Endings
 pub mod Fronts
+pub mod TokenVectors

@@ -7,3 +7,4 @@ pub mod Output
 pub mod Shown
 pub mod Ended
 pub mod Explanation
+pub mod TokenLine

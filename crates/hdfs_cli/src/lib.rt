@@ -9,4 +9,5 @@ pub mod line;
 pub mod script;
 #[cfg(test)]
 mod tests;
+pub mod token;
 mod words;

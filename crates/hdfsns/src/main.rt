@@ -4,11 +4,12 @@
 use clap::error::ErrorKind;
 use clap::{Arg, ArgMatches, Command, Error};
 use hdfs_cli::script::{ScriptFault, Status, run_script};
+use hdfs_cli::token::show_token;
 use std::alloc::{AllocError, Global};
 use std::process::ExitCode;
 use std::{env, fs, io};
 
-/// The exit status where a line of the script was ill-formed.
+/// The exit status where a line of the script, or the token, was ill-formed.
 const ILL_FORMED: u8 = 1;
 
 /// The exit status for a fault of the command line.
@@ -24,10 +25,17 @@ fn command<'a>(alloc: Global) -> Result<Command<'a>, AllocError> {
     let run = Command::new(alloc, "run")
         .about("Runs a script of requests, and prints an answer for each line")
         .arg(script)?;
+    let digits = Arg::new(alloc, "HEX")
+        .help("The token's bytes in hexadecimal digits")
+        .required(true);
+    let token = Command::new(alloc, "token")
+        .about("Prints what a block access token says")
+        .arg(digits)?;
     Command::new(alloc, "hdfsns")
         .about("The namesystem of HDFS, proved")
         .subcommand_required(true)
-        .subcommand(run)
+        .subcommand(run)?
+        .subcommand(token)
 }
 
 /// Runs the script that a path or `-` names.
@@ -51,14 +59,13 @@ fn report(rt: &HostRuntime, fault: ScriptFault, path: &str) {
     };
 }
 
-fn run_matches(rt: &HostRuntime, matches: &ArgMatches) -> ExitCode {
-    let path = match matches.subcommand_matches("run") {
-        Some(run) => run.get_str("SCRIPT"),
-        None => None,
-    };
-    let Some(path) = path else {
-        return ExitCode::from(BAD_COMMAND_LINE);
-    };
+fn no_memory(rt: &HostRuntime) -> ExitCode {
+    report(rt, ScriptFault::OutOfMemory, "");
+    ExitCode::from(FAULT)
+}
+
+/// Answers a script that a path or `-` names.
+fn answer_script(rt: &HostRuntime, path: &str) -> ExitCode {
     match run(rt, path) {
         Ok(Status::Clean) => ExitCode::SUCCESS,
         Ok(Status::IllFormed) => ExitCode::from(ILL_FORMED),
@@ -69,9 +76,35 @@ fn run_matches(rt: &HostRuntime, matches: &ArgMatches) -> ExitCode {
     }
 }
 
-fn no_memory(rt: &HostRuntime) -> ExitCode {
-    report(rt, ScriptFault::OutOfMemory, "");
-    ExitCode::from(FAULT)
+/// Prints the line of a token.
+fn answer_token(rt: &HostRuntime, digits: &str) -> ExitCode {
+    let Ok(line) = show_token(rt.alloc(), digits) else {
+        return no_memory(rt);
+    };
+    let text = line.text;
+    if println!(rt; "{text}").is_err() {
+        report(rt, ScriptFault::CannotWrite, "");
+        return ExitCode::from(FAULT);
+    }
+    if line.is_malformed {
+        return ExitCode::from(ILL_FORMED);
+    }
+    ExitCode::SUCCESS
+}
+
+/// The word that a subcommand was given, where it is the one that was called.
+fn word<'a>(matches: &'a ArgMatches, subcommand: &str, name: &str) -> Option<&'a str> {
+    matches.subcommand_matches(subcommand)?.get_str(name)
+}
+
+fn run_matches(rt: &HostRuntime, matches: &ArgMatches) -> ExitCode {
+    if let Some(path) = word(matches, "run", "SCRIPT") {
+        return answer_script(rt, path);
+    }
+    if let Some(digits) = word(matches, "token", "HEX") {
+        return answer_token(rt, digits);
+    }
+    ExitCode::from(BAD_COMMAND_LINE)
 }
 
 fn refuse(rt: &HostRuntime, error: &Error) -> ExitCode {
