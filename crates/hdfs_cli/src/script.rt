@@ -151,7 +151,11 @@ fn known_who(alloc: Global, text: &str) -> Result<Who, AllocError>
 }
 
 /// Runs the lines of a script from its beginning. An `Err` leaves what the lines before the one that failed print.
-pub(crate) fn run_lines(alloc: Global, session: &mut Session, lines: &[&str]) -> Result<(), AllocError>
+pub(crate) fn run_lines(
+    alloc: Global,
+    session: &mut Session,
+    lines: &[&str],
+) -> Result<(), AllocError>
     requires users { session.old.users ≡ spec.opening_users }
     requires shows { Shows spec.opening session.old }
     ensures users { session.new.users ≡ spec.opening_users }

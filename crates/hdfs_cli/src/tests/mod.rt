@@ -1,3 +1,4 @@
+mod explanations;
 mod scripts;
 mod tokens;
 mod values;
