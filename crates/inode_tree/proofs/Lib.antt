@@ -1,0 +1,4 @@
+pub mod Split
+pub mod Filters
+pub mod Parts
+pub mod Wholes

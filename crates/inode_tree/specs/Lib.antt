@@ -1,0 +1,5 @@
+pub mod Branch
+pub mod Part
+pub mod Kept
+pub mod Falls
+pub mod Tree
