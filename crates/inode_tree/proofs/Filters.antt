@@ -92,8 +92,8 @@ outside path row = not (is_prefix path row.path)
 pub outside-splits : (n : List ℕ) (ns : List (List ℕ)) → Splits (outside (n ∷ ns)) (outside ns) n true true
 outside-splits n ns = record { lows = λ m r h. rw h refl; highs = λ m r h. rw h refl; here = λ r. rw (self n) refl }
 
-abbrev pub at : List (List ℕ) → Row → Bool
-at path row = same_path path row.path
+abbrev pub standing : List (List ℕ) → Row → Bool
+standing path row = same_path path row.path
 
-pub at-splits : (n : List ℕ) (ns : List (List ℕ)) → Splits (at (n ∷ ns)) (at ns) n false false
-at-splits n ns = record { lows = λ m r h. rw h refl; highs = λ m r h. rw h refl; here = λ r. rw (self n) refl }
+pub standing-splits : (n : List ℕ) (ns : List (List ℕ)) → Splits (standing (n ∷ ns)) (standing ns) n false false
+standing-splits n ns = record { lows = λ m r h. rw h refl; highs = λ m r h. rw h refl; here = λ r. rw (self n) refl }

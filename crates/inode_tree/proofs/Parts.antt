@@ -45,12 +45,12 @@ all_inside : (rs : List Row) → rows_under [] rs ≡ rs
 all_inside [] = refl
 all_inside (r ∷ rs) = ap (λ t. r ∷ t) (all_inside rs)
 
-pub whole_itself : (names : List (List ℕ)) (b : Branch) → names ≡ [] → IsWhole names (rows b) (Some b)
-whole_itself names b none = subst (λ ns. IsWhole ns (rows b) (Some b)) (sym none) (all_inside (rows b) ∙ sym (placed_top (rows b)))
+pub whole_itself : (names : List (List ℕ)) (o : Option Branch) → names ≡ [] → IsWhole names (rows_or o) o
+whole_itself names o none = subst (λ ns. IsWhole ns (rows_or o) o) (sym none) (all_inside (rows_or o) ∙ sym (placed_top (rows_or o)))
 
-pub whole_beneath : (n : List ℕ) (ns : List (List ℕ)) (b : Branch) (o p : Option Branch) → IsPart n b.beneath o → IsWhole ns (rows_or o) p → IsWhole (n ∷ ns) (rows b) p
-whole_beneath n ns b o p part whole = part.seen (inside (n ∷ ns)) (inside ns) (inside-splits n ns) ∙ ap (map (under n)) whole ∙ sym (placed_under n ns (rows_or p))
+pub whole_at : (n : List ℕ) (ns : List (List ℕ)) (rs : List Row) (o p : Option Branch) → IsPart n rs o → IsWhole ns (rows_or o) p → IsWhole (n ∷ ns) rs p
+whole_at n ns rs o p part whole = part.seen (inside (n ∷ ns)) (inside ns) (inside-splits n ns) ∙ ap (map (under n)) whole ∙ sym (placed_under n ns (rows_or p))
 
 -- a step of a descent along a path
 pub whole_onward : (path : List (List ℕ)) (i : ℕ) (n : List ℕ) (b : Branch) (o p : Option Branch) → i < length path → n ≡ get_or path i n → IsPart n b.beneath o → IsWhole (drop (i + 1) path) (rows_or o) p → IsWhole (drop i path) (rows b) p
-whole_onward path i n b o p h is part whole = subst (λ ns. IsWhole ns (rows b) p) (sym (drop_more path i n h ∙ ap (λ m. m ∷ drop (i + 1) path) (sym is))) (whole_beneath n (drop (i + 1) path) b o p part whole)
+whole_onward path i n b o p h is part whole = subst (λ ns. IsWhole ns (rows b) p) (sym (drop_more path i n h ∙ ap (λ m. m ∷ drop (i + 1) path) (sym is))) (whole_at n (drop (i + 1) path) b.beneath o p part whole)

@@ -13,7 +13,7 @@ use Rattle.flat_rows.proofs.PathOrders.{same_path_is}
 use Rattle.flat_rows.proofs.NewDirectories.{starts_self}
 use Rattle.inode_tree.specs.Branch.{Branch, rows, rows_or, row_of, placed}
 use Rattle.inode_tree.specs.Part.{IsWhole}
-use Rattle.inode_tree.proofs.Filters.{self, filter-map, inside, at}
+use Rattle.inode_tree.proofs.Filters.{self, filter-map, inside, standing}
 
 -- a test that passes no row that another drops
 pub filter_within : (p q : Row → Bool) → ((row : Row) → p row ≡ true → q row ≡ true) → (rs : List Row) → filter p (filter q rs) ≡ filter p rs
@@ -29,17 +29,17 @@ filter_within p q h (r ∷ rs) = by (p r) (q r) refl refl (h r) (filter_within p
     by false true e f k others = rw e others
     by false false e f k others = others
 
-pub at_inside : (path : List (List ℕ)) (row : Row) → at path row ≡ true → inside path row ≡ true
-at_inside path row h = subst (λ p. is_prefix path p ≡ true) (same_path_is path row.path h) (starts_self path)
+pub standing_inside : (path : List (List ℕ)) (row : Row) → standing path row ≡ true → inside path row ≡ true
+standing_inside path row h = subst (λ p. is_prefix path p ≡ true) (same_path_is path row.path h) (starts_self path)
 
 pub same_placed : (path q : List (List ℕ)) → same_path path (path ++ q) ≡ same_path [] q
 same_placed [] q = refl
 same_placed (n ∷ ns) q = rw (self n) (same_placed ns q)
 
 -- the rows of the whole that have the path
-pub found_at : (path : List (List ℕ)) (all : List Row) (part : Option Branch) → IsWhole path all part → filter (at path) all ≡ map (placed path) (filter (at []) (rows_or part))
+pub found_at : (path : List (List ℕ)) (all : List Row) (part : Option Branch) → IsWhole path all part → filter (standing path) all ≡ map (placed path) (filter (standing []) (rows_or part))
 found_at path all part whole =
-    sym (filter_within (at path) (inside path) (at_inside path) all) ∙ ap (filter (at path)) whole ∙ filter-map (at path) (at []) (placed path) (λ r. same_placed path r.path) (rows_or part)
+    sym (filter_within (standing path) (inside path) (standing_inside path) all) ∙ ap (filter (standing path)) whole ∙ filter-map (standing path) (standing []) (placed path) (λ r. same_placed path r.path) (rows_or part)
 
 pub row_at_whole : (path : List (List ℕ)) (all : List Row) (part : Option Branch) → IsWhole path all part → option_map (λ b. row_of path b.top) part ≡ row_at path all
 row_at_whole path all None whole = sym (ap first (found_at path all None whole))

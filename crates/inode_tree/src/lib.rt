@@ -2,6 +2,7 @@
 //! File System Namespace").
 #![tactic(auto)]
 
+mod change;
 pub mod inode;
 mod node;
 pub mod tree;

@@ -19,4 +19,4 @@ loop-name-preserved c part whole =
     (subst (λ o. IsWhole (drop (c.loop-name.name-index + 1) c.args.path.now) (rows_or o) part) (sym (ap option_copied c.in-Some.is)) whole))
 
 pub returns : goal.returns
-returns c = c.loop-name.invariant (Some c.loop-name.node.now) (whole_itself (drop c.loop-name.name-index c.args.path.now) c.loop-name.node.now (drop_all c.loop-name.name-index c.args.path.now c.loop-name-test.false))
+returns c = c.loop-name.invariant (Some c.loop-name.node.now) (whole_itself (drop c.loop-name.name-index c.args.path.now) (Some c.loop-name.node.now) (drop_all c.loop-name.name-index c.args.path.now c.loop-name-test.false))
