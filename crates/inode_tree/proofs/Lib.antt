@@ -5,3 +5,4 @@ pub mod Wholes
 pub mod Levels
 pub mod Through
 pub mod Makes
+pub mod Trees

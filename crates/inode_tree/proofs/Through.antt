@@ -140,7 +140,7 @@ there_beneath n m ms names es b sorted is found h = sym (missing_at n (m ∷ ms)
 pub not_there : (n : List ℕ) (names : List (List ℕ)) (es : Entries) → Sorted es → lookup (at n) es ≡ None → is_missing (n ∷ names) (flatten es) ≡ false → ⊥
 not_there n names es sorted found h = false≢true (sym h ∙ missing_at n names es None sorted found)
 
-put_top : (above : List (List ℕ)) (name : List ℕ) (new : Branch) (t : Top) (rs : List Row) → grafted (above ++ name ∷ []) new (row_of [] t ∷ rs) ≡ row_of [] t ∷ grafted (above ++ name ∷ []) new rs
+pub put_top : (above : List (List ℕ)) (name : List ℕ) (new : Branch) (t : Top) (rs : List Row) → grafted (above ++ name ∷ []) new (row_of [] t ∷ rs) ≡ row_of [] t ∷ grafted (above ++ name ∷ []) new rs
 put_top [] name new t rs = refl
 put_top (n ∷ ns) name new t rs = refl
 
