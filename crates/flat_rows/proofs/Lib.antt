@@ -3,3 +3,4 @@ pub mod PathOrders
 pub mod Namespaces
 pub mod NewDirectories
 pub mod Changes
+pub mod Moves

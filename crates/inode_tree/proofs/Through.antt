@@ -131,14 +131,23 @@ pub missing_at : (n : List ℕ) (ns : List (List ℕ)) (es : Entries) (o : Optio
 missing_at n ns es o sorted found =
     ap (λ l. is_none (first l)) ((part-lookup n es sorted).seen (standing (n ∷ ns)) (standing ns) (standing-splits n ns)) ∙ none_map (under n) (filter (standing ns) (rows_or (lookup (at n) es))) ∙ ap (λ x. is_missing ns (rows_or x)) found
 
-pub held_there : (n : List ℕ) (ns : List (List ℕ)) (i : Inside) (m : BTreeMap (List ℕ) Branch) (b : Branch) → branch_of i ≡ b → i.held ≡ Directory m → is_missing (n ∷ ns) b.beneath ≡ false → is_missing (n ∷ ns) (flatten m.entries) ≡ false
-held_there n ns i m b seen is h = subst (λ x. is_missing (n ∷ ns) (rows_in x) ≡ false) is (subst (λ x. is_missing (n ∷ ns) x.beneath ≡ false) (sym seen) h)
+pub held_there : (path : List (List ℕ)) (i : Inside) (m : BTreeMap (List ℕ) Branch) (b : Branch) → branch_of i ≡ b → i.held ≡ Directory m → is_missing path b.beneath ≡ false → is_missing path (flatten m.entries) ≡ false
+held_there path i m b seen is h = subst (λ x. is_missing path (rows_in x) ≡ false) is (subst (λ x. is_missing path x.beneath ≡ false) (sym seen) h)
 
-pub there_beneath : (n m : List ℕ) (ms names : List (List ℕ)) (es : Entries) (b : Branch) → Sorted es → names ≡ m ∷ ms → lookup (at n) es ≡ Some b → is_missing (n ∷ names) (flatten es) ≡ false → is_missing (m ∷ ms) b.beneath ≡ false
-there_beneath n m ms names es b sorted is found h = sym (missing_at n (m ∷ ms) es (Some b) sorted found) ∙ ap (λ xs. is_missing (n ∷ xs) (flatten es)) (sym is) ∙ h
+there_within : (ns : List (List ℕ)) (name : List ℕ) (b : Branch) → is_missing (ns ++ name ∷ []) (rows b) ≡ false → is_missing (ns ++ name ∷ []) b.beneath ≡ false
+there_within [] name b h = h
+there_within (m ∷ ms) name b h = h
 
-pub not_there : (n : List ℕ) (names : List (List ℕ)) (es : Entries) → Sorted es → lookup (at n) es ≡ None → is_missing (n ∷ names) (flatten es) ≡ false → ⊥
-not_there n names es sorted found h = false≢true (sym h ∙ missing_at n names es None sorted found)
+pub there_beneath : (n : List ℕ) (ns names : List (List ℕ)) (name : List ℕ) (es : Entries) (b : Branch) → Sorted es → names ≡ n ∷ ns → lookup (at n) es ≡ Some b → is_missing (names ++ name ∷ []) (flatten es) ≡ false
+    → is_missing (ns ++ name ∷ []) b.beneath ≡ false
+there_beneath n ns names name es b sorted is found h =
+    there_within ns name b (sym (missing_at n (ns ++ name ∷ []) es (Some b) sorted found) ∙ ap (λ xs. is_missing (xs ++ name ∷ []) (flatten es)) (sym is) ∙ h)
+
+pub not_beneath : (n : List ℕ) (ns names : List (List ℕ)) (name : List ℕ) (es : Entries) → Sorted es → names ≡ n ∷ ns → lookup (at n) es ≡ None → is_missing (names ++ name ∷ []) (flatten es) ≡ false → ⊥
+not_beneath n ns names name es sorted is found h = false≢true (sym h ∙ ap (λ xs. is_missing (xs ++ name ∷ []) (flatten es)) is ∙ missing_at n (ns ++ name ∷ []) es None sorted found)
+
+pub not_here : (names : List (List ℕ)) (name : List ℕ) (es : Entries) → Sorted es → names ≡ [] → lookup (at name) es ≡ None → is_missing (names ++ name ∷ []) (flatten es) ≡ false → ⊥
+not_here names name es sorted is found h = false≢true (sym h ∙ ap (λ xs. is_missing (xs ++ name ∷ []) (flatten es)) is ∙ missing_at name [] es None sorted found)
 
 pub put_top : (above : List (List ℕ)) (name : List ℕ) (new : Branch) (t : Top) (rs : List Row) → grafted (above ++ name ∷ []) new (row_of [] t ∷ rs) ≡ row_of [] t ∷ grafted (above ++ name ∷ []) new rs
 put_top [] name new t rs = refl
@@ -153,14 +162,9 @@ put_through n ns names name new b c es fs sorted is found changed written =
 pub put_here : (names : List (List ℕ)) (name : List ℕ) (new : Branch) (es fs : Entries) → Sorted es → names ≡ [] → fs ≡ insert_entry R es name new → flatten fs ≡ grafted (names ++ name ∷ []) new (flatten es)
 put_here names name new es fs sorted is inserted = ap flatten inserted ∙ put_entry name es new sorted ∙ ap (λ xs. grafted (xs ++ name ∷ []) new (flatten es)) (sym is)
 
-pub fill_here : (n : List ℕ) (names : List (List ℕ)) (b c : Branch) (es fs : Entries) → Sorted es → names ≡ [] → lookup (at n) es ≡ Some b → fs ≡ set_value (at n) es c → flatten fs ≡ grafted (n ∷ names) c (flatten es)
-fill_here n names b c es fs sorted is found written =
-    ap flatten written ∙ set_entry (grafted (n ∷ []) c) (grafted [] c) n (grafted-level n [] c) es b c sorted found (grafted_top c (rows b)) ∙ ap (λ xs. grafted (n ∷ xs) c (flatten es)) (sym is)
-
-pub fill_through : (n m : List ℕ) (ms names : List (List ℕ)) (new b c : Branch) (es fs : Entries) → Sorted es → names ≡ m ∷ ms → lookup (at n) es ≡ Some b → c ≡ with_rows b (grafted (m ∷ ms) new b.beneath) → fs ≡ set_value (at n) es c
-    → flatten fs ≡ grafted (n ∷ names) new (flatten es)
-fill_through n m ms names new b c es fs sorted is found changed written =
-    level_through (grafted (n ∷ m ∷ ms) new) (grafted (m ∷ ms) new) n (grafted-level n (m ∷ ms) new) (λ t rs. refl) b c es fs sorted found changed written ∙ ap (λ xs. grafted (n ∷ xs) new (flatten es)) (sym is)
+pub fill_here : (names : List (List ℕ)) (name : List ℕ) (b c : Branch) (es fs : Entries) → Sorted es → names ≡ [] → lookup (at name) es ≡ Some b → fs ≡ set_value (at name) es c → flatten fs ≡ grafted (names ++ name ∷ []) c (flatten es)
+fill_here names name b c es fs sorted is found written =
+    ap flatten written ∙ set_entry (grafted (name ∷ []) c) (grafted [] c) name (grafted-level name [] c) es b c sorted found (grafted_top c (rows b)) ∙ ap (λ xs. grafted (xs ++ name ∷ []) c (flatten es)) (sym is)
 
 -- taking
 

@@ -33,14 +33,14 @@ impl Node {
         }
     }
 
-    /// Puts a node in the place of what stands at the path of these names.
+    /// Puts a node in the place of what stands by this name in the directory at the path.
     #[cycle(fill)]
-    pub(crate) fn fill(&mut self, first: &Name, rest: &[Name], new: Node)
-        requires { is_missing (first.now ∷ rest.now) self.old.beneath ≡ false }
-        ensures { self.new ≡ with_rows self.old (grafted (first.now ∷ rest.now) new self.old.beneath) }
+    pub(crate) fn fill(&mut self, above: &[Name], name: &Name, new: Node)
+        requires { is_missing (above.now ++ name.now ∷ []) self.old.beneath ≡ false }
+        ensures { self.new ≡ with_rows self.old (grafted (above.now ++ name.now ∷ []) new self.old.beneath) }
     {
         match &mut self.held {
-            Held::Directory(map) => fill_in(map, first, rest, new),
+            Held::Directory(map) => fill_in(map, above, name, new),
             Held::File => unreachable!(),
         }
     }
@@ -162,18 +162,21 @@ fn put_in(
 }
 
 #[cycle(fill)]
-fn fill_in(map: &mut BTreeMap<Name, Node>, first: &Name, rest: &[Name], new: Node)
+fn fill_in(map: &mut BTreeMap<Name, Node>, above: &[Name], name: &Name, new: Node)
     requires sorted { IsStrictlySortedBy text_cmp (keys_of map.old.entries) }
-    requires there { is_missing (first.now ∷ rest.now) (flatten map.old.entries) ≡ false }
+    requires there { is_missing (above.now ++ name.now ∷ []) (flatten map.old.entries) ≡ false }
     ensures sorted { IsStrictlySortedBy text_cmp (keys_of map.new.entries) }
-    ensures rows { flatten map.new.entries ≡ grafted (first.now ∷ rest.now) new (flatten map.old.entries) }
+    ensures rows { flatten map.new.entries ≡ grafted (above.now ++ name.now ∷ []) new (flatten map.old.entries) }
 {
-    let Some(child) = map.get_mut(first) else {
-        unreachable!()
-    };
-    match rest.split_first() {
-        None => *child = new,
-        Some((next, more)) => child.fill(next, more, new),
+    match above.split_first() {
+        None => match map.get_mut(name) {
+            Some(place) => *place = new,
+            None => unreachable!(),
+        },
+        Some((first, rest)) => match map.get_mut(first) {
+            Some(child) => child.fill(rest, name, new),
+            None => unreachable!(),
+        },
     }
 }
 
