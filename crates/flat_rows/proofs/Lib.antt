@@ -2,3 +2,5 @@ pub mod Tests
 pub mod PathOrders
 pub mod Namespaces
 pub mod NewDirectories
+pub mod Changes
+pub mod Moves

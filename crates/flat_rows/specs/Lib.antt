@@ -9,3 +9,4 @@ pub mod DenialText
 pub mod Decision
 pub mod Kept
 pub mod Outcome
+pub mod Changes

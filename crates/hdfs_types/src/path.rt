@@ -103,6 +103,14 @@ impl Path {
         Ok(Path { names })
     }
 
+    /// The path of these names, from the root down. Takes no memory.
+    pub fn from_names(names: Vec<Name>) -> Path
+        requires { IsPath names.items }
+        ensures { result ≡ names.items }
+    {
+        Path { names }
+    }
+
     /// The names from the root down.
     pub fn names(&self) -> &[Name]
         ensures names { result.now ≡ self.now }
