@@ -111,6 +111,16 @@ impl Path {
         Path { names }
     }
 
+    /// The path of copies of these names, in a time linear in their text.
+    pub fn copied(alloc: Global, names: &[Name]) -> Result<Path, AllocError>
+        requires { IsPath names.now }
+        ensures { IfOk result (λ path. path ≡ names.now) }
+    {
+        Ok(Path {
+            names: copied_front(alloc, names, names.len())?,
+        })
+    }
+
     /// The names from the root down.
     pub fn names(&self) -> &[Name]
         ensures names { result.now ≡ self.now }
