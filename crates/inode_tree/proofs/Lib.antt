@@ -6,3 +6,4 @@ pub mod Levels
 pub mod Through
 pub mod Makes
 pub mod Trees
+pub mod Moves

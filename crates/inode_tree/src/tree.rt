@@ -1,10 +1,11 @@
-ghost use Rattle.std.specs.Prelude.{◌≡◌, [], ◌∷◌, ◌||◌, not, None, IsTrue, IfOk, OnOk, OnErr};
+ghost use Rattle.std.specs.Prelude.{◌≡◌, [], ◌∷◌, ◌||◌, map, not, None, IsTrue, IfOk, OnOk, OnErr};
 ghost use Rattle.std.specs.Option.{option_map};
+ghost use Rattle.hdfs_types.specs.Path.{is_prefix};
 ghost use Rattle.flat_rows.specs.Opening.{root_row};
 ghost use Rattle.flat_rows.specs.Rows.{row_at, is_directory_kind, is_missing, file_above, ancestor, with_sub_tree};
 ghost use Rattle.flat_rows.specs.Namespace.{has_parent, is_root};
 ghost use Rattle.flat_rows.specs.Outcome.{with_directories};
-ghost use Rattle.flat_rows.specs.Changes.{without, rewritten, suits_list};
+ghost use Rattle.flat_rows.specs.Changes.{rows_under, without, moved_row, moved, rewritten, suits_list, are_paths};
 ghost use Rattle.inode_tree.specs.Branch.{rows, row_of};
 ghost use Rattle.inode_tree.specs.Part.{IsWhole};
 ghost use Rattle.inode_tree.specs.Tree.{branch_at};
@@ -123,6 +124,28 @@ impl Tree {
             unreachable!()
         };
         let _removed = self.root.take(first, rest);
+    }
+
+    /// Moves what stands at a path, with all that is beneath it, to another path. Costs the two paths, and not what is moved.
+    ///
+    /// # Errors
+    /// Want of memory, and nothing has changed.
+    pub fn move_to(&mut self, from: &Path, to: &Path) -> Result<(), AllocError>
+        requires there { IsTrue (not (is_missing from.now self.old)) }
+        requires free { IsTrue (is_missing to.now self.old) }
+        requires parent { IsTrue (has_parent to.now self.old) }
+        requires beside { IsTrue (not (is_prefix from.now to.now)) }
+        requires within { IsTrue (are_paths (map (moved_row from.now to.now) (rows_under from.now self.old))) }
+        ensures ok { OnOk result (self.new ≡ moved from.now to.now self.old) }
+        ensures err { OnErr result (self.new ≡ self.old) }
+    {
+        let Some((first, rest)) = from.names().split_first() else {
+            unreachable!()
+        };
+        let Some((name, above)) = to.names().split_last() else {
+            unreachable!()
+        };
+        self.root.move_to(self.alloc, first, rest, above, name)
     }
 
     /// Gives what stands at a path to an owner and a group, with another access list. Takes no memory.
