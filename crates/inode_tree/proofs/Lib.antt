@@ -7,3 +7,6 @@ pub mod Through
 pub mod Makes
 pub mod Trees
 pub mod Moves
+pub mod Visits
+pub mod Children
+pub mod Asked
