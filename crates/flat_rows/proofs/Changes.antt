@@ -105,7 +105,7 @@ with_sub_tree_paths (top ∷ beneath) rows h k = replaced_paths top.path (top �
 
 -- one row fits where a directory holds its path
 
-same_self : (p : List (List ℕ)) → same_path p p ≡ true
+pub same_self : (p : List (List ℕ)) → same_path p p ≡ true
 same_self p = ap is_eq (tied_itself paths_total p)
 
 pub row_fits : (row : Row) (rows : List Row) → has_parent row.path rows ≡ true → suits_kind row ≡ true → fits rows (row ∷ []) ≡ true

@@ -4,3 +4,4 @@ pub mod Namespaces
 pub mod NewDirectories
 pub mod Changes
 pub mod Moves
+pub mod Missing

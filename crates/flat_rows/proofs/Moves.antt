@@ -29,9 +29,8 @@ pub front_cmp : (p a b : List (List ℕ)) → path_cmp (p ++ a) (p ++ b) ≡ pat
 front_cmp [] a b = refl
 front_cmp (n ∷ ns) a b = rw (front_itself n) (front_cmp ns a b)
 
-front_child : (p a b : List (List ℕ)) → is_child (p ++ a) (p ++ b) ≡ is_child a b
+pub front_child : (p a b : List (List ℕ)) → is_child (p ++ a) (p ++ b) ≡ is_child a b
 front_child [] a b = refl
-front_child (n ∷ []) [] [] = rw (same_self n) refl
 front_child (n ∷ ns) a b = by (ns ++ a) (ns ++ b) (front_child ns a b)
   where
     by : (x y : List (List ℕ)) → is_child x y ≡ is_child a b → is_child (n ∷ x) (n ∷ y) ≡ is_child a b

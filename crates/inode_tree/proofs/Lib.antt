@@ -6,3 +6,7 @@ pub mod Levels
 pub mod Through
 pub mod Makes
 pub mod Trees
+pub mod Moves
+pub mod Visits
+pub mod Children
+pub mod Asked

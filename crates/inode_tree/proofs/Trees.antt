@@ -1,19 +1,21 @@
 -- Each change leaves a tree a tree.
-use Rattle.std.proofs.Common.{◌≡◌, ℕ, Bool, true, false, List, [], ◌∷◌, ◌++◌, map, length, arith, Option, Some, None, Result, Ok, Err, OnOk, OnErr, refl, sym, ap, ◌∙◌, subst}
+use Rattle.std.proofs.Common.{◌≡◌, ℕ, Bool, true, false, not, List, [], ◌∷◌, ◌++◌, map, length, arith, Option, Some, None, Result, Ok, Err, OnOk, OnErr, refl, sym, ap, ◌∙◌, subst}
 use Rattle.std.proofs.lemmas.Bool.{false≢true}
 use Rattle.std.proofs.lemmas.List.{append-nil}
 use Rattle.std.specs.declared.alloc.AllocError.{AllocError}
-use Rattle.hdfs_types.specs.Path.{IsPath, is_path}
+use Rattle.hdfs_types.specs.Path.{IsPath, is_prefix}
 use Rattle.acl_entries.specs.AccessList.{AccessList}
 use Rattle.flat_rows.specs.declared.row.Row.{Row}
-use Rattle.flat_rows.specs.Rows.{row_at, file_above, ancestor, replaced, with_sub_tree}
+use Rattle.flat_rows.specs.Rows.{is_missing, row_at, file_above, ancestor, replaced, with_sub_tree}
 use Rattle.flat_rows.specs.Namespace.{has_parent, is_root, suits_kind, fits}
 use Rattle.flat_rows.specs.Outcome.{new_directories, with_directories}
-use Rattle.flat_rows.specs.Changes.{are_paths, without, rewritten, suits_list}
+use Rattle.flat_rows.specs.Changes.{are_paths, rows_under, without, moved_row, moved, rewritten, suits_list}
 use Rattle.flat_rows.proofs.Tests.{and}
 use Rattle.flat_rows.proofs.Namespaces.{with_sub_tree_namespace}
 use Rattle.flat_rows.proofs.NewDirectories.{missing_fit}
-use Rattle.flat_rows.proofs.Changes.{without_namespace, without_paths, with_sub_tree_paths, row_fits, missing_paths, rewritten_namespace, rewritten_paths}
+use Rattle.flat_rows.proofs.Moves.{moved_namespace}
+use Rattle.flat_rows.proofs.Missing.{missing_above}
+use Rattle.flat_rows.proofs.Changes.{without_namespace, without_paths, replaced_paths, with_sub_tree_paths, row_fits, missing_paths, rewritten_namespace, rewritten_paths}
 use Rattle.inode_tree.specs.Branch.{Branch, rows, row_of, placed, with_rows}
 use Rattle.inode_tree.specs.Change.{grafted}
 use Rattle.inode_tree.specs.Tree.{IsTree}
@@ -77,3 +79,23 @@ module _ (path names : List (List ℕ)) (is : names ≡ path) (b : Branch) (all 
 
 pub remove_keeps : (first : List ℕ) (rest : List (List ℕ)) (b new : Branch) → new ≡ with_rows b (without (first ∷ rest) b.beneath) → IsTree (rows b) → IsTree (rows new)
 remove_keeps first rest b new done tree = subst (λ x. IsTree (rows x)) (sym done) (without_tree (first ∷ rest) (rows b) refl tree)
+
+pub moved_tree : (from to : List (List ℕ)) (all : List Row) → is_prefix from to ≡ false → has_parent to all ≡ true → are_paths (map (moved_row from to) (rows_under from all)) ≡ true → IsTree all → IsTree (moved from to all)
+moved_tree from to all beside held within tree = record {
+  namespace = moved_namespace from to all beside held tree.namespace;
+  paths = replaced_paths to (map (moved_row from to) (rows_under from all)) (without from all) within (without_paths from all tree.paths);
+}
+
+not_false : (b : Bool) → not b ≡ true → b ≡ false
+not_false true h = sym h
+not_false false h = refl
+
+module _ (from to ns ms : List (List ℕ)) (is : ns ≡ from) (ends : ms ≡ to) (b : Branch) (all : List Row) (seen : rows b ≡ all) (tree : IsTree (rows b)) where
+  pub move_apart : not (is_missing from all) ≡ true → is_missing to all ≡ true → is_prefix ms ns ≡ false
+  move_apart there free =
+      ap (λ p. is_prefix p ns) ends ∙ ap (is_prefix to) is ∙ missing_above all from to (subst IsTree seen tree).namespace (not_false (is_missing from all) there) free
+
+  pub move_keeps : (r : Result (Unit {0}) AllocError) (new : Branch) → has_parent to all ≡ true → not (is_prefix from to) ≡ true → are_paths (map (moved_row from to) (rows_under from all)) ≡ true → OnOk r (rows new ≡ moved ns ms (rows b)) → OnErr r (new ≡ b) → IsTree (rows new)
+  move_keeps r new held beside within ok err =
+      let same : moved ns ms (rows b) ≡ moved from to all = ap (λ p. moved p ms (rows b)) is ∙ ap (λ p. moved from p (rows b)) ends ∙ ap (moved from to) seen in
+      either_tree r (rows b) (rows new) (moved from to all) (on_ok r (λ e. e ∙ same) ok) (on_err r (ap rows) err) (moved_tree from to all (not_false (is_prefix from to) beside) held within (subst IsTree seen tree)) tree

@@ -1,11 +1,12 @@
 ghost use Rattle.std.specs.Prelude.{◌≡◌, ◌∷◌, [], ◌++◌, true, false, None, IfOk, OnOk, OnErr, IsTrue};
 ghost use Rattle.std.specs.List.Sorted.{IsStrictlySortedBy};
 ghost use Rattle.std.specs.Map.{keys_of};
+ghost use Rattle.hdfs_types.specs.Path.{is_prefix};
 ghost use Rattle.hdfs_types.specs.Text.{text_cmp};
 ghost use Rattle.flat_rows.specs.Rows.{is_missing, file_above, ancestor};
 ghost use Rattle.flat_rows.specs.Namespace.{has_parent};
 ghost use Rattle.flat_rows.specs.Outcome.{directory_at, with_directories};
-ghost use Rattle.flat_rows.specs.Changes.{without, rewritten};
+ghost use Rattle.flat_rows.specs.Changes.{without, moved, rewritten};
 ghost use Rattle.inode_tree.specs.Branch.{Top, rows, row_of, flatten, with_rows};
 ghost use Rattle.inode_tree.specs.Part.{IsWhole};
 ghost use Rattle.inode_tree.specs.Change.{grafted, holds_parent, chain};
@@ -55,6 +56,42 @@ impl Node {
             Held::Directory(map) => take_in(map, first, rest),
             Held::File => None,
         }
+    }
+
+    /// A file that stands for another node while that is on its way.
+    fn stand_in(&self, alloc: Global) -> Result<Node, AllocError>
+        ensures { IfOk result (λ node. node.beneath ≡ []) }
+    {
+        let acl = Acl::from_mode(Mode::root(), ObjectKind::File);
+        let owner = self.owner().clone()?;
+        let group = self.group().clone()?;
+        Ok(Node::new(alloc, ObjectKind::File, owner, group, acl))
+    }
+
+    /// Moves what stands at the path of these names, to stand by a name in the directory at another path. A stand-in is put
+    /// there first, since that alone may fail.
+    pub(crate) fn move_to(
+        &mut self,
+        alloc: Global,
+        first: &Name,
+        rest: &[Name],
+        above: &[Name],
+        name: &Name,
+    ) -> Result<(), AllocError>
+        requires there { is_missing (first.now ∷ rest.now) (rows self.old) ≡ false }
+        requires parent { IsTrue (has_parent (above.now ++ name.now ∷ []) (rows self.old)) }
+        requires beside { is_prefix (first.now ∷ rest.now) (above.now ++ name.now ∷ []) ≡ false }
+        requires apart { is_prefix (above.now ++ name.now ∷ []) (first.now ∷ rest.now) ≡ false }
+        ensures ok { OnOk result (rows self.new ≡ moved (first.now ∷ rest.now) (above.now ++ name.now ∷ []) (rows self.old)) }
+        ensures err { OnErr result (self.new ≡ self.old) }
+    {
+        let stand_in = self.stand_in(alloc)?;
+        self.put(above, name.clone()?, stand_in)?;
+        let Some(moved) = self.take(first, rest) else {
+            unreachable!()
+        };
+        self.fill(above, name, moved);
+        Ok(())
     }
 
     /// Gives what stands at the path another owner, group and access list.

@@ -6,3 +6,4 @@ mod change;
 pub mod inode;
 mod node;
 pub mod tree;
+pub mod visit;

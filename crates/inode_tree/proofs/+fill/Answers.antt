@@ -3,10 +3,13 @@ use Rattle.inode_tree.proofs.Through.{found_mut, missed_mut, no_names, held_sort
 use Rattle.inode_tree.proofs.+fill.Goals as goal
 
 pub node::Node::fill-fill_in-requires : goal.node::Node::fill-fill_in-requires
-node::Node::fill-fill_in-requires t c =
-    (omega (arith, c.decreases),
-    (held_sorted c.self.inside.held c.in-Directory.map c.in-Directory.is c.self.invariant,
-    held_there (c.args.above.now ++ c.args.name.now ∷ []) c.self.inside c.in-Directory.map c.args.self.now c.self.view_is c.in-Directory.is c.requires))
+node::Node::fill-fill_in-requires t c = (
+  omega (arith, c.decreases),
+  (
+    held_sorted c.self.inside.held c.in-Directory.map c.in-Directory.is c.self.invariant,
+    held_there (c.args.above.now ++ c.args.name.now ∷ []) c.self.inside c.in-Directory.map c.args.self.now c.self.view_is c.in-Directory.is c.requires,
+  ),
+)
 
 pub change::fill_in-unreachable-requires : goal.change::fill_in-unreachable-requires
 change::fill_in-unreachable-requires t c =
