@@ -1,5 +1,5 @@
 -- The denial of rights is the one at the first component that is closed.
-use Rattle.std.proofs.Common.{◌≡◌, ℕ, Bool, true, false, List, [], ◌∷◌, ◌++◌, map, cond, Option, Some, None, refl, sym, ap, ◌∙◌, subst}
+use Rattle.std.proofs.Common.{◌≡◌, ℕ, Bool, true, false, ◌&&◌, List, [], ◌∷◌, ◌++◌, map, cond, Option, Some, None, refl, sym, ap, ◌∙◌, subst}
 use Rattle.std.specs.Prelude.{not}
 use Rattle.std.specs.List.{filter, flat_map}
 use Rattle.std.specs.Option.{option_and_then, option_or}
@@ -8,7 +8,9 @@ use Rattle.principals.specs.Principals.{Asking}
 use Rattle.flat_rows.specs.declared.row.Row.{Row}
 use Rattle.flat_rows.specs.declared.need.Need.{Need}
 use Rattle.flat_rows.specs.declared.need.Need.TheVariants.{Rights}
+use Rattle.hdfs_types.specs.Path.{is_prefix}
 use Rattle.flat_rows.specs.First.{first, first_answer}
+use Rattle.flat_rows.specs.Rows.{is_directory, directories_beneath}
 use Rattle.flat_rows.specs.Denied.{Denied, judgement, denial_at}
 use Rattle.flat_rows.specs.Decision.{Ask, ask_at, denial_of}
 use Rattle.perm_walk.specs.Closed.{is_closed, first_closed}
@@ -65,3 +67,19 @@ pub superuser_meets : (caller : Asking) → caller.is_superuser ≡ true → (as
 superuser_meets caller super [] = refl
 superuser_meets caller super (ask ∷ asks) =
     superuser_meets caller super asks ∙ ap (λ b. option_or (cond b None (denial_at ask.need ask.row ask.above caller.name caller.groups)) (first_answer (denial_of caller) asks)) (sym super)
+
+-- two tests behind one, or one behind two
+pub two_passes : (p q r : Row → Bool) (rows : List Row) → filter (λ row. p row && q row) (filter r rows) ≡ filter q (filter (λ row. r row && p row) rows)
+two_passes p q r [] = refl
+two_passes p q r (row ∷ rows) = by (r row) (p row) refl refl (two_passes p q r rows)
+  where
+    by : (a b : Bool) → r row ≡ a → p row ≡ b → filter (λ row. p row && q row) (filter r rows) ≡ filter q (filter (λ row. r row && p row) rows)
+        → filter (λ row. p row && q row) (cond (r row) (row ∷ filter r rows) (filter r rows)) ≡ filter q (cond (r row && p row) (row ∷ filter (λ row. r row && p row) rows) (filter (λ row. r row && p row) rows))
+    by true true e f rest = rw (e, f) (ap (λ l. cond (q row) (row ∷ l) l) rest)
+    by true false e f rest = rw (e, f) rest
+    by false b e f rest = rw e rest
+
+-- the first closed directory of a sub-tree
+pub closed_first : (caller : Asking) (asked : bits.Rights) (path : List (List ℕ)) (all : List Row)
+    → first (filter (λ row. is_directory row && is_closed asked caller row) (filter (λ row. is_prefix path row.path) all)) ≡ first_closed asked caller (directories_beneath path all)
+closed_first caller asked path all = ap first (two_passes is_directory (is_closed asked caller) (λ row. is_prefix path row.path) all)
