@@ -1,28 +1,33 @@
--- What an operation that no need forbids answers, and the rows that it leaves: the first refusal of its list that applies, else done.
+-- What an operation that no need forbids answers, and the rows and users that it leaves: the first refusal of its list that applies, else done.
 -- (HDFS Architecture, "The File System Namespace"; HDFS Permissions Guide, "Overview".)
-use Rattle.std.specs.Prelude.{ℕ, Bool, true, ◌&&◌, not, List, [], ◌∷◌, ◌++◌, length, drop, if◌then◌else◌, Option, Some, None}
-use Rattle.std.specs.Option.{option_map, option_or}
+use Rattle.std.specs.Prelude.{ℕ, Bool, true, false, ◌&&◌, ◌||◌, not, List, [], ◌∷◌, ◌++◌, map, filter, length, drop, if◌then◌else◌, Option, Some, None, unwrap_or}
+use Rattle.std.specs.Option.{option_map}
 use Rattle.hdfs_types.specs.Mode.{for_missing_parent}
+use Rattle.hdfs_types.specs.Path.{is_prefix}
 use Rattle.hdfs_types.specs.declared.op.Op.{Op}
-use Rattle.hdfs_types.specs.declared.op.Op.TheVariants.{Mkdirs, Stat}
+use Rattle.hdfs_types.specs.declared.op.Op.TheVariants as op
 use Rattle.hdfs_types.specs.declared.reply.ObjectKind.TheVariants.{Directory}
 use Rattle.hdfs_types.specs.declared.reply.Reply.{Reply}
-use Rattle.hdfs_types.specs.declared.reply.Reply.TheVariants.{Empty, Status}
+use Rattle.hdfs_types.specs.declared.reply.Reply.TheVariants as reply
 use Rattle.hdfs_types.specs.declared.reply.Refusal.{Refusal}
-use Rattle.hdfs_types.specs.declared.reply.Refusal.TheVariants.{NotFound, NotDirectory, Exists}
+use Rattle.hdfs_types.specs.declared.reply.Refusal.TheVariants.{BadPath, NotFound, NotDirectory, Exists, NotEmpty, IsRoot, UnderItself}
 use Rattle.acl_entries.specs.AccessList.{acl_of_mode, shown_mode}
-use Rattle.principals.specs.Principals.{Principals}
+use Rattle.principals.specs.Principals.{Principals, refusal_of_new, refusal_of_known, with_user, with_groups}
 use Rattle.flat_rows.specs.declared.row.Row.{Row}
 use Rattle.flat_rows.specs.declared.verdict.Verdict.{Verdict}
 use Rattle.flat_rows.specs.declared.verdict.Verdict.TheVariants.{Done, Denied, Refused}
-use Rattle.flat_rows.specs.Rows.{is_directory, row_at, file_above, ancestor, with_sub_tree}
+use Rattle.flat_rows.specs.First.{first_answer}
+use Rattle.flat_rows.specs.Rows.{is_directory, is_none, row_at, file_above, directory_of, ancestor, with_sub_tree}
+use Rattle.flat_rows.specs.Namespace.{is_root}
+use Rattle.flat_rows.specs.Changes.{rows_under, child_names, last_name, without, moved_row, moved, rewritten, are_paths}
 use Rattle.flat_rows.specs.Denied as denied
 use Rattle.flat_rows.specs.Decision.{decision}
 
--- what is answered, and the rows after it
+-- what is answered, and the rows and users after it
 pub record Step : Type 0 where
   pub verdict : Verdict
   pub rows : List Row
+  pub users : Principals
 
 -- a file stands above the path
 abbrev pub beneath_file : List (List ℕ) → List Row → Option Refusal
@@ -38,19 +43,74 @@ abbrev pub nothing_at : Option Row → Option Refusal
 nothing_at None = Some NotFound
 nothing_at (Some row) = None
 
+-- something has the path
+abbrev pub something_at : Option Row → Option Refusal
+something_at None = None
+something_at (Some row) = Some Exists
+
+abbrev pub refused_where : Bool → Refusal → Option Refusal
+refused_where true refusal = Some refusal
+refused_where false refusal = None
+
+abbrev pub is_alone : List Row → Bool
+is_alone [] = true
+is_alone (row ∷ []) = true
+is_alone (row ∷ other ∷ rows) = false
+
+-- the first of a list that applies
+abbrev pub first_some : List (Option Refusal) → Option Refusal
+first_some refusals = first_answer (λ refusal. refusal) refusals
+
+abbrev pub refusal_of_missing : List (List ℕ) → List Row → Option Refusal
+refusal_of_missing path rows = first_some (beneath_file path rows ∷ nothing_at (row_at path rows) ∷ [])
+
+-- the rows as they would stand beneath another path
+abbrev pub rows_moved : List (List ℕ) → List (List ℕ) → List Row → List Row
+rows_moved from to rows = map (moved_row from to) (rows_under from rows)
+
 -- the first refusal that applies
-abbrev pub first_refusal : Op → List Row → Option Refusal
-first_refusal (Mkdirs path mode) rows = option_or (beneath_file path rows) (file_at (row_at path rows))
-first_refusal (Stat path) rows = option_or (beneath_file path rows) (nothing_at (row_at path rows))
+abbrev pub first_refusal : Op → List Row → Principals → Option Refusal
+first_refusal (op.Mkdirs path mode) rows users = first_some (beneath_file path rows ∷ file_at (row_at path rows) ∷ [])
+first_refusal (op.Stat path) rows users = refusal_of_missing path rows
+first_refusal (op.List path) rows users = refusal_of_missing path rows
+first_refusal (op.Summary path) rows users = refusal_of_missing path rows
+first_refusal (op.Delete path recursive) rows users = first_some (
+    refused_where (is_root path) IsRoot ∷ beneath_file path rows ∷ nothing_at (row_at path rows)
+    ∷ refused_where (not recursive && not (is_alone (rows_under path rows))) NotEmpty ∷ [])
+first_refusal (op.Rename from to) rows users = first_some (
+    refused_where (is_root from || is_root to) IsRoot ∷ beneath_file from rows ∷ nothing_at (row_at from rows) ∷ beneath_file to rows
+    ∷ refused_where (is_prefix from to) UnderItself ∷ something_at (row_at to rows) ∷ refused_where (is_none (directory_of to rows)) NotFound
+    ∷ refused_where (not (are_paths (rows_moved from to rows))) BadPath ∷ [])
+first_refusal (op.SetMode path mode) rows users = refusal_of_missing path rows
+first_refusal (op.SetOwner path owner group) rows users = refusal_of_missing path rows
+first_refusal (op.AddUser user groups) rows users = refusal_of_new users user
+first_refusal (op.SetGroups user groups) rows users = refusal_of_known users user
 
 -- what `stat` tells of a row; where there is none, NotFound came first
 abbrev pub status_of : Option Row → Reply
-status_of None = Empty
-status_of (Some row) = Status (record { kind = row.kind; mode = shown_mode row.acl; owner = row.owner; group = row.group })
+status_of None = reply.Empty
+status_of (Some row) = reply.Status (record { kind = row.kind; mode = shown_mode row.acl; owner = row.owner; group = row.group })
+
+-- the names that a directory holds, or a file's own
+abbrev pub listed : List (List ℕ) → Option Row → List Row → List (List ℕ)
+listed path None rows = []
+listed path (Some row) rows = if is_directory row then child_names path rows else last_name path ∷ []
+
+-- how many directories and files there are; files hold no bytes yet
+abbrev pub summary_of : List Row → Reply
+summary_of rows = reply.Summary (record { directories = length (filter is_directory rows); files = length (filter (λ row. not (is_directory row)) rows); bytes = 0 })
 
 abbrev pub reply_of : Op → List Row → Reply
-reply_of (Mkdirs path mode) rows = Empty
-reply_of (Stat path) rows = status_of (row_at path rows)
+reply_of (op.Stat path) rows = status_of (row_at path rows)
+reply_of (op.List path) rows = reply.Names (listed path (row_at path rows) rows)
+reply_of (op.Summary path) rows = summary_of (rows_under path rows)
+reply_of (op.Delete path recursive) rows = reply.Deleted (length (rows_under path rows))
+reply_of (op.Mkdirs path mode) rows = reply.Empty
+reply_of (op.Rename from to) rows = reply.Empty
+reply_of (op.SetMode path mode) rows = reply.Empty
+reply_of (op.SetOwner path owner group) rows = reply.Empty
+reply_of (op.AddUser user groups) rows = reply.Empty
+reply_of (op.SetGroups user groups) rows = reply.Empty
 
 -- the mode of a new directory beneath which these names are still to be made: the last has the one that was asked for
 abbrev pub mode_of_new : ℕ → List (List ℕ) → ℕ
@@ -80,22 +140,51 @@ abbrev pub made_at : List (List ℕ) → ℕ → List ℕ → Option Row → Lis
 made_at path mode owner None rows = with_directories path mode owner (ancestor path rows) rows
 made_at path mode owner (Some row) rows = rows
 
-abbrev pub rows_after : Op → List ℕ → List Row → List Row
-rows_after (Mkdirs path mode) caller rows = made_at path mode caller (row_at path rows) rows
-rows_after (Stat path) caller rows = rows
+-- the rows with what stands at a path given another mode, or another owner and group
+abbrev pub with_mode_at : List (List ℕ) → ℕ → Option Row → List Row → List Row
+with_mode_at path mode None rows = rows
+with_mode_at path mode (Some row) rows = rewritten path row.owner row.group (acl_of_mode mode row.kind) rows
 
--- a refusal leaves the rows as they are
-abbrev pub outcome : List Row → List ℕ → Op → Step
-outcome rows caller op = refused_or_done (first_refusal op rows)
-  where
-    refused_or_done : Option Refusal → Step
-    refused_or_done None = record { verdict = Done (reply_of op rows); rows = rows_after op caller rows }
-    refused_or_done (Some refusal) = record { verdict = Refused refusal; rows = rows }
+abbrev pub with_owner_at : List (List ℕ) → Option (List ℕ) → Option (List ℕ) → Option Row → List Row → List Row
+with_owner_at path owner group None rows = rows
+with_owner_at path owner group (Some row) rows = rewritten path (unwrap_or owner row.owner) (unwrap_or group row.group) row.acl rows
+
+abbrev pub rows_after : Op → List ℕ → List Row → List Row
+rows_after (op.Mkdirs path mode) caller rows = made_at path mode caller (row_at path rows) rows
+rows_after (op.Delete path recursive) caller rows = without path rows
+rows_after (op.Rename from to) caller rows = moved from to rows
+rows_after (op.SetMode path mode) caller rows = with_mode_at path mode (row_at path rows) rows
+rows_after (op.SetOwner path owner group) caller rows = with_owner_at path owner group (row_at path rows) rows
+rows_after (op.Stat path) caller rows = rows
+rows_after (op.List path) caller rows = rows
+rows_after (op.Summary path) caller rows = rows
+rows_after (op.AddUser user groups) caller rows = rows
+rows_after (op.SetGroups user groups) caller rows = rows
+
+abbrev pub users_after : Op → Principals → Principals
+users_after (op.AddUser user groups) users = with_user users user groups
+users_after (op.SetGroups user groups) users = with_groups users user groups
+users_after (op.Mkdirs path mode) users = users
+users_after (op.Delete path recursive) users = users
+users_after (op.Rename from to) users = users
+users_after (op.SetMode path mode) users = users
+users_after (op.SetOwner path owner group) users = users
+users_after (op.Stat path) users = users
+users_after (op.List path) users = users
+users_after (op.Summary path) users = users
+
+abbrev pub refused_or_done : List Row → Principals → List ℕ → Op → Option Refusal → Step
+refused_or_done rows users caller op None = record { verdict = Done (reply_of op rows); rows = rows_after op caller rows; users = users_after op users }
+refused_or_done rows users caller op (Some refusal) = record { verdict = Refused refusal; rows = rows; users = users }
+
+-- a refusal leaves rows and users as they are
+abbrev pub outcome : List Row → Principals → List ℕ → Op → Step
+outcome rows users caller op = refused_or_done rows users caller op (first_refusal op rows users)
+
+abbrev pub denied_or_outcome : List Row → Principals → List ℕ → Op → Option denied.Denied → Step
+denied_or_outcome rows users caller op None = outcome rows users caller op
+denied_or_outcome rows users caller op (Some denial) = record { verdict = Denied denial; rows = rows; users = users }
 
 -- the decision first, and then the outcome
 abbrev pub step : List Row → Principals → List ℕ → Op → Step
-step rows users caller op = denied_or_outcome (decision rows users caller op)
-  where
-    denied_or_outcome : Option denied.Denied → Step
-    denied_or_outcome None = outcome rows caller op
-    denied_or_outcome (Some denial) = record { verdict = Denied denial; rows = rows }
+step rows users caller op = denied_or_outcome rows users caller op (decision rows users caller op)

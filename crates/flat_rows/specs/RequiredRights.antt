@@ -1,10 +1,10 @@
 -- The needs of each operation, in the order in which they are judged.
 -- (HDFS Permissions Guide, "Permission Checks".)
-use Rattle.std.specs.Prelude.{ℕ, Bool, true, List, [], ◌∷◌}
+use Rattle.std.specs.Prelude.{ℕ, Bool, true, List, [], ◌∷◌, ◌++◌, Option, Some, None}
 use Rattle.hdfs_types.specs.Rights.{rights}
 use Rattle.hdfs_types.specs.declared.rights.Rights as bits
 use Rattle.hdfs_types.specs.declared.op.Op.{Op}
-use Rattle.hdfs_types.specs.declared.op.Op.TheVariants.{Mkdirs, Stat}
+use Rattle.hdfs_types.specs.declared.op.Op.TheVariants as op
 use Rattle.flat_rows.specs.declared.need.Need.{Need}
 use Rattle.flat_rows.specs.declared.need.Need.TheVariants.{Rights, Sticky, Owner, Member, Superuser}
 use Rattle.flat_rows.specs.declared.demand.Role.{Role}
@@ -78,6 +78,24 @@ membership path group = demand_on path Always (Member group) enforced.Always
 abbrev pub administration : Demand
 administration = demand_on [] Always Superuser enforced.Always
 
+-- what giving a path another owner and another group needs
+abbrev pub owner_demands : List (List ℕ) → Option (List ℕ) → List Demand
+owner_demands path None = []
+owner_demands path (Some user) = giving_away path user ∷ []
+
+abbrev pub group_demands : List (List ℕ) → Option (List ℕ) → List Demand
+group_demands path None = []
+group_demands path (Some group) = membership path group ∷ []
+
+-- in the order: traversal, sticky bit, ancestor, parent, final, sub-tree, owner, superuser, member
 abbrev pub required_rights : Op → List Demand
-required_rights (Mkdirs path mode) = traversal path ∷ creation path ∷ []
-required_rights (Stat path) = traversal path ∷ []
+required_rights (op.Mkdirs path mode) = traversal path ∷ creation path ∷ []
+required_rights (op.Stat path) = traversal path ∷ []
+required_rights (op.List path) = traversal path ∷ listing path ∷ []
+required_rights (op.Summary path) = traversal path ∷ sub_tree (rights 5) path ∷ []
+required_rights (op.Delete path recursive) = traversal path ∷ sticky_bit path ∷ removal path ∷ sub_tree (rights 7) path ∷ []
+required_rights (op.Rename from to) = traversal from ∷ traversal to ∷ sticky_bit from ∷ write_above to ∷ removal from ∷ []
+required_rights (op.SetMode path mode) = strict_traversal path ∷ ownership path ∷ []
+required_rights (op.SetOwner path owner group) = strict_traversal path ∷ ownership path ∷ (owner_demands path owner ++ group_demands path group)
+required_rights (op.AddUser user groups) = administration ∷ []
+required_rights (op.SetGroups user groups) = administration ∷ []

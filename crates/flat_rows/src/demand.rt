@@ -1,6 +1,6 @@
-ghost use Rattle.std.specs.Prelude.{◌≡◌, [], Some, IfOk};
+ghost use Rattle.std.specs.Prelude.{◌≡◌, ◌∷◌, ◌++◌, [], Some, IfOk};
 ghost use Rattle.hdfs_types.specs.Path.{IsPath};
-ghost use Rattle.flat_rows.specs.RequiredRights.{required_rights};
+ghost use Rattle.flat_rows.specs.RequiredRights as spec;
 
 use crate::need::Need;
 use hdfs_types::name::Name;
@@ -283,13 +283,47 @@ impl<'a> Needs<'a> {
     }
 }
 
+/// What giving a path another owner and another group needs.
+fn needs_of_owner<'a>(
+    alloc: Global,
+    path: &'a Path,
+    owner: &Option<Who>,
+    group: &Option<Who>,
+) -> Result<Vec<Demand<'a>>, AllocError>
+    ensures { IfOk result (λ demands. demands.items ≡ spec.strict_traversal path.now ∷ spec.ownership path.now ∷ (spec.owner_demands path.now owner.now ++ spec.group_demands path.now group.now)) }
+{
+    let mut demands = vec![in alloc; Demand::strict_traversal(path), Demand::ownership(path)]?;
+    if let Some(user) = owner {
+        demands.push(Demand::giving_away(path, user)?)?;
+    }
+    if let Some(group) = group {
+        demands.push(Demand::membership(path, group)?)?;
+    }
+    Ok(demands)
+}
+
 /// The needs of an operation, with its paths borrowed: the one table of required rights.
 pub fn needs_of<'a>(alloc: Global, op: &'a Op) -> Result<Needs<'a>, AllocError>
-    ensures { IfOk result (λ needs. needs ≡ required_rights op.now) }
+    ensures { IfOk result (λ needs. needs ≡ spec.required_rights op.now) }
 {
     let demands = match op {
         Op::Mkdirs(path, _) => vec![in alloc; Demand::traversal(path), Demand::creation(path)]?,
         Op::Stat(path) => vec![in alloc; Demand::traversal(path)]?,
+        Op::List(path) => vec![in alloc; Demand::traversal(path), Demand::listing(path)]?,
+        Op::Summary(path) => {
+            vec![in alloc; Demand::traversal(path), Demand::sub_tree(Rights::of_low_bits(0o5), path)]?
+        }
+        Op::Delete(path, _) => {
+            vec![in alloc; Demand::traversal(path), Demand::sticky_bit(path), Demand::removal(path), Demand::sub_tree(Rights::of_low_bits(0o7), path)]?
+        }
+        Op::Rename(from, to) => {
+            vec![in alloc; Demand::traversal(from), Demand::traversal(to), Demand::sticky_bit(from), Demand::write_above(to), Demand::removal(from)]?
+        }
+        Op::SetMode(path, _) => {
+            vec![in alloc; Demand::strict_traversal(path), Demand::ownership(path)]?
+        }
+        Op::SetOwner(path, owner, group) => needs_of_owner(alloc, path, owner, group)?,
+        Op::AddUser(_, _) | Op::SetGroups(_, _) => vec![in alloc; Demand::administration()]?,
     };
     Ok(Needs { demands })
 }

@@ -1,12 +1,15 @@
 -- The codes and the texts of replies and refusals.
-use Rattle.std.specs.Prelude.{ℕ, List, ◌∷◌, ◌++◌, codes}
+use Rattle.std.specs.Prelude.{ℕ, List, [], ◌∷◌, ◌++◌, codes}
+use Rattle.std.specs.Fmt.{decimal}
+use Rattle.std.specs.List.{flat_map}
 use Rattle.hdfs_types.specs.Mode.{mode_text}
 use Rattle.hdfs_types.specs.Path.{path_text}
 use Rattle.hdfs_types.specs.declared.reply.ObjectKind.{ObjectKind}
 use Rattle.hdfs_types.specs.declared.reply.ObjectKind.TheVariants.{File, Directory}
 use Rattle.hdfs_types.specs.declared.reply.FileStatus.{FileStatus}
+use Rattle.hdfs_types.specs.declared.reply.ContentSummary.{ContentSummary}
 use Rattle.hdfs_types.specs.declared.reply.Refusal.{Refusal}
-use Rattle.hdfs_types.specs.declared.reply.Refusal.TheVariants.{NotFound, NotDirectory, Exists}
+use Rattle.hdfs_types.specs.declared.reply.Refusal.TheVariants.{BadPath, NotFound, NotDirectory, Exists, NotEmpty, IsRoot, UnderItself, BadName}
 
 abbrev pub object_kind_text : ObjectKind → List ℕ
 object_kind_text File = codes "file"
@@ -15,12 +18,29 @@ object_kind_text Directory = codes "dir"
 abbrev pub status_text : FileStatus → List ℕ
 status_text status = object_kind_text status.kind ++ (32 ∷ (mode_text status.mode ++ (32 ∷ (status.owner ++ (32 ∷ status.group)))))
 
+-- each name behind a blank
+abbrev pub names_text : List (List ℕ) → List ℕ
+names_text names = flat_map (λ name. 32 ∷ name) names
+
+abbrev pub summary_text : ContentSummary → List ℕ
+summary_text summary = 32 ∷ (decimal summary.directories ++ (32 ∷ (decimal summary.files ++ (32 ∷ decimal summary.bytes))))
+
 abbrev pub refusal_code : Refusal → ℕ
+refusal_code BadPath = 1
 refusal_code NotFound = 2
 refusal_code (NotDirectory file) = 3
 refusal_code Exists = 5
+refusal_code NotEmpty = 6
+refusal_code IsRoot = 7
+refusal_code UnderItself = 8
+refusal_code BadName = 19
 
 abbrev pub refusal_text : Refusal → List ℕ
+refusal_text BadPath = codes "1 BadPath"
 refusal_text NotFound = codes "2 NotFound"
 refusal_text (NotDirectory file) = codes "3 NotDirectory " ++ path_text file
 refusal_text Exists = codes "5 Exists"
+refusal_text NotEmpty = codes "6 NotEmpty"
+refusal_text IsRoot = codes "7 IsRoot"
+refusal_text UnderItself = codes "8 UnderItself"
+refusal_text BadName = codes "19 BadName"

@@ -1,6 +1,7 @@
-ghost use Rattle.std.specs.Prelude.{◌≡◌};
+ghost use Rattle.std.specs.Prelude.{◌≡◌, IfOk};
 ghost use Rattle.hdfs_types.specs.Request as spec;
 
+use crate::groups::Groups;
 use crate::mode::Mode;
 use crate::moment::Moment;
 use crate::path::Path;
@@ -14,6 +15,32 @@ pub enum Op {
     Mkdirs(Path, Mode),
     /// Asks for what a file or a directory is.
     Stat(Path),
+    /// Asks for the names that a directory holds.
+    List(Path),
+    /// Asks how many directories and files there are at a path and beneath it.
+    Summary(Path),
+    /// Deletes what has a path, a directory that isn't empty only where the deletion is recursive.
+    Delete(Path, bool),
+    /// Moves what has the first path, with all that is beneath it, to the second.
+    Rename(Path, Path),
+    /// Gives what has a path another mode.
+    SetMode(Path, Mode),
+    /// Gives what has a path another owner and another group; `None` keeps what it has.
+    SetOwner(Path, Option<Who>, Option<Who>),
+    /// Makes a user known, with these groups.
+    AddUser(Who, Groups),
+    /// Gives a known user these groups, instead of those that it had.
+    SetGroups(Who, Groups),
+}
+
+/// A copy of a name that may be left out.
+fn copied(who: &Option<Who>) -> Result<Option<Who>, AllocError>
+    ensures { IfOk result (λ copy. copy ≡ who.now) }
+{
+    match who {
+        Some(who) => Ok(Some(who.clone()?)),
+        None => Ok(None),
+    }
 }
 
 impl Clone for Op {
@@ -23,6 +50,18 @@ impl Clone for Op {
         match self {
             Op::Mkdirs(path, mode) => Ok(Op::Mkdirs(path.clone()?, *mode)),
             Op::Stat(path) => Ok(Op::Stat(path.clone()?)),
+            Op::List(path) => Ok(Op::List(path.clone()?)),
+            Op::Summary(path) => Ok(Op::Summary(path.clone()?)),
+            Op::Delete(path, recursive) => Ok(Op::Delete(path.clone()?, *recursive)),
+            Op::Rename(from, to) => Ok(Op::Rename(from.clone()?, to.clone()?)),
+            Op::SetMode(path, mode) => Ok(Op::SetMode(path.clone()?, *mode)),
+            Op::SetOwner(path, owner, group) => Ok(Op::SetOwner(
+                path.clone()?,
+                copied(owner)?,
+                copied(group)?,
+            )),
+            Op::AddUser(user, groups) => Ok(Op::AddUser(user.clone()?, groups.clone()?)),
+            Op::SetGroups(user, groups) => Ok(Op::SetGroups(user.clone()?, groups.clone()?)),
         }
     }
 }
@@ -53,7 +92,13 @@ pub fn is_look(op: &Op) -> bool
     ensures { result ≡ spec.is_look op.now }
 {
     match op {
-        Op::Stat(_) => true,
-        Op::Mkdirs(_, _) => false,
+        Op::Stat(_) | Op::List(_) | Op::Summary(_) => true,
+        Op::Mkdirs(_, _)
+        | Op::Delete(_, _)
+        | Op::Rename(_, _)
+        | Op::SetMode(_, _)
+        | Op::SetOwner(_, _, _)
+        | Op::AddUser(_, _)
+        | Op::SetGroups(_, _) => false,
     }
 }

@@ -1,9 +1,11 @@
 ghost use Rattle.std.specs.Prelude.{◌≡◌, Some};
 
 use crate::mode::Mode;
+use crate::name::Name;
 use crate::path::Path;
 use crate::who::Who;
 use std::fmt;
+use std::marker::Model;
 
 #[derive(Clone, Copy, Debug, PartialEq, Eq)]
 pub enum ObjectKind {
@@ -37,23 +39,104 @@ impl fmt::Display for FileStatus {
     }
 }
 
+/// Names in an order.
+#[derive(Debug, Drop)]
+pub struct Names {
+    list: Vec<Name>,
+}
+
+impl Model for Names {
+    ghost use Rattle.std.specs.Prelude.{List, ℕ};
+
+    ghost Value = { List (List ℕ) };
+
+    ghost view = { λ names. names.list.items };
+}
+
+impl Names {
+    /// These names. Takes no memory.
+    pub fn new(list: Vec<Name>) -> Names
+        ensures { result ≡ list.items }
+    {
+        Names { list }
+    }
+
+    pub fn as_slice(&self) -> &[Name]
+        ensures { result.now ≡ self.now }
+    {
+        &self.list
+    }
+}
+
+/// Prints each name behind a blank.
+impl fmt::Display for Names {
+    ghost use Rattle.hdfs_types.specs.Reply.{names_text};
+
+    ghost output = { λ names. Some (names_text names) };
+
+    fn fmt<W: fmt::Write>(&self, f: &mut fmt::Formatter<W>) -> fmt::Result {
+        for name in &self.list {
+            write!(f, " {name}")?;
+        }
+        Ok(())
+    }
+}
+
+/// What there is at a path and beneath it.
+#[derive(Clone, Copy, Debug, PartialEq, Eq)]
+pub struct ContentSummary {
+    pub directories: u64,
+    pub files: u64,
+    /// The bytes that the files hold.
+    pub bytes: u64,
+}
+
+/// Prints directories, files and bytes, each behind a blank.
+impl fmt::Display for ContentSummary {
+    ghost use Rattle.hdfs_types.specs.Reply.{summary_text};
+
+    ghost output = { λ summary. Some (summary_text summary) };
+
+    fn fmt<W: fmt::Write>(&self, f: &mut fmt::Formatter<W>) -> fmt::Result {
+        let directories = self.directories;
+        let files = self.files;
+        let bytes = self.bytes;
+        write!(f, " {directories} {files} {bytes}")
+    }
+}
+
 /// What the NameNode answers to a request that it has done.
 #[derive(Debug, Drop)]
 pub enum Reply {
     /// It is done, and there is nothing to tell.
     Empty,
     Status(FileStatus),
+    /// The names that a directory holds, or a file's own.
+    Names(Names),
+    Summary(ContentSummary),
+    /// How many files and directories were deleted.
+    Deleted(u64),
 }
 
 /// Why the NameNode doesn't do what no missing right forbids: the state of the namespace stands against it.
 #[derive(Debug, Drop)]
 pub enum Refusal {
-    /// Nothing has that path: code 2.
+    /// A path would pass the limits: code 1.
+    BadPath,
+    /// Nothing has that path, or no user has that name: code 2.
     NotFound,
     /// This file stands above the path: code 3.
     NotDirectory(Path),
-    /// Something has that path: code 5.
+    /// Something has that path, or a user that name: code 5.
     Exists,
+    /// The directory holds something: code 6.
+    NotEmpty,
+    /// The root can't be deleted or renamed: code 7.
+    IsRoot,
+    /// A directory can't be moved to a path beneath itself: code 8.
+    UnderItself,
+    /// That name is a DataNode's: code 19.
+    BadName,
 }
 
 impl Refusal {
@@ -64,9 +147,14 @@ impl Refusal {
         ensures { result ≡ refusal_code self.now }
     {
         match self {
+            Refusal::BadPath => 1,
             Refusal::NotFound => 2,
             Refusal::NotDirectory(_) => 3,
             Refusal::Exists => 5,
+            Refusal::NotEmpty => 6,
+            Refusal::IsRoot => 7,
+            Refusal::UnderItself => 8,
+            Refusal::BadName => 19,
         }
     }
 }
@@ -79,9 +167,14 @@ impl fmt::Display for Refusal {
 
     fn fmt<W: fmt::Write>(&self, f: &mut fmt::Formatter<W>) -> fmt::Result {
         match self {
+            Refusal::BadPath => write!(f, "1 BadPath"),
             Refusal::NotFound => write!(f, "2 NotFound"),
             Refusal::NotDirectory(file) => write!(f, "3 NotDirectory {file}"),
             Refusal::Exists => write!(f, "5 Exists"),
+            Refusal::NotEmpty => write!(f, "6 NotEmpty"),
+            Refusal::IsRoot => write!(f, "7 IsRoot"),
+            Refusal::UnderItself => write!(f, "8 UnderItself"),
+            Refusal::BadName => write!(f, "19 BadName"),
         }
     }
 }

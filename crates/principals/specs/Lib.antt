@@ -1,1 +1,2 @@
 pub mod Principals
+pub mod Faults

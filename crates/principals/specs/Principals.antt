@@ -1,8 +1,13 @@
 -- Users with their groups, the superuser and the supergroup.
 -- (HDFS Permissions Guide, "User Identity", "Group Mapping" and "The Super-User".)
-use Rattle.std.specs.Prelude.{ℕ, Bool, ◌||◌, List, [], unwrap_or}
-use Rattle.std.specs.Map.{lookup}
-use Rattle.hdfs_types.specs.Text.{same}
+use Rattle.std.specs.Prelude.{ℕ, Bool, ◌||◌, List, [], if◌then◌else◌, Option, Some, None, unwrap_or}
+use Rattle.std.specs.BTreeMap.{insert_entry}
+use Rattle.std.specs.Map.{lookup, set_value}
+use Rattle.std.specs.Option.{is_some}
+use Rattle.hdfs_types.specs.Text.{same, text_cmp}
+use Rattle.hdfs_types.specs.NodeId.{node_of}
+use Rattle.hdfs_types.specs.declared.reply.Refusal.{Refusal}
+use Rattle.hdfs_types.specs.declared.reply.Refusal.TheVariants.{BadName, Exists, NotFound}
 use Rattle.hdfs_types.specs.Groups.{has_group}
 
 -- each known user with the groups last set, and the two names that a namesystem opens with
@@ -27,3 +32,19 @@ pub record Asking : Type 0 where
 
 abbrev pub caller_of : Principals → List ℕ → Asking
 caller_of users user = record { name = user; groups = groups_of users user; is_superuser = is_super users user }
+
+abbrev pub is_known : Principals → List ℕ → Bool
+is_known users user = is_some (lookup (same user) users.known)
+
+-- a DataNode's name can't be a user's, and a user is made known once
+abbrev pub refusal_of_new : Principals → List ℕ → Option Refusal
+refusal_of_new users user = if is_some (node_of user) then Some BadName else (if is_known users user then Some Exists else None)
+
+abbrev pub refusal_of_known : Principals → List ℕ → Option Refusal
+refusal_of_known users user = if is_known users user then None else Some NotFound
+
+abbrev pub with_user : Principals → List ℕ → List (List ℕ) → Principals
+with_user users user groups = record { known = insert_entry text_cmp users.known user groups; superuser = users.superuser; supergroup = users.supergroup }
+
+abbrev pub with_groups : Principals → List ℕ → List (List ℕ) → Principals
+with_groups users user groups = record { known = set_value (same user) users.known groups; superuser = users.superuser; supergroup = users.supergroup }

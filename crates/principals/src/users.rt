@@ -1,12 +1,39 @@
-ghost use Rattle.std.specs.Prelude.{◌≡◌, []};
+ghost use Rattle.std.specs.Prelude.{◌≡◌, [], Some, None, OnOk, OnErr, IfErr};
+ghost use Rattle.principals.specs.Faults.{IfRefused};
+ghost use Rattle.principals.specs.declared.users.UserFault.TheVariants.{OutOfMemory};
 ghost use Rattle.principals.specs.Principals as spec;
 
 use crate::caller::Caller;
 use hdfs_types::groups::{Groups, has_group};
+use hdfs_types::node_id::node_of;
+use hdfs_types::reply::Refusal;
 use hdfs_types::who::Who;
-use std::alloc::Global;
+use std::alloc::{AllocError, AllocFailed, Global};
 use std::collections::BTreeMap;
 use std::marker::Model;
+
+/// Why a user was not made known, or its groups not set.
+#[derive(Debug, Drop)]
+pub enum UserFault {
+    Refused(Refusal),
+    OutOfMemory,
+}
+
+impl From<AllocError> for UserFault {
+    ghost from_gives = { λ _ fault. fault ≡ OutOfMemory };
+
+    fn from(_error: AllocError) -> UserFault {
+        UserFault::OutOfMemory
+    }
+}
+
+impl<T: Drop> From<AllocFailed<T>> for UserFault {
+    ghost from_gives = { λ _ fault. fault ≡ OutOfMemory };
+
+    fn from(_error: AllocFailed<T>) -> UserFault {
+        UserFault::OutOfMemory
+    }
+}
 
 /// The known users with their groups, the superuser and the supergroup (HDFS Permissions Guide, "Group Mapping" and "The
 /// Super-User").
@@ -73,5 +100,41 @@ impl Users {
         ensures { result ≡ spec.caller_of self.now name.now }
     {
         Caller::new(name, self.groups_of(name), self.is_super(name))
+    }
+
+    /// Makes a user known, with these groups. Costs a look-up.
+    ///
+    /// # Errors
+    /// `BadName` for the name of a DataNode, else `Exists` for a user that is known, else want of memory. Nothing has changed
+    /// then.
+    pub fn add(&mut self, user: Who, groups: Groups) -> Result<(), UserFault>
+        ensures ok { OnOk result ((spec.refusal_of_new self.old user ≡ None) × (self.new ≡ spec.with_user self.old user groups)) }
+        ensures refused { IfRefused result (λ refusal. spec.refusal_of_new self.old user ≡ Some refusal) }
+        ensures err { OnErr result (self.new ≡ self.old) }
+    {
+        if node_of(&user).is_some() {
+            return Err(UserFault::Refused(Refusal::BadName));
+        }
+        if self.known.contains_key(&user) {
+            return Err(UserFault::Refused(Refusal::Exists));
+        }
+        self.known.insert(user, groups)?;
+        Ok(())
+    }
+
+    /// Gives a known user these groups, instead of those that it had. Costs a look-up, and takes no memory.
+    ///
+    /// # Errors
+    /// `NotFound` for a user that isn't known. Nothing has changed then.
+    pub fn set_groups(&mut self, user: &Who, groups: Groups) -> Result<(), Refusal>
+        ensures ok { OnOk result ((spec.refusal_of_known self.old user.now ≡ None) × (self.new ≡ spec.with_groups self.old user.now groups)) }
+        ensures refused { IfErr result (λ refusal. spec.refusal_of_known self.old user.now ≡ Some refusal) }
+        ensures err { OnErr result (self.new ≡ self.old) }
+    {
+        let Some(own) = self.known.get_mut(user) else {
+            return Err(Refusal::NotFound);
+        };
+        *own = groups;
+        Ok(())
     }
 }
