@@ -56,6 +56,7 @@ module _ (names path : List (List ℕ)) (is : names ≡ path) (root : Branch) (a
   counts_there =
       ap (λ n. made n (length (filter (λ row. not (is_directory row)) (rows_or o)))) (number is_directory (λ row. refl))
       ∙ ap (made (length (filter is_directory (rows_under path all)))) (number (λ row. not (is_directory row)) (λ row. refl))
+
   paths_there : are_paths (map (placed path) (rows_or o)) ≡ true
   paths_there = sym (ap are_paths under) ∙ all_kept (inside path) (λ row. is_path row.path) all (ap are_paths (sym seen) ∙ tree.paths)
 

@@ -10,3 +10,5 @@ pub mod Moves
 pub mod Visits
 pub mod Children
 pub mod Asked
+pub mod Limits
+pub mod Descents

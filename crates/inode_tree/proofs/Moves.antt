@@ -187,7 +187,7 @@ there_after to from s rs beside =
 
 -- the whole
 
-moved_placed : (from to : List (List ℕ)) (xs : List Row) → map (moved_row from to) (map (placed from) xs) ≡ map (placed to) xs
+pub moved_placed : (from to : List (List ℕ)) (xs : List Row) → map (moved_row from to) (map (placed from) xs) ≡ map (placed to) xs
 moved_placed from to [] = refl
 moved_placed from to (r ∷ rs) =
     ap (λ p. record { path = to ++ p; kind = r.kind; owner = r.owner; group = r.group; acl = r.acl } ∷ map (moved_row from to) (map (placed from) rs)) (drop-append_seam from r.path) ∙ ap (λ t. placed to r ∷ t) (moved_placed from to rs)

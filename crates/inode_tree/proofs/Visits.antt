@@ -4,6 +4,7 @@ use Rattle.std.proofs.lemmas.List.{length-map, map-append}
 use Rattle.std.proofs.lemmas.List.Elements.{filter-append}
 use Rattle.std.proofs.lemmas.List.Folds.{list_all-append}
 use Rattle.std.specs.List.{filter}
+use Rattle.std.specs.Option.{option_map}
 use Rattle.hdfs_types.specs.Path.{is_path}
 use Rattle.flat_rows.specs.declared.row.Row.{Row}
 use Rattle.flat_rows.specs.First.{first}
@@ -11,7 +12,8 @@ use Rattle.flat_rows.specs.Rows.{is_directory}
 use Rattle.flat_rows.specs.Changes.{are_paths}
 use Rattle.flat_rows.proofs.Tests.{both}
 use Rattle.inode_tree.specs.Branch.{Branch, flatten, rows, row_of, top_of, under, placed}
-use Rattle.inode_tree.specs.Visits.{told, directories, files}
+use Rattle.inode_tree.specs.Visits.{told, directories, files, row_found}
+use Rattle.inode_tree.specs.declared.visit.Found.{Found}
 use Rattle.inode_tree.proofs.Filters.{Entries, filter-map, append_rows}
 
 pub shorter : (it new : Entries) (n : List ℕ) (b : Branch) → it ≡ (n, b) ∷ new → length (flatten new) ≤ length (flatten it)
@@ -72,6 +74,10 @@ module _ (it new : Entries) (n : List ℕ) (b : Branch) (is : it ≡ (n, b) ∷ 
   files_step before here after all h a k =
       ap (λ x. told (x + files (flatten new))) (a ∙ ap (λ x. told (before + x)) h) ∙ told_sum before (files (rows b)) (files (flatten new))
       ∙ ap (λ x. told (before + x)) (sym (count_entry (λ row. not (is_directory row)) (λ m row. refl) it new n b is)) ∙ k
+
+-- nothing was found
+pub none_found : (found : Option Found) (o : Option Row) → option_map row_found found ≡ o → found ≡ None → o ≡ None
+none_found found o is none = sym is ∙ ap (option_map row_found) none
 
 -- rows with their paths
 

@@ -4,4 +4,5 @@ pub mod Kept
 pub mod Falls
 pub mod Change
 pub mod Visits
+pub mod Limits
 pub mod Tree

@@ -4,6 +4,7 @@
 
 mod change;
 pub mod inode;
+mod limit;
 mod node;
 pub mod tree;
 pub mod visit;

@@ -10,9 +10,10 @@ ghost use Rattle.flat_rows.specs.First.{first};
 ghost use Rattle.inode_tree.specs.Visits.{counts_of, is_closed};
 ghost use Rattle.inode_tree.specs.Branch.{rows, row_of};
 ghost use Rattle.inode_tree.specs.Part.{IsWhole};
-ghost use Rattle.inode_tree.specs.Tree.{branch_at};
+ghost use Rattle.inode_tree.specs.Tree.{branch_at, IsTree};
 
 use crate::inode::Inode;
+use crate::limit;
 use crate::node::Node;
 use crate::visit::{self, Counts};
 use acl_entries::acl::Acl;
@@ -62,7 +63,8 @@ impl Tree {
 
     /// The root.
     pub fn root(&self) -> Inode<'_>
-        ensures { rows (branch_at result) ≡ self.now }
+        ensures rows { rows (branch_at result) ≡ self.now }
+        ensures tree { IsTree self.now }
     {
         Inode::new(&self.root)
     }
@@ -129,6 +131,22 @@ impl Tree {
             Some(node) => visit::names_of(self.alloc, node),
             None => Ok(Vec::new(self.alloc)),
         }
+    }
+
+    /// Whether each path stays within the limits where what stands at a path is moved to another. Where the other path is
+    /// deeper or longer, costs also what stands there, up to the first that doesn't fit. Takes no memory.
+    pub fn can_move(&self, from: &Path, to: &Path) -> bool
+        ensures { result ≡ are_paths (map (moved_row from.now to.now) (rows_under from.now self.now)) }
+    {
+        let Some(node) = self.root.find(from.names()) else {
+            return true;
+        };
+        let depth = to.depth();
+        let bytes = limit::text_bytes(to);
+        if depth <= from.depth() && bytes <= limit::text_bytes(from) {
+            return true;
+        }
+        limit::fits(node, depth, bytes)
     }
 
     /// Puts a file, or a directory that holds nothing, at a path, instead of what stood there.

@@ -219,8 +219,8 @@ impl Found {
 fn push_reversed(names: &mut Vec<Name>, mut last_first: Vec<Name>) -> Result<(), AllocError>
     ensures { OnOk result (names.new.items ≡ names.old.items ++ reverse last_first.items) }
 {
-    while let Some(name) = last_first.pop() {
-        names.push(name)?;
+    while let Some(last) = last_first.pop() {
+        names.push(last)?;
     }
     Ok(())
 }

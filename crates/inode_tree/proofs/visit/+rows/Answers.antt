@@ -6,9 +6,10 @@ use Rattle.inode_tree.proofs.visit.+rows.Goals as goal
 
 pub push_rows_in-push_rows-requires : goal.push_rows_in-push_rows-requires
 push_rows_in-push_rows-requires t c =
-    let less = lower c.loop-name.name-iterator c.next.new.self c.in-Some.name.now c.in-Some.child.now c.in-Some.ensures.steps in
-    (omega (arith, c.decreases, less, c.loop-name.invariant.left),
-    paths_here c.args.path.now c.in_ok-beneath.beneath c.loop-name.name-iterator c.next.new.self c.in-Some.name.now c.in-Some.child.now c.in_ok-beneath.ensures c.in-Some.ensures.steps c.loop-name.invariant.within)
+    let less = lower c.loop-name.name-iterator c.next.new.self c.in-Some.name.now c.in-Some.child.now c.in-Some.ensures.steps in (
+      omega (arith, c.decreases, less, c.loop-name.invariant.left),
+      paths_here c.args.path.now c.in_ok-beneath.beneath c.loop-name.name-iterator c.next.new.self c.in-Some.name.now c.in-Some.child.now c.in_ok-beneath.ensures c.in-Some.ensures.steps c.loop-name.invariant.within,
+    )
 
 pub push_rows_in-loop-name-preserved : goal.push_rows_in-loop-name-preserved
 push_rows_in-loop-name-preserved t c =

@@ -1,0 +1,19 @@
+use Rattle.std.proofs.Common.{Some, ap, arith, subst, sym, ◌∙◌, length}
+use Rattle.std.specs.List.{list_all}
+use Rattle.std.specs.Option.{option_copied}
+use Rattle.inode_tree.specs.Branch.{rows}
+use Rattle.inode_tree.specs.Limits.{bytes_of, fits_behind}
+use Rattle.inode_tree.specs.Part.{IsWhole}
+use Rattle.inode_tree.proofs.Limits.{fits_moved, fits_short}
+use Rattle.inode_tree.proofs.tree.Tree.can_move.Goals as goal
+
+pub returns-then-bytes-text_bytes : goal.returns-then-bytes-text_bytes
+returns-then-bytes-text_bytes c =
+    sym (fits_short c.names.result.now c.args.from.now c.args.to.now c.names.ensures.names c.self.inside.root c.args.self.now c.self.view_is c.self.invariant c.names.ensures.path c.text_bytes-bytes.ensures.path (option_copied c.find.result) c.find.ensures
+    (omega (arith, c.if-depth.true, c.depth-depth.ensures, c.depth.ensures)) (omega (arith, c.if-bytes-text_bytes.true, c.text_bytes-bytes.ensures.bytes, c.text_bytes.ensures.bytes)))
+
+pub returns : goal.returns
+returns c =
+    c.fits.ensures ∙ ap (λ d. list_all (fits_behind d c.text_bytes-bytes.result) (rows c.in-Some.node.now)) c.depth-depth.ensures
+    ∙ ap (λ b. list_all (fits_behind (length c.args.to.now) b) (rows c.in-Some.node.now)) c.text_bytes-bytes.ensures.bytes
+    ∙ fits_moved c.names.result.now c.args.from.now c.args.to.now c.names.ensures.names c.self.inside.root c.args.self.now c.self.view_is c.self.invariant c.names.ensures.path c.text_bytes-bytes.ensures.path (Some c.in-Some.node.now) (subst (IsWhole c.names.result.now (rows c.self.inside.root)) (ap option_copied c.in-Some.is) c.find.ensures)
