@@ -1,6 +1,7 @@
 ghost use Rattle.std.specs.Prelude.{◌≡◌, [], IfSome};
 ghost use Rattle.std.specs.Option.{option_copied};
 ghost use Rattle.acl_entries.specs.JudgedEntry.{judged_entry};
+ghost use Rattle.flat_rows.specs.Outcome.{is_alone};
 ghost use Rattle.inode_tree.specs.Branch.{rows};
 ghost use Rattle.inode_tree.specs.Part.{IsPart, IsWhole};
 
@@ -110,6 +111,16 @@ impl Node {
         match &self.held {
             Held::File => None,
             Held::Directory(map) => map.get(name),
+        }
+    }
+
+    /// Whether nothing is beneath.
+    pub(crate) fn is_alone(&self) -> bool
+        ensures { result ≡ is_alone (rows self.now) }
+    {
+        match &self.held {
+            Held::File => true,
+            Held::Directory(map) => map.is_empty(),
         }
     }
 

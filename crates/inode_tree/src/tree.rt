@@ -4,7 +4,7 @@ ghost use Rattle.hdfs_types.specs.Path.{is_prefix};
 ghost use Rattle.flat_rows.specs.Opening.{root_row};
 ghost use Rattle.flat_rows.specs.Rows.{row_at, is_directory_kind, is_missing, file_above, ancestor, with_sub_tree};
 ghost use Rattle.flat_rows.specs.Namespace.{has_parent, is_root};
-ghost use Rattle.flat_rows.specs.Outcome.{with_directories};
+ghost use Rattle.flat_rows.specs.Outcome.{is_alone, with_directories};
 ghost use Rattle.flat_rows.specs.Changes.{rows_under, without, moved_row, moved, rewritten, suits_list, are_paths, child_names};
 ghost use Rattle.flat_rows.specs.First.{first};
 ghost use Rattle.inode_tree.specs.Visits.{counts_of, is_closed};
@@ -89,6 +89,16 @@ impl Tree {
                 directories: 0,
                 files: 0,
             },
+        }
+    }
+
+    /// Whether nothing is beneath what stands at a path. Takes no memory.
+    pub fn is_alone(&self, path: &Path) -> bool
+        ensures { result ≡ is_alone (rows_under path.now self.now) }
+    {
+        match self.root.find(path.names()) {
+            Some(node) => node.is_alone(),
+            None => true,
         }
     }
 
