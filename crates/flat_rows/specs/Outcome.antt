@@ -91,10 +91,15 @@ abbrev pub status_of : Option Row → Reply
 status_of None = reply.Empty
 status_of (Some row) = reply.Status (record { kind = row.kind; mode = shown_mode row.acl; owner = row.owner; group = row.group })
 
+-- the name of what has a path; the root has none
+abbrev pub own_name : List (List ℕ) → List (List ℕ)
+own_name [] = []
+own_name (name ∷ names) = last_name (name ∷ names) ∷ []
+
 -- the names that a directory holds, or a file's own
 abbrev pub listed : List (List ℕ) → Option Row → List Row → List (List ℕ)
 listed path None rows = []
-listed path (Some row) rows = if is_directory row then child_names path rows else last_name path ∷ []
+listed path (Some row) rows = if is_directory row then child_names path rows else own_name path
 
 -- how many directories and files there are; files hold no bytes yet
 abbrev pub summary_of : List Row → Reply

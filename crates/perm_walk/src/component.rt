@@ -53,12 +53,19 @@ impl<'a> Component<'a> {
         self.inode
     }
 
+    /// A copy of the path. Costs the path.
+    pub fn to_path(&self, alloc: Global) -> Result<Path, AllocError>
+        ensures { IfOk result (λ path. path ≡ self.now.path) }
+    {
+        Path::copied(alloc, self.path)
+    }
+
     /// A copy, as a row of the namespace. Costs the path.
     pub fn to_row(&self, alloc: Global) -> Result<Row, AllocError>
         ensures { IfOk result (λ row. row ≡ self.now) }
     {
         Ok(Row {
-            path: Path::copied(alloc, self.path)?,
+            path: self.to_path(alloc)?,
             kind: self.inode.kind(),
             owner: self.inode.owner().clone()?,
             group: self.inode.group().clone()?,

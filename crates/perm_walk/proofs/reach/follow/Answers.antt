@@ -8,7 +8,7 @@ use Rattle.perm_walk.proofs.Descents.{Passed, passed_none, passed_next, rest_on,
 use Rattle.perm_walk.proofs.reach.follow.Goals as goal
 
 pub loop-depth-init : goal.loop-depth-init
-loop-depth-init c = subst (λ all. Passed c.args.path.now all [] c.args.path.now (branch_at c.root-last.result) None) c.root-last.ensures (passed_none c.args.path.now (branch_at c.root-last.result))
+loop-depth-init c = subst (λ all. Passed c.args.path.now all [] c.args.path.now (branch_at c.root-last.result) None) c.root-last.ensures.rows (passed_none c.args.path.now (branch_at c.root-last.result))
 
 pub new-requires : goal.new-requires
 new-requires c = front_path c.args.path.now c.loop-depth.depth c.requires

@@ -6,7 +6,7 @@ use Rattle.perm_walk.proofs.Traversals.{Left, left_none, left_end, on_next, on_n
 use Rattle.perm_walk.proofs.walk.closed_above.Goals as goal
 
 pub loop-depth-init : goal.loop-depth-init
-loop-depth-init c = subst (λ all. Left c.args.asked c.args.caller.now c.args.path.now all [] c.args.path.now (branch_at c.root-last.result)) c.root-last.ensures (left_none c.args.asked c.args.caller.now c.args.path.now (branch_at c.root-last.result))
+loop-depth-init c = subst (λ all. Left c.args.asked c.args.caller.now c.args.path.now all [] c.args.path.now (branch_at c.root-last.result)) c.root-last.ensures.rows (left_none c.args.asked c.args.caller.now c.args.path.now (branch_at c.root-last.result))
 
 pub new-requires : goal.new-requires
 new-requires c = front_path c.args.path.now c.loop-depth.depth c.requires

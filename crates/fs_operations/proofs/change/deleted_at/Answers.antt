@@ -1,0 +1,9 @@
+use Rattle.std.proofs.Common.{◌≡◌, ◌∙◌, arith}
+use Rattle.flat_rows.specs.Rows.{is_directory}
+use Rattle.flat_rows.specs.Changes.{rows_under}
+use Rattle.fs_operations.proofs.Counting.{parted}
+use Rattle.fs_operations.proofs.change.deleted_at.Goals as goal
+
+pub returns-in-Some : goal.returns-in-Some
+returns-in-Some c =
+    omega (arith, c.in-Some.ensures.1, c.in_ok-counts.ensures.directories, c.in_ok-counts.ensures.files, parted is_directory (rows_under c.args.path.now c.args.tree.now))

@@ -1,0 +1,7 @@
+//! The operations on the namespace: each is decided by the walk of the tree, and done where no need fails and nothing stands
+//! against it (HDFS Architecture, "The File System Namespace"; HDFS Permissions Guide).
+#![tactic(auto)]
+
+mod change;
+mod found;
+mod look;

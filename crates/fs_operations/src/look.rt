@@ -1,0 +1,109 @@
+ghost use Rattle.std.specs.Prelude.{◌≡◌, ◌<◌, ◌^◌, ◌-◌, ℕ, List, Some, None, IfOk, map, length, filter, not};
+ghost use Rattle.std.specs.Option.{option_copied};
+ghost use Rattle.principals.specs.Principals.{Principals};
+ghost use Rattle.flat_rows.specs.Rows as rows_spec;
+ghost use Rattle.flat_rows.specs.Changes as changes;
+ghost use Rattle.flat_rows.specs.Outcome as spec;
+
+use crate::found::{Found, find};
+use flat_rows::verdict::Verdict;
+use hdfs_types::name::Name;
+use hdfs_types::op::Op;
+use hdfs_types::path::Path;
+use hdfs_types::reply::{ContentSummary, FileStatus, Names, ObjectKind, Reply};
+use inode_tree::tree::Tree;
+use inode_tree::visit::Counts;
+use perm_walk::component::Component;
+use std::alloc::{AllocError, Global};
+
+fn status_of(component: &Component) -> Result<Reply, AllocError>
+    ensures { IfOk result (λ reply. reply ≡ spec.status_of (Some component.now)) }
+{
+    let inode = component.inode();
+    Ok(Reply::Status(FileStatus {
+        kind: inode.kind(),
+        mode: inode.acl().mode(),
+        owner: inode.owner().clone()?,
+        group: inode.group().clone()?,
+    }))
+}
+
+/// Tells what has a path.
+pub(crate) fn stat(alloc: Global, tree: &Tree, path: &Path) -> Result<Verdict, AllocError>
+    ensures { (users : Principals) → (caller : List ℕ) → IfOk result (λ verdict. verdict ≡ (spec.outcome tree.now users caller (Op.Stat path.now)).verdict) }
+{
+    match find(alloc, tree, path)? {
+        Found::There(component) => Ok(Verdict::Done(status_of(&component)?)),
+        Found::Refused(refusal) => Ok(Verdict::Refused(refusal)),
+    }
+}
+
+fn copies(alloc: Global, names: &[&Name]) -> Result<Vec<Name>, AllocError>
+    ensures { IfOk result (λ copies. copies.items ≡ map (λ name. name.now) names.now) }
+{
+    let mut copies = Vec::with_capacity(alloc, names.len())?;
+    for name in names {
+        let name: &Name = *name;
+        copies.push(name.clone()?)?;
+    }
+    Ok(copies)
+}
+
+/// The name of a file at a path.
+fn own_name(alloc: Global, path: &Path) -> Result<Vec<Name>, AllocError>
+    ensures { IfOk result (λ names. names.items ≡ spec.own_name path.now) }
+{
+    match path.names().last() {
+        Some(name) => Ok(vec![in alloc; name.clone()?]?),
+        None => Ok(Vec::new(alloc)),
+    }
+}
+
+fn listed(alloc: Global, tree: &Tree, path: &Path, component: &Component) -> Result<Vec<Name>, AllocError>
+    ensures { IfOk result (λ names. names.items ≡ spec.listed path.now (Some component.now) tree.now) }
+{
+    match component.inode().kind() {
+        ObjectKind::Directory => copies(alloc, &tree.children(path)?),
+        ObjectKind::File => own_name(alloc, path),
+    }
+}
+
+/// Lists the names that a directory holds, or a file's own. Costs also what it holds.
+pub(crate) fn list(alloc: Global, tree: &Tree, path: &Path) -> Result<Verdict, AllocError>
+    ensures { (users : Principals) → (caller : List ℕ) → IfOk result (λ verdict. verdict ≡ (spec.outcome tree.now users caller (Op.List path.now)).verdict) }
+{
+    match find(alloc, tree, path)? {
+        Found::There(component) => {
+            let names = listed(alloc, tree, path, &component)?;
+            Ok(Verdict::Done(Reply::Names(Names::new(names))))
+        }
+        Found::Refused(refusal) => Ok(Verdict::Refused(refusal)),
+    }
+}
+
+/// How many directories and files there are; a number that can't be told counts as want of memory.
+pub(crate) fn counts_at(tree: &Tree, path: &Path) -> Result<Counts, AllocError>
+    ensures directories { IfOk result (λ counts. counts.directories ≡ length (filter rows_spec.is_directory (changes.rows_under path.now tree.now))) }
+    ensures files { IfOk result (λ counts. counts.files ≡ length (filter (λ row. not (rows_spec.is_directory row)) (changes.rows_under path.now tree.now))) }
+{
+    let counts = tree.count(path);
+    if counts.directories == u64::MAX || counts.files == u64::MAX {
+        return Err(AllocError);
+    }
+    Ok(counts)
+}
+
+/// Counts what stands at a path and beneath it. Costs also what stands there.
+pub(crate) fn summary(alloc: Global, tree: &Tree, path: &Path) -> Result<Verdict, AllocError>
+    ensures { (users : Principals) → (caller : List ℕ) → IfOk result (λ verdict. verdict ≡ (spec.outcome tree.now users caller (Op.Summary path.now)).verdict) }
+{
+    if let Found::Refused(refusal) = find(alloc, tree, path)? {
+        return Ok(Verdict::Refused(refusal));
+    }
+    let counts = counts_at(tree, path)?;
+    Ok(Verdict::Done(Reply::Summary(ContentSummary {
+        directories: counts.directories,
+        files: counts.files,
+        bytes: 0,
+    })))
+}
