@@ -1,5 +1,5 @@
 ghost use Rattle.std.specs.Prelude.{◌≡◌, IfOk};
-ghost use Rattle.flat_rows.specs.Outcome as spec;
+ghost use Rattle.inode_tree.specs.Tree.{IsTree};
 ghost use Rattle.fs_operations.specs.Found.{IsFound};
 
 use hdfs_types::path::Path;
@@ -22,7 +22,8 @@ pub(crate) fn find<'a>(
     tree: &'a Tree,
     path: &'a Path,
 ) -> Result<Found<'a>, AllocError>
-    ensures { IfOk result (IsFound path.now tree.now) }
+    ensures found { IfOk result (IsFound path.now tree.now) }
+    ensures tree { IsTree tree.now }
 {
     let reach = follow(tree, path.names());
     if let Some(file) = reach.file {

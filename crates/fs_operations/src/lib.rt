@@ -2,6 +2,7 @@
 //! against it (HDFS Architecture, "The File System Namespace"; HDFS Permissions Guide).
 #![tactic(auto)]
 
+pub mod apply;
 mod change;
 mod found;
 mod look;

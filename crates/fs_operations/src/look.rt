@@ -30,7 +30,7 @@ fn status_of(component: &Component) -> Result<Reply, AllocError>
 
 /// Tells what has a path.
 pub(crate) fn stat(alloc: Global, tree: &Tree, path: &Path) -> Result<Verdict, AllocError>
-    ensures { (users : Principals) → (caller : List ℕ) → IfOk result (λ verdict. verdict ≡ (spec.outcome tree.now users caller (Op.Stat path.now)).verdict) }
+    ensures { (users : Principals) → (caller : List ℕ) → IfOk result (λ verdict. record { verdict = verdict; rows = tree.now; users = users } ≡ spec.outcome tree.now users caller (Op.Stat path.now)) }
 {
     match find(alloc, tree, path)? {
         Found::There(component) => Ok(Verdict::Done(status_of(&component)?)),
@@ -70,7 +70,7 @@ fn listed(alloc: Global, tree: &Tree, path: &Path, component: &Component) -> Res
 
 /// Lists the names that a directory holds, or a file's own. Costs also what it holds.
 pub(crate) fn list(alloc: Global, tree: &Tree, path: &Path) -> Result<Verdict, AllocError>
-    ensures { (users : Principals) → (caller : List ℕ) → IfOk result (λ verdict. verdict ≡ (spec.outcome tree.now users caller (Op.List path.now)).verdict) }
+    ensures { (users : Principals) → (caller : List ℕ) → IfOk result (λ verdict. record { verdict = verdict; rows = tree.now; users = users } ≡ spec.outcome tree.now users caller (Op.List path.now)) }
 {
     match find(alloc, tree, path)? {
         Found::There(component) => {
@@ -95,7 +95,7 @@ pub(crate) fn counts_at(tree: &Tree, path: &Path) -> Result<Counts, AllocError>
 
 /// Counts what stands at a path and beneath it. Costs also what stands there.
 pub(crate) fn summary(alloc: Global, tree: &Tree, path: &Path) -> Result<Verdict, AllocError>
-    ensures { (users : Principals) → (caller : List ℕ) → IfOk result (λ verdict. verdict ≡ (spec.outcome tree.now users caller (Op.Summary path.now)).verdict) }
+    ensures { (users : Principals) → (caller : List ℕ) → IfOk result (λ verdict. record { verdict = verdict; rows = tree.now; users = users } ≡ spec.outcome tree.now users caller (Op.Summary path.now)) }
 {
     if let Found::Refused(refusal) = find(alloc, tree, path)? {
         return Ok(Verdict::Refused(refusal));

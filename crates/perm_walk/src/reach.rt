@@ -1,7 +1,7 @@
 ghost use Rattle.std.specs.Prelude.{◌≡◌, ◌≤◌, length, take, Some, None};
 ghost use Rattle.hdfs_types.specs.Path.{IsPath};
 ghost use Rattle.inode_tree.specs.Branch.{row_of};
-ghost use Rattle.inode_tree.specs.Tree.{branch_at};
+ghost use Rattle.inode_tree.specs.Tree.{IsTree, branch_at};
 ghost use Rattle.flat_rows.specs.Rows as spec;
 ghost use Rattle.perm_walk.specs.Reached.{if_file};
 
@@ -46,6 +46,7 @@ pub fn follow<'a>(tree: &'a Tree, path: &'a [Name]) -> Reach<'a>
     ensures at { result.at ≡ spec.row_at path.now tree.now }
     ensures ancestor { result.ancestor ≡ spec.ancestor path.now tree.now }
     ensures file { result.file ≡ spec.file_above path.now tree.now }
+    ensures tree { IsTree tree.now }
 {
     let mut last = tree.root();
     let mut above = None;
@@ -62,5 +63,21 @@ pub fn follow<'a>(tree: &'a Tree, path: &'a [Name]) -> Reach<'a>
         at: Some(Component::new(path, last)),
         ancestor: above,
         file: None,
+    }
+}
+
+/// The directory that holds a path. One descent, without memory.
+pub fn directory_of<'a>(tree: &'a Tree, path: &'a [Name]) -> Option<Component<'a>>
+    requires { IsPath path.now }
+    ensures { result ≡ spec.directory_of path.now tree.now }
+{
+    let depth = path.len();
+    if depth == 0 {
+        return None;
+    }
+    let above = follow(tree, &path[..depth - 1]).at?;
+    match above.inode().kind() {
+        ObjectKind::Directory => Some(above),
+        ObjectKind::File => None,
     }
 }

@@ -11,7 +11,7 @@ ghost use Rattle.flat_rows.specs.Decision as spec;
 ghost use Rattle.perm_walk.specs.Closed.{is_closed, first_closed};
 
 use crate::component::Component;
-use crate::reach::follow;
+use crate::reach::{directory_of, follow};
 use flat_rows::demand::{Condition, Demand, Needs, Role};
 use flat_rows::denial::Denial;
 use flat_rows::need::Need;
@@ -89,22 +89,6 @@ fn if_closed<'a>(
         return None;
     }
     Some(component)
-}
-
-/// The directory that holds a path. One descent.
-fn directory_of<'a>(tree: &'a Tree, path: &'a [Name]) -> Option<Component<'a>>
-    requires { IsPath path.now }
-    ensures { result ≡ rows_spec.directory_of path.now tree.now }
-{
-    let depth = path.len();
-    if depth == 0 {
-        return None;
-    }
-    let above = follow(tree, &path[..depth - 1]).at?;
-    match above.inode().kind() {
-        ObjectKind::Directory => Some(above),
-        ObjectKind::File => None,
-    }
 }
 
 /// The owner of the directory that holds a component; the root, which none holds, has its own.
