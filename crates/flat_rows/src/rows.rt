@@ -14,8 +14,8 @@ use hdfs_types::who::Who;
 use std::alloc::{AllocError, Global};
 use std::marker::Model;
 
-/// The rows of a namespace in ascending path order: the root first, and the parent of each other row a directory (HDFS
-/// Architecture, "The File System Namespace"). This is the plain form, whose calls scan the list.
+/// The rows of a namespace in ascending path order: the root first, the parent of each other row a directory, and
+/// no file with the sticky bit (HDFS Architecture, "The File System Namespace"). This is the plain form, whose calls scan the list.
 #[derive(Debug, Drop)]
 pub struct Rows {
     list: Vec<Row>,
@@ -48,6 +48,14 @@ impl Rows {
         Ok(Rows {
             list: vec![in alloc; root]?,
         })
+    }
+
+    /// These rows, in path order. Takes no memory.
+    pub fn from_vec(list: Vec<Row>) -> Rows
+        requires { IsNamespace list.items }
+        ensures { result ≡ list.items }
+    {
+        Rows { list }
     }
 
     /// The rows in path order.

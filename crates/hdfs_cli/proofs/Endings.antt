@@ -7,12 +7,11 @@ use Rattle.std.proofs.lemmas.List.Splits.{length-slice_split}
 use Rattle.std.proofs.lemmas.List.Concat.{flat_map-append}
 use Rattle.hdfs_types.specs.declared.fault.IllFormed.{IllFormed}
 use Rattle.hdfs_types.specs.declared.op.Request.{Request}
-use Rattle.principals.specs.Principals.{Principals}
 use Rattle.hdfs_cli.specs.Words.{lines_of, is_skipped, words_of, without_return}
 use Rattle.hdfs_cli.specs.Script.{request_of}
 use Rattle.hdfs_cli.specs.AnswerText.{answer_line}
 use Rattle.hdfs_cli.specs.Channel.{AppendsFront}
-use Rattle.hdfs_cli.specs.Output.{State, Numbered, opening, opening_users, answered, after_answer, after_trimmed, after_line, after_lines, answers_of, answers_of_first, text_of, output_of}
+use Rattle.hdfs_cli.specs.Output.{State, Numbered, opening, answered, after_answer, after_trimmed, after_line, after_lines, answers_of, answers_of_first, text_of, output_of}
 use Rattle.hdfs_cli.specs.Ended.{IsAnswersBefore, AppendsAnswersBefore}
 
 pub appends_none : (old : Option (List ℕ)) → Appends old old []
@@ -38,21 +37,21 @@ goes_self state = record { more = []; is = sym (append-nil state.answers) }
 goes_on : (a b c : State) → Goes a b → Goes b c → Goes a c
 goes_on a b c p q = record { more = p.more ++ q.more; is = q.is ∙ ap (λ l. l ++ q.more) p.is ∙ append_assoc a.answers p.more q.more }
 
-goes_line : (users : Principals) (state : State) (line : List ℕ) → Goes state (after_line users state line)
-goes_line users state line = by_test (is_skipped (without_return line))
+goes_line : (state : State) (line : List ℕ) → Goes state (after_line state line)
+goes_line state line = by_test (is_skipped (without_return line))
   where
-    by_test : (b : Bool) → Goes state (if b then record { number = state.number + 1; rows = state.rows; answers = state.answers } else after_answer state (answered users state.rows (request_of (words_of (without_return line)))))
+    by_test : (b : Bool) → Goes state (if b then record { number = state.number + 1; rows = state.rows; users = state.users; answers = state.answers } else after_answer state (answered state.rows state.users (request_of (words_of (without_return line)))))
     by_test true = record { more = []; is = sym (append-nil state.answers) }
-    by_test false = record { more = record { number = state.number + 1; answer = (answered users state.rows (request_of (words_of (without_return line)))).answer } ∷ []; is = refl }
+    by_test false = record { more = record { number = state.number + 1; answer = (answered state.rows state.users (request_of (words_of (without_return line)))).answer } ∷ []; is = refl }
 
-goes_lines : (users : Principals) (state : State) (lines : List (List ℕ)) → Goes state (fold (after_line users) state lines)
-goes_lines users state [] = goes_self state
-goes_lines users state (line ∷ lines) = goes_on state (after_line users state line) (fold (after_line users) (after_line users state line) lines) (goes_line users state line) (goes_lines users (after_line users state line) lines)
+goes_lines : (state : State) (lines : List (List ℕ)) → Goes state (fold after_line state lines)
+goes_lines state [] = goes_self state
+goes_lines state (line ∷ lines) = goes_on state (after_line state line) (fold after_line (after_line state line) lines) (goes_line state line) (goes_lines (after_line state line) lines)
 
-goes_first : (users : Principals) (state : State) (lines : List (List ℕ)) (count : ℕ) → Goes (fold (after_line users) state (take count lines)) (fold (after_line users) state lines)
-goes_first users state lines zero = goes_lines users state lines
-goes_first users state [] (suc count) = goes_self state
-goes_first users state (line ∷ lines) (suc count) = goes_first users (after_line users state line) lines count
+goes_first : (state : State) (lines : List (List ℕ)) (count : ℕ) → Goes (fold after_line state (take count lines)) (fold after_line state lines)
+goes_first state lines zero = goes_lines state lines
+goes_first state [] (suc count) = goes_self state
+goes_first state (line ∷ lines) (suc count) = goes_first (after_line state line) lines count
 
 pub record Front (text whole : List ℕ) : Type 0 where
   pub more : List ℕ
@@ -60,7 +59,7 @@ pub record Front (text whole : List ℕ) : Type 0 where
 
 pub before_is_front : (script text : List ℕ) → IsAnswersBefore script text → Front text (output_of script)
 before_is_front script text b =
-    let rest = goes_first opening_users opening (lines_of script) b.count in
+    let rest = goes_first opening (lines_of script) b.count in
     record { more = text_of rest.more; is = ap text_of rest.is ∙ flat_map-append (λ numbered. answer_line numbered.number numbered.answer) (answers_of_first b.count script) rest.more ∙ ap (λ t. t ++ text_of rest.more) (sym b.is) }
 
 pub ended_front : {S E : Type 0} (r : Result S E) (script text : List ℕ) → OnOk r (text ≡ output_of script) → OnErr r (IsAnswersBefore script text) → Front text (output_of script)

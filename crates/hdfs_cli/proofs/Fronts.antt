@@ -1,7 +1,9 @@
 -- What the first lines of a script show, and those behind them, where it may have fewer.
-use Rattle.std.proofs.Common.{◌≡◌, ℕ, List, Bor, length, map, take, drop, sym, ap, ◌∙◌, min, Option, Some}
+use Rattle.std.proofs.Common.{◌≡◌, ℕ, List, [], ◌∷◌, refl, Bor, length, map, take, drop, sym, ap, ◌∙◌, min, Option, Some}
 use Rattle.std.proofs.lemmas.List.{take-map, drop-map, take_min, drop_min}
 use Rattle.hdfs_types.specs.declared.op.Request.{Request}
+use Rattle.flat_rows.specs.declared.row.Row.{Row}
+use Rattle.flat_rows.specs.Changes.{rows_under}
 use Rattle.hdfs_cli.specs.declared.explain.Explained.TheVariants.{Trail}
 use Rattle.hdfs_cli.specs.Output.{after_lines, status_of}
 use Rattle.hdfs_cli.specs.Explanation.{request_in_first, explanation_by, explanation_behind, found_by, found_behind, trail_of, trail_text}
@@ -27,3 +29,8 @@ module _ (lines front back : List (Bor (List ℕ))) (n m : ℕ) (count : m ≡ m
   pub finds : Trail (status_of (after_lines (map now front)).answers) ≡ found_behind n (map now lines)
   finds =
       ap (λ l. Trail (status_of (after_lines l).answers)) (first_lines lines front n m count first) ∙ ap (found_by (after_lines (take n (map now lines)))) (sym told)
+
+-- all rows stand at and beneath the root
+pub all_under : (rows : List Row) → rows_under [] rows ≡ rows
+all_under [] = refl
+all_under (row ∷ rows) = ap (λ l. row ∷ l) (all_under rows)

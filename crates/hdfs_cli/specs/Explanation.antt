@@ -11,7 +11,7 @@ use Rattle.hdfs_cli.specs.declared.explain.Explained.{Explained}
 use Rattle.hdfs_cli.specs.declared.explain.Explained.TheVariants.{Trail, NoRequest}
 use Rattle.hdfs_cli.specs.Words.{lines_of, without_return, is_skipped, words_of}
 use Rattle.hdfs_cli.specs.Script.{request_of}
-use Rattle.hdfs_cli.specs.Output.{State, opening_users, after_lines, status_of}
+use Rattle.hdfs_cli.specs.Output.{State, after_lines, status_of}
 
 abbrev pub well_formed : Result Request IllFormed → Option Request
 well_formed (Ok request) = Some request
@@ -35,7 +35,7 @@ abbrev pub trail_text : List Judged → List ℕ
 trail_text needs = flat_map judged_line needs ++ (if list_all (λ need. need.granted) needs then codes "granted\n" else [])
 
 abbrev pub trail_of : State → Request → List Judged
-trail_of state request = trail state.rows opening_users request.caller request.op
+trail_of state request = trail state.rows state.users request.caller request.op
 
 abbrev pub explanation_by : State → Option Request → List ℕ
 explanation_by state None = []

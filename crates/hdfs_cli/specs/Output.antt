@@ -20,44 +20,48 @@ pub record Numbered : Type 0 where
   pub number : ℕ
   pub answer : Answer
 
--- the lines so far: how many, the rows that they leave, and their answers
+-- the lines so far: how many, the rows and users that they leave, and their answers
 pub record State : Type 0 where
   pub number : ℕ
   pub rows : List Row
+  pub users : Principals
   pub answers : List Numbered
 
--- the answer to a line, and the rows after it
+-- the answer to a line, and the rows and users after it
 pub record Answered : Type 0 where
   pub answer : Answer
   pub rows : List Row
+  pub users : Principals
 
-abbrev pub answered : Principals → List Row → Result Request IllFormed → Answered
-answered users rows (Err fault) = record { answer = Bad fault; rows = rows }
-answered users rows (Ok request) = let after = step rows users request.caller request.op in record { answer = Given after.verdict; rows = after.rows }
+abbrev pub answered : List Row → Principals → Result Request IllFormed → Answered
+answered rows users (Err fault) = record { answer = Bad fault; rows = rows; users = users }
+answered rows users (Ok request) = let after = step rows users request.caller request.op in record { answer = Given after.verdict; rows = after.rows; users = after.users }
 
 abbrev pub after_answer : State → Answered → State
 after_answer state a = record {
   number = state.number + 1;
   rows = a.rows;
+  users = a.users;
   answers = state.answers ++ record { number = state.number + 1; answer = a.answer } ∷ [];
 }
 
-abbrev pub after_trimmed : Principals → State → List ℕ → State
-after_trimmed users state line =
-    if is_skipped line then record { number = state.number + 1; rows = state.rows; answers = state.answers } else after_answer state (answered users state.rows (request_of (words_of line)))
+abbrev pub after_trimmed : State → List ℕ → State
+after_trimmed state line =
+    if is_skipped line then record { number = state.number + 1; rows = state.rows; users = state.users; answers = state.answers }
+    else after_answer state (answered state.rows state.users (request_of (words_of line)))
 
-abbrev pub after_line : Principals → State → List ℕ → State
-after_line users state line = after_trimmed users state (without_return line)
+abbrev pub after_line : State → List ℕ → State
+after_line state line = after_trimmed state (without_return line)
 
 -- who is there at first: the superuser `hdfs` and the supergroup `supergroup`
 abbrev pub opening_users : Principals
 opening_users = record { known = []; superuser = codes "hdfs"; supergroup = codes "supergroup" }
 
 abbrev pub opening : State
-opening = record { number = 0; rows = root_row opening_users.superuser opening_users.supergroup ∷ []; answers = [] }
+opening = record { number = 0; rows = root_row opening_users.superuser opening_users.supergroup ∷ []; users = opening_users; answers = [] }
 
 abbrev pub after_lines : List (List ℕ) → State
-after_lines lines = fold (after_line opening_users) opening lines
+after_lines lines = fold after_line opening lines
 
 -- the answers to the lines of a script, and to its first lines alone
 abbrev pub answers_of : List ℕ → List Numbered

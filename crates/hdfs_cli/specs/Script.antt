@@ -1,18 +1,20 @@
 -- The request that a line of a script makes: `MOMENT CALLER VERB WORDS`, or how it is ill-formed.
 -- An unknown verb and a wrong number of words come first, and then the first ill-formed word.
-use Rattle.std.specs.Prelude.{ℕ, List, [], ◌∷◌, if◌then◌else◌, Option, Some, None, Result, Ok, Err, codes, ok_or}
+use Rattle.std.specs.Prelude.{ℕ, Bool, true, false, List, [], ◌∷◌, if◌then◌else◌, Option, Some, None, Result, Ok, Err, codes, ok_or}
+use Rattle.std.specs.List.{list_all}
 use Rattle.std.specs.Option.{option_and_then}
 use Rattle.hdfs_types.specs.Text.{same}
 use Rattle.hdfs_types.specs.Number.{number_of}
 use Rattle.hdfs_types.specs.Moment.{moment_of}
-use Rattle.hdfs_types.specs.Who.{who_of}
+use Rattle.hdfs_types.specs.Who.{is_who, who_of}
 use Rattle.hdfs_types.specs.Path.{path_of}
 use Rattle.hdfs_types.specs.Mode.{mode_of}
 use Rattle.hdfs_types.specs.declared.fault.IllFormed.{IllFormed}
 use Rattle.hdfs_types.specs.declared.fault.IllFormed.TheVariants.{BadLine, BadPath, BadName, BadMode}
 use Rattle.hdfs_types.specs.declared.op.Op.{Op}
-use Rattle.hdfs_types.specs.declared.op.Op.TheVariants.{Mkdirs, Stat}
+use Rattle.hdfs_types.specs.declared.op.Op.TheVariants as op
 use Rattle.hdfs_types.specs.declared.op.Request.{Request}
+use Rattle.hdfs_cli.specs.Words.{pieces_at}
 
 -- the first fault, else what comes next makes of the value
 infixl 10 ◌>>=◌
@@ -33,29 +35,126 @@ path_word word = ok_or (path_of word) BadPath
 abbrev pub mode_word : List ℕ → Result ℕ IllFormed
 mode_word word = ok_or (mode_of word) BadMode
 
+-- whether a deletion is recursive, as the word behind its path says
+abbrev pub recursive_word : List ℕ → Result Bool IllFormed
+recursive_word word = if same word (codes "recursive") then Ok true else Err BadLine
+
+abbrev pub new_who_word : List ℕ → Result (Option (List ℕ)) IllFormed
+new_who_word word = do
+  w ← who_word word
+  Ok (Some w)
+
+-- a new owner or group, or `-` for the one that there is
+abbrev pub change_word : List ℕ → Result (Option (List ℕ)) IllFormed
+change_word word = if same word (codes "-") then Ok None else new_who_word word
+
+-- the names that pieces are, where each is one
+abbrev pub whos_of : List (List ℕ) → Option (List (List ℕ))
+whos_of pieces = if list_all is_who pieces then Some pieces else None
+
+-- names with a comma between each two, or `-` for none; a group may stand twice
+abbrev pub groups_of : List ℕ → Option (List (List ℕ))
+groups_of word = if same word (codes "-") then Some [] else whos_of (pieces_at 44 word)
+
+abbrev pub groups_word : List ℕ → Result (List (List ℕ)) IllFormed
+groups_word word = ok_or (groups_of word) BadName
+
 abbrev pub mkdirs_of : List ℕ → List ℕ → Result Op IllFormed
 mkdirs_of path mode = do
   p ← path_word path
   m ← mode_word mode
-  Ok (Mkdirs p m)
+  Ok (op.Mkdirs p m)
 
 abbrev pub stat_of : List ℕ → Result Op IllFormed
 stat_of path = do
   p ← path_word path
-  Ok (Stat p)
+  Ok (op.Stat p)
+
+abbrev pub ls_of : List ℕ → Result Op IllFormed
+ls_of path = do
+  p ← path_word path
+  Ok (op.List p)
+
+abbrev pub du_of : List ℕ → Result Op IllFormed
+du_of path = do
+  p ← path_word path
+  Ok (op.Summary p)
+
+abbrev pub delete_of : List ℕ → Result Op IllFormed
+delete_of path = do
+  p ← path_word path
+  Ok (op.Delete p false)
+
+abbrev pub delete_with : List ℕ → List ℕ → Result Op IllFormed
+delete_with path recursive = do
+  p ← path_word path
+  r ← recursive_word recursive
+  Ok (op.Delete p r)
+
+abbrev pub rename_of : List ℕ → List ℕ → Result Op IllFormed
+rename_of from to = do
+  f ← path_word from
+  t ← path_word to
+  Ok (op.Rename f t)
+
+abbrev pub chmod_of : List ℕ → List ℕ → Result Op IllFormed
+chmod_of path mode = do
+  p ← path_word path
+  m ← mode_word mode
+  Ok (op.SetMode p m)
+
+abbrev pub chown_of : List ℕ → List ℕ → List ℕ → Result Op IllFormed
+chown_of path owner group = do
+  p ← path_word path
+  o ← change_word owner
+  g ← change_word group
+  Ok (op.SetOwner p o g)
+
+abbrev pub adduser_of : List ℕ → List ℕ → Result Op IllFormed
+adduser_of user groups = do
+  u ← who_word user
+  g ← groups_word groups
+  Ok (op.AddUser u g)
+
+abbrev pub set_groups_of : List ℕ → List ℕ → Result Op IllFormed
+set_groups_of user groups = do
+  u ← who_word user
+  g ← groups_word groups
+  Ok (op.SetGroups u g)
+
+-- the operation that a verb and its one word say
+abbrev pub op_of_one : List ℕ → List ℕ → Option (Result Op IllFormed)
+op_of_one verb path =
+    if same verb (codes "stat") then Some (stat_of path) else
+    if same verb (codes "ls") then Some (ls_of path) else
+    if same verb (codes "du") then Some (du_of path) else
+    if same verb (codes "delete") then Some (delete_of path) else None
+
+abbrev pub op_of_two : List ℕ → List ℕ → List ℕ → Option (Result Op IllFormed)
+op_of_two verb first second =
+    if same verb (codes "mkdirs") then Some (mkdirs_of first second) else
+    if same verb (codes "delete") then Some (delete_with first second) else
+    if same verb (codes "rename") then Some (rename_of first second) else
+    if same verb (codes "chmod") then Some (chmod_of first second) else
+    if same verb (codes "adduser") then Some (adduser_of first second) else
+    if same verb (codes "groups") then Some (set_groups_of first second) else None
+
+abbrev pub op_of_three : List ℕ → List ℕ → List ℕ → List ℕ → Option (Result Op IllFormed)
+op_of_three verb path owner group = if same verb (codes "chown") then Some (chown_of path owner group) else None
 
 -- the operation that a verb and its words say; nothing where the verb is unknown or wants another number of words
 abbrev pub op_of : List ℕ → List (List ℕ) → Option (Result Op IllFormed)
-op_of verb (path ∷ []) = if same verb (codes "stat") then Some (stat_of path) else None
-op_of verb (path ∷ mode ∷ []) = if same verb (codes "mkdirs") then Some (mkdirs_of path mode) else None
+op_of verb (word ∷ []) = op_of_one verb word
+op_of verb (first ∷ second ∷ []) = op_of_two verb first second
+op_of verb (first ∷ second ∷ third ∷ []) = op_of_three verb first second third
 op_of verb _ = None
 
 abbrev pub request_with : List ℕ → List ℕ → Option (Result Op IllFormed) → Result Request IllFormed
 request_with moment caller None = Err BadLine
-request_with moment caller (Some op) = do
+request_with moment caller (Some said) = do
   m ← moment_word moment
   c ← who_word caller
-  o ← op
+  o ← said
   Ok (record { caller = c; moment = m; op = o })
 
 abbrev pub request_of : List (List ℕ) → Result Request IllFormed

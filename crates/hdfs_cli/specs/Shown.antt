@@ -7,6 +7,7 @@ use Rattle.hdfs_cli.specs.Output.{State, text_of, is_bad}
 
 pub record Shows (state : State) (session : Session) : Type 0 where
   pub number : session.number ≡ state.number
-  pub rows : session.rows ≡ state.rows
+  pub rows : session.tree ≡ state.rows
+  pub users : session.users ≡ state.users
   pub text : string_bytes session.out ≡ text_of state.answers
   pub bad : session.has_bad ≡ list_any (λ numbered. is_bad numbered.answer) state.answers

@@ -14,9 +14,12 @@ use crate::channel::{ReadFault, read_all, write_text};
 use crate::line::request_of;
 use crate::script::{ScriptFault, Session, Status, run_lines};
 use crate::words::{is_skipped, pieces_between, without_return, words_in};
+use flat_rows::rows::Rows;
 use flat_rows::trail::{Judged, trail};
 use hdfs_types::fault::ParseFault;
 use hdfs_types::op::Request;
+use hdfs_types::path::Path;
+use inode_tree::tree::Tree;
 use std::alloc::{AllocError, Global};
 use std::io::{Read, Write};
 
@@ -76,6 +79,15 @@ struct Explanation {
     text: String,
 }
 
+/// The tree as a flat list of rows.
+fn rows_of(alloc: Global, tree: &Tree) -> Result<Rows, AllocError>
+    ensures { IfOk result (λ rows. rows ≡ tree.now) }
+{
+    let rows = tree.rows_under(&Path::root(alloc))?;
+    let _root = tree.root();
+    Ok(Rows::from_vec(rows))
+}
+
 /// Runs the lines before a request, and prints its needs.
 fn explain_request(
     alloc: Global,
@@ -87,9 +99,10 @@ fn explain_request(
 {
     let mut session = Session::open(alloc)?;
     run_lines(alloc, &mut session, before)?;
+    let rows = rows_of(alloc, &session.tree)?;
     let needs = trail(
         alloc,
-        &session.rows,
+        &rows,
         &session.users,
         &request.caller,
         &request.op,

@@ -1,10 +1,10 @@
-//! Scripts of requests: lines in, and lines of answers out.
+//! Scripts of requests, lines in and lines of answers out; the needs of a line; and what a token says.
 #![tactic(auto)]
 
 pub mod answer;
 pub mod channel;
 pub mod explain;
-mod flat;
+mod groups_word;
 pub mod line;
 pub mod script;
 #[cfg(test)]

@@ -1,8 +1,9 @@
 ghost use Rattle.std.specs.Prelude.{◌≡◌, Some, Result, map};
-ghost use Rattle.hdfs_types.specs.Text.{same};
 ghost use Rattle.hdfs_cli.specs.LineForms.{Forms, FormsOption};
 ghost use Rattle.hdfs_cli.specs.Script as spec;
 
+use crate::groups_word::groups_word;
+use crate::words::is_word;
 use hdfs_types::fault::{IllFormed, ParseFault};
 use hdfs_types::mode::Mode;
 use hdfs_types::moment::Moment;
@@ -11,12 +12,6 @@ use hdfs_types::op::{Op, Request};
 use hdfs_types::path::Path;
 use hdfs_types::who::Who;
 use std::alloc::Global;
-
-fn is_verb(word: &str, verb: &str) -> bool
-    ensures { result ≡ same word.now verb.now }
-{
-    word == verb
-}
 
 fn moment_word(word: &str) -> Result<Moment, ParseFault>
     ensures { Forms result (spec.moment_word word.now) }
@@ -48,6 +43,28 @@ fn mode_word(word: &str) -> Result<Mode, ParseFault>
     }
 }
 
+/// Whether a deletion is recursive, as the word behind its path says.
+fn recursive_word(word: &str) -> Result<bool, ParseFault>
+    ensures { Forms result (spec.recursive_word word.now) }
+{
+    if is_word(word, "recursive") {
+        Ok(true)
+    } else {
+        Err(ParseFault::IllFormed(IllFormed::BadLine))
+    }
+}
+
+/// A new owner or group; `None` for the `-` that keeps the one that there is.
+fn change_word(alloc: Global, word: &str) -> Result<Option<Who>, ParseFault>
+    ensures { Forms result (spec.change_word word.now) }
+{
+    if is_word(word, "-") {
+        return Ok(None);
+    }
+    let who = who_word(alloc, word)?;
+    Ok(Some(who))
+}
+
 fn mkdirs_of(alloc: Global, path: &str, mode: &str) -> Result<Op, ParseFault>
     ensures { Forms result (spec.mkdirs_of path.now mode.now) }
 {
@@ -63,25 +80,136 @@ fn stat_of(alloc: Global, path: &str) -> Result<Op, ParseFault>
     Ok(Op::Stat(path))
 }
 
+fn ls_of(alloc: Global, path: &str) -> Result<Op, ParseFault>
+    ensures { Forms result (spec.ls_of path.now) }
+{
+    let path = path_word(alloc, path)?;
+    Ok(Op::List(path))
+}
+
+fn du_of(alloc: Global, path: &str) -> Result<Op, ParseFault>
+    ensures { Forms result (spec.du_of path.now) }
+{
+    let path = path_word(alloc, path)?;
+    Ok(Op::Summary(path))
+}
+
+fn delete_of(alloc: Global, path: &str) -> Result<Op, ParseFault>
+    ensures { Forms result (spec.delete_of path.now) }
+{
+    let path = path_word(alloc, path)?;
+    Ok(Op::Delete(path, false))
+}
+
+fn delete_with(alloc: Global, path: &str, recursive: &str) -> Result<Op, ParseFault>
+    ensures { Forms result (spec.delete_with path.now recursive.now) }
+{
+    let path = path_word(alloc, path)?;
+    let recursive = recursive_word(recursive)?;
+    Ok(Op::Delete(path, recursive))
+}
+
+fn rename_of(alloc: Global, from: &str, to: &str) -> Result<Op, ParseFault>
+    ensures { Forms result (spec.rename_of from.now to.now) }
+{
+    let from = path_word(alloc, from)?;
+    let to = path_word(alloc, to)?;
+    Ok(Op::Rename(from, to))
+}
+
+fn chmod_of(alloc: Global, path: &str, mode: &str) -> Result<Op, ParseFault>
+    ensures { Forms result (spec.chmod_of path.now mode.now) }
+{
+    let path = path_word(alloc, path)?;
+    let mode = mode_word(mode)?;
+    Ok(Op::SetMode(path, mode))
+}
+
+fn chown_of(alloc: Global, path: &str, owner: &str, group: &str) -> Result<Op, ParseFault>
+    ensures { Forms result (spec.chown_of path.now owner.now group.now) }
+{
+    let path = path_word(alloc, path)?;
+    let owner = change_word(alloc, owner)?;
+    let group = change_word(alloc, group)?;
+    Ok(Op::SetOwner(path, owner, group))
+}
+
+fn adduser_of(alloc: Global, user: &str, groups: &str) -> Result<Op, ParseFault>
+    ensures { Forms result (spec.adduser_of user.now groups.now) }
+{
+    let user = who_word(alloc, user)?;
+    let groups = groups_word(alloc, groups)?;
+    Ok(Op::AddUser(user, groups))
+}
+
+fn set_groups_of(alloc: Global, user: &str, groups: &str) -> Result<Op, ParseFault>
+    ensures { Forms result (spec.set_groups_of user.now groups.now) }
+{
+    let user = who_word(alloc, user)?;
+    let groups = groups_word(alloc, groups)?;
+    Ok(Op::SetGroups(user, groups))
+}
+
+fn op_of_one(alloc: Global, verb: &str, path: &str) -> Option<Result<Op, ParseFault>>
+    ensures { FormsOption result (spec.op_of_one verb.now path.now) }
+{
+    if is_word(verb, "stat") {
+        Some(stat_of(alloc, path))
+    } else if is_word(verb, "ls") {
+        Some(ls_of(alloc, path))
+    } else if is_word(verb, "du") {
+        Some(du_of(alloc, path))
+    } else if is_word(verb, "delete") {
+        Some(delete_of(alloc, path))
+    } else {
+        None
+    }
+}
+
+fn op_of_two(alloc: Global, verb: &str, first: &str, second: &str) -> Option<Result<Op, ParseFault>>
+    ensures { FormsOption result (spec.op_of_two verb.now first.now second.now) }
+{
+    if is_word(verb, "mkdirs") {
+        Some(mkdirs_of(alloc, first, second))
+    } else if is_word(verb, "delete") {
+        Some(delete_with(alloc, first, second))
+    } else if is_word(verb, "rename") {
+        Some(rename_of(alloc, first, second))
+    } else if is_word(verb, "chmod") {
+        Some(chmod_of(alloc, first, second))
+    } else if is_word(verb, "adduser") {
+        Some(adduser_of(alloc, first, second))
+    } else if is_word(verb, "groups") {
+        Some(set_groups_of(alloc, first, second))
+    } else {
+        None
+    }
+}
+
+fn op_of_three(
+    alloc: Global,
+    verb: &str,
+    path: &str,
+    owner: &str,
+    group: &str,
+) -> Option<Result<Op, ParseFault>>
+    ensures { FormsOption result (spec.op_of_three verb.now path.now owner.now group.now) }
+{
+    if is_word(verb, "chown") {
+        Some(chown_of(alloc, path, owner, group))
+    } else {
+        None
+    }
+}
+
 /// The operation that a verb and its words say; `None` where the verb is unknown or wants another number of words.
 fn op_of(alloc: Global, verb: &str, words: &[&str]) -> Option<Result<Op, ParseFault>>
     ensures { FormsOption result (spec.op_of verb.now (map (λ word. word.now) words.now)) }
 {
     match words {
-        [path] => {
-            if is_verb(verb, "stat") {
-                Some(stat_of(alloc, path))
-            } else {
-                None
-            }
-        }
-        [path, mode] => {
-            if is_verb(verb, "mkdirs") {
-                Some(mkdirs_of(alloc, path, mode))
-            } else {
-                None
-            }
-        }
+        [word] => op_of_one(alloc, verb, word),
+        [first, second] => op_of_two(alloc, verb, first, second),
+        [first, second, third] => op_of_three(alloc, verb, first, second, third),
         _ => None,
     }
 }

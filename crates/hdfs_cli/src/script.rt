@@ -13,12 +13,12 @@ ghost use Rattle.hdfs_cli.specs.Words as words;
 
 use crate::answer::Answer;
 use crate::channel::{ReadFault, read_all, write_text};
-use crate::flat::step;
 use crate::line::request_of;
 use crate::words::{is_skipped, pieces_between, without_return, words_in};
-use flat_rows::rows::Rows;
+use fs_operations::apply::apply;
 use hdfs_types::fault::ParseFault;
 use hdfs_types::who::Who;
+use inode_tree::tree::Tree;
 use principals::users::Users;
 use std::alloc::{AllocError, Global};
 use std::io::{Read, Write};
@@ -53,22 +53,19 @@ pub enum ScriptFault {
     CannotWrite,
 }
 
-/// The answer to a line. Where memory runs out the rows stay as they were.
+/// The answer to a line. Where memory runs out the namespace and the users stay as they were.
 fn answer_to(
     alloc: Global,
-    rows: &mut Rows,
-    users: &Users,
+    tree: &mut Tree,
+    users: &mut Users,
     line: &str,
 ) -> Result<Answer, AllocError>
-    ensures ok { IfOk result (λ answer. record { answer = answer; rows = rows.new } ≡ spec.answered users.now rows.old (request_said (words.words_of line.now))) }
-    ensures err { OnErr result (rows.new ≡ rows.old) }
+    ensures ok { IfOk result (λ answer. record { answer = answer; rows = tree.new; users = users.new } ≡ spec.answered tree.old users.old (request_said (words.words_of line.now))) }
+    ensures err { OnErr result ((tree.new ≡ tree.old) × (users.new ≡ users.old)) }
 {
     let words = words_in(alloc, line)?;
     match request_of(alloc, &words) {
-        Ok(request) => {
-            let verdict = step(alloc, rows, users, &request.caller, &request.op)?;
-            Ok(Answer::Given(verdict))
-        }
+        Ok(request) => Ok(Answer::Given(apply(alloc, tree, users, &request)?)),
         Err(ParseFault::IllFormed(fault)) => Ok(Answer::Bad(fault)),
         Err(ParseFault::OutOfMemory) => Err(AllocError),
     }
@@ -89,9 +86,9 @@ fn print_answer(
 }
 
 /// A script that is being run: the namespace, the lines so far, and what they print.
-#[derive(Debug, Drop)]
+#[derive(Drop)]
 pub(crate) struct Session {
-    pub(crate) rows: Rows,
+    pub(crate) tree: Tree,
     pub(crate) users: Users,
     /// How many lines were run.
     number: usize,
@@ -103,14 +100,13 @@ pub(crate) struct Session {
 impl Session {
     /// The root alone, of the superuser `hdfs` and the supergroup `supergroup`.
     pub(crate) fn open(alloc: Global) -> Result<Session, AllocError>
-        ensures users { IfOk result (λ session. session.users ≡ spec.opening_users) }
-        ensures shows { IfOk result (Shows spec.opening) }
+        ensures { IfOk result (Shows spec.opening) }
     {
         let superuser = known_who(alloc, "hdfs")?;
         let supergroup = known_who(alloc, "supergroup")?;
-        let rows = Rows::new(alloc, &superuser, &supergroup)?;
+        let tree = Tree::new(alloc, superuser.clone()?, supergroup.clone()?);
         Ok(Session {
-            rows,
+            tree,
             users: Users::new(alloc, superuser, supergroup),
             number: 0,
             has_bad: false,
@@ -121,9 +117,8 @@ impl Session {
     /// Runs a line, and adds its answer to the output where it has one. Where memory runs out the output stays as it was.
     fn serve(&mut self, alloc: Global, line: &str) -> Result<(), AllocError>
         requires { self.old.number + 1 < 2 ^ 64 }
-        ensures users { self.new.users ≡ self.old.users }
         ensures number { self.new.number ≡ self.old.number + 1 }
-        ensures ok { (state : spec.State) → Shows state self.old → OnOk result (Shows (spec.after_line self.old.users state line.now) self.new) }
+        ensures ok { (state : spec.State) → Shows state self.old → OnOk result (Shows (spec.after_line state line.now) self.new) }
         ensures err { OnErr result (string_bytes self.new.out ≡ string_bytes self.old.out) }
     {
         self.number += 1;
@@ -131,7 +126,7 @@ impl Session {
         if is_skipped(line) {
             return Ok(());
         }
-        let answer = answer_to(alloc, &mut self.rows, &self.users, line)?;
+        let answer = answer_to(alloc, &mut self.tree, &mut self.users, line)?;
         print_answer(alloc, self.number, &answer, &mut self.out)?;
         self.has_bad = self.has_bad || answer.is_bad();
         Ok(())
@@ -156,9 +151,7 @@ pub(crate) fn run_lines(
     session: &mut Session,
     lines: &[&str],
 ) -> Result<(), AllocError>
-    requires users { session.old.users ≡ spec.opening_users }
-    requires shows { Shows spec.opening session.old }
-    ensures users { session.new.users ≡ spec.opening_users }
+    requires { Shows spec.opening session.old }
     ensures ok { OnOk result (Shows (spec.after_lines (map (λ line. line.now) lines.now)) session.new) }
     ensures err { OnErr result ((count : ℕ) × (count < length lines.now) × (string_bytes session.new.out ≡ spec.text_of (spec.after_lines (take count (map (λ line. line.now) lines.now))).answers)) }
 {
@@ -170,8 +163,7 @@ pub(crate) fn run_lines(
 
 /// Runs a script from the opening of a namespace. An `Err` leaves what its lines before the one that failed print.
 fn run_text(alloc: Global, session: &mut Session, script: &str) -> Result<Status, AllocError>
-    requires users { session.old.users ≡ spec.opening_users }
-    requires shows { Shows spec.opening session.old }
+    requires { Shows spec.opening session.old }
     ensures ok { OnOk result (string_bytes session.new.out ≡ spec.output_of script.now) }
     ensures status { IfOk result (λ status. status ≡ spec.status_of (spec.answers_of script.now)) }
     ensures err { OnErr result (IsAnswersBefore script.now (string_bytes session.new.out)) }

@@ -1,4 +1,5 @@
 ghost use Rattle.std.specs.Prelude.{◌≡◌, ◌≢◌, ◌<◌, ℕ, List, [], ◌∷◌, ◌++◌, IfOk, OnOk, MatchOption, map, filter};
+ghost use Rattle.hdfs_types.specs.Text.{same};
 ghost use Rattle.hdfs_cli.specs.Words as spec;
 
 use std::alloc::{AllocError, Global};
@@ -58,4 +59,11 @@ pub fn is_skipped(line: &str) -> bool
     ensures { result ≡ spec.is_skipped line.now }
 {
     line.is_empty() || line.as_bytes()[0] == b'#'
+}
+
+/// Whether a word is this text.
+pub fn is_word(word: &str, text: &str) -> bool
+    ensures { result ≡ same word.now text.now }
+{
+    word == text
 }

@@ -16,7 +16,7 @@ const ILL_FORMED: u8 = 1;
 /// The exit status for a fault of the command line.
 const BAD_COMMAND_LINE: u8 = 2;
 
-/// The exit status where the script was not run to its end, or not all that it prints was written.
+/// The exit status where memory ran out, the script couldn't be read, or not all that is printed was written.
 const FAULT: u8 = 3;
 
 fn script<'a>(alloc: Global) -> Arg<'a> {

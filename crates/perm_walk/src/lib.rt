@@ -1,4 +1,4 @@
-//! Permission checks on the tree: one descent along a path for what a need asks, with the decision of the written rules
+//! Permission checks on the tree, by descents along the paths that needs name, with the decision of the flat list of rows
 //! (HDFS Permissions Guide, "Permission Checks").
 #![tactic(auto)]
 

@@ -260,8 +260,8 @@ fn first_denial(
 }
 
 /// The first of the needs that fails for the caller, or none: the decision of the flat list of rows (HDFS Permissions Guide,
-/// "Permission Checks"). A superuser fails none. A need costs a descent along its path, and one on a sub-tree its
-/// directories; memory is taken only for a denial.
+/// "Permission Checks"). A superuser fails none. A need costs at most three descents along its path, and one on a sub-tree also
+/// its directories; memory is taken only for a denial.
 pub fn walk(
     alloc: Global,
     tree: &Tree,

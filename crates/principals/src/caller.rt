@@ -44,7 +44,7 @@ impl<'a> Caller<'a> {
         self.groups
     }
 
-    /// Whether the caller fails no need of rights or ownership.
+    /// Whether the caller is a superuser, who meets every need.
     pub fn is_superuser(&self) -> bool
         ensures { result ≡ self.now.is_superuser }
     {

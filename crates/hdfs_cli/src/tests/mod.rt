@@ -1,4 +1,5 @@
 mod explanations;
+mod lines;
 mod scripts;
 mod tokens;
 mod values;

@@ -26,7 +26,7 @@ const LINES: &str = "# a comment\n\n0 hdfs stat /\r\n\
 0 hdfs stat /x\r\r\n\
 \t0\thdfs  stat\t /x \n\
 \x20\n # c\n\
-0 a:b frob /\n0 a:b stat /.. /\n0 hdfs chmod / 888\n0 hdfs STAT /\n0 hdfs stat\n\
+0 a:b frob /\n0 a:b stat /.. /\n0 hdfs frob / 888\n0 hdfs STAT /\n0 hdfs stat\n\
 x hdfs stat /\nx a:b stat /..\n0 a:b stat /..\n0 hdfs stat /..\n0 hdfs mkdirs /.. 888\n0 hdfs mkdirs /a 888\n\
 4611686018427387904 hdfs stat /x\n4611686018427387905 hdfs stat /\n+1 hdfs stat /\n0001 - stat /x\n\
 \u{feff}0 hdfs stat /\n0 hdfs stat //\n0 hdfs stat /a/\n0 hdfs stat /a:b\n0 hdfs stat /a\0\n0 hdfs stat /.\n0 hdfs stat a\n\

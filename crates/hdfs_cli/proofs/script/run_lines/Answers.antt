@@ -1,21 +1,19 @@
 use Rattle.std.proofs.Common.{◌≡◌, ◌∙◌, ℕ, List, [], Bor, refl, ap, subst, map, take, get_or, arith, ◌+◌, ◌<◌, length}
-use Rattle.hdfs_cli.specs.Output.{State, opening, opening_users, after_line, after_lines}
+use Rattle.hdfs_cli.specs.Output.{State, opening, after_line, after_lines}
 use Rattle.hdfs_cli.specs.Shown.{Shows}
 use Rattle.hdfs_cli.proofs.Lines.{fold_step}
 use Rattle.hdfs_cli.proofs.script.run_lines.Goals as goal
 
 one_more : (lines : List (Bor (List ℕ))) (i : ℕ) (d : Bor (List ℕ)) → i < length lines
-    → after_line opening_users (after_lines (take i (map (λ line. line.now) lines))) (get_or lines i d).now ≡ after_lines (take (i + 1) (map (λ line. line.now) lines))
-one_more lines i d lt = fold_step (λ (line : Bor (List ℕ)). line.now) (after_line opening_users) opening _ _ lines i d lt refl refl
+    → after_line (after_lines (take i (map (λ line. line.now) lines))) (get_or lines i d).now ≡ after_lines (take (i + 1) (map (λ line. line.now) lines))
+one_more lines i d lt = fold_step (λ (line : Bor (List ℕ)). line.now) after_line opening _ _ lines i d lt refl refl
 
 pub loop-line-preserved : goal.loop-line-preserved
 loop-line-preserved c =
     let d : Bor (List ℕ) = record { ref_ptr = (0, 0); now = [] } in
     let before : State = after_lines (take c.loop-line.line-index (map (λ line. line.now) c.args.lines.now)) in
     let served = c.in_ok-serve.ensures.ok before c.loop-line.invariant.shows in
-    let known = rw c.loop-line.invariant.users at served in
     record {
-      users = c.serve.ensures.users ∙ c.loop-line.invariant.users;
       number = c.serve.ensures.number ∙ ap (λ n. n + 1) c.loop-line.invariant.number;
-      shows = subst (λ (s : State). Shows s c.serve.new.self) (one_more c.args.lines.now c.loop-line.line-index d (omega arith)) known;
+      shows = subst (λ (s : State). Shows s c.serve.new.self) (one_more c.args.lines.now c.loop-line.line-index d (omega arith)) served;
     }

@@ -1,0 +1,232 @@
+use crate::line::request_of;
+use hdfs_types::fault::ParseFault;
+use hdfs_types::op::{Op, Request};
+use hdfs_types::path::Path;
+use hdfs_types::who::Who;
+use std::alloc::{AllocError, Global};
+use std::test::Fail;
+
+/// The request of a line whose words single blanks separate. It has no clauses, so that no proof of a test computes it.
+fn read(alloc: Global, line: &str) -> Result<Request, ParseFault> {
+    let words: Vec<&str> = line.split(' ').collect(alloc)?;
+    request_of(alloc, &words)
+}
+
+/// A name, or `(kept)` where none is given.
+fn put_name(out: &mut String, who: &Option<Who>) -> Result<(), AllocError> {
+    match who {
+        Some(who) => out.push_str(who.as_str()),
+        None => out.push_str("(kept)"),
+    }
+}
+
+/// The words in the order in which they are given, each behind a bar.
+fn put_all(out: &mut String, groups: &[Who]) -> Result<(), AllocError> {
+    for who in groups {
+        out.push_str("|")?;
+        out.push_str(who.as_str())?;
+    }
+    Ok(())
+}
+
+fn put_path(alloc: Global, out: &mut String, path: &Path) -> Result<(), AllocError> {
+    let text = path.to_string(alloc)?;
+    out.push_str(text.as_str())
+}
+
+/// The parts of an operation, behind the name of its variant.
+fn parts_of(alloc: Global, op: &Op) -> Result<String, AllocError> {
+    match op {
+        Op::Mkdirs(path, mode) => format!(in alloc; "Mkdirs {path} {mode}"),
+        Op::Stat(path) => format!(in alloc; "Stat {path}"),
+        Op::List(path) => format!(in alloc; "List {path}"),
+        Op::Summary(path) => format!(in alloc; "Summary {path}"),
+        Op::Delete(path, recursive) => format!(in alloc; "Delete {path} {recursive}"),
+        Op::Rename(from, to) => format!(in alloc; "Rename {from} {to}"),
+        Op::SetMode(path, mode) => format!(in alloc; "SetMode {path} {mode}"),
+        Op::SetOwner(path, owner, group) => {
+            let mut out = String::from_str(alloc, "SetOwner ")?;
+            put_path(alloc, &mut out, path)?;
+            out.push_str(" ")?;
+            put_name(&mut out, owner)?;
+            out.push_str(" ")?;
+            put_name(&mut out, group)?;
+            Ok(out)
+        }
+        Op::AddUser(user, groups) => {
+            let mut out = format!(in alloc; "AddUser {user} ")?;
+            put_all(&mut out, groups.as_slice())?;
+            Ok(out)
+        }
+        Op::SetGroups(user, groups) => {
+            let mut out = format!(in alloc; "SetGroups {user} ")?;
+            put_all(&mut out, groups.as_slice())?;
+            Ok(out)
+        }
+    }
+}
+
+/// What a line makes: moment, caller and operation, or how it is ill-formed.
+fn made(alloc: Global, line: &str) -> Result<String, AllocError> {
+    match read(alloc, line) {
+        Ok(request) => {
+            let moment = request.moment.milliseconds();
+            let caller = &request.caller;
+            let parts = parts_of(alloc, &request.op)?;
+            format!(in alloc; "{moment} {caller} {parts}")
+        }
+        Err(ParseFault::IllFormed(fault)) => format!(in alloc; "{fault}"),
+        Err(ParseFault::OutOfMemory) => Err(AllocError),
+    }
+}
+
+const RIGHT: [(&str, &str); 22] = [
+    ("0 ann mkdirs /a 1777", "0 ann Mkdirs /a 1777"),
+    ("7 ann stat /", "7 ann Stat /"),
+    ("0 ann ls /a/b", "0 ann List /a/b"),
+    ("0 ann du /", "0 ann Summary /"),
+    ("0 ann delete /a", "0 ann Delete /a false"),
+    ("0 ann delete /a recursive", "0 ann Delete /a true"),
+    ("0 ann rename /a /b/c", "0 ann Rename /a /b/c"),
+    ("0 ann chmod /a 7", "0 ann SetMode /a 0007"),
+    ("0 ann chown /a bob crew", "0 ann SetOwner /a bob crew"),
+    ("0 ann chown /a - crew", "0 ann SetOwner /a (kept) crew"),
+    ("0 ann chown /a bob -", "0 ann SetOwner /a bob (kept)"),
+    ("0 ann chown /a - -", "0 ann SetOwner /a (kept) (kept)"),
+    ("0 ann chown /a -- -b", "0 ann SetOwner /a -- -b"),
+    ("0 hdfs adduser bob g1", "0 hdfs AddUser bob |g1"),
+    (
+        "0 hdfs adduser bob g2,g1,g3",
+        "0 hdfs AddUser bob |g2|g1|g3",
+    ),
+    ("0 hdfs adduser bob -", "0 hdfs AddUser bob "),
+    ("0 hdfs adduser - g1", "0 hdfs AddUser - |g1"),
+    ("0 hdfs adduser bob -,g9", "0 hdfs AddUser bob |-|g9"),
+    ("0 hdfs groups bob g1,g1", "0 hdfs SetGroups bob |g1|g1"),
+    ("0 hdfs groups bob --", "0 hdfs SetGroups bob |--"),
+    ("0 hdfs groups bob -", "0 hdfs SetGroups bob "),
+    ("0 - groups - -", "0 - SetGroups - "),
+];
+
+#[test]
+fn lines_make_requests(rt: HostRuntime) -> Result<(), Fail> {
+    for (line, want) in RIGHT {
+        let found = made(rt.alloc(), line)?;
+        assert_eq!(rt; found.as_str(), want, "of {line}");
+    }
+    Ok(())
+}
+
+/// Each verb with a word too few and a word too many. The words are ill-formed too, which is judged later.
+const COUNTS: [&str; 28] = [
+    "",
+    "0",
+    "0 a:b",
+    "x a:b ls",
+    "0 a:b ls /.. /..",
+    "0 a:b du",
+    "0 a:b du /.. /..",
+    "0 a:b stat",
+    "0 a:b stat /.. /..",
+    "0 a:b mkdirs /..",
+    "0 a:b mkdirs /.. 888 888",
+    "0 a:b delete",
+    "0 a:b delete /.. recursive recursive",
+    "0 a:b rename /..",
+    "0 a:b rename /.. /.. /..",
+    "0 a:b chmod /..",
+    "0 a:b chmod /.. 888 888",
+    "0 a:b chown /.. a:b",
+    "0 a:b chown /.. a:b a:b a:b",
+    "0 a:b adduser a:b",
+    "0 a:b adduser a:b a:b a:b",
+    "0 a:b groups a:b",
+    "0 a:b groups a:b a:b a:b",
+    "0 a:b move /.. /..",
+    "0 a:b LS /..",
+    "0 a:b l /..",
+    "0 a:b lss /..",
+    "0 a:b list /..",
+];
+
+#[test]
+fn counts_of_words_come_first(rt: HostRuntime) -> Result<(), Fail> {
+    for line in COUNTS {
+        let fault = made(rt.alloc(), line)?;
+        assert_eq!(rt; fault.as_str(), "0 BadLine", "of {line}");
+    }
+    Ok(())
+}
+
+/// Words that are ill-formed, alone and before another.
+const FAULTS: [(&str, &str); 40] = [
+    ("x a:b ls /..", "0 BadLine"),
+    ("0 a:b ls /..", "19 BadName"),
+    ("0 ann ls /..", "1 BadPath"),
+    ("0 ann du a", "1 BadPath"),
+    ("0 ann du //", "1 BadPath"),
+    ("x a:b delete /..", "0 BadLine"),
+    ("0 ann delete /..", "1 BadPath"),
+    ("0 ann delete /a nonsense", "0 BadLine"),
+    ("0 ann delete /a Recursive", "0 BadLine"),
+    ("0 ann delete /a recursively", "0 BadLine"),
+    ("0 ann delete /a recursiv", "0 BadLine"),
+    ("0 ann delete /.. nonsense", "1 BadPath"),
+    ("0 ann delete /.. recursive", "1 BadPath"),
+    ("0 a:b delete /a nonsense", "19 BadName"),
+    ("0 ann rename /.. /b", "1 BadPath"),
+    ("0 ann rename /a b", "1 BadPath"),
+    ("0 a:b rename /.. b", "19 BadName"),
+    ("0 ann chmod /.. 888", "1 BadPath"),
+    ("0 ann chmod /a 888", "20 BadMode"),
+    ("0 ann chmod /a 2000", "20 BadMode"),
+    ("0 ann chmod /a -", "20 BadMode"),
+    ("0 ann chown /.. a:b c:d", "1 BadPath"),
+    ("0 ann chown /a a:b -", "19 BadName"),
+    ("0 ann chown /a - c,d", "19 BadName"),
+    ("0 ann chown /a b/c -", "19 BadName"),
+    ("0 ann adduser a:b g1", "19 BadName"),
+    ("0 ann adduser a,b g1", "19 BadName"),
+    ("0 ann adduser bob a,,b", "19 BadName"),
+    ("0 ann adduser bob ,", "19 BadName"),
+    ("0 ann adduser bob a,", "19 BadName"),
+    ("0 ann adduser bob ,a", "19 BadName"),
+    ("0 ann adduser bob a:b", "19 BadName"),
+    ("0 ann adduser bob a,b/c", "19 BadName"),
+    ("0 ann groups a:b g1", "19 BadName"),
+    ("0 ann groups bob a,,b", "19 BadName"),
+    ("0 ann groups bob a:b,c", "19 BadName"),
+    ("x ann groups bob a,,b", "0 BadLine"),
+    ("-1 ann rename /.. b", "0 BadLine"),
+    ("4611686018427387905 a:b chown /.. - -", "0 BadLine"),
+    ("x ann chmod /a 888", "0 BadLine"),
+];
+
+#[test]
+fn the_first_ill_formed_word_counts(rt: HostRuntime) -> Result<(), Fail> {
+    for (line, want) in FAULTS {
+        let found = made(rt.alloc(), line)?;
+        assert_eq!(rt; found.as_str(), want, "of {line}");
+    }
+    Ok(())
+}
+
+/// A group's name has at most 255 bytes; the list as a whole has no limit.
+#[test]
+fn lists_of_groups_have_no_limit(rt: HostRuntime) -> Result<(), Fail> {
+    let alloc = rt.alloc();
+    let mut line = String::from_str(alloc, "0 hdfs groups bob ")?;
+    for _ in 0..255 {
+        line.push_str("g")?;
+    }
+    let long = made(alloc, line.as_str())?;
+    assert!(rt; long.as_str().starts_with("0 hdfs SetGroups bob |ggg"));
+    let mut longer = line.clone()?;
+    longer.push_str("g")?;
+    assert_eq!(rt; made(alloc, longer.as_str())?.as_str(), "19 BadName");
+    for _ in 0..300 {
+        line.push_str(",h")?;
+    }
+    assert!(rt; read(alloc, line.as_str()).is_ok());
+    Ok(())
+}
