@@ -1,12 +1,12 @@
 -- A descent along a path, to the first component above it that a test passes. The test reads no path.
-use Rattle.std.proofs.Common.{◌≡◌, ℕ, ◌+◌, ◌<◌, ◌≤◌, Bool, true, false, ◌&&◌, List, [], ◌∷◌, ◌++◌, map, cond, get_or, append_assoc, length, take, drop, Option, Some, None, refl, sym, ap, ◌∙◌}
+use Rattle.std.proofs.Common.{◌≡◌, ℕ, ◌+◌, ◌<◌, ◌≤◌, Bool, true, false, ◌&&◌, List, [], ◌∷◌, ◌++◌, map, get_or, append_assoc, length, take, drop, Option, Some, None, refl, sym, ap, ◌∙◌}
 use Rattle.std.proofs.lemmas.List.{append-nil, drop_more, take_more, drop_all}
 use Rattle.std.specs.List.{filter}
 use Rattle.std.specs.Option.{option_map}
 use Rattle.hdfs_types.specs.Path.{is_beneath}
 use Rattle.flat_rows.specs.declared.row.Row.{Row}
 use Rattle.flat_rows.specs.First.{first}
-use Rattle.inode_tree.specs.Branch.{Branch, Top, rows, rows_or, row_of, top_of, under, placed}
+use Rattle.inode_tree.specs.Branch.{Branch, rows, rows_or, row_of, top_of, under, placed}
 use Rattle.inode_tree.specs.Part.{Splits, IsPart}
 use Rattle.inode_tree.proofs.Filters.{self}
 
