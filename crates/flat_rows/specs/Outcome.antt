@@ -1,6 +1,6 @@
 -- What an operation that no need forbids answers, and the rows that it leaves: the first refusal of its list that applies, else done.
 -- (HDFS Architecture, "The File System Namespace"; HDFS Permissions Guide, "Overview".)
-use Rattle.std.specs.Prelude.{ℕ, List, [], ◌∷◌, ◌++◌, length, drop, if◌then◌else◌, Option, Some, None}
+use Rattle.std.specs.Prelude.{ℕ, Bool, true, ◌&&◌, not, List, [], ◌∷◌, ◌++◌, length, drop, if◌then◌else◌, Option, Some, None}
 use Rattle.std.specs.Option.{option_map, option_or}
 use Rattle.hdfs_types.specs.Mode.{for_missing_parent}
 use Rattle.hdfs_types.specs.declared.op.Op.{Op}
