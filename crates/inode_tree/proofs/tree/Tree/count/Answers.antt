@@ -1,0 +1,10 @@
+use Rattle.std.proofs.Common.{Some, None, ap, subst, sym, ◌∙◌}
+use Rattle.std.specs.Option.{option_map, option_copied}
+use Rattle.inode_tree.specs.Branch.{rows}
+use Rattle.inode_tree.specs.Part.{IsWhole}
+use Rattle.inode_tree.proofs.Asked.{counts_there}
+use Rattle.inode_tree.proofs.tree.Tree.count.Goals as goal
+
+pub returns-in-Some : goal.returns-in-Some
+returns-in-Some c =
+    c.count.ensures ∙ counts_there c.names.result.now c.args.path.now c.names.ensures.names c.self.inside.root c.args.self.now c.self.view_is c.self.invariant (Some c.in-Some.node.now) (subst (IsWhole c.names.result.now (rows c.self.inside.root)) (ap option_copied c.in-Some.is) c.find.ensures)

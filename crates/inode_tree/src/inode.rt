@@ -1,0 +1,68 @@
+ghost use Rattle.std.specs.Prelude.{◌≡◌, IfSome};
+ghost use Rattle.std.specs.Option.{option_map};
+ghost use Rattle.acl_entries.specs.JudgedEntry.{judged_entry};
+ghost use Rattle.inode_tree.specs.Part.{IsPart};
+ghost use Rattle.inode_tree.specs.Tree.{branch_at};
+
+use crate::node::Node;
+use acl_entries::acl::Acl;
+use acl_entries::deciding_entry::Chosen;
+use hdfs_types::name::Name;
+use hdfs_types::reply::ObjectKind;
+use hdfs_types::rights::Rights;
+use hdfs_types::who::Who;
+
+/// A file or a directory of a tree, lent with all that is beneath it (HDFS Architecture, "The File System Namespace").
+#[derive(Clone, Copy)]
+pub struct Inode<'a> {
+    node: &'a Node,
+}
+
+impl<'a> Inode<'a> {
+    pub(crate) fn new(node: &'a Node) -> Inode<'a>
+        ensures { branch_at result ≡ node.now }
+    {
+        Inode { node }
+    }
+
+    pub fn kind(&self) -> ObjectKind
+        ensures { result ≡ (branch_at self.now).top.kind }
+    {
+        self.node.kind()
+    }
+
+    pub fn owner(&self) -> &'a Who
+        ensures { result.now ≡ (branch_at self.now).top.owner }
+    {
+        self.node.owner()
+    }
+
+    pub fn group(&self) -> &'a Who
+        ensures { result.now ≡ (branch_at self.now).top.group }
+    {
+        self.node.group()
+    }
+
+    pub fn acl(&self) -> &'a Acl
+        ensures { result.now ≡ (branch_at self.now).top.acl }
+    {
+        self.node.acl()
+    }
+
+    /// The entry that decides for a caller with these groups. Costs the caller's groups, and takes no memory.
+    pub fn judged(&self, caller: &Who, groups: &[Who], need: Rights) -> Chosen<'a>
+        ensures { result ≡ judged_entry (branch_at self.now).top.owner (branch_at self.now).top.group (branch_at self.now).top.acl caller.now groups.now need }
+    {
+        self.node.judged(caller, groups, need)
+    }
+
+    /// What a directory holds by this name; a file holds nothing. Costs the logarithm of what it holds, in comparisons of
+    /// names, and takes no memory.
+    pub fn child(&self, name: &Name) -> Option<Inode<'a>>
+        ensures part { IsPart name.now (branch_at self.now).beneath (option_map branch_at result) }
+        ensures directory { IfSome result (λ _. (branch_at self.now).top.kind ≡ ObjectKind.Directory) }
+    {
+        let node = self.node.child(name)?;
+        Some(Inode::new(node))
+    }
+}

@@ -1,0 +1,9 @@
+//! The namespace as a tree of maps, changed in place along a path, and seen as its list of rows (HDFS Architecture, "The
+//! File System Namespace").
+#![tactic(auto)]
+
+mod change;
+pub mod inode;
+mod node;
+pub mod tree;
+pub mod visit;

@@ -1,0 +1,219 @@
+ghost use Rattle.std.specs.Prelude.{◌≡◌, [], ◌∷◌, ◌||◌, map, filter, not, None, IsTrue, IfOk, OnOk, OnErr};
+ghost use Rattle.std.specs.Option.{option_map};
+ghost use Rattle.hdfs_types.specs.Path.{is_prefix};
+ghost use Rattle.flat_rows.specs.Opening.{root_row};
+ghost use Rattle.flat_rows.specs.Rows.{row_at, is_directory_kind, is_missing, file_above, ancestor, with_sub_tree};
+ghost use Rattle.flat_rows.specs.Namespace.{has_parent, is_root};
+ghost use Rattle.flat_rows.specs.Outcome.{with_directories};
+ghost use Rattle.flat_rows.specs.Changes.{rows_under, without, moved_row, moved, rewritten, suits_list, are_paths, child_names};
+ghost use Rattle.flat_rows.specs.First.{first};
+ghost use Rattle.inode_tree.specs.Visits.{counts_of, is_closed};
+ghost use Rattle.inode_tree.specs.Branch.{rows, row_of};
+ghost use Rattle.inode_tree.specs.Part.{IsWhole};
+ghost use Rattle.inode_tree.specs.Tree.{branch_at};
+
+use crate::inode::Inode;
+use crate::node::Node;
+use crate::visit::{self, Counts};
+use acl_entries::acl::Acl;
+use flat_rows::row::Row;
+use hdfs_types::mode::Mode;
+use hdfs_types::name::Name;
+use hdfs_types::path::Path;
+use hdfs_types::reply::ObjectKind;
+use hdfs_types::rights::Rights;
+use hdfs_types::who::Who;
+use std::alloc::{AllocError, Global};
+use std::marker::Model;
+
+/// A namespace, whose rows stand in ascending path order: the root first, and the parent of each other row a directory
+/// (HDFS Architecture, "The File System Namespace"). A call costs its path, one look-up in a map for each name; what it
+/// costs beyond that is said at the call.
+#[derive(Drop)]
+pub struct Tree {
+    root: Node,
+    alloc: Global,
+}
+
+impl Model for Tree {
+    ghost use Rattle.std.specs.Prelude.{List};
+    ghost use Rattle.flat_rows.specs.declared.row.Row.{Row};
+    ghost use Rattle.inode_tree.specs.Branch.{rows};
+    ghost use Rattle.inode_tree.specs.Tree.{IsTree};
+
+    ghost Value = { List Row };
+
+    ghost view = { λ tree. rows tree.root };
+
+    ghost invariant = { λ tree. IsTree (rows tree.root) };
+}
+
+impl Tree {
+    /// The root alone, a directory of mode 0755 that these two own. Takes no memory.
+    pub fn new(alloc: Global, superuser: Who, supergroup: Who) -> Tree
+        ensures { result ≡ root_row superuser supergroup ∷ [] }
+    {
+        let acl = Acl::from_mode(Mode::root(), ObjectKind::Directory);
+        Tree {
+            root: Node::new(alloc, ObjectKind::Directory, superuser, supergroup, acl),
+            alloc,
+        }
+    }
+
+    /// The root.
+    pub fn root(&self) -> Inode<'_>
+        ensures { rows (branch_at result) ≡ self.now }
+    {
+        Inode::new(&self.root)
+    }
+
+    /// What stands at a path. Takes no memory.
+    pub fn get(&self, path: &Path) -> Option<Inode<'_>>
+        ensures row { option_map (λ inode. row_of path.now (branch_at inode).top) result ≡ row_at path.now self.now }
+        ensures beneath { IsWhole path.now self.now (option_map branch_at result) }
+    {
+        let node = self.root.find(path.names())?;
+        Some(Inode::new(node))
+    }
+
+    /// How many directories and how many files stand at a path and beneath it. Costs also what stands there, and takes no
+    /// memory.
+    pub fn count(&self, path: &Path) -> Counts
+        ensures { result ≡ counts_of (rows_under path.now self.now) }
+    {
+        match self.root.find(path.names()) {
+            Some(node) => visit::count(node),
+            None => Counts {
+                directories: 0,
+                files: 0,
+            },
+        }
+    }
+
+    /// The first directory at a path and beneath it, in path order, that doesn't grant a caller with these groups what is
+    /// needed. Costs also what stands there, up to what is found, and takes memory only for what is found.
+    pub fn first_closed(
+        &self,
+        path: &[Name],
+        caller: &Who,
+        groups: &[Who],
+        need: Rights,
+    ) -> Result<Option<Row>, AllocError>
+        ensures { IfOk result (λ found. found ≡ first (filter (is_closed caller.now groups.now need) (rows_under path.now self.now))) }
+    {
+        let Some(node) = self.root.find(path) else {
+            return Ok(None);
+        };
+        match visit::first_closed(self.alloc, node, caller, groups, need)? {
+            Some(found) => Ok(Some(found.into_row(self.alloc, path)?)),
+            None => Ok(None),
+        }
+    }
+
+    /// Copies of the rows at a path and beneath it, in path order. Costs also these rows.
+    pub fn rows_under(&self, path: &Path) -> Result<Vec<Row>, AllocError>
+        ensures { IfOk result (λ rows. rows.items ≡ rows_under path.now self.now) }
+    {
+        let mut rows = Vec::new(self.alloc);
+        if let Some(node) = self.root.find(path.names()) {
+            visit::push_rows(self.alloc, node, path.clone()?, &mut rows)?;
+        }
+        Ok(rows)
+    }
+
+    /// The names of what a directory holds, in the order of names. Costs also what it holds.
+    pub fn children(&self, path: &Path) -> Result<Vec<&Name>, AllocError>
+        ensures { IfOk result (λ names. map (λ name. name.now) names.items ≡ child_names path.now self.now) }
+    {
+        match self.root.find(path.names()) {
+            Some(node) => visit::names_of(self.alloc, node),
+            None => Ok(Vec::new(self.alloc)),
+        }
+    }
+
+    /// Puts a file, or a directory that holds nothing, at a path, instead of what stood there.
+    ///
+    /// # Errors
+    /// Want of memory, and nothing has changed.
+    pub fn insert(
+        &mut self,
+        path: &Path,
+        kind: ObjectKind,
+        owner: Who,
+        group: Who,
+        acl: Acl,
+    ) -> Result<(), AllocError>
+        requires parent { IsTrue (has_parent path.now self.old) }
+        requires suits { IsTrue (is_directory_kind kind || not acl.sticky) }
+        ensures ok { OnOk result (self.new ≡ with_sub_tree self.old (record { path = path.now; kind = kind; owner = owner; group = group; acl = acl } ∷ [])) }
+        ensures err { OnErr result (self.new ≡ self.old) }
+    {
+        let Some((name, above)) = path.names().split_last() else {
+            unreachable!()
+        };
+        let name = name.clone()?;
+        let new = Node::new(self.alloc, kind, owner, group, acl);
+        self.root.put(above, name, new)
+    }
+
+    /// Makes the directories of a path that are missing, the last of this mode and the others also open to their owner, all
+    /// of this owner and of their parent's group (HDFS Permissions Guide, "Overview").
+    ///
+    /// # Errors
+    /// Want of memory, and nothing has changed.
+    pub fn make_directories(
+        &mut self,
+        path: &Path,
+        mode: Mode,
+        owner: &Who,
+    ) -> Result<(), AllocError>
+        requires missing { IsTrue (is_missing path.now self.old) }
+        requires clear { file_above path.now self.old ≡ None }
+        ensures ok { OnOk result (self.new ≡ with_directories path.now mode owner.now (ancestor path.now self.old) self.old) }
+        ensures err { OnErr result (self.new ≡ self.old) }
+    {
+        self.root.make(self.alloc, path.names(), mode, owner)
+    }
+
+    /// Removes what stands at a path that isn't the root, with all that is beneath it. Costs also what is removed, and takes
+    /// no memory.
+    pub fn remove(&mut self, path: &Path)
+        requires { IsTrue (not (is_root path.now)) }
+        ensures { self.new ≡ without path.now self.old }
+    {
+        let Some((first, rest)) = path.names().split_first() else {
+            unreachable!()
+        };
+        let _removed = self.root.take(first, rest);
+    }
+
+    /// Moves what stands at a path, with all that is beneath it, to another path. Costs the two paths, and not what is moved.
+    ///
+    /// # Errors
+    /// Want of memory, and nothing has changed.
+    pub fn move_to(&mut self, from: &Path, to: &Path) -> Result<(), AllocError>
+        requires there { IsTrue (not (is_missing from.now self.old)) }
+        requires free { IsTrue (is_missing to.now self.old) }
+        requires parent { IsTrue (has_parent to.now self.old) }
+        requires beside { IsTrue (not (is_prefix from.now to.now)) }
+        requires within { IsTrue (are_paths (map (moved_row from.now to.now) (rows_under from.now self.old))) }
+        ensures ok { OnOk result (self.new ≡ moved from.now to.now self.old) }
+        ensures err { OnErr result (self.new ≡ self.old) }
+    {
+        let Some((first, rest)) = from.names().split_first() else {
+            unreachable!()
+        };
+        let Some((name, above)) = to.names().split_last() else {
+            unreachable!()
+        };
+        self.root.move_to(self.alloc, first, rest, above, name)
+    }
+
+    /// Gives what stands at a path to an owner and a group, with another access list. Takes no memory.
+    pub fn rewrite(&mut self, path: &Path, owner: Who, group: Who, acl: Acl)
+        requires { IsTrue (suits_list acl (row_at path.now self.old)) }
+        ensures { self.new ≡ rewritten path.now owner group acl self.old }
+    {
+        self.root.rewrite(path.names(), owner, group, acl);
+    }
+}

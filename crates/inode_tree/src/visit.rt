@@ -1,0 +1,247 @@
+ghost use Rattle.std.specs.Prelude.{◌≡◌, ◌++◌, ◌∷◌, [], map, filter, reverse, true, IsTrue, IfOk, OnOk};
+ghost use Rattle.std.specs.Option.{option_map};
+ghost use Rattle.std.specs.Map.{keys_of};
+ghost use Rattle.hdfs_types.specs.Path.{IsPath};
+ghost use Rattle.flat_rows.specs.First.{first};
+ghost use Rattle.flat_rows.specs.Namespace.{is_ascending};
+ghost use Rattle.flat_rows.specs.Changes.{are_paths, child_names};
+ghost use Rattle.inode_tree.specs.Branch.{rows, row_of, flatten, under, placed};
+ghost use Rattle.inode_tree.specs.Visits.{counts_of, is_closed, row_found};
+
+use crate::node::{Held, Node};
+use acl_entries::acl::Acl;
+use flat_rows::row::Row;
+use hdfs_types::name::Name;
+use hdfs_types::path::Path;
+use hdfs_types::reply::ObjectKind;
+use hdfs_types::rights::Rights;
+use hdfs_types::who::Who;
+use std::alloc::{AllocError, Global};
+use std::collections::BTreeMap;
+
+/// How many directories and files there are. Each number stops at the greatest that it can tell.
+#[derive(Clone, Copy, Debug, PartialEq, Eq)]
+pub struct Counts {
+    pub directories: u64,
+    pub files: u64,
+}
+
+/// The counts of what stands at the node and beneath it.
+#[cycle(count)]
+pub(crate) fn count(node: &Node) -> Counts
+    ensures { result ≡ counts_of (rows node.now) }
+{
+    match &node.held {
+        Held::File => Counts {
+            directories: 0,
+            files: 1,
+        },
+        Held::Directory(map) => {
+            let beneath = count_in(map);
+            Counts {
+                directories: beneath.directories.saturating_add(1),
+                files: beneath.files,
+            }
+        }
+    }
+}
+
+#[cycle(count)]
+fn count_in(map: &BTreeMap<Name, Node>) -> Counts
+    ensures { result ≡ counts_of (flatten map.now.entries) }
+{
+    let mut directories = 0u64;
+    let mut files = 0u64;
+    for (_name, child) in map {
+        let counts = count(child);
+        directories = directories.saturating_add(counts.directories);
+        files = files.saturating_add(counts.files);
+    }
+    Counts { directories, files }
+}
+
+/// A directory that was found, with the names that lead to it from where the search began. They stand from the last up, since
+/// each level of the search adds its own.
+#[derive(Drop)]
+pub(crate) struct Found {
+    names: Vec<Name>,
+    owner: Who,
+    group: Who,
+    acl: Acl,
+}
+
+/// The first directory, of the node and all beneath it, that doesn't grant the caller what is needed.
+#[cycle(closed)]
+pub(crate) fn first_closed(
+    alloc: Global,
+    node: &Node,
+    caller: &Who,
+    groups: &[Who],
+    need: Rights,
+) -> Result<Option<Found>, AllocError>
+    ensures { IfOk result (λ found. option_map row_found found ≡ first (filter (is_closed caller.now groups.now need) (rows node.now))) }
+{
+    match &node.held {
+        Held::File => Ok(None),
+        Held::Directory(map) => {
+            if node.judged(caller, groups, need).is_granted() {
+                return first_closed_in(alloc, map, caller, groups, need);
+            }
+            Ok(Some(Found {
+                names: Vec::new(alloc),
+                owner: node.owner().clone()?,
+                group: node.group().clone()?,
+                acl: node.acl().clone()?,
+            }))
+        }
+    }
+}
+
+#[cycle(closed)]
+fn first_closed_in(
+    alloc: Global,
+    map: &BTreeMap<Name, Node>,
+    caller: &Who,
+    groups: &[Who],
+    need: Rights,
+) -> Result<Option<Found>, AllocError>
+    ensures { IfOk result (λ found. option_map row_found found ≡ first (filter (is_closed caller.now groups.now need) (flatten map.now.entries))) }
+{
+    for (name, child) in map {
+        if let Some(found) = first_closed(alloc, child, caller, groups, need)? {
+            return Ok(Some(beneath(name, found)?));
+        }
+    }
+    Ok(None)
+}
+
+/// What was found in the directory of this name, as the directory that holds that one has it.
+fn beneath(name: &Name, mut found: Found) -> Result<Found, AllocError>
+    ensures { IfOk result (λ whole. row_found whole ≡ under name.now (row_found found)) }
+{
+    found.names.push(name.clone()?)?;
+    Ok(found)
+}
+
+/// Adds the rows of the node, which stands at the path.
+#[cycle(rows)]
+pub(crate) fn push_rows(
+    alloc: Global,
+    node: &Node,
+    path: Path,
+    found: &mut Vec<Row>,
+) -> Result<(), AllocError>
+    requires { IsTrue (are_paths (map (placed path) (rows node.now))) }
+    ensures { OnOk result (found.new.items ≡ found.old.items ++ map (placed path) (rows node.now)) }
+{
+    match &node.held {
+        Held::File => {
+            found.push(row_at(node, path)?)?;
+            Ok(())
+        }
+        Held::Directory(map) => {
+            found.push(row_at(node, path.clone()?)?)?;
+            push_rows_in(alloc, map, &path, found)
+        }
+    }
+}
+
+#[cycle(rows)]
+fn push_rows_in(
+    alloc: Global,
+    nodes: &BTreeMap<Name, Node>,
+    path: &Path,
+    found: &mut Vec<Row>,
+) -> Result<(), AllocError>
+    requires { IsTrue (are_paths (map (placed path.now) (flatten nodes.now.entries))) }
+    ensures { OnOk result (found.new.items ≡ found.old.items ++ map (placed path.now) (flatten nodes.now.entries)) }
+{
+    for (name, child) in nodes {
+        let beneath = path_beneath(alloc, path, name)?;
+        push_rows(alloc, child, beneath, found)?;
+    }
+    Ok(())
+}
+
+/// The row of a node that stands at the path.
+fn row_at(node: &Node, path: Path) -> Result<Row, AllocError>
+    ensures { IfOk result (λ row. row ≡ row_of path node.now.top) }
+{
+    Ok(Row {
+        path,
+        kind: node.kind(),
+        owner: node.owner().clone()?,
+        group: node.group().clone()?,
+        acl: node.acl().clone()?,
+    })
+}
+
+/// The path of what the directory at the path holds by a name.
+fn path_beneath(alloc: Global, path: &Path, name: &Name) -> Result<Path, AllocError>
+    requires { IsPath (path.now ++ name.now ∷ []) }
+    ensures { IfOk result (λ beneath. beneath ≡ path.now ++ name.now ∷ []) }
+{
+    let mut names = copies(alloc, path.names())?;
+    names.push(name.clone()?)?;
+    Ok(Path::from_names(names))
+}
+
+/// Copies of the names, with room for more.
+fn copies(alloc: Global, names: &[Name]) -> Result<Vec<Name>, AllocError>
+    ensures { IfOk result (λ copies. copies.items ≡ names.now) }
+{
+    let mut copies = Vec::with_capacity(alloc, names.len() + 1)?;
+    for name in names {
+        copies.push(name.clone()?)?;
+    }
+    Ok(copies)
+}
+
+impl Found {
+    /// The row of the directory, where the search began at the path.
+    pub(crate) fn into_row(self, alloc: Global, path: &[Name]) -> Result<Row, AllocError>
+        requires { IsPath (path.now ++ (row_found self).path) }
+        ensures { IfOk result (λ row. row ≡ placed path.now (row_found self)) }
+    {
+        let mut names = copies(alloc, path)?;
+        push_reversed(&mut names, self.names)?;
+        Ok(Row {
+            path: Path::from_names(names),
+            kind: ObjectKind::Directory,
+            owner: self.owner,
+            group: self.group,
+            acl: self.acl,
+        })
+    }
+}
+
+/// Adds the names, the last first.
+fn push_reversed(names: &mut Vec<Name>, mut last_first: Vec<Name>) -> Result<(), AllocError>
+    ensures { OnOk result (names.new.items ≡ names.old.items ++ reverse last_first.items) }
+{
+    while let Some(name) = last_first.pop() {
+        names.push(name)?;
+    }
+    Ok(())
+}
+
+/// The names of what a directory holds.
+pub(crate) fn names_of<'a>(alloc: Global, node: &'a Node) -> Result<Vec<&'a Name>, AllocError>
+    requires { is_ascending (rows node.now) ≡ true }
+    ensures { IfOk result (λ names. map (λ name. name.now) names.items ≡ child_names [] (rows node.now)) }
+{
+    match &node.held {
+        Held::File => Ok(Vec::new(alloc)),
+        Held::Directory(nodes) => keys(alloc, nodes),
+    }
+}
+
+fn keys<'a>(alloc: Global, nodes: &'a BTreeMap<Name, Node>) -> Result<Vec<&'a Name>, AllocError>
+    ensures { IfOk result (λ names. map (λ name. name.now) names.items ≡ keys_of nodes.now.entries) }
+{
+    let mut names = Vec::new(alloc);
+    for (name, _child) in nodes {
+        names.push(name)?;
+    }
+    Ok(names)
+}
