@@ -47,6 +47,13 @@ impl Acl {
         Mode::of_parts(self.sticky, self.user, self.group, self.other)
     }
 
+    /// Whether only owners may remove or rename what a directory holds.
+    pub fn is_sticky(&self) -> bool
+        ensures { result ≡ self.now.sticky }
+    {
+        self.sticky
+    }
+
     pub fn user(&self) -> Rights
         ensures { result ≡ self.now.user }
     {

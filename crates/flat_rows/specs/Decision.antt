@@ -1,40 +1,78 @@
--- The decision: the first need of an operation that fails, or none. A need of a component that isn't there is passed over.
+-- The decision: the first need of an operation that fails, or none. A need of a component that isn't there is passed over,
+-- and so is one whose condition doesn't hold.
 -- (HDFS Permissions Guide, "Permission Checks" and "The Super-User".)
-use Rattle.std.specs.Prelude.{ℕ, Bool, true, List, if◌then◌else◌, Option, None}
-use Rattle.std.specs.Option.{option_map, option_to_list}
+use Rattle.std.specs.Prelude.{ℕ, Bool, true, false, not, List, [], ◌∷◌, if◌then◌else◌, Option, Some, None, map}
+use Rattle.std.specs.List.{flat_map}
+use Rattle.std.specs.Option.{option_to_list}
+use Rattle.hdfs_types.specs.Text.{same}
 use Rattle.hdfs_types.specs.declared.op.Op.{Op}
-use Rattle.principals.specs.Principals.{Principals, groups_of, is_super}
+use Rattle.principals.specs.Principals.{Principals, Asking, caller_of}
 use Rattle.flat_rows.specs.declared.row.Row.{Row}
 use Rattle.flat_rows.specs.declared.need.Need.{Need}
-use Rattle.flat_rows.specs.declared.need.Role.{Role}
-use Rattle.flat_rows.specs.declared.need.Role.TheVariants.{Traversed, Ancestor}
-use Rattle.flat_rows.specs.declared.need.Condition.{Condition}
-use Rattle.flat_rows.specs.declared.need.Condition.TheVariants.{Always, WhereMissing}
+use Rattle.flat_rows.specs.declared.need.By.TheVariants as by
+use Rattle.flat_rows.specs.declared.demand.Role.{Role}
+use Rattle.flat_rows.specs.declared.demand.Role.TheVariants.{Traversed, Ancestor, Parent, Final, SubTree}
+use Rattle.flat_rows.specs.declared.demand.Condition.{Condition}
+use Rattle.flat_rows.specs.declared.demand.Condition.TheVariants.{Always, WhereMissing, WhereDirectory, WhereSticky, WhereOwnedByAnother}
+use Rattle.flat_rows.specs.declared.trail.Judged.{Judged}
 use Rattle.flat_rows.specs.First.{first_answer}
-use Rattle.flat_rows.specs.Rows.{is_missing, directories_above, ancestor}
+use Rattle.flat_rows.specs.Rows.{is_missing, has_directory, has_sticky_parent, has_other_owner, row_at, directories_above, directories_beneath, ancestor, directory_of, owner_above}
 use Rattle.flat_rows.specs.RequiredRights.{Demand, required_rights}
-use Rattle.flat_rows.specs.Denied.{Denied, denying}
+use Rattle.flat_rows.specs.Denied.{Decided, Denied, deciding, denial_at}
 
--- the rows of the components that have a role on a path, from the root down
+-- the rows of the components that have a role on a path, in path order
 abbrev pub rows_in_role : Role → List (List ℕ) → List Row → List Row
 rows_in_role Traversed path rows = directories_above path rows
 rows_in_role Ancestor path rows = option_to_list (ancestor path rows)
+rows_in_role Parent path rows = option_to_list (directory_of path rows)
+rows_in_role Final path rows = option_to_list (row_at path rows)
+rows_in_role SubTree path rows = directories_beneath path rows
 
 abbrev pub holds : Condition → List (List ℕ) → List Row → Bool
 holds Always path rows = true
 holds WhereMissing path rows = is_missing path rows
+holds WhereDirectory path rows = has_directory path rows
+holds WhereSticky path rows = has_sticky_parent path rows
+holds (WhereOwnedByAnother user) path rows = has_other_owner user path rows
 
--- the denial of a need at a row
-abbrev pub denial_at : List ℕ → List (List ℕ) → Need → Row → Option Denied
-denial_at caller groups need row =
-    option_map (λ by. record { need = need; by = by; row = row; caller = caller; groups = groups }) (denying need row caller groups)
+-- the components that a demand is judged at
+abbrev pub components : List Row → Demand → List Row
+components rows demand = if holds demand.condition demand.path rows then rows_in_role demand.role demand.path rows else []
 
--- the first denial that a demand meets
-abbrev pub denial_by : List Row → List ℕ → List (List ℕ) → Demand → Option Denied
-denial_by rows caller groups demand =
-    if holds demand.condition demand.path rows then first_answer (denial_at caller groups demand.need) (rows_in_role demand.role demand.path rows) else None
+-- a need at a component, and the owner of the directory that holds it
+pub record Ask : Type 0 where
+  pub need : Need
+  pub row : Row
+  pub above : List ℕ
 
--- a superuser fails none
+abbrev pub ask_at : List Row → Need → Row → Ask
+ask_at rows need row = record { need = need; row = row; above = owner_above row rows }
+
+abbrev pub asks_of : List Row → Demand → List Ask
+asks_of rows demand = map (ask_at rows demand.need) (components rows demand)
+
+-- a superuser meets every need
+abbrev pub decided : Asking → Ask → Decided
+decided caller ask = if caller.is_superuser then record { by = by.Superuser; granted = true } else deciding ask.need ask.row ask.above caller.name caller.groups
+
+abbrev pub denial_of : Asking → Ask → Option Denied
+denial_of caller ask = if caller.is_superuser then None else denial_at ask.need ask.row ask.above caller.name caller.groups
+
+-- the first denial that demands meet
+abbrev pub denial_among : List Row → Asking → List Demand → Option Denied
+denial_among rows caller demands = first_answer (denial_of caller) (flat_map (asks_of rows) demands)
+
 abbrev pub decision : List Row → Principals → List ℕ → Op → Option Denied
-decision rows users caller op =
-    if is_super users caller then None else first_answer (denial_by rows caller (groups_of users caller)) (required_rights op)
+decision rows users caller op = denial_among rows (caller_of users caller) (required_rights op)
+
+abbrev pub judged : Asking → Ask → Judged
+judged caller ask = let what = decided caller ask in record { path = ask.row.path; need = ask.need; by = what.by; granted = what.granted }
+
+-- up to the first that isn't granted
+abbrev pub up_to_denied : List Judged → List Judged
+up_to_denied [] = []
+up_to_denied (need ∷ needs) = need ∷ (if need.granted then up_to_denied needs else [])
+
+-- the needs that are judged, in their order, up to the first that fails
+abbrev pub trail : List Row → Principals → List ℕ → Op → List Judged
+trail rows users caller op = up_to_denied (map (judged (caller_of users caller)) (flat_map (asks_of rows) (required_rights op)))

@@ -1,24 +1,36 @@
--- A denial: the need that failed, the entry that decided, the row that has it, and for whom it was judged.
--- (HDFS Permissions Guide, "Permission Checks".)
-use Rattle.std.specs.Prelude.{◌≡◌, ℕ, List, if◌then◌else◌, Option, Some, None}
+-- What decides about a need at a component, and a denial: the need that failed, what decided, the row of the component,
+-- and for whom it was judged.
+-- (HDFS Permissions Guide, "Permission Checks" and "The Sticky Bit".)
+use Rattle.std.specs.Prelude.{◌≡◌, ℕ, Bool, true, false, ◌||◌, List, [], if◌then◌else◌, Option, Some, None}
+use Rattle.hdfs_types.specs.Text.{same}
+use Rattle.hdfs_types.specs.Groups.{has_group}
 use Rattle.hdfs_types.specs.declared.rights.Rights as bits
 use Rattle.acl_entries.specs.JudgedEntry.{Judgement, judged_entry}
 use Rattle.flat_rows.specs.declared.row.Row.{Row}
 use Rattle.flat_rows.specs.declared.need.Need.{Need}
-use Rattle.flat_rows.specs.declared.need.Need.TheVariants.{Rights}
+use Rattle.flat_rows.specs.declared.need.Need.TheVariants as need
 use Rattle.flat_rows.specs.declared.need.By.{By}
-use Rattle.flat_rows.specs.declared.need.By.TheVariants.{Entry}
+use Rattle.flat_rows.specs.declared.need.By.TheVariants as by
 
 -- the entry of the row that decides for a caller with these groups
 abbrev pub judgement : Row → List ℕ → List (List ℕ) → bits.Rights → Judgement
-judgement row caller groups need = judged_entry row.owner row.group row.acl caller groups need
+judgement row caller groups asked = judged_entry row.owner row.group row.acl caller groups asked
 
-abbrev pub by_judgement : Judgement → Option By
-by_judgement judged = if judged.granted then None else Some (Entry judged.entry judged.mask)
+-- what decides, and whether the need is met
+pub record Decided : Type 0 where
+  pub by : By
+  pub granted : Bool
 
--- what denies the need at the row, if anything does
-abbrev pub denying : Need → Row → List ℕ → List (List ℕ) → Option By
-denying (Rights need) row caller groups = by_judgement (judgement row caller groups need)
+abbrev pub by_judgement : Judgement → Decided
+by_judgement judged = record { by = by.Entry judged.entry judged.mask; granted = judged.granted }
+
+-- for a caller who is no superuser; `above` is the owner of the directory that holds the component
+abbrev pub deciding : Need → Row → List ℕ → List ℕ → List (List ℕ) → Decided
+deciding (need.Rights asked) row above caller groups = by_judgement (judgement row caller groups asked)
+deciding need.Sticky row above caller groups = record { by = by.Owners row.owner above; granted = same caller row.owner || same caller above }
+deciding need.Owner row above caller groups = record { by = by.Owner row.owner; granted = same caller row.owner }
+deciding (need.Member group) row above caller groups = record { by = by.Group group; granted = has_group groups group }
+deciding need.Superuser row above caller groups = record { by = by.Superuser; granted = false }
 
 pub record Denied : Type 0 where
   pub need : Need
@@ -27,6 +39,18 @@ pub record Denied : Type 0 where
   pub caller : List ℕ
   pub groups : List (List ℕ)
 
+-- the denial of a need at a row, where it isn't met
+abbrev pub denial_at : Need → Row → List ℕ → List ℕ → List (List ℕ) → Option Denied
+denial_at need row above caller groups =
+    let decided = deciding need row above caller groups in
+    if decided.granted then None else Some (record { need = need; by = decided.by; row = row; caller = caller; groups = groups })
+
+-- the owner of the directory that holds the component, where what decided names one
+abbrev pub named_above : By → List ℕ
+named_above (by.Owners owner above) = above
+named_above _ = []
+
 -- the row, judged for the caller with these groups, is what denies the need
 abbrev pub IsDenied : Denied → Type 0
-IsDenied denied = denying denied.need denied.row denied.caller denied.groups ≡ Some denied.by
+IsDenied denied =
+    deciding denied.need denied.row (named_above denied.by) denied.caller denied.groups ≡ record { by = denied.by; granted = false }

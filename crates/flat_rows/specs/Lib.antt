@@ -6,7 +6,7 @@ pub mod RequiredRights
 pub mod NeedText
 pub mod Denied
 pub mod DenialText
-pub mod Kept
 pub mod Decision
+pub mod Kept
 pub mod Outcome
 pub mod Changes

@@ -1,15 +1,18 @@
 -- The needs of each operation, in the order in which they are judged.
 -- (HDFS Permissions Guide, "Permission Checks".)
-use Rattle.std.specs.Prelude.{ℕ, List, [], ◌∷◌}
+use Rattle.std.specs.Prelude.{ℕ, Bool, true, List, [], ◌∷◌}
 use Rattle.hdfs_types.specs.Rights.{rights}
+use Rattle.hdfs_types.specs.declared.rights.Rights as bits
 use Rattle.hdfs_types.specs.declared.op.Op.{Op}
 use Rattle.hdfs_types.specs.declared.op.Op.TheVariants.{Mkdirs, Stat}
 use Rattle.flat_rows.specs.declared.need.Need.{Need}
-use Rattle.flat_rows.specs.declared.need.Need.TheVariants.{Rights}
-use Rattle.flat_rows.specs.declared.need.Role.{Role}
-use Rattle.flat_rows.specs.declared.need.Role.TheVariants.{Traversed, Ancestor}
-use Rattle.flat_rows.specs.declared.need.Condition.{Condition}
-use Rattle.flat_rows.specs.declared.need.Condition.TheVariants.{Always, WhereMissing}
+use Rattle.flat_rows.specs.declared.need.Need.TheVariants.{Rights, Sticky, Owner, Member, Superuser}
+use Rattle.flat_rows.specs.declared.demand.Role.{Role}
+use Rattle.flat_rows.specs.declared.demand.Role.TheVariants.{Traversed, Ancestor, Parent, Final, SubTree}
+use Rattle.flat_rows.specs.declared.demand.Condition.{Condition}
+use Rattle.flat_rows.specs.declared.demand.Condition.TheVariants.{Always, WhereMissing, WhereDirectory, WhereSticky, WhereOwnedByAnother}
+use Rattle.flat_rows.specs.declared.demand.Enforcement.{Enforcement}
+use Rattle.flat_rows.specs.declared.demand.Enforcement.TheVariants as enforced
 
 -- a need of the components that have a role on a path, judged where the condition holds for the path
 pub record Demand : Type 0 where
@@ -17,14 +20,63 @@ pub record Demand : Type 0 where
   pub path : List (List ℕ)
   pub condition : Condition
   pub need : Need
+  pub enforcement : Enforcement
+
+-- rights on the components of a path, while permission checking is on
+abbrev pub rights_demand : Role → List (List ℕ) → Condition → bits.Rights → Demand
+rights_demand role path condition asked = record { role = role; path = path; condition = condition; need = Rights asked; enforcement = enforced.WhileChecking }
+
+-- a need other than rights, on a path itself
+abbrev pub demand_on : List (List ℕ) → Condition → Need → Enforcement → Demand
+demand_on path condition need enforcement = record { role = Final; path = path; condition = condition; need = need; enforcement = enforcement }
 
 -- to traverse each directory above the path
 abbrev pub traversal : List (List ℕ) → Demand
-traversal path = record { role = Traversed; path = path; condition = Always; need = Rights (rights 1) }
+traversal path = rights_demand Traversed path Always (rights 1)
+
+-- the same, also while permission checking is off
+abbrev pub strict_traversal : List (List ℕ) → Demand
+strict_traversal path = record { role = Traversed; path = path; condition = Always; need = Rights (rights 1); enforcement = enforced.Always }
+
+-- in a directory with the sticky bit, to own what has the path, or that directory
+abbrev pub sticky_bit : List (List ℕ) → Demand
+sticky_bit path = demand_on path WhereSticky Sticky enforced.WhileChecking
 
 -- to write in the last existing component above a path that is missing
 abbrev pub creation : List (List ℕ) → Demand
-creation path = record { role = Ancestor; path = path; condition = WhereMissing; need = Rights (rights 2) }
+creation path = rights_demand Ancestor path WhereMissing (rights 2)
+
+-- to write in the last existing component above the path
+abbrev pub write_above : List (List ℕ) → Demand
+write_above path = rights_demand Ancestor path Always (rights 2)
+
+-- to write in the directory that holds the path
+abbrev pub removal : List (List ℕ) → Demand
+removal path = rights_demand Parent path Always (rights 2)
+
+-- to read and to traverse the directory itself
+abbrev pub listing : List (List ℕ) → Demand
+listing path = rights_demand Final path WhereDirectory (rights 5)
+
+-- rights on the directory at the path and on all directories beneath it
+abbrev pub sub_tree : bits.Rights → List (List ℕ) → Demand
+sub_tree asked path = rights_demand SubTree path Always asked
+
+-- to own what has the path
+abbrev pub ownership : List (List ℕ) → Demand
+ownership path = demand_on path Always Owner enforced.Always
+
+-- to be a superuser where another than this user owns the path
+abbrev pub giving_away : List (List ℕ) → List ℕ → Demand
+giving_away path user = demand_on path (WhereOwnedByAnother user) Superuser enforced.Always
+
+-- to be among the members of a group
+abbrev pub membership : List (List ℕ) → List ℕ → Demand
+membership path group = demand_on path Always (Member group) enforced.Always
+
+-- to be a superuser; what has no path stands at the root
+abbrev pub administration : Demand
+administration = demand_on [] Always Superuser enforced.Always
 
 abbrev pub required_rights : Op → List Demand
 required_rights (Mkdirs path mode) = traversal path ∷ creation path ∷ []

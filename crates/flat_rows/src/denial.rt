@@ -1,10 +1,9 @@
 ghost use Rattle.std.specs.Prelude.{◌≡◌, false, Some, IfOk};
-ghost use Rattle.flat_rows.specs.Decision as spec;
-ghost use Rattle.flat_rows.specs.Denied.{IsDenied};
+ghost use Rattle.flat_rows.specs.Denied.{IsDenied, deciding, denial_at};
 
 use crate::need::{By, Need};
 use crate::row::Row;
-use hdfs_types::groups::Groups;
+use hdfs_types::groups::{Groups, has_group};
 use hdfs_types::path::Path;
 use hdfs_types::who::Who;
 use std::alloc::{AllocError, Global};
@@ -35,28 +34,62 @@ impl Model for Denial {
     ghost invariant = { λ denial. IsDenied (denied_of denial) };
 }
 
+/// Whether a need is met at the row, for a caller with these groups who is no superuser; `above` is the owner of the
+/// directory that holds it. Costs the caller's groups, and takes no memory.
+pub fn is_met(need: &Need, row: &Row, above: &Who, caller: &Who, groups: &[Who]) -> bool
+    ensures { result ≡ (deciding need.now row.now above.now caller.now groups.now).granted }
+{
+    match need {
+        Need::Rights(rights) => row.judged(caller, groups, *rights).is_granted(),
+        Need::Sticky => *caller == row.owner || caller == above,
+        Need::Owner => *caller == row.owner,
+        Need::Member(group) => has_group(groups, group),
+        Need::Superuser => false,
+    }
+}
+
+/// What decides about a need at the row, for a caller with these groups who is no superuser.
+pub fn by_of(
+    need: &Need,
+    row: &Row,
+    above: &Who,
+    caller: &Who,
+    groups: &[Who],
+) -> Result<By, AllocError>
+    ensures { IfOk result (λ by. by ≡ (deciding need.now row.now above.now caller.now groups.now).by) }
+{
+    match need {
+        Need::Rights(rights) => {
+            let chosen = row.judged(caller, groups, *rights);
+            Ok(By::Entry(chosen.entry()?, chosen.mask()))
+        }
+        Need::Sticky => Ok(By::Owners(row.owner.clone()?, above.clone()?)),
+        Need::Owner => Ok(By::Owner(row.owner.clone()?)),
+        Need::Member(group) => Ok(By::Group(group.clone()?)),
+        Need::Superuser => Ok(By::Superuser),
+    }
+}
+
 impl Denial {
-    /// The denial of the need at the row, for a caller with these groups; `None` where the row grants it. Takes memory only
-    /// where it denies.
+    /// The denial of the need at the row, for a caller with these groups who is no superuser; `None` where it is met. `above`
+    /// is the owner of the directory that holds the row.
     pub fn at(
         alloc: Global,
-        need: Need,
-        row: &Row,
+        need: &Need,
+        row: Row,
+        above: &Who,
         caller: &Who,
         groups: &[Who],
     ) -> Result<Option<Denial>, AllocError>
-        ensures { IfOk result (λ denial. denial ≡ spec.denial_at caller.now groups.now need row.now) }
+        ensures { IfOk result (λ denial. denial ≡ denial_at need.now row above.now caller.now groups.now) }
     {
-        let Need::Rights(rights) = need;
-        let chosen = row.judged(caller, groups, rights);
-        if chosen.is_granted() {
+        if is_met(need, &row, above, caller, groups) {
             return Ok(None);
         }
-        let by = By::Entry(chosen.entry()?, chosen.mask());
         Ok(Some(Denial {
-            need,
-            by,
-            row: row.clone()?,
+            need: need.clone()?,
+            by: by_of(need, &row, above, caller, groups)?,
+            row,
             caller: caller.clone()?,
             groups: Groups::from_slice(alloc, groups)?,
         }))
@@ -69,10 +102,10 @@ impl Denial {
         &self.row.path
     }
 
-    pub fn need(&self) -> Need
-        ensures { result ≡ self.now.need }
+    pub fn need(&self) -> &Need
+        ensures { result.now ≡ self.now.need }
     {
-        self.need
+        &self.need
     }
 
     /// What decided.
@@ -108,11 +141,17 @@ pub fn granted(denial: &Denial) -> bool
     ensures never { result ≡ false }
     ensures evidence { IsDenied denial.now }
 {
-    let Need::Rights(rights) = denial.need;
-    denial
-        .row
-        .judged(&denial.caller, denial.groups.as_slice(), rights)
-        .is_granted()
+    let above = match &denial.by {
+        By::Owners(_, above) => above,
+        _ => &denial.caller,
+    };
+    is_met(
+        &denial.need,
+        &denial.row,
+        above,
+        &denial.caller,
+        denial.groups.as_slice(),
+    )
 }
 
 /// Prints path, need and what decided, as `/a/b --x by other::---`.
@@ -123,7 +162,7 @@ impl fmt::Display for Denial {
 
     fn fmt<W: fmt::Write>(&self, f: &mut fmt::Formatter<W>) -> fmt::Result {
         let path = &self.row.path;
-        let need = self.need;
+        let need = &self.need;
         let by = &self.by;
         write!(f, "{path} {need} by {by}")
     }

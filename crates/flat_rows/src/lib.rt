@@ -2,9 +2,12 @@
 //! Everything faster is proved to give the same answers.
 #![tactic(auto)]
 
+pub mod ask;
 pub mod decision;
+pub mod demand;
 pub mod denial;
 pub mod need;
 pub mod row;
 pub mod rows;
+pub mod trail;
 pub mod verdict;

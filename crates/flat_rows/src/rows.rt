@@ -7,7 +7,8 @@ ghost use Rattle.flat_rows.specs.Opening.{root_row};
 use crate::row::Row;
 use acl_entries::acl::Acl;
 use hdfs_types::mode::Mode;
-use hdfs_types::path::Path;
+use hdfs_types::name::Name;
+use hdfs_types::path::{Path, is_proper_prefix, is_same};
 use hdfs_types::reply::ObjectKind;
 use hdfs_types::who::Who;
 use std::alloc::{AllocError, Global};
@@ -61,7 +62,7 @@ impl Rows {
     pub fn get(&self, path: &Path) -> Option<&Row>
         ensures { option_copied result ≡ spec.row_at path.now self.now }
     {
-        row_at(&self.list, path)
+        row_at(&self.list, path.names())
     }
 
     /// Puts the rows of a new sub-tree in their place, instead of those that stood at and beneath its top. Copies the rows.
@@ -75,12 +76,12 @@ impl Rows {
     }
 }
 
-/// The row that has a path.
-pub fn row_at<'a>(rows: &'a [Row], path: &Path) -> Option<&'a Row>
+/// The row that has a path, given by its names.
+pub fn row_at<'a>(rows: &'a [Row], path: &[Name]) -> Option<&'a Row>
     ensures { option_copied result ≡ spec.row_at path.now rows.now }
 {
     for row in rows {
-        if *path == row.path {
+        if is_same(path, row.path.names()) {
             return Some(row);
         }
     }
@@ -88,11 +89,11 @@ pub fn row_at<'a>(rows: &'a [Row], path: &Path) -> Option<&'a Row>
 }
 
 /// The first file above a path.
-pub fn file_above<'a>(rows: &'a [Row], path: &Path) -> Option<&'a Row>
+pub fn file_above<'a>(rows: &'a [Row], path: &[Name]) -> Option<&'a Row>
     ensures { option_copied result ≡ spec.file_above path.now rows.now }
 {
     for row in rows {
-        if path.is_under(&row.path) && !row.is_directory() {
+        if is_proper_prefix(row.path.names(), path) && !row.is_directory() {
             return Some(row);
         }
     }
@@ -100,16 +101,46 @@ pub fn file_above<'a>(rows: &'a [Row], path: &Path) -> Option<&'a Row>
 }
 
 /// The last existing component above a path.
-pub fn ancestor<'a>(rows: &'a [Row], path: &Path) -> Option<&'a Row>
+pub fn ancestor<'a>(rows: &'a [Row], path: &[Name]) -> Option<&'a Row>
     ensures { option_copied result ≡ spec.ancestor path.now rows.now }
 {
     let mut last = None;
     for row in rows {
-        if path.is_under(&row.path) {
+        if is_proper_prefix(row.path.names(), path) {
             last = Some(row);
         }
     }
     last
+}
+
+/// The directory that holds a path.
+pub fn directory_of<'a>(rows: &'a [Row], path: &[Name]) -> Option<&'a Row>
+    ensures { option_copied result ≡ spec.directory_of path.now rows.now }
+{
+    let depth = path.len();
+    if depth == 0 {
+        return None;
+    }
+    match row_at(rows, &path[..depth - 1]) {
+        Some(row) => {
+            if row.is_directory() {
+                Some(row)
+            } else {
+                None
+            }
+        }
+        None => None,
+    }
+}
+
+/// The owner of the directory that holds a row; the root, which none holds, has its own.
+pub fn owner_above<'a>(rows: &'a [Row], row: &'a Row) -> &'a Who
+    ensures { result.now ≡ spec.owner_above row.now rows.now }
+{
+    match directory_of(rows, row.path.names()) {
+        Some(above) => &above.owner,
+        None => &row.owner,
+    }
 }
 
 /// Copies of the rows that stand before the path.

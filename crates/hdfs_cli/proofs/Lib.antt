@@ -4,3 +4,5 @@ pub mod Known
 pub mod Lines
 pub mod Directories
 pub mod Endings
+pub mod Fronts
+pub mod TokenVectors

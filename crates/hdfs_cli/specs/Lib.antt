@@ -6,3 +6,5 @@ pub mod AnswerText
 pub mod Output
 pub mod Shown
 pub mod Ended
+pub mod Explanation
+pub mod TokenLine

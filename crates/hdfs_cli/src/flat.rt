@@ -70,6 +70,13 @@ fn new_directories(
     Ok(made)
 }
 
+/// The last existing component above a path.
+fn last_above<'a>(rows: &'a [Row], path: &Path) -> Option<&'a Row>
+    ensures { option_copied result ≡ rows_spec.ancestor path.now rows.now }
+{
+    ancestor(rows, path.names())
+}
+
 /// Makes the missing directories of a path that nothing has.
 fn make_directories(
     alloc: Global,
@@ -82,7 +89,7 @@ fn make_directories(
     ensures ok { OnOk result (rows.new ≡ spec.with_directories path.now mode owner.now (rows_spec.ancestor path.now rows.old) rows.old) }
     ensures err { OnErr result (rows.new ≡ rows.old) }
 {
-    let made = match ancestor(rows.as_slice(), path) {
+    let made = match last_above(rows.as_slice(), path) {
         Some(above) => new_directories(alloc, above, owner, mode, path)?,
         None => return Ok(()),
     };
@@ -110,7 +117,7 @@ fn mkdirs(
     ensures ok { IfOk result (λ verdict. record { verdict = verdict; rows = rows.new } ≡ spec.outcome rows.old caller.now (Op.Mkdirs path.now mode)) }
     ensures err { OnErr result (rows.new ≡ rows.old) }
 {
-    if let Some(file) = file_above(rows.as_slice(), path) {
+    if let Some(file) = file_above(rows.as_slice(), path.names()) {
         return Ok(Verdict::Refused(Refusal::NotDirectory(file.path.clone()?)));
     }
     if let Some(row) = rows.get(path) {
@@ -126,7 +133,7 @@ fn mkdirs(
 fn stat(rows: &Rows, caller: &Who, path: &Path) -> Result<Verdict, AllocError>
     ensures { IfOk result (λ verdict. record { verdict = verdict; rows = rows.now } ≡ spec.outcome rows.now caller.now (Op.Stat path.now)) }
 {
-    if let Some(file) = file_above(rows.as_slice(), path) {
+    if let Some(file) = file_above(rows.as_slice(), path.names()) {
         return Ok(Verdict::Refused(Refusal::NotDirectory(file.path.clone()?)));
     }
     match rows.get(path) {

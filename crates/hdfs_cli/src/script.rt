@@ -33,7 +33,7 @@ pub enum Status {
 
 impl Status {
     /// How a script ends with or without an ill-formed line.
-    fn by(has_bad: bool) -> Status
+    pub(crate) fn by(has_bad: bool) -> Status
         ensures { result ≡ spec.status_by has_bad }
     {
         if has_bad {
@@ -90,19 +90,19 @@ fn print_answer(
 
 /// A script that is being run: the namespace, the lines so far, and what they print.
 #[derive(Debug, Drop)]
-struct Session {
-    rows: Rows,
-    users: Users,
+pub(crate) struct Session {
+    pub(crate) rows: Rows,
+    pub(crate) users: Users,
     /// How many lines were run.
     number: usize,
     /// Whether one of them was ill-formed.
-    has_bad: bool,
+    pub(crate) has_bad: bool,
     out: String,
 }
 
 impl Session {
     /// The root alone, of the superuser `hdfs` and the supergroup `supergroup`.
-    fn open(alloc: Global) -> Result<Session, AllocError>
+    pub(crate) fn open(alloc: Global) -> Result<Session, AllocError>
         ensures users { IfOk result (λ session. session.users ≡ spec.opening_users) }
         ensures shows { IfOk result (Shows spec.opening) }
     {
@@ -151,9 +151,14 @@ fn known_who(alloc: Global, text: &str) -> Result<Who, AllocError>
 }
 
 /// Runs the lines of a script from its beginning. An `Err` leaves what the lines before the one that failed print.
-fn run_lines(alloc: Global, session: &mut Session, lines: &[&str]) -> Result<(), AllocError>
+pub(crate) fn run_lines(
+    alloc: Global,
+    session: &mut Session,
+    lines: &[&str],
+) -> Result<(), AllocError>
     requires users { session.old.users ≡ spec.opening_users }
     requires shows { Shows spec.opening session.old }
+    ensures users { session.new.users ≡ spec.opening_users }
     ensures ok { OnOk result (Shows (spec.after_lines (map (λ line. line.now) lines.now)) session.new) }
     ensures err { OnErr result ((count : ℕ) × (count < length lines.now) × (string_bytes session.new.out ≡ spec.text_of (spec.after_lines (take count (map (λ line. line.now) lines.now))).answers)) }
 {

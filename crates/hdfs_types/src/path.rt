@@ -111,6 +111,16 @@ impl Path {
         Path { names }
     }
 
+    /// The path of copies of these names, in a time linear in their text.
+    pub fn copied(alloc: Global, names: &[Name]) -> Result<Path, AllocError>
+        requires { IsPath names.now }
+        ensures { IfOk result (λ path. path ≡ names.now) }
+    {
+        Ok(Path {
+            names: copied_front(alloc, names, names.len())?,
+        })
+    }
+
     /// The names from the root down.
     pub fn names(&self) -> &[Name]
         ensures names { result.now ≡ self.now }
@@ -162,14 +172,23 @@ impl Path {
     }
 }
 
-fn is_prefix(front: &[Name], names: &[Name]) -> bool
+/// Whether two lists of names are one path. Takes no memory.
+pub fn is_same(names: &[Name], others: &[Name]) -> bool
+    ensures { result ≡ same_path names.now others.now }
+{
+    names == others
+}
+
+/// Whether the first names are a front of the second, or all of them: a path is the other or above it. Takes no memory.
+pub fn is_prefix(front: &[Name], names: &[Name]) -> bool
     ensures { result ≡ spec.is_prefix front.now names.now }
 {
     let depth = front.len();
     depth <= names.len() && &names[..depth] == front
 }
 
-fn is_proper_prefix(front: &[Name], names: &[Name]) -> bool
+/// Whether the first names are a front of the second and not all of them. Takes no memory.
+pub fn is_proper_prefix(front: &[Name], names: &[Name]) -> bool
     ensures { result ≡ spec.is_beneath names.now front.now }
 {
     let depth = front.len();

@@ -2,13 +2,15 @@
 #![tactic(auto)]
 
 use clap::error::ErrorKind;
-use clap::{Arg, ArgMatches, Command, Error};
+use clap::{Arg, ArgMatches, Command, Error, value_parser};
+use hdfs_cli::explain::{Explained, explain};
 use hdfs_cli::script::{ScriptFault, Status, run_script};
+use hdfs_cli::token::show_token;
 use std::alloc::{AllocError, Global};
 use std::process::ExitCode;
 use std::{env, fs, io};
 
-/// The exit status where a line of the script was ill-formed.
+/// The exit status where a line of the script, or the token, was ill-formed.
 const ILL_FORMED: u8 = 1;
 
 /// The exit status for a fault of the command line.
@@ -17,17 +19,36 @@ const BAD_COMMAND_LINE: u8 = 2;
 /// The exit status where the script was not run to its end, or not all that it prints was written.
 const FAULT: u8 = 3;
 
-fn command<'a>(alloc: Global) -> Result<Command<'a>, AllocError> {
-    let script = Arg::new(alloc, "SCRIPT")
+fn script<'a>(alloc: Global) -> Arg<'a> {
+    Arg::new(alloc, "SCRIPT")
         .help("The script: a file, or - for standard input")
-        .required(true);
+        .required(true)
+}
+
+fn command<'a>(alloc: Global) -> Result<Command<'a>, AllocError> {
     let run = Command::new(alloc, "run")
         .about("Runs a script of requests, and prints an answer for each line")
-        .arg(script)?;
+        .arg(script(alloc))?;
+    let line = Arg::new(alloc, "LINE")
+        .help("The line's number; all lines count, from 1 on")
+        .required(true)
+        .value_parser(value_parser!(u32).range(1..));
+    let explain = Command::new(alloc, "explain")
+        .about("Runs the lines before a line, and prints each need of its request up to the first that fails")
+        .arg(script(alloc))?
+        .arg(line)?;
+    let digits = Arg::new(alloc, "HEX")
+        .help("The token's bytes in hexadecimal digits")
+        .required(true);
+    let token = Command::new(alloc, "token")
+        .about("Prints what a block access token says")
+        .arg(digits)?;
     Command::new(alloc, "hdfsns")
         .about("The namesystem of HDFS, proved")
         .subcommand_required(true)
-        .subcommand(run)
+        .subcommand(run)?
+        .subcommand(explain)?
+        .subcommand(token)
 }
 
 /// Runs the script that a path or `-` names.
@@ -42,6 +63,18 @@ fn run(rt: &HostRuntime, path: &str) -> Result<Status, ScriptFault> {
     }
 }
 
+/// Explains a line of the script that a path or `-` names.
+fn explain_line(rt: &HostRuntime, path: &str, number: u32) -> Result<Explained, ScriptFault> {
+    let mut writer = io::writer(rt);
+    if path == "-" {
+        return explain(rt.alloc(), &mut rt.reader(), number, &mut writer);
+    }
+    match fs::open(rt, path) {
+        Ok(mut file) => explain(rt.alloc(), &mut file, number, &mut writer),
+        Err(_) => Err(ScriptFault::CannotRead),
+    }
+}
+
 fn report(rt: &HostRuntime, fault: ScriptFault, path: &str) {
     let _ = match fault {
         ScriptFault::OutOfMemory => eprintln!(rt; "hdfsns: out of memory"),
@@ -51,17 +84,22 @@ fn report(rt: &HostRuntime, fault: ScriptFault, path: &str) {
     };
 }
 
-fn run_matches(rt: &HostRuntime, matches: &ArgMatches) -> ExitCode {
-    let path = match matches.subcommand_matches("run") {
-        Some(run) => run.get_str("SCRIPT"),
-        None => None,
-    };
-    let Some(path) = path else {
-        return ExitCode::from(BAD_COMMAND_LINE);
-    };
+fn no_memory(rt: &HostRuntime) -> ExitCode {
+    report(rt, ScriptFault::OutOfMemory, "");
+    ExitCode::from(FAULT)
+}
+
+fn exit_code(status: Status) -> ExitCode {
+    match status {
+        Status::Clean => ExitCode::SUCCESS,
+        Status::IllFormed => ExitCode::from(ILL_FORMED),
+    }
+}
+
+/// Answers a script that a path or `-` names.
+fn answer_script(rt: &HostRuntime, path: &str) -> ExitCode {
     match run(rt, path) {
-        Ok(Status::Clean) => ExitCode::SUCCESS,
-        Ok(Status::IllFormed) => ExitCode::from(ILL_FORMED),
+        Ok(status) => exit_code(status),
         Err(fault) => {
             report(rt, fault, path);
             ExitCode::from(FAULT)
@@ -69,9 +107,60 @@ fn run_matches(rt: &HostRuntime, matches: &ArgMatches) -> ExitCode {
     }
 }
 
-fn no_memory(rt: &HostRuntime) -> ExitCode {
-    report(rt, ScriptFault::OutOfMemory, "");
-    ExitCode::from(FAULT)
+/// Prints the needs of a line of a script.
+fn answer_line(rt: &HostRuntime, path: &str, number: u32) -> ExitCode {
+    match explain_line(rt, path, number) {
+        Ok(Explained::Trail(status)) => exit_code(status),
+        Ok(Explained::NoRequest) => {
+            let _ = eprintln!(rt; "hdfsns: line {number} is no request");
+            ExitCode::from(ILL_FORMED)
+        }
+        Err(fault) => {
+            report(rt, fault, path);
+            ExitCode::from(FAULT)
+        }
+    }
+}
+
+/// Prints the line of a token.
+fn answer_token(rt: &HostRuntime, digits: &str) -> ExitCode {
+    let Ok(line) = show_token(rt.alloc(), digits) else {
+        return no_memory(rt);
+    };
+    let text = line.text;
+    if println!(rt; "{text}").is_err() {
+        report(rt, ScriptFault::CannotWrite, "");
+        return ExitCode::from(FAULT);
+    }
+    if line.is_malformed {
+        return ExitCode::from(ILL_FORMED);
+    }
+    ExitCode::SUCCESS
+}
+
+/// The word that a subcommand was given, where it is the one that was called.
+fn word<'a>(matches: &'a ArgMatches, subcommand: &str, name: &str) -> Option<&'a str> {
+    matches.subcommand_matches(subcommand)?.get_str(name)
+}
+
+fn line_number(matches: &ArgMatches) -> Option<u32> {
+    matches.subcommand_matches("explain")?.get_one::<u32>("LINE")
+}
+
+fn run_matches(rt: &HostRuntime, matches: &ArgMatches) -> ExitCode {
+    if let Some(path) = word(matches, "run", "SCRIPT") {
+        return answer_script(rt, path);
+    }
+    if let Some(path) = word(matches, "explain", "SCRIPT") {
+        return match line_number(matches) {
+            Some(number) => answer_line(rt, path, number),
+            None => ExitCode::from(BAD_COMMAND_LINE),
+        };
+    }
+    if let Some(digits) = word(matches, "token", "HEX") {
+        return answer_token(rt, digits);
+    }
+    ExitCode::from(BAD_COMMAND_LINE)
 }
 
 fn refuse(rt: &HostRuntime, error: &Error) -> ExitCode {

@@ -1,4 +1,4 @@
-ghost use Rattle.std.specs.Prelude.{◌≡◌};
+ghost use Rattle.std.specs.Prelude.{◌≡◌, IfSome};
 ghost use Rattle.std.specs.Option.{option_map};
 ghost use Rattle.acl_entries.specs.JudgedEntry.{judged_entry};
 ghost use Rattle.inode_tree.specs.Part.{IsPart};
@@ -59,7 +59,8 @@ impl<'a> Inode<'a> {
     /// What a directory holds by this name; a file holds nothing. Costs the logarithm of what it holds, in comparisons of
     /// names, and takes no memory.
     pub fn child(&self, name: &Name) -> Option<Inode<'a>>
-        ensures { IsPart name.now (branch_at self.now).beneath (option_map branch_at result) }
+        ensures part { IsPart name.now (branch_at self.now).beneath (option_map branch_at result) }
+        ensures directory { IfSome result (λ _. (branch_at self.now).top.kind ≡ ObjectKind.Directory) }
     {
         let node = self.node.child(name)?;
         Some(Inode::new(node))

@@ -1,4 +1,4 @@
-ghost use Rattle.std.specs.Prelude.{◌≡◌, []};
+ghost use Rattle.std.specs.Prelude.{◌≡◌, [], IfSome};
 ghost use Rattle.std.specs.Option.{option_copied};
 ghost use Rattle.acl_entries.specs.JudgedEntry.{judged_entry};
 ghost use Rattle.inode_tree.specs.Branch.{rows};
@@ -104,7 +104,8 @@ impl Node {
 
     /// What the directory holds by this name.
     pub(crate) fn child(&self, name: &Name) -> Option<&Node>
-        ensures { IsPart name.now self.now.beneath (option_copied result) }
+        ensures part { IsPart name.now self.now.beneath (option_copied result) }
+        ensures directory { IfSome result (λ _. self.now.top.kind ≡ ObjectKind.Directory) }
     {
         match &self.held {
             Held::File => None,

@@ -96,14 +96,14 @@ impl Tree {
     /// needed. Costs also what stands there, up to what is found, and takes memory only for what is found.
     pub fn first_closed(
         &self,
-        path: &Path,
+        path: &[Name],
         caller: &Who,
         groups: &[Who],
         need: Rights,
     ) -> Result<Option<Row>, AllocError>
         ensures { IfOk result (λ found. found ≡ first (filter (is_closed caller.now groups.now need) (rows_under path.now self.now))) }
     {
-        let Some(node) = self.root.find(path.names()) else {
+        let Some(node) = self.root.find(path) else {
             return Ok(None);
         };
         match visit::first_closed(self.alloc, node, caller, groups, need)? {

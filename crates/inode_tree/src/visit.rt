@@ -199,11 +199,11 @@ fn copies(alloc: Global, names: &[Name]) -> Result<Vec<Name>, AllocError>
 
 impl Found {
     /// The row of the directory, where the search began at the path.
-    pub(crate) fn into_row(self, alloc: Global, path: &Path) -> Result<Row, AllocError>
+    pub(crate) fn into_row(self, alloc: Global, path: &[Name]) -> Result<Row, AllocError>
         requires { IsPath (path.now ++ (row_found self).path) }
         ensures { IfOk result (λ row. row ≡ placed path.now (row_found self)) }
     {
-        let mut names = copies(alloc, path.names())?;
+        let mut names = copies(alloc, path)?;
         push_reversed(&mut names, self.names)?;
         Ok(Row {
             path: Path::from_names(names),

@@ -18,3 +18,12 @@ groups_of users user = unwrap_or (lookup (same user) users.known) []
 -- the superuser, and the known members of the supergroup
 abbrev pub is_super : Principals → List ℕ → Bool
 is_super users user = same user users.superuser || has_group (groups_of users user) users.supergroup
+
+-- who asks: the name, the groups, and whether it is a superuser
+pub record Asking : Type 0 where
+  pub name : List ℕ
+  pub groups : List (List ℕ)
+  pub is_superuser : Bool
+
+abbrev pub caller_of : Principals → List ℕ → Asking
+caller_of users user = record { name = user; groups = groups_of users user; is_superuser = is_super users user }

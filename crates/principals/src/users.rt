@@ -1,6 +1,7 @@
 ghost use Rattle.std.specs.Prelude.{◌≡◌, []};
 ghost use Rattle.principals.specs.Principals as spec;
 
+use crate::caller::Caller;
 use hdfs_types::groups::{Groups, has_group};
 use hdfs_types::who::Who;
 use std::alloc::Global;
@@ -65,5 +66,12 @@ impl Users {
         ensures { result ≡ spec.is_super self.now user.now }
     {
         *user == self.superuser || has_group(self.groups_of(user), &self.supergroup)
+    }
+
+    /// The caller of this name, with the groups last set for it. Costs a look-up and the caller's groups, and takes no memory.
+    pub fn caller<'a>(&'a self, name: &'a Who) -> Caller<'a>
+        ensures { result ≡ spec.caller_of self.now name.now }
+    {
+        Caller::new(name, self.groups_of(name), self.is_super(name))
     }
 }

@@ -1,2 +1,4 @@
+mod explanations;
 mod scripts;
+mod tokens;
 mod values;

@@ -10,19 +10,19 @@ use Rattle.inode_tree.proofs.tree.Tree.first_closed.Goals as goal
 
 pub into_row-requires : goal.into_row-requires
 into_row-requires c =
-    found_path c.names.result.now c.args.path.now c.names.ensures.names c.self.inside.root c.args.self.now c.self.view_is c.self.invariant (Some c.in-Some.node.now) (subst (IsWhole c.names.result.now (rows c.self.inside.root)) (ap option_copied c.in-Some.is) c.find.ensures)
+    found_path c.args.path.now c.args.path.now refl c.self.inside.root c.args.self.now c.self.view_is c.self.invariant (Some c.in-Some.node.now) (subst (IsWhole c.args.path.now (rows c.self.inside.root)) (ap option_copied c.in-Some.is) c.find.ensures)
     (is_closed c.args.caller.now c.args.groups.now c.args.need) (row_found c.in-Some-2.found) (λ row. refl) (sym c.in_ok-found.ensures ∙ ap (option_map row_found) c.in-Some-2.is)
 
 pub returns-in_ok-into_row-in-Some-2 : goal.returns-in_ok-into_row-in-Some-2
 returns-in_ok-into_row-in-Some-2 c =
     let found : first (filter (is_closed c.args.caller.now c.args.groups.now c.args.need) (rows c.in-Some.node.now)) ≡ Some (row_found c.in-Some-2.found) = sym c.in_ok-found.ensures ∙ ap (option_map row_found) c.in-Some-2.is in
     ap Some c.in_ok-into_row-in-Some-2.ensures ∙ ap (option_map (placed c.args.path.now)) (sym found)
-    ∙ first_there c.names.result.now c.args.path.now c.names.ensures.names c.self.inside.root c.args.self.now c.self.view_is c.self.invariant (Some c.in-Some.node.now) (subst (IsWhole c.names.result.now (rows c.self.inside.root)) (ap option_copied c.in-Some.is) c.find.ensures)
+    ∙ first_there c.args.path.now c.args.path.now refl c.self.inside.root c.args.self.now c.self.view_is c.self.invariant (Some c.in-Some.node.now) (subst (IsWhole c.args.path.now (rows c.self.inside.root)) (ap option_copied c.in-Some.is) c.find.ensures)
     (is_closed c.args.caller.now c.args.groups.now c.args.need) (λ row. refl)
 
 pub returns-in-None : goal.returns-in-None
 returns-in-None c =
     let none : first (filter (is_closed c.args.caller.now c.args.groups.now c.args.need) (rows c.in-Some.node.now)) ≡ None = sym c.in_ok-found.ensures ∙ ap (option_map row_found) c.in-None.is in
     ap (option_map (placed c.args.path.now)) (sym none)
-    ∙ first_there c.names.result.now c.args.path.now c.names.ensures.names c.self.inside.root c.args.self.now c.self.view_is c.self.invariant (Some c.in-Some.node.now) (subst (IsWhole c.names.result.now (rows c.self.inside.root)) (ap option_copied c.in-Some.is) c.find.ensures)
+    ∙ first_there c.args.path.now c.args.path.now refl c.self.inside.root c.args.self.now c.self.view_is c.self.invariant (Some c.in-Some.node.now) (subst (IsWhole c.args.path.now (rows c.self.inside.root)) (ap option_copied c.in-Some.is) c.find.ensures)
     (is_closed c.args.caller.now c.args.groups.now c.args.need) (λ row. refl)

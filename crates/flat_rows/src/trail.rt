@@ -1,0 +1,94 @@
+ghost use Rattle.std.specs.Prelude.{◌≡◌, IfOk, map};
+ghost use Rattle.flat_rows.specs.Decision as spec;
+
+use crate::ask::{Ask, asks_of};
+use crate::demand::needs_of;
+use crate::denial::{by_of, is_met};
+use crate::need::{By, Need};
+use crate::rows::Rows;
+use hdfs_types::op::Op;
+use hdfs_types::path::Path;
+use hdfs_types::who::Who;
+use principals::caller::Caller;
+use principals::users::Users;
+use std::alloc::{AllocError, Global};
+use std::fmt;
+
+/// A need that was judged at a component: what decided, and whether it is met.
+#[derive(Debug, Drop)]
+pub struct Judged {
+    pub path: Path,
+    pub need: Need,
+    pub by: By,
+    pub granted: bool,
+}
+
+/// Prints path, need, whether it is met, and what decided, as `/a --x ok by other::rwx`.
+impl fmt::Display for Judged {
+    ghost use Rattle.std.specs.Prelude.{Some};
+    ghost use Rattle.flat_rows.specs.DenialText.{judged_text};
+
+    ghost output = { λ judged. Some (judged_text judged) };
+
+    fn fmt<W: fmt::Write>(&self, f: &mut fmt::Formatter<W>) -> fmt::Result {
+        let path = &self.path;
+        let need = &self.need;
+        let by = &self.by;
+        if self.granted {
+            write!(f, "{path} {need} ok by {by}")
+        } else {
+            write!(f, "{path} {need} denied by {by}")
+        }
+    }
+}
+
+fn judge(caller: &Caller, ask: &Ask) -> Result<Judged, AllocError>
+    ensures { IfOk result (λ judged. judged ≡ spec.judged caller.now ask.now) }
+{
+    let (need, row, above) = (ask.need(), ask.row(), ask.above());
+    let (by, granted) = if caller.is_superuser() {
+        (By::Superuser, true)
+    } else {
+        (
+            by_of(need, row, above, caller.name(), caller.groups())?,
+            is_met(need, row, above, caller.name(), caller.groups()),
+        )
+    };
+    Ok(Judged {
+        path: row.path.clone()?,
+        need: need.clone()?,
+        by,
+        granted,
+    })
+}
+
+fn judged_up_to_denied(alloc: Global, caller: &Caller, asks: &[Ask]) -> Result<Vec<Judged>, AllocError>
+    ensures { IfOk result (λ needs. needs.items ≡ spec.up_to_denied (map (spec.judged caller.now) asks.now)) }
+{
+    let mut needs = Vec::new(alloc);
+    for ask in asks {
+        let need = judge(caller, ask)?;
+        let granted = need.granted;
+        needs.push(need)?;
+        if !granted {
+            return Ok(needs);
+        }
+    }
+    Ok(needs)
+}
+
+/// The needs of the operation that are judged for the caller, in their order, up to the first that fails: the page that
+/// answers why a request was denied (HDFS Permissions Guide, "Permission Checks"). Scans the rows for each need.
+pub fn trail(
+    alloc: Global,
+    rows: &Rows,
+    users: &Users,
+    caller: &Who,
+    op: &Op,
+) -> Result<Vec<Judged>, AllocError>
+    ensures { IfOk result (λ needs. needs.items ≡ spec.trail rows.now users.now caller.now op.now) }
+{
+    let needs = needs_of(alloc, op)?;
+    let asks = asks_of(alloc, rows.as_slice(), needs.as_slice())?;
+    judged_up_to_denied(alloc, &users.caller(caller), &asks)
+}

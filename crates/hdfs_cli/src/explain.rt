@@ -1,0 +1,175 @@
+ghost use Rattle.std.specs.Prelude.{◌≡◌, ◌+◌, ◌++◌, List, ℕ, IfOk, IfSome, OnOk, Err, Some, drop, map, take};
+ghost use Rattle.std.specs.Io.KnownBytes.{Appends, Keeps};
+ghost use Rattle.std.specs.List.{flat_map, list_all};
+ghost use Rattle.std.specs.Option.{option_copied};
+ghost use Rattle.std.specs.String.{string_bytes};
+ghost use Rattle.std.specs.Str.{IsUtf8};
+ghost use Rattle.flat_rows.specs.Decision.{trail as trail_said};
+ghost use Rattle.hdfs_cli.specs.Channel.{AppendsFront};
+ghost use Rattle.hdfs_cli.specs.Explanation as spec;
+ghost use Rattle.hdfs_cli.specs.Output as output;
+ghost use Rattle.hdfs_cli.specs.Shown.{Shows};
+
+use crate::channel::{ReadFault, read_all, write_text};
+use crate::line::request_of;
+use crate::script::{ScriptFault, Session, Status, run_lines};
+use crate::words::{is_skipped, pieces_between, without_return, words_in};
+use flat_rows::trail::{Judged, trail};
+use hdfs_types::fault::ParseFault;
+use hdfs_types::op::Request;
+use std::alloc::{AllocError, Global};
+use std::io::{Read, Write};
+
+/// What was found at the line that was to be explained.
+#[derive(Clone, Copy, Debug, PartialEq, Eq)]
+pub enum Explained {
+    /// A request, whose needs were printed; and how the lines before it ended.
+    Trail(Status),
+    /// No request: there is no such line, or it is empty, a comment or ill-formed. Nothing was printed.
+    NoRequest,
+}
+
+/// The request of a line, where it makes one.
+fn request_in(alloc: Global, line: &str) -> Result<Option<Request>, AllocError>
+    ensures { IfOk result (λ request. request ≡ spec.request_in line.now) }
+{
+    let line = without_return(line);
+    if is_skipped(line) {
+        return Ok(None);
+    }
+    let words = words_in(alloc, line)?;
+    match request_of(alloc, &words) {
+        Ok(request) => Ok(Some(request)),
+        Err(ParseFault::IllFormed(_)) => Ok(None),
+        Err(ParseFault::OutOfMemory) => Err(AllocError),
+    }
+}
+
+/// Prints the needs, a line each, and tells whether all are met.
+fn print_needs(alloc: Global, needs: &[Judged], out: &mut String) -> Result<bool, AllocError>
+    ensures text { OnOk result (string_bytes out.new ≡ string_bytes out.old ++ flat_map spec.judged_line needs.now) }
+    ensures granted { IfOk result (λ granted. granted ≡ list_all (λ need. need.granted) needs.now) }
+{
+    let mut granted = true;
+    for need in needs {
+        let line = format!(in alloc; "{need}\n")?;
+        out.push_str(line.as_str())?;
+        granted = granted && need.granted;
+    }
+    Ok(granted)
+}
+
+fn text_of(alloc: Global, needs: &[Judged]) -> Result<String, AllocError>
+    ensures { IfOk result (λ text. string_bytes text ≡ spec.trail_text needs.now) }
+{
+    let mut out = String::new(alloc);
+    if print_needs(alloc, needs, &mut out)? {
+        out.push_str("granted\n")?;
+    }
+    Ok(out)
+}
+
+/// What is printed of a line, and what was found there.
+#[derive(Debug, Drop)]
+struct Explanation {
+    found: Explained,
+    text: String,
+}
+
+/// Runs the lines before a request, and prints its needs.
+fn explain_request(
+    alloc: Global,
+    before: &[&str],
+    request: &Request,
+) -> Result<Explanation, AllocError>
+    ensures text { IfOk result (λ explanation. string_bytes explanation.text ≡ spec.explanation_by (output.after_lines (map (λ line. line.now) before.now)) (Some request.now)) }
+    ensures found { IfOk result (λ explanation. explanation.found ≡ Explained.Trail (output.status_of (output.after_lines (map (λ line. line.now) before.now)).answers)) }
+{
+    let mut session = Session::open(alloc)?;
+    run_lines(alloc, &mut session, before)?;
+    let needs = trail(
+        alloc,
+        &session.rows,
+        &session.users,
+        &request.caller,
+        &request.op,
+    )?;
+    Ok(Explanation {
+        found: Explained::Trail(Status::by(session.has_bad)),
+        text: text_of(alloc, &needs)?,
+    })
+}
+
+/// The request of the first of these lines, where it makes one.
+fn first_request(alloc: Global, lines: &[&str]) -> Result<Option<Request>, AllocError>
+    ensures { IfOk result (λ request. request ≡ spec.request_in_first (map (λ line. line.now) lines.now)) }
+{
+    match lines.first() {
+        Some(line) => request_in(alloc, line),
+        None => Ok(None),
+    }
+}
+
+/// Explains the line behind so many.
+fn explain_behind(alloc: Global, lines: &[&str], before: usize) -> Result<Explanation, AllocError>
+    ensures text { IfOk result (λ explanation. string_bytes explanation.text ≡ spec.explanation_behind before (map (λ line. line.now) lines.now)) }
+    ensures found { IfOk result (λ explanation. explanation.found ≡ spec.found_behind before (map (λ line. line.now) lines.now)) }
+{
+    let (done, left) = lines.split_at(before.min(lines.len()));
+    match first_request(alloc, left)? {
+        Some(request) => explain_request(alloc, done, &request),
+        None => Ok(Explanation {
+            found: Explained::NoRequest,
+            text: String::new(alloc),
+        }),
+    }
+}
+
+/// Explains a line; the first has the number 1.
+fn explain_line(alloc: Global, script: &str, number: u32) -> Result<Explanation, AllocError>
+    ensures text { IfOk result (λ explanation. string_bytes explanation.text ≡ spec.explanation number script.now) }
+    ensures found { IfOk result (λ explanation. explanation.found ≡ spec.found number script.now) }
+{
+    if number == 0 {
+        return Ok(Explanation {
+            found: Explained::NoRequest,
+            text: String::new(alloc),
+        });
+    }
+    let lines = pieces_between(alloc, script, '\n')?;
+    explain_behind(alloc, &lines, (number - 1) as usize)
+}
+
+/// Reads a script whole, runs the lines before the one of this number, which counts all lines from 1, and prints each need of
+/// its request that is judged, in their order, up to the first that fails; then `granted` where none failed. Lines behind it
+/// aren't looked at.
+///
+/// # Errors
+/// `CannotRead` where the reader fails, or hasn't ended after 4,294,967,295 reads, `NotUtf8` and `OutOfMemory`: nothing is
+/// written. `CannotWrite`: a front of the text is written.
+pub fn explain<R: Read, W: Write>(
+    alloc: Global,
+    reader: &mut R,
+    number: u32,
+    writer: &mut W,
+) -> Result<Explained, ScriptFault>
+    ensures ok { IfOk result (λ found. IfSome (R.remaining reader.old) (λ script. IsUtf8 script × Appends (W.contents writer.old) (W.contents writer.new) (spec.explanation number script) × (found ≡ spec.found number script))) }
+    ensures unread { result ≡ Err ScriptFault.CannotRead → Keeps (W.contents writer.old) (W.contents writer.new) }
+    ensures not_text { result ≡ Err ScriptFault.NotUtf8 → Keeps (W.contents writer.old) (W.contents writer.new) × IfSome (R.remaining reader.old) (λ script. ¬ (IsUtf8 script)) }
+    ensures no_memory { result ≡ Err ScriptFault.OutOfMemory → Keeps (W.contents writer.old) (W.contents writer.new) }
+    ensures unwritten { result ≡ Err ScriptFault.CannotWrite → IfSome (R.remaining reader.old) (λ script. AppendsFront (W.contents writer.old) (W.contents writer.new) (spec.explanation number script)) }
+{
+    let script = match read_all(alloc, reader) {
+        Ok(script) => script,
+        Err(ReadFault::OutOfMemory) => return Err(ScriptFault::OutOfMemory),
+        Err(ReadFault::CannotRead) => return Err(ScriptFault::CannotRead),
+    };
+    let Ok(text) = str::from_utf8(&script) else {
+        return Err(ScriptFault::NotUtf8);
+    };
+    let Ok(explanation) = explain_line(alloc, text, number) else {
+        return Err(ScriptFault::OutOfMemory);
+    };
+    write_text(writer, explanation.text.as_bytes()).map_err(|_| ScriptFault::CannotWrite)?;
+    Ok(explanation.found)
+}

@@ -1,0 +1,85 @@
+-- The denial of rights is the one at the first component that is closed.
+use Rattle.std.proofs.Common.{◌≡◌, ℕ, Bool, true, false, ◌&&◌, List, [], ◌∷◌, ◌++◌, map, cond, Option, Some, None, refl, sym, ap, ◌∙◌, subst}
+use Rattle.std.specs.Prelude.{not}
+use Rattle.std.specs.List.{filter, flat_map}
+use Rattle.std.specs.Option.{option_and_then, option_or}
+use Rattle.hdfs_types.specs.declared.rights.Rights as bits
+use Rattle.principals.specs.Principals.{Asking}
+use Rattle.flat_rows.specs.declared.row.Row.{Row}
+use Rattle.flat_rows.specs.declared.need.Need.{Need}
+use Rattle.flat_rows.specs.declared.need.Need.TheVariants.{Rights}
+use Rattle.hdfs_types.specs.Path.{is_prefix}
+use Rattle.flat_rows.specs.First.{first, first_answer}
+use Rattle.flat_rows.specs.Rows.{is_directory, directories_beneath}
+use Rattle.flat_rows.specs.Denied.{Denied, judgement, denial_at}
+use Rattle.flat_rows.specs.Decision.{Ask, ask_at, denial_of}
+use Rattle.perm_walk.specs.Closed.{is_closed, first_closed}
+
+module _ (caller : Asking) (plain : caller.is_superuser ≡ false) (asked : bits.Rights) (all : List Row) where
+  -- the denial at a row; the owner above isn't asked for rights
+  abbrev denied : Row → Option Denied
+  denied row = denial_at (Rights asked) row [] caller.name caller.groups
+
+  abbrev asks : List Row → List Ask
+  asks rows = map (ask_at all (Rights asked)) rows
+
+  one : (row : Row) → denial_of caller (ask_at all (Rights asked) row) ≡ denied row
+  one row = ap (λ b. cond b None (denied row)) plain
+
+  met : (row : Row) → (judgement row caller.name caller.groups asked).granted ≡ true → denied row ≡ None
+  met row h = rw h refl
+
+  first_denied : (rows : List Row) → first_answer (denial_of caller) (asks rows) ≡ option_and_then denied (first_closed asked caller rows)
+  first_denied [] = refl
+  first_denied (row ∷ rows) = ap (λ d. option_or d (first_answer (denial_of caller) (asks rows))) (one row) ∙ by (judgement row caller.name caller.groups asked).granted refl (first_denied rows)
+    where
+      by : (granted : Bool) → (judgement row caller.name caller.groups asked).granted ≡ granted → first_answer (denial_of caller) (asks rows) ≡ option_and_then denied (first_closed asked caller rows)
+          → option_or (denied row) (first_answer (denial_of caller) (asks rows)) ≡ option_and_then denied (first (cond (not granted) (row ∷ filter (is_closed asked caller) rows) (filter (is_closed asked caller) rows)))
+      by true h rest = ap (λ d. option_or d (first_answer (denial_of caller) (asks rows))) (met row h) ∙ rest
+      by false h rest = rw h refl
+
+  module _ (need : Need) (is : need ≡ Rights asked) (rows : List Row) (found : Option Row) (read : found ≡ first_closed asked caller rows) where
+    same : option_and_then denied found ≡ first_answer (denial_of caller) (map (ask_at all need) rows)
+    same = ap (option_and_then denied) read ∙ sym (first_denied rows) ∙ ap (λ n. first_answer (denial_of caller) (map (ask_at all n) rows)) (sym is)
+
+    pub denied_there : (row : Row) (above : List ℕ) → found ≡ Some row → denial_at need row above caller.name caller.groups ≡ first_answer (denial_of caller) (map (ask_at all need) rows)
+    denied_there row above there = ap (λ n. denial_at n row above caller.name caller.groups) is ∙ ap (option_and_then denied) (sym there) ∙ same
+
+    pub denied_nowhere : found ≡ None → None ≡ first_answer (denial_of caller) (map (ask_at all need) rows)
+    denied_nowhere nothing = ap (option_and_then denied) (sym nothing) ∙ same
+
+-- an answer of two, or else another
+or_assoc : {Y : Type 0} (a b c : Option Y) → option_or a (option_or b c) ≡ option_or (option_or a b) c
+or_assoc (Some y) b c = refl
+or_assoc None b c = refl
+
+first_of_two : {X Y : Type 0} (f : X → Option Y) (xs ys : List X) → first_answer f (xs ++ ys) ≡ option_or (first_answer f xs) (first_answer f ys)
+first_of_two f [] ys = refl
+first_of_two f (x ∷ xs) ys = ap (option_or (f x)) (first_of_two f xs ys) ∙ or_assoc (f x) (first_answer f xs) (first_answer f ys)
+
+-- the first answer of lists in a row is that of the first list that has one
+pub first_of_all : {X Y Z : Type 0} (f : Y → Option Z) (g : X → List Y) (xs : List X) → first_answer (λ x. first_answer f (g x)) xs ≡ first_answer f (flat_map g xs)
+first_of_all f g [] = refl
+first_of_all f g (x ∷ xs) = ap (option_or (first_answer f (g x))) (first_of_all f g xs) ∙ sym (first_of_two f (g x) (flat_map g xs))
+
+-- a superuser meets every need
+pub superuser_meets : (caller : Asking) → caller.is_superuser ≡ true → (asks : List Ask) → None ≡ first_answer (denial_of caller) asks
+superuser_meets caller super [] = refl
+superuser_meets caller super (ask ∷ asks) =
+    superuser_meets caller super asks ∙ ap (λ b. option_or (cond b None (denial_at ask.need ask.row ask.above caller.name caller.groups)) (first_answer (denial_of caller) asks)) (sym super)
+
+-- two tests behind one, or one behind two
+pub two_passes : (p q r : Row → Bool) (rows : List Row) → filter (λ row. p row && q row) (filter r rows) ≡ filter q (filter (λ row. r row && p row) rows)
+two_passes p q r [] = refl
+two_passes p q r (row ∷ rows) = by (r row) (p row) refl refl (two_passes p q r rows)
+  where
+    by : (a b : Bool) → r row ≡ a → p row ≡ b → filter (λ row. p row && q row) (filter r rows) ≡ filter q (filter (λ row. r row && p row) rows)
+        → filter (λ row. p row && q row) (cond (r row) (row ∷ filter r rows) (filter r rows)) ≡ filter q (cond (r row && p row) (row ∷ filter (λ row. r row && p row) rows) (filter (λ row. r row && p row) rows))
+    by true true e f rest = rw (e, f) (ap (λ l. cond (q row) (row ∷ l) l) rest)
+    by true false e f rest = rw (e, f) rest
+    by false b e f rest = rw e rest
+
+-- the first closed directory of a sub-tree
+pub closed_first : (caller : Asking) (asked : bits.Rights) (path : List (List ℕ)) (all : List Row)
+    → first (filter (λ row. is_directory row && is_closed asked caller row) (filter (λ row. is_prefix path row.path) all)) ≡ first_closed asked caller (directories_beneath path all)
+closed_first caller asked path all = ap first (two_passes is_directory (is_closed asked caller) (λ row. is_prefix path row.path) all)

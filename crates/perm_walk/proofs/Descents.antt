@@ -1,0 +1,115 @@
+-- What is left of a question about a path, one name further down.
+use Rattle.std.proofs.Common.{◌≡◌, ℕ, ◌+◌, ◌<◌, Bool, true, false, ◌&&◌, List, [], ◌∷◌, ◌++◌, length, take, drop, get_or, map, cond, Option, Some, None, Less, Greater, refl, sym, ap, ◌∙◌, subst, append_assoc}
+use Rattle.std.specs.Prelude.{not}
+use Rattle.std.specs.List.{filter, last_or}
+use Rattle.std.proofs.lemmas.List.{append-nil, drop_more, take_more}
+use Rattle.hdfs_types.specs.Path.{is_beneath}
+use Rattle.hdfs_types.specs.PathOrder.{same_path}
+use Rattle.hdfs_types.specs.declared.reply.ObjectKind.TheVariants.{Directory}
+use Rattle.flat_rows.specs.declared.row.Row.{Row}
+use Rattle.flat_rows.specs.First.{first}
+use Rattle.flat_rows.specs.Rows.{is_directory, row_at, ancestor, file_above}
+use Rattle.inode_tree.specs.Branch.{Branch, Top, rows, rows_or, row_of, top_of, under, placed}
+use Rattle.inode_tree.specs.Part.{Splits, IsPart}
+use Rattle.inode_tree.proofs.Filters.{self, standing, standing-splits}
+use Rattle.inode_tree.proofs.Parts.{placed_top}
+use Rattle.perm_walk.specs.Reached.{if_file}
+
+-- the row is above the path
+abbrev pub over : List (List ℕ) → Row → Bool
+over path row = is_beneath path row.path
+
+pub over-splits : (n : List ℕ) (ns : List (List ℕ)) → Splits (over (n ∷ ns)) (over ns) n false false
+over-splits n ns = record { lows = λ m r h. rw h refl; highs = λ m r h. rw h refl; here = λ r. rw (self n) refl }
+
+-- the row is a file above the path
+abbrev pub file_over : List (List ℕ) → Row → Bool
+file_over path row = is_beneath path row.path && not (is_directory row)
+
+pub file_over-splits : (n : List ℕ) (ns : List (List ℕ)) → Splits (file_over (n ∷ ns)) (file_over ns) n false false
+file_over-splits n ns = record { lows = λ m r h. rw h refl; highs = λ m r h. rw h refl; here = λ r. rw (self n) refl }
+
+pub placed_onward : (front : List (List ℕ)) (n : List ℕ) (rs : List Row) → map (placed front) (map (under n) rs) ≡ map (placed (front ++ n ∷ [])) rs
+placed_onward front n [] = refl
+placed_onward front n (r ∷ rs) = rw (← append_assoc front (n ∷ []) r.path) (ap (λ t. placed (front ++ n ∷ []) r ∷ t) (placed_onward front n rs))
+
+-- what is known of the rows with the front of a path passed, the last component above included
+pub record Passed (path : List (List ℕ)) (all : List Row) (front rest : List (List ℕ)) (b : Branch) (above : Option Row) : Type 0 where
+  pub at : filter (standing path) all ≡ map (placed front) (filter (standing rest) (rows b))
+  pub over : last_or None (filter (over path) all) ≡ last_or above (map (placed front) (filter (over rest) (rows b)))
+  pub file : filter (file_over path) all ≡ map (placed front) (filter (file_over rest) (rows b))
+
+pub passed_none : (path : List (List ℕ)) (b : Branch) → Passed path (rows b) [] path b None
+passed_none path b = record {
+  at = sym (placed_top (filter (standing path) (rows b)));
+  over = ap (last_or None) (sym (placed_top (filter (over path) (rows b))));
+  file = sym (placed_top (filter (file_over path) (rows b)));
+}
+
+directory_top : (path : List (List ℕ)) (t : Top) → t.kind ≡ Directory → is_directory (row_of path t) ≡ true
+directory_top path t h = rw h refl
+
+pub passed_one : (path : List (List ℕ)) (all : List Row) (front : List (List ℕ)) (n : List ℕ) (ns : List (List ℕ)) (b c : Branch) (above : Option Row)
+    → Passed path all front (n ∷ ns) b above → IsPart n b.beneath (Some c) → b.top.kind ≡ Directory → Passed path all (front ++ n ∷ []) ns c (Some (row_of front b.top))
+passed_one path all front n ns b c above p part dir = record {
+  at = p.at ∙ ap (map (placed front)) (part.seen (standing (n ∷ ns)) (standing ns) (standing-splits n ns)) ∙ placed_onward front n (filter (standing ns) (rows c));
+  over =
+      p.over ∙ ap (λ l. last_or above (placed front (row_of [] b.top) ∷ map (placed front) l)) (part.seen (over (n ∷ ns)) (over ns) (over-splits n ns))
+      ∙ ap (λ l. last_or (Some (placed front (row_of [] b.top))) l) (placed_onward front n (filter (over ns) (rows c)))
+      ∙ ap (λ q. last_or (Some (row_of q b.top)) (map (placed (front ++ n ∷ [])) (filter (over ns) (rows c)))) (append-nil front);
+  file =
+      p.file ∙ ap (λ d. map (placed front) (cond (not d) (row_of [] b.top ∷ filter (file_over (n ∷ ns)) b.beneath) (filter (file_over (n ∷ ns)) b.beneath))) (directory_top [] b.top dir)
+      ∙ ap (map (placed front)) (part.seen (file_over (n ∷ ns)) (file_over ns) (file_over-splits n ns)) ∙ placed_onward front n (filter (file_over ns) (rows c));
+}
+
+module _ (path : List (List ℕ)) (all : List Row) (front : List (List ℕ)) (b : Branch) (above : Option Row) where
+  -- where the path ends
+  pub ends_at : Passed path all front [] b above → front ≡ path → Some (row_of path b.top) ≡ row_at path all
+  ends_at p is = ap (λ q. Some (row_of q b.top)) (sym is ∙ sym (append-nil front)) ∙ sym (ap first p.at)
+
+  nothing_over : (rs : List Row) → filter (over []) rs ≡ []
+  nothing_over [] = refl
+  nothing_over (r ∷ rs) = nothing_over rs
+
+  no_file_over : (rs : List Row) → filter (file_over []) rs ≡ []
+  no_file_over [] = refl
+  no_file_over (r ∷ rs) = no_file_over rs
+
+  pub ends_beneath : Passed path all front [] b above → above ≡ ancestor path all
+  ends_beneath p = sym (p.over ∙ ap (λ l. last_or above (map (placed front) l)) (nothing_over (rows b)))
+
+  pub ends_clear : Passed path all front [] b above → None ≡ file_above path all
+  ends_clear p = sym (ap first (p.file ∙ ap (map (placed front)) (no_file_over (rows b))))
+
+  -- where nothing has the next name
+  module _ (n : List ℕ) (ns : List (List ℕ)) (p : Passed path all front (n ∷ ns) b above) (part : IsPart n b.beneath None) where
+    pub stops_missing : None ≡ row_at path all
+    stops_missing = sym (ap first (p.at ∙ ap (map (placed front)) (part.seen (standing (n ∷ ns)) (standing ns) (standing-splits n ns))))
+
+    pub stops_beneath : Some (row_of front b.top) ≡ ancestor path all
+    stops_beneath =
+        sym (p.over ∙ ap (λ l. last_or above (placed front (row_of [] b.top) ∷ map (placed front) l)) (part.seen (over (n ∷ ns)) (over ns) (over-splits n ns)) ∙ ap (λ q. Some (row_of q b.top)) (append-nil front))
+
+    by_kind : (d : Bool) → is_directory (row_of front b.top) ≡ d → first (map (placed front) (cond (not d) (row_of [] b.top ∷ []) [])) ≡ cond d None (Some (row_of front b.top))
+    by_kind true e = refl
+    by_kind false e = ap (λ q. Some (row_of q b.top)) (append-nil front)
+
+    pub stops_at_file : if_file (row_of front b.top) ≡ file_above path all
+    stops_at_file =
+        sym (ap first p.file ∙ ap (λ l. first (map (placed front) (cond (not (is_directory (row_of [] b.top))) (row_of [] b.top ∷ l) l))) (part.seen (file_over (n ∷ ns)) (file_over ns) (file_over-splits n ns)) ∙ by_kind (is_directory (row_of front b.top)) refl)
+
+-- the same by the number of names passed
+
+pub rest_on : (path : List (List ℕ)) (i : ℕ) (n : List ℕ) → i < length path → n ≡ get_or path i n → drop i path ≡ n ∷ drop (i + 1) path
+rest_on path i n h is = drop_more path i n h ∙ ap (λ m. m ∷ drop (i + 1) path) (sym is)
+
+pub front_on : (path : List (List ℕ)) (i : ℕ) (n : List ℕ) → i < length path → n ≡ get_or path i n → take i path ++ n ∷ [] ≡ take (i + 1) path
+front_on path i n h is = ap (λ m. take i path ++ m ∷ []) is ∙ sym (take_more path i n h)
+
+pub passed_next : (path : List (List ℕ)) (all : List Row) (i : ℕ) (n : List ℕ) (b c : Branch) (above : Option Row) (last : Row) → i < length path → n ≡ get_or path i n
+    → Passed path all (take i path) (drop i path) b above → IsPart n b.beneath (Some c) → b.top.kind ≡ Directory → last ≡ row_of (take i path) b.top
+    → Passed path all (take (i + 1) path) (drop (i + 1) path) c (Some last)
+passed_next path all i n b c above last h is p part dir top =
+    subst (λ r. Passed path all (take (i + 1) path) (drop (i + 1) path) c (Some r)) (sym top)
+    (subst (λ f. Passed path all f (drop (i + 1) path) c (Some (row_of (take i path) b.top))) (front_on path i n h is)
+    (passed_one path all (take i path) n (drop (i + 1) path) b c above (subst (λ r. Passed path all (take i path) r b above) (rest_on path i n h is) p) part dir))

@@ -1,0 +1,14 @@
+-- Components that don't grant rights to a caller.
+use Rattle.std.specs.Prelude.{Bool, not, List, Option, filter}
+use Rattle.hdfs_types.specs.declared.rights.Rights.{Rights}
+use Rattle.principals.specs.Principals.{Asking}
+use Rattle.flat_rows.specs.declared.row.Row.{Row}
+use Rattle.flat_rows.specs.First.{first}
+use Rattle.flat_rows.specs.Denied.{judgement}
+
+abbrev pub is_closed : Rights → Asking → Row → Bool
+is_closed asked caller row = not (judgement row caller.name caller.groups asked).granted
+
+-- the first of the rows that doesn't grant them
+abbrev pub first_closed : Rights → Asking → List Row → Option Row
+first_closed asked caller rows = first (filter (is_closed asked caller) rows)

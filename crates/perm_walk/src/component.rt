@@ -1,0 +1,68 @@
+use hdfs_types::name::Name;
+use hdfs_types::path::Path;
+use flat_rows::row::Row;
+use inode_tree::inode::Inode;
+use std::alloc::{AllocError, Global};
+use std::marker::Model;
+
+/// What stands at a path of a tree, lent with the path.
+#[derive(Drop)]
+pub struct Component<'a> {
+    path: &'a [Name],
+    inode: Inode<'a>,
+}
+
+impl<'a> Model for Component<'a> {
+    ghost use Rattle.flat_rows.specs.declared.row.Row.{Row};
+
+    ghost Value = { Row };
+
+    ghost use Rattle.hdfs_types.specs.Path.{IsPath};
+    ghost use Rattle.perm_walk.specs.Kept.{row_at_top};
+
+    ghost view = { row_at_top };
+
+    ghost invariant = { λ component. IsPath component.path.now };
+}
+
+impl<'a> Component<'a> {
+    ghost use Rattle.std.specs.Prelude.{◌≡◌, IfOk};
+    ghost use Rattle.hdfs_types.specs.Path.{IsPath};
+    ghost use Rattle.inode_tree.specs.Branch.{row_of};
+    ghost use Rattle.inode_tree.specs.Tree.{branch_at};
+
+    pub fn new(path: &'a [Name], inode: Inode<'a>) -> Component<'a>
+        requires { IsPath path.now }
+        ensures { result ≡ row_of path.now (branch_at inode.entry).top }
+    {
+        Component { path, inode }
+    }
+
+    /// The names of the path from the root down.
+    pub fn path(&self) -> &'a [Name]
+        ensures path { result.now ≡ self.now.path }
+        ensures limits { IsPath self.now.path }
+    {
+        self.path
+    }
+
+    /// What stands at the path.
+    pub fn inode(&self) -> Inode<'a>
+        ensures { row_of self.now.path (branch_at result).top ≡ self.now }
+    {
+        self.inode
+    }
+
+    /// A copy, as a row of the namespace. Costs the path.
+    pub fn to_row(&self, alloc: Global) -> Result<Row, AllocError>
+        ensures { IfOk result (λ row. row ≡ self.now) }
+    {
+        Ok(Row {
+            path: Path::copied(alloc, self.path)?,
+            kind: self.inode.kind(),
+            owner: self.inode.owner().clone()?,
+            group: self.inode.group().clone()?,
+            acl: self.inode.acl().clone()?,
+        })
+    }
+}
