@@ -1,5 +1,5 @@
 -- A namespace without a sub-tree, and one with a row given anew, is a namespace; and so are their paths within the limits.
-use Rattle.std.proofs.Common.{◌≡◌, ℕ, Bool, true, false, ◌&&◌, ◌||◌, List, [], ◌∷◌, ◌++◌, map, length, drop, append_assoc, refl, sym, ap, ◌∙◌, subst, cond, Option, Some, None}
+use Rattle.std.proofs.Common.{◌≡◌, ℕ, Bool, true, false, ◌&&◌, ◌||◌, List, [], ◌∷◌, ◌++◌, map, length, drop, append_assoc, refl, sym, ap, ◌∙◌, subst, cond, Some}
 use Rattle.std.proofs.Math.Seq.{take-append_seam}
 use Rattle.std.proofs.lemmas.List.{take-append-drop}
 use Rattle.std.specs.Prelude.{filter, not}

@@ -1,6 +1,6 @@
 -- A namespace in which a sub-tree stands at another path is a namespace.
-use Rattle.std.proofs.Common.{◌≡◌, ℕ, Bool, true, false, ◌&&◌, ◌||◌, List, [], ◌∷◌, ◌++◌, map, length, drop, suc, ◌+◌, ◌≤◌, arith, refl, sym, ap, ◌∙◌, subst, cond, Option, Some, None, Ordering, Less, Equal, Greater}
-use Rattle.std.specs.Prelude.{filter, not}
+use Rattle.std.proofs.Common.{◌≡◌, ℕ, Bool, true, false, ◌&&◌, ◌||◌, List, [], ◌∷◌, ◌++◌, map, length, drop, refl, sym, ap, ◌∙◌, Ordering, Less, Equal, Greater}
+use Rattle.std.specs.Prelude.{not}
 use Rattle.std.specs.List.{list_all, list_any}
 use Rattle.std.specs.Cmp.{tied_itself}
 use Rattle.std.specs.Ordering.{is_lt, is_eq, ordering_then}
@@ -10,14 +10,12 @@ use Rattle.hdfs_types.specs.Path.{is_prefix}
 use Rattle.hdfs_types.specs.PathOrder.{path_cmp, same_path}
 use Rattle.hdfs_types.proofs.Texts.{same_is, same_self}
 use Rattle.flat_rows.specs.declared.row.Row.{Row}
-use Rattle.flat_rows.specs.First.{first}
-use Rattle.flat_rows.specs.Rows.{is_directory, is_missing, row_at, replaced}
+use Rattle.flat_rows.specs.Rows.{is_directory}
 use Rattle.flat_rows.specs.Namespace.{IsNamespace, is_ascending, is_before_all, is_child, has_parent, is_root, have_parents, suits_kind}
 use Rattle.flat_rows.specs.Changes.{rows_under, without, moved_row, moved}
-use Rattle.flat_rows.proofs.Tests.{both, and, or_left, or_right, all_imp, all_both, all_filtered, all_kept}
-use Rattle.flat_rows.proofs.PathOrders.{child_starts, same_path_is}
-use Rattle.flat_rows.proofs.NewDirectories.{starts_self}
-use Rattle.flat_rows.proofs.Namespaces.{Namespace, namespace_tests, ascending_filter, replaced_rooted, replaced_ascending, replaced_held, replaced_suits}
+use Rattle.flat_rows.proofs.Tests.{both, and, or_left, or_right, all_filtered, all_kept}
+use Rattle.flat_rows.proofs.PathOrders.{child_starts}
+use Rattle.flat_rows.proofs.Namespaces.{namespace_tests, ascending_filter, replaced_rooted, replaced_ascending, replaced_held, replaced_suits}
 use Rattle.flat_rows.proofs.Changes.{namespace_of, any_kept, without_held, without_rooted}
 
 -- paths with a common front

@@ -1,10 +1,9 @@
 -- What is asked of the rows at and beneath a path, where a branch stands there.
-use Rattle.std.proofs.Common.{◌≡◌, ℕ, Bool, true, false, not, List, [], ◌∷◌, ◌++◌, map, length, IsTrue, Option, Some, None, refl, sym, ap, ◌∙◌, subst}
+use Rattle.std.proofs.Common.{◌≡◌, ℕ, Bool, true, not, List, [], ◌∷◌, ◌++◌, map, length, IsTrue, Option, Some, refl, sym, ap, ◌∙◌, subst}
 use Rattle.std.proofs.lemmas.List.{length-map}
 use Rattle.std.specs.List.{filter, list_all}
 use Rattle.std.specs.Option.{option_map}
 use Rattle.hdfs_types.specs.Path.{is_path, IsPath}
-use Rattle.hdfs_types.specs.declared.rights.Rights.{Rights}
 use Rattle.flat_rows.specs.declared.row.Row.{Row}
 use Rattle.flat_rows.specs.First.{first}
 use Rattle.flat_rows.specs.Rows.{is_directory}
@@ -12,10 +11,10 @@ use Rattle.flat_rows.specs.Namespace.{is_ascending}
 use Rattle.flat_rows.specs.Changes.{rows_under, child_names, are_paths}
 use Rattle.flat_rows.proofs.Tests.{both, all_kept}
 use Rattle.flat_rows.proofs.Namespaces.{namespace_tests}
-use Rattle.inode_tree.specs.Branch.{Branch, rows, rows_or, row_of, placed}
+use Rattle.inode_tree.specs.Branch.{Branch, rows, rows_or, placed}
 use Rattle.inode_tree.specs.Part.{IsWhole}
 use Rattle.inode_tree.specs.Tree.{IsTree}
-use Rattle.inode_tree.specs.Visits.{told, counts_of, is_closed}
+use Rattle.inode_tree.specs.Visits.{told, counts_of}
 use Rattle.inode_tree.specs.declared.visit.Counts.{Counts}
 use Rattle.inode_tree.proofs.Filters.{filter-map, inside}
 use Rattle.inode_tree.proofs.Children.{part_ascending, child_names_whole}

@@ -1,5 +1,5 @@
 -- The names of what a directory holds, among rows in path order.
-use Rattle.std.proofs.Common.{◌≡◌, ℕ, Bool, true, false, ◌&&◌, List, [], ◌∷◌, ◌++◌, map, cond, Option, Some, None, refl, sym, ap, ◌∙◌, subst}
+use Rattle.std.proofs.Common.{◌≡◌, ℕ, Bool, true, false, ◌&&◌, List, [], ◌∷◌, ◌++◌, map, cond, Option, Some, refl, sym, ap, ◌∙◌}
 use Rattle.std.proofs.lemmas.Bool.{false≢true}
 use Rattle.std.proofs.lemmas.List.{append-nil}
 use Rattle.std.proofs.lemmas.List.Elements.{filter-append}
@@ -23,7 +23,7 @@ use Rattle.inode_tree.specs.declared.node.Held.TheVariants.{Directory}
 use Rattle.inode_tree.specs.declared.node.Node.TheInside.{Inside}
 use Rattle.inode_tree.specs.Branch.{Branch, flatten, rows, rows_or, row_of, top_of, under, placed}
 use Rattle.inode_tree.specs.Part.{IsWhole}
-use Rattle.inode_tree.proofs.Filters.{Entries, self, filter-map, inside}
+use Rattle.inode_tree.proofs.Filters.{Entries, filter-map, inside}
 use Rattle.inode_tree.proofs.Wholes.{filter_within}
 
 abbrev child : List (List ℕ) → Row → Bool

@@ -4,7 +4,7 @@ use Rattle.std.proofs.lemmas.Cmp.{nat_list_cmp_total}
 use Rattle.std.proofs.lemmas.List.Elements.{filter-append}
 use Rattle.std.specs.Cmp.{tied_itself}
 use Rattle.std.specs.List.{filter}
-use Rattle.hdfs_types.specs.Path.{is_prefix, is_beneath}
+use Rattle.hdfs_types.specs.Path.{is_prefix}
 use Rattle.hdfs_types.specs.PathOrder.{same_path}
 use Rattle.flat_rows.specs.declared.row.Row.{Row}
 use Rattle.flat_rows.specs.Rows.{is_before, is_beyond}

@@ -11,4 +11,3 @@ pub mod Visits
 pub mod Children
 pub mod Asked
 pub mod Limits
-pub mod Descents

@@ -1,5 +1,5 @@
 -- The missing directories of a path, made in the directory that holds the first of its names.
-use Rattle.std.proofs.Common.{◌≡◌, ℕ, Less, Greater, Bool, true, false, ◌&&◌, not, length, drop, List, [], ◌∷◌, ◌++◌, map, Option, Some, None, refl, sym, ap, ◌∙◌, subst}
+use Rattle.std.proofs.Common.{◌≡◌, ℕ, Bool, true, false, ◌&&◌, not, length, drop, List, [], ◌∷◌, ◌++◌, map, Option, Some, None, refl, sym, ap, ◌∙◌, subst}
 use Rattle.std.proofs.lemmas.Bool.{false≢true}
 use Rattle.std.proofs.lemmas.List.{append-nil}
 use Rattle.std.specs.List.{filter, last_or}
@@ -12,7 +12,7 @@ use Rattle.flat_rows.specs.declared.row.Row.{Row}
 use Rattle.flat_rows.specs.First.{first}
 use Rattle.flat_rows.specs.Rows.{is_directory, is_missing, file_above, ancestor, with_sub_tree, replaced}
 use Rattle.flat_rows.specs.Outcome.{directory_at, mode_of_new, new_directory, new_directories, with_directories}
-use Rattle.inode_tree.specs.Branch.{Branch, Top, flatten, rows, rows_or, row_of, under}
+use Rattle.inode_tree.specs.Branch.{Branch, Top, flatten, rows, row_of, under}
 use Rattle.inode_tree.specs.Part.{Splits, IsPart}
 use Rattle.inode_tree.specs.Change.{chain}
 use Rattle.inode_tree.proofs.Split.{R, at}

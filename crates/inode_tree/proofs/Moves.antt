@@ -1,5 +1,5 @@
 -- A stand-in is put at a path, a branch is taken out from another, and fills the stand-in: it has been moved.
-use Rattle.std.proofs.Common.{◌≡◌, ℕ, Ordering, Less, Equal, Greater, Bool, true, false, ◌&&◌, not, List, [], ◌∷◌, ◌++◌, map, cond, length, drop, Option, Some, None, refl, sym, ap, ◌∙◌, subst}
+use Rattle.std.proofs.Common.{◌≡◌, ℕ, Ordering, Less, Equal, Greater, Bool, true, false, ◌&&◌, not, List, [], ◌∷◌, ◌++◌, map, cond, Option, Some, None, refl, sym, ap, ◌∙◌, subst}
 use Rattle.std.proofs.lemmas.Bool.{false≢true}
 use Rattle.std.proofs.lemmas.List.{append-nil}
 use Rattle.std.proofs.lemmas.List.Elements.{filter-append}
@@ -8,7 +8,7 @@ use Rattle.std.specs.List.{filter}
 use Rattle.std.specs.Ordering.{is_lt, is_gt, is_eq, ordering_then}
 use Rattle.hdfs_types.specs.Text.{same, text_cmp}
 use Rattle.hdfs_types.specs.Path.{is_prefix}
-use Rattle.hdfs_types.specs.PathOrder.{path_cmp, same_path}
+use Rattle.hdfs_types.specs.PathOrder.{path_cmp}
 use Rattle.hdfs_types.proofs.Texts.{same_is, same_symm}
 use Rattle.flat_rows.specs.declared.row.Row.{Row}
 use Rattle.flat_rows.specs.First.{first}
@@ -16,12 +16,11 @@ use Rattle.flat_rows.specs.Rows.{is_before, is_beyond, is_none, is_missing, repl
 use Rattle.flat_rows.specs.Changes.{rows_under, without, moved_row, moved}
 use Rattle.flat_rows.proofs.Tests.{both}
 use Rattle.flat_rows.proofs.PathOrders.{tied_starts, starts_upto}
-use Rattle.flat_rows.proofs.NewDirectories.{starts_self}
 use Rattle.flat_rows.proofs.Moves.{front_at, front_inside}
 use Rattle.inode_tree.specs.Branch.{Branch, rows, rows_or, row_of, placed, with_rows}
 use Rattle.inode_tree.specs.Part.{IsWhole}
 use Rattle.inode_tree.specs.Change.{grafted}
-use Rattle.inode_tree.proofs.Filters.{self, inside, outside, standing, pick}
+use Rattle.inode_tree.proofs.Filters.{inside, outside, standing, pick}
 use Rattle.inode_tree.proofs.Wholes.{filter_within, standing_inside}
 
 -- two filters, one behind the other

@@ -12,7 +12,7 @@ use Rattle.std.specs.Option.{option_copied_mut}
 use Rattle.std.specs.Borrow.{MutBor}
 use Rattle.flat_rows.specs.declared.row.Row.{Row}
 use Rattle.flat_rows.specs.First.{first}
-use Rattle.flat_rows.specs.Rows.{is_directory, is_none, is_missing, row_at}
+use Rattle.flat_rows.specs.Rows.{is_directory, is_none, is_missing}
 use Rattle.flat_rows.specs.Namespace.{is_child, has_parent}
 use Rattle.flat_rows.specs.Changes.{without, given, rewritten}
 use Rattle.inode_tree.specs.Kept.{branch_of, rows_in, IsSorted}

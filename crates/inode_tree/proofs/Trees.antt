@@ -8,7 +8,7 @@ use Rattle.acl_entries.specs.AccessList.{AccessList}
 use Rattle.flat_rows.specs.declared.row.Row.{Row}
 use Rattle.flat_rows.specs.Rows.{is_missing, row_at, file_above, ancestor, replaced, with_sub_tree}
 use Rattle.flat_rows.specs.Namespace.{has_parent, is_root, suits_kind, fits}
-use Rattle.flat_rows.specs.Outcome.{new_directories, with_directories}
+use Rattle.flat_rows.specs.Outcome.{with_directories}
 use Rattle.flat_rows.specs.Changes.{are_paths, rows_under, without, moved_row, moved, rewritten, suits_list}
 use Rattle.flat_rows.proofs.Tests.{and}
 use Rattle.flat_rows.proofs.Namespaces.{with_sub_tree_namespace}

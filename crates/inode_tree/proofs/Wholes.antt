@@ -8,10 +8,9 @@ use Rattle.hdfs_types.specs.PathOrder.{same_path}
 use Rattle.flat_rows.specs.declared.row.Row.{Row}
 use Rattle.flat_rows.specs.First.{first}
 use Rattle.flat_rows.specs.Rows.{row_at}
-use Rattle.flat_rows.specs.Changes.{rows_under}
 use Rattle.flat_rows.proofs.PathOrders.{same_path_is}
 use Rattle.flat_rows.proofs.NewDirectories.{starts_self}
-use Rattle.inode_tree.specs.Branch.{Branch, rows, rows_or, row_of, placed}
+use Rattle.inode_tree.specs.Branch.{Branch, rows_or, row_of, placed}
 use Rattle.inode_tree.specs.Part.{IsWhole}
 use Rattle.inode_tree.proofs.Filters.{self, filter-map, inside, standing}
 

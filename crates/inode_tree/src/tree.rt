@@ -104,6 +104,9 @@ impl Tree {
 
     /// The first directory at a path and beneath it, in path order, that doesn't grant a caller with these groups what is
     /// needed. Costs also what stands there, up to what is found, and takes memory only for what is found.
+    ///
+    /// # Errors
+    /// Want of memory.
     pub fn first_closed(
         &self,
         path: &[Name],
@@ -123,6 +126,9 @@ impl Tree {
     }
 
     /// Copies of the rows at a path and beneath it, in path order. Costs also these rows.
+    ///
+    /// # Errors
+    /// Want of memory.
     pub fn rows_under(&self, path: &Path) -> Result<Vec<Row>, AllocError>
         ensures { IfOk result (λ rows. rows.items ≡ rows_under path.now self.now) }
     {
@@ -133,7 +139,10 @@ impl Tree {
         Ok(rows)
     }
 
-    /// The names of what a directory holds, in the order of names. Costs also what it holds.
+    /// The names of what a directory holds, in the order of names; a file holds nothing. Costs also what it holds.
+    ///
+    /// # Errors
+    /// Want of memory.
     pub fn children(&self, path: &Path) -> Result<Vec<&Name>, AllocError>
         ensures { IfOk result (λ names. map (λ name. name.now) names.items ≡ child_names path.now self.now) }
     {
@@ -184,8 +193,8 @@ impl Tree {
         self.root.put(above, name, new)
     }
 
-    /// Makes the directories of a path that are missing, the last of this mode and the others also open to their owner, all
-    /// of this owner and of their parent's group (HDFS Permissions Guide, "Overview").
+    /// Makes the directories of a path that are missing: the last of this mode, the others without its sticky bit and open to
+    /// their owner, all of this owner and of their parent's group (HDFS Permissions Guide, "Overview").
     ///
     /// # Errors
     /// Want of memory, and nothing has changed.

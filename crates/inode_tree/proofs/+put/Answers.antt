@@ -1,6 +1,4 @@
-use Rattle.std.proofs.Common.{arith, refl, ap, ◌∙◌, sym}
-use Rattle.inode_tree.specs.Change.{grafted}
-use Rattle.inode_tree.proofs.Levels.{grafted-level}
+use Rattle.std.proofs.Common.{arith}
 use Rattle.inode_tree.proofs.Through.{on_ok, on_err, found_mut, missed_mut, no_names, held_sorted, held_parent, file_holds_none, child_holds, none_holds, same_through, put_through, put_here}
 use Rattle.inode_tree.proofs.+put.Goals as goal
 

@@ -1,4 +1,4 @@
-use Rattle.std.proofs.Common.{◌∙◌, ap, arith}
+use Rattle.std.proofs.Common.{ap, arith}
 use Rattle.inode_tree.specs.Visits.{told, directories, files}
 use Rattle.inode_tree.proofs.Visits.{directories_step, files_step, shorter}
 use Rattle.inode_tree.specs.Branch.{flatten}

@@ -1,4 +1,4 @@
-use Rattle.std.proofs.Common.{◌≡◌, drop, Option}
+use Rattle.std.proofs.Common.{drop, Option}
 use Rattle.inode_tree.specs.Branch.{Branch, rows}
 use Rattle.inode_tree.specs.Part.{IsWhole}
 use Rattle.inode_tree.proofs.node.Node.find.Given as goal

@@ -1,5 +1,5 @@
-use Rattle.std.proofs.Common.{Some, None, ap, subst, sym, ◌∙◌}
-use Rattle.std.specs.Option.{option_map, option_copied}
+use Rattle.std.proofs.Common.{Some, ap, subst, ◌∙◌}
+use Rattle.std.specs.Option.{option_copied}
 use Rattle.inode_tree.specs.Branch.{rows}
 use Rattle.inode_tree.specs.Part.{IsWhole}
 use Rattle.inode_tree.proofs.Asked.{counts_there}

@@ -1,5 +1,5 @@
 use Rattle.std.proofs.Common.{None, Some, ◌∙◌, sym, ap}
-use Rattle.std.specs.Option.{option_map, option_copied}
+use Rattle.std.specs.Option.{option_copied}
 use Rattle.inode_tree.specs.Branch.{rows}
 use Rattle.inode_tree.specs.Tree.{branch_at}
 use Rattle.inode_tree.proofs.Wholes.{row_found}

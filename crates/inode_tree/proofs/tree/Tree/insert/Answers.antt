@@ -1,4 +1,4 @@
-use Rattle.std.proofs.Common.{◌≡◌, ◌∙◌, ◌∷◌, [], ◌++◌, sym, ap}
+use Rattle.std.proofs.Common.{◌∙◌, ◌∷◌, [], ◌++◌, sym, ap}
 use Rattle.flat_rows.specs.Namespace.{suits_kind}
 use Rattle.inode_tree.specs.Branch.{row_of}
 use Rattle.inode_tree.proofs.Trees.{no_parent_above, insert_keeps}
