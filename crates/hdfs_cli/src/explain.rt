@@ -80,7 +80,7 @@ struct Explanation {
 }
 
 /// The tree as a flat list of rows.
-fn rows_of(alloc: Global, tree: &Tree) -> Result<Rows, AllocError>
+pub(crate) fn rows_of(alloc: Global, tree: &Tree) -> Result<Rows, AllocError>
     ensures { IfOk result (λ rows. rows ≡ tree.now) }
 {
     let rows = tree.rows_under(&Path::root(alloc))?;
@@ -100,13 +100,7 @@ fn explain_request(
     let mut session = Session::open(alloc)?;
     run_lines(alloc, &mut session, before)?;
     let rows = rows_of(alloc, &session.tree)?;
-    let needs = trail(
-        alloc,
-        &rows,
-        &session.users,
-        &request.caller,
-        &request.op,
-    )?;
+    let needs = trail(alloc, &rows, &session.users, &request.caller, &request.op)?;
     Ok(Explanation {
         found: Explained::Trail(Status::by(session.has_bad)),
         text: text_of(alloc, &needs)?,

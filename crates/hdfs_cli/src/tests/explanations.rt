@@ -15,7 +15,7 @@ fn explained_by(
 }
 
 /// Whether this is printed of a line, and this was found there.
-fn explains(
+pub(crate) fn explains(
     rt: &HostRuntime,
     script: &str,
     number: u32,

@@ -1,5 +1,6 @@
 mod explanations;
 mod lines;
+mod operations;
 mod scripts;
 mod tokens;
 mod values;

@@ -41,7 +41,12 @@ const LINES_ANSWERED: &str = "3 ok dir 0755 hdfs supergroup\n\
 30 bad 19 BadName\n31 bad 19 BadName\n32 bad 19 BadName\n33 bad 20 BadMode\n34 bad 20 BadMode\n35 refused 2 NotFound\n";
 
 /// Whether the script prints these answers, and ends so.
-fn prints(rt: &HostRuntime, script: &str, answers: &str, status: Status) -> Result<bool, Fail> {
+pub(crate) fn prints(
+    rt: &HostRuntime,
+    script: &str,
+    answers: &str,
+    status: Status,
+) -> Result<bool, Fail> {
     let (text, ended) = printed(rt, script)?;
     Ok(text.as_str() == answers && ended == status)
 }
@@ -80,7 +85,12 @@ fn an_empty_script_prints_nothing(rt: HostRuntime) -> Result<(), Fail> {
 }
 
 /// A path of so many names, each of so many letters, and the last of so many.
-fn deep(rt: &HostRuntime, names: usize, each: usize, last: usize) -> Result<String, Fail> {
+pub(crate) fn deep(
+    rt: &HostRuntime,
+    names: usize,
+    each: usize,
+    last: usize,
+) -> Result<String, Fail> {
     let mut path = String::new(rt.alloc());
     for i in 0..names {
         path.push_str("/")?;
