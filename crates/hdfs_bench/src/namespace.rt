@@ -134,7 +134,7 @@ impl Namespace {
         count: u32,
     ) -> Result<Timed> {
         let mut taken = Duration::ZERO;
-        for first in (0..count).step_by(1000) {
+        for first in (0..count).step_by(BUNDLE as usize) {
             let end = first.saturating_add(BUNDLE).min(count);
             let requests = bundle(self.alloc, workload, first, end)?;
             taken = taken.saturating_add(self.time_bundle(rt, &requests)?);
