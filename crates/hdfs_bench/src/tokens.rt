@@ -1,3 +1,4 @@
+use crate::timed::Timed;
 use anyhow::{Context, Result, bail};
 use block_tokens::cache::KeyCache;
 use block_tokens::grant::Grant;
@@ -8,7 +9,7 @@ use hdfs_types::modes::Modes;
 use hdfs_types::moment::Moment;
 use hdfs_types::who::Who;
 use std::alloc::Global;
-use std::time::{Clock, Duration, Instant};
+use std::time::{Clock, Instant};
 
 /// Ten hours, in milliseconds.
 const LIFETIME: u32 = 36_000_000;
@@ -49,8 +50,8 @@ impl Presented {
     }
 }
 
-/// Judges one token over and over.
-pub fn check_uncached<R: Clock + AllocGlobal>(rt: &R, count: u32) -> Result<Duration> {
+/// Judges one token so many times.
+pub fn check_uncached<R: Clock + AllocGlobal>(rt: &R, count: u32) -> Result<Timed> {
     let presented = Presented::new(rt.alloc())?;
     let start = Instant::now(rt)?;
     for _ in 0..count {
@@ -58,5 +59,8 @@ pub fn check_uncached<R: Clock + AllocGlobal>(rt: &R, count: u32) -> Result<Dura
             bail!("a valid token is refused");
         }
     }
-    Ok(start.elapsed(rt)?)
+    Ok(Timed {
+        operations: u64::from(count),
+        taken: start.elapsed(rt)?,
+    })
 }

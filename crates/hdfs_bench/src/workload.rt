@@ -1,18 +1,34 @@
-use crate::tokens;
+use crate::timed::Timed;
+use crate::{delete_recursive, ls, mkdirs, rename_dir, stat, tokens};
 use anyhow::Result;
-use std::time::{Clock, Duration};
+use std::time::Clock;
 
 /// What can be timed.
 #[derive(Clone, Copy, Debug, PartialEq, Eq)]
 pub enum Workload {
     /// A DataNode judges a valid token, and keeps nothing of it for the next time.
     CheckTokenUncached,
+    /// Directories are made.
+    Mkdirs,
+    /// A caller asks what has a path.
+    Stat,
+    /// A caller lists directories.
+    Ls,
+    /// A directory is moved with all that is beneath it.
+    RenameDir,
+    /// A directory is deleted with all that is beneath it.
+    DeleteRecursive,
 }
 
 impl Workload {
     pub fn named(name: &str) -> Option<Workload> {
         match name {
             "check_token_uncached" => Some(Workload::CheckTokenUncached),
+            "mkdirs" => Some(Workload::Mkdirs),
+            "stat" => Some(Workload::Stat),
+            "ls" => Some(Workload::Ls),
+            "rename_dir" => Some(Workload::RenameDir),
+            "delete_recursive" => Some(Workload::DeleteRecursive),
             _ => None,
         }
     }
@@ -20,16 +36,27 @@ impl Workload {
     pub fn name(self) -> &'static str {
         match self {
             Workload::CheckTokenUncached => "check_token_uncached",
+            Workload::Mkdirs => "mkdirs",
+            Workload::Stat => "stat",
+            Workload::Ls => "ls",
+            Workload::RenameDir => "rename_dir",
+            Workload::DeleteRecursive => "delete_recursive",
         }
     }
 
-    /// Does the operation so many times, and tells how long that took. What it is done on is made before, and isn't timed.
+    /// Does the workload of a size, and tells how many operations that was and how long they took. What they are done on is made
+    /// before, and isn't timed; what the size means is said at each workload.
     ///
     /// # Errors
     /// Want of memory, no clock, and an operation that answers otherwise than the workload means.
-    pub fn run<R: Clock + AllocGlobal>(self, rt: &R, count: u32) -> Result<Duration> {
+    pub fn run<R: Clock + AllocGlobal>(self, rt: &R, count: u32) -> Result<Timed> {
         match self {
             Workload::CheckTokenUncached => tokens::check_uncached(rt, count),
+            Workload::Mkdirs => mkdirs::run(rt, count),
+            Workload::Stat => stat::run(rt, count),
+            Workload::Ls => ls::run(rt, count),
+            Workload::RenameDir => rename_dir::run(rt, count),
+            Workload::DeleteRecursive => delete_recursive::run(rt, count),
         }
     }
 }
