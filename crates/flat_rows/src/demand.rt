@@ -104,12 +104,7 @@ impl<'a> Demand<'a> {
     pub fn traversal(path: &'a Path) -> Demand<'a>
         ensures { result ≡ spec.traversal path.now }
     {
-        Demand::rights(
-            Role::Traversed,
-            path,
-            Condition::Always,
-            Rights::EXECUTE,
-        )
+        Demand::rights(Role::Traversed, path, Condition::Always, Rights::EXECUTE)
     }
 
     /// To traverse each directory above the path, also while permission checking is off.
@@ -141,12 +136,7 @@ impl<'a> Demand<'a> {
     pub fn creation(path: &'a Path) -> Demand<'a>
         ensures { result ≡ spec.creation path.now }
     {
-        Demand::rights(
-            Role::Ancestor,
-            path,
-            Condition::WhereMissing,
-            Rights::WRITE,
-        )
+        Demand::rights(Role::Ancestor, path, Condition::WhereMissing, Rights::WRITE)
     }
 
     /// To write in the last existing component above the path.
@@ -311,13 +301,27 @@ pub fn needs_of<'a>(alloc: Global, op: &'a Op) -> Result<Needs<'a>, AllocError>
         Op::Stat(path) => vec![in alloc; Demand::traversal(path)]?,
         Op::List(path) => vec![in alloc; Demand::traversal(path), Demand::listing(path)]?,
         Op::Summary(path) => {
-            vec![in alloc; Demand::traversal(path), Demand::sub_tree(Rights::of_low_bits(0o5), path)]?
+            vec![in alloc;
+                Demand::traversal(path),
+                Demand::sub_tree(Rights::of_low_bits(0o5), path),
+            ]?
         }
         Op::Delete(path, _) => {
-            vec![in alloc; Demand::traversal(path), Demand::sticky_bit(path), Demand::removal(path), Demand::sub_tree(Rights::of_low_bits(0o7), path)]?
+            vec![in alloc;
+                Demand::traversal(path),
+                Demand::sticky_bit(path),
+                Demand::removal(path),
+                Demand::sub_tree(Rights::of_low_bits(0o7), path),
+            ]?
         }
         Op::Rename(from, to) => {
-            vec![in alloc; Demand::traversal(from), Demand::traversal(to), Demand::sticky_bit(from), Demand::write_above(to), Demand::removal(from)]?
+            vec![in alloc;
+                Demand::traversal(from),
+                Demand::traversal(to),
+                Demand::sticky_bit(from),
+                Demand::write_above(to),
+                Demand::removal(from),
+            ]?
         }
         Op::SetMode(path, _) => {
             vec![in alloc; Demand::strict_traversal(path), Demand::ownership(path)]?

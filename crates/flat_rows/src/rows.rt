@@ -130,13 +130,7 @@ pub fn directory_of<'a>(rows: &'a [Row], path: &[Name]) -> Option<&'a Row>
         return None;
     }
     match row_at(rows, &path[..depth - 1]) {
-        Some(row) => {
-            if row.is_directory() {
-                Some(row)
-            } else {
-                None
-            }
-        }
+        Some(row) => { if row.is_directory() { Some(row) } else { None } }
         None => None,
     }
 }

@@ -62,7 +62,11 @@ fn judge(caller: &Caller, ask: &Ask) -> Result<Judged, AllocError>
     })
 }
 
-fn judged_up_to_denied(alloc: Global, caller: &Caller, asks: &[Ask]) -> Result<Vec<Judged>, AllocError>
+fn judged_up_to_denied(
+    alloc: Global,
+    caller: &Caller,
+    asks: &[Ask],
+) -> Result<Vec<Judged>, AllocError>
     ensures { IfOk result (λ needs. needs.items ≡ spec.up_to_denied (map (spec.judged caller.now) asks.now)) }
 {
     let mut needs = Vec::new(alloc);

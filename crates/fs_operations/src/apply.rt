@@ -87,7 +87,13 @@ pub fn apply(
 }
 
 /// Answers a look that no need forbids.
-fn tell(alloc: Global, tree: &Tree, users: &Users, caller: &Who, op: &Op) -> Result<Verdict, AllocError>
+fn tell(
+    alloc: Global,
+    tree: &Tree,
+    users: &Users,
+    caller: &Who,
+    op: &Op,
+) -> Result<Verdict, AllocError>
     requires { is_look op.now ≡ true }
     ensures { IfOk result (λ verdict. verdict ≡ (spec.outcome tree.now users.now caller.now op.now).verdict) }
 {

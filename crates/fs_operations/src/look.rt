@@ -59,7 +59,12 @@ fn own_name(alloc: Global, path: &Path) -> Result<Vec<Name>, AllocError>
     }
 }
 
-fn listed(alloc: Global, tree: &Tree, path: &Path, component: &Component) -> Result<Vec<Name>, AllocError>
+fn listed(
+    alloc: Global,
+    tree: &Tree,
+    path: &Path,
+    component: &Component,
+) -> Result<Vec<Name>, AllocError>
     ensures { IfOk result (λ names. names.items ≡ spec.listed path.now (Some component.now) tree.now) }
 {
     match component.inode().kind() {

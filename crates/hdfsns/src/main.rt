@@ -34,7 +34,9 @@ fn command<'a>(alloc: Global) -> Result<Command<'a>, AllocError> {
         .required(true)
         .value_parser(value_parser!(u32).range(1..));
     let explain = Command::new(alloc, "explain")
-        .about("Runs the lines before a line, and prints each need of its request up to the first that fails")
+        .about(
+            "Runs the lines before a line, and prints each need of its request up to the first that fails",
+        )
         .arg(script(alloc))?
         .arg(line)?;
     let digits = Arg::new(alloc, "HEX")
@@ -144,7 +146,9 @@ fn word<'a>(matches: &'a ArgMatches, subcommand: &str, name: &str) -> Option<&'a
 }
 
 fn line_number(matches: &ArgMatches) -> Option<u32> {
-    matches.subcommand_matches("explain")?.get_one::<u32>("LINE")
+    matches
+        .subcommand_matches("explain")?
+        .get_one::<u32>("LINE")
 }
 
 fn run_matches(rt: &HostRuntime, matches: &ArgMatches) -> ExitCode {

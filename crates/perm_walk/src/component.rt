@@ -1,6 +1,6 @@
+use flat_rows::row::Row;
 use hdfs_types::name::Name;
 use hdfs_types::path::Path;
-use flat_rows::row::Row;
 use inode_tree::inode::Inode;
 use std::alloc::{AllocError, Global};
 use std::marker::Model;

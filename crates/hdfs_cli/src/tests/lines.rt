@@ -80,43 +80,6 @@ fn made(alloc: Global, line: &str) -> Result<String, AllocError> {
     }
 }
 
-const RIGHT: [(&str, &str); 22] = [
-    ("0 ann mkdirs /a 1777", "0 ann Mkdirs /a 1777"),
-    ("7 ann stat /", "7 ann Stat /"),
-    ("0 ann ls /a/b", "0 ann List /a/b"),
-    ("0 ann du /", "0 ann Summary /"),
-    ("0 ann delete /a", "0 ann Delete /a false"),
-    ("0 ann delete /a recursive", "0 ann Delete /a true"),
-    ("0 ann rename /a /b/c", "0 ann Rename /a /b/c"),
-    ("0 ann chmod /a 7", "0 ann SetMode /a 0007"),
-    ("0 ann chown /a bob crew", "0 ann SetOwner /a bob crew"),
-    ("0 ann chown /a - crew", "0 ann SetOwner /a (kept) crew"),
-    ("0 ann chown /a bob -", "0 ann SetOwner /a bob (kept)"),
-    ("0 ann chown /a - -", "0 ann SetOwner /a (kept) (kept)"),
-    ("0 ann chown /a -- -b", "0 ann SetOwner /a -- -b"),
-    ("0 hdfs adduser bob g1", "0 hdfs AddUser bob |g1"),
-    (
-        "0 hdfs adduser bob g2,g1,g3",
-        "0 hdfs AddUser bob |g2|g1|g3",
-    ),
-    ("0 hdfs adduser bob -", "0 hdfs AddUser bob "),
-    ("0 hdfs adduser - g1", "0 hdfs AddUser - |g1"),
-    ("0 hdfs adduser bob -,g9", "0 hdfs AddUser bob |-|g9"),
-    ("0 hdfs groups bob g1,g1", "0 hdfs SetGroups bob |g1|g1"),
-    ("0 hdfs groups bob --", "0 hdfs SetGroups bob |--"),
-    ("0 hdfs groups bob -", "0 hdfs SetGroups bob "),
-    ("0 - groups - -", "0 - SetGroups - "),
-];
-
-#[test]
-fn lines_make_requests(rt: HostRuntime) -> Result<(), Fail> {
-    for (line, want) in RIGHT {
-        let found = made(rt.alloc(), line)?;
-        assert_eq!(rt; found.as_str(), want, "of {line}");
-    }
-    Ok(())
-}
-
 /// Each verb with a word too few and a word too many. The words are ill-formed too, which is judged later.
 const COUNTS: [&str; 28] = [
     "",

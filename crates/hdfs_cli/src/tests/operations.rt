@@ -1,16 +1,7 @@
-use crate::answer::Answer;
-use crate::explain::{Explained, rows_of};
-use crate::line::request_of;
+use crate::explain::Explained;
 use crate::script::Status;
 use crate::tests::explanations::explains;
 use crate::tests::scripts::{deep, prints};
-use flat_rows::decision::verdict;
-use flat_rows::verdict::Verdict;
-use fs_operations::apply::apply;
-use hdfs_types::op::Request;
-use hdfs_types::who::Who;
-use inode_tree::tree::Tree;
-use principals::users::Users;
 use std::test::Fail;
 
 /// Each line of a table is a script line and its answer, which the rules give.
@@ -204,54 +195,6 @@ fn explains_needs_of_every_kind(rt: HostRuntime) -> Result<(), Fail> {
             Explained::Trail(Status::Clean),
         )?;
         assert!(rt; right, "line {number}");
-    }
-    Ok(())
-}
-
-/// Whether the tree's answer to a request denies what the plain program over the rows denies, in the same words.
-fn agrees(
-    rt: &HostRuntime,
-    tree: &mut Tree,
-    users: &mut Users,
-    request: &Request,
-) -> Result<bool, Fail> {
-    let alloc = rt.alloc();
-    let rows = rows_of(alloc, tree)?;
-    let plain = verdict(alloc, &rows, users, &request.caller, &request.op)?;
-    let answer = Answer::Given(apply(alloc, tree, users, request)?);
-    match plain {
-        Some(denial) => {
-            let want = format!(in alloc; "denied {denial}")?;
-            let got = format!(in alloc; "{answer}")?;
-            Ok(want.as_str() == got.as_str())
-        }
-        None => match answer {
-            Answer::Given(Verdict::Denied(_)) => Ok(false),
-            _ => Ok(true),
-        },
-    }
-}
-
-const COMPARED: &str =
-    "hdfs adduser ann g1,g2\nhdfs mkdirs /p 777\nalice mkdirs /p/x/m 755\nalice mkdirs /p/x/b 755\n\
-hdfs chown /p/x/b hdfs -\nhdfs chown /p/x/m hdfs -\nalice delete /p/x recursive\nalice du /p/x\nhdfs delete /p/x\n\
-bob stat /p/x/m/none\nhdfs chmod /p/x/m 700\nbob stat /p/x/m/none\nbob ls /p/x/m\nbob rename /p/x /p/y\nbob du /p\n\
-ann chown /p/x - g1\nalice chown /p/x - g1\nann groups ann g3\nhdfs chmod /p 1777\nbob rename /p/x /p/y\nbob delete /p/x\n\
-bob mkdirs /p/z/z 0\nbob mkdirs /p/z/z/z 0\nbob delete /\nbob delete /none\nbob rename /p/none /q\nalice chmod /p/x 0\nalice ls /p/x\n";
-
-#[test]
-fn the_tree_denies_what_the_rows_deny(rt: HostRuntime) -> Result<(), Fail> {
-    let alloc = rt.alloc();
-    let (superuser, supergroup) = (Who::parse(alloc, "hdfs")?, Who::parse(alloc, "supergroup")?);
-    let mut tree = Tree::new(alloc, superuser.clone()?, supergroup.clone()?);
-    let mut users = Users::new(alloc, superuser, supergroup);
-    for line in COMPARED.split('\n') {
-        if !line.is_empty() {
-            let said = format!(in alloc; "0 {line}")?;
-            let words = said.as_str().split(' ').collect::<Vec<&str>>(alloc)?;
-            let request = request_of(alloc, &words)?;
-            assert!(rt; agrees(&rt, &mut tree, &mut users, &request)?, "{line}");
-        }
     }
     Ok(())
 }
