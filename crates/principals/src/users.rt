@@ -99,7 +99,9 @@ impl Users {
     pub fn caller<'a>(&'a self, name: &'a Who) -> Caller<'a>
         ensures { result ≡ spec.caller_of self.now name.now }
     {
-        Caller::new(name, self.groups_of(name), self.is_super(name))
+        let groups = self.groups_of(name);
+        let is_superuser = *name == self.superuser || has_group(groups, &self.supergroup);
+        Caller::new(name, groups, is_superuser)
     }
 
     /// Makes a user known, with these groups. Costs a look-up.
