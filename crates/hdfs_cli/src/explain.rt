@@ -49,14 +49,13 @@ fn request_in(alloc: Global, line: &str) -> Result<Option<Request>, AllocError>
 }
 
 /// Prints the needs, a line each, and tells whether all are met.
-fn print_needs(alloc: Global, needs: &[Judged], out: &mut String) -> Result<bool, AllocError>
+fn print_needs(needs: &[Judged], out: &mut String) -> Result<bool, AllocError>
     ensures text { OnOk result (string_bytes out.new ≡ string_bytes out.old ++ flat_map spec.judged_line needs.now) }
     ensures granted { IfOk result (λ granted. granted ≡ list_all (λ need. need.granted) needs.now) }
 {
     let mut granted = true;
     for need in needs {
-        let line = format!(in alloc; "{need}\n")?;
-        out.push_str(line.as_str())?;
+        write!(out, "{need}\n")?;
         granted = granted && need.granted;
     }
     Ok(granted)
@@ -66,7 +65,7 @@ fn text_of(alloc: Global, needs: &[Judged]) -> Result<String, AllocError>
     ensures { IfOk result (λ text. string_bytes text ≡ spec.trail_text needs.now) }
 {
     let mut out = String::new(alloc);
-    if print_needs(alloc, needs, &mut out)? {
+    if print_needs(needs, &mut out)? {
         out.push_str("granted\n")?;
     }
     Ok(out)

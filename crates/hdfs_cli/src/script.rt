@@ -71,18 +71,20 @@ fn answer_to(
     }
 }
 
-/// Adds an answer behind the number of its line.
+/// Adds an answer behind the number of its line. It is formatted in a `line` that is used again, and not in the output itself:
+/// no contract says what a failed `write!` leaves of the text that it was to go on with.
 fn print_answer(
-    alloc: Global,
     number: usize,
     answer: &Answer,
+    line: &mut String,
     out: &mut String,
 ) -> Result<(), AllocError>
     ensures ok { OnOk result (string_bytes out.new ≡ string_bytes out.old ++ answer_line number answer.now) }
     ensures err { OnErr result (string_bytes out.new ≡ string_bytes out.old) }
 {
-    let text = format!(in alloc; "{number} {answer}\n")?;
-    out.push_str(text.as_str())
+    line.clear();
+    write!(line, "{number} {answer}\n")?;
+    out.push_str(line.as_str())
 }
 
 /// A script that is being run: the namespace, the lines so far, and what they print.
@@ -95,6 +97,8 @@ pub(crate) struct Session {
     /// Whether one of them was ill-formed.
     pub(crate) has_bad: bool,
     out: String,
+    /// Where an answer is formatted.
+    line: String,
 }
 
 impl Session {
@@ -111,6 +115,7 @@ impl Session {
             number: 0,
             has_bad: false,
             out: String::new(alloc),
+            line: String::new(alloc),
         })
     }
 
@@ -127,7 +132,7 @@ impl Session {
             return Ok(());
         }
         let answer = answer_to(alloc, &mut self.tree, &mut self.users, line)?;
-        print_answer(alloc, self.number, &answer, &mut self.out)?;
+        print_answer(self.number, &answer, &mut self.line, &mut self.out)?;
         self.has_bad = self.has_bad || answer.is_bad();
         Ok(())
     }
