@@ -10,13 +10,12 @@ ghost use Rattle.hdfs_cli.specs.Explanation as spec;
 ghost use Rattle.hdfs_cli.specs.Output as output;
 ghost use Rattle.hdfs_cli.specs.Shown.{Shows};
 
-use crate::channel::{ReadFault, read_all, write_text};
-use crate::line::request_of;
-use crate::script::{ScriptFault, Session, Status, run_lines};
-use crate::words::{is_skipped, pieces_between, without_return, words_in};
+use crate::channel::write_text;
+use crate::line::read_line;
+use crate::script::{ScriptFault, Session, Status, read_script, run_lines};
+use crate::words::{is_skipped, pieces_between, without_return};
 use flat_rows::rows::Rows;
 use flat_rows::trail::{Judged, trail};
-use hdfs_types::fault::ParseFault;
 use hdfs_types::op::Request;
 use hdfs_types::path::Path;
 use inode_tree::tree::Tree;
@@ -40,12 +39,7 @@ fn request_in(alloc: Global, line: &str) -> Result<Option<Request>, AllocError>
     if is_skipped(line) {
         return Ok(None);
     }
-    let words = words_in(alloc, line)?;
-    match request_of(alloc, &words) {
-        Ok(request) => Ok(Some(request)),
-        Err(ParseFault::IllFormed(_)) => Ok(None),
-        Err(ParseFault::OutOfMemory) => Err(AllocError),
-    }
+    Ok(read_line(alloc, line)?.ok())
 }
 
 /// Prints the needs, a line each, and tells whether all are met.
@@ -55,7 +49,7 @@ fn print_needs(needs: &[Judged], out: &mut String) -> Result<bool, AllocError>
 {
     let mut granted = true;
     for need in needs {
-        write!(out, "{need}\n")?;
+        writeln!(out, "{need}")?;
         granted = granted && need.granted;
     }
     Ok(granted)
@@ -165,15 +159,8 @@ pub fn explain<R: Read, W: Write>(
     ensures no_memory { result ≡ Err ScriptFault.OutOfMemory → Keeps (W.contents writer.old) (W.contents writer.new) }
     ensures unwritten { result ≡ Err ScriptFault.CannotWrite → IfSome (R.remaining reader.old) (λ script. AppendsFront (W.contents writer.old) (W.contents writer.new) (spec.explanation number script)) }
 {
-    let script = match read_all(alloc, reader) {
-        Ok(script) => script,
-        Err(ReadFault::OutOfMemory) => return Err(ScriptFault::OutOfMemory),
-        Err(ReadFault::CannotRead) => return Err(ScriptFault::CannotRead),
-    };
-    let Ok(text) = str::from_utf8(&script) else {
-        return Err(ScriptFault::NotUtf8);
-    };
-    let Ok(explanation) = explain_line(alloc, text, number) else {
+    let script = read_script(alloc, reader)?;
+    let Ok(explanation) = explain_line(alloc, &script, number) else {
         return Err(ScriptFault::OutOfMemory);
     };
     write_text(writer, explanation.text.as_bytes()).map_err(|_| ScriptFault::CannotWrite)?;
