@@ -73,7 +73,7 @@ struct Explanation {
 }
 
 /// The tree as a flat list of rows.
-fn rows_of(alloc: Global, tree: &Tree) -> Result<Rows, AllocError>
+pub(crate) fn rows_of(alloc: Global, tree: &Tree) -> Result<Rows, AllocError>
     ensures { IfOk result (λ rows. rows ≡ tree.now) }
 {
     let rows = tree.rows_under(&Path::root(alloc))?;

@@ -67,7 +67,7 @@ fn parts_of(alloc: Global, op: &Op) -> Result<String, AllocError> {
 }
 
 /// What a line makes: moment, caller and operation, or how it is ill-formed.
-fn made(alloc: Global, line: &str) -> Result<String, AllocError> {
+pub(crate) fn made(alloc: Global, line: &str) -> Result<String, AllocError> {
     match read(alloc, line) {
         Ok(request) => {
             let moment = request.moment.milliseconds();
