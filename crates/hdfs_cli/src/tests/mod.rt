@@ -1,6 +1,8 @@
 mod comparison;
 mod explanations;
+mod files;
 mod lines;
+mod namespaces;
 mod operations;
 mod requests;
 mod scripts;
