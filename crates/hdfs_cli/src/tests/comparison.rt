@@ -1,6 +1,6 @@
 use crate::explain::rows_of;
-use crate::line::read_line;
 use crate::script::Session;
+use crate::tests::lines::read;
 use flat_rows::decision::verdict;
 use flat_rows::verdict::Verdict;
 use fs_operations::apply::apply;
@@ -44,7 +44,7 @@ fn denied_by_both(
     session: &mut Session,
     line: &str,
 ) -> Result<Option<String>, Fail> {
-    let request = read_line(rt.alloc(), line)?.ok().ok_or("no request")?;
+    let request = read(rt.alloc(), line)?;
     let by_rows = denied_by_rows(rt, &session.tree, &session.users, &request)?;
     let by_tree = denied_by_tree(rt, &mut session.tree, &mut session.users, &request)?;
     if by_rows != by_tree {

@@ -1,6 +1,6 @@
 use crate::answer::Answer;
-use crate::line::read_line;
 use crate::script::Session;
+use crate::tests::lines::read;
 use crate::tests::namespaces::put_file;
 use fs_operations::apply::apply;
 use std::test::Fail;
@@ -10,7 +10,7 @@ use std::test::Fail;
 /// The answer to a line.
 fn told(rt: &HostRuntime, session: &mut Session, line: &str) -> Result<String, Fail> {
     let alloc = rt.alloc();
-    let request = read_line(alloc, line)?.ok().ok_or("no request")?;
+    let request = read(alloc, line)?;
     let verdict = apply(alloc, &mut session.tree, &mut session.users, &request)?;
     Ok(Answer::Given(verdict).to_string(alloc)?)
 }

@@ -7,7 +7,7 @@ use std::alloc::{AllocError, Global};
 use std::test::Fail;
 
 /// The request of a line whose words single blanks separate. It has no clauses, so that no proof of a test computes it.
-fn read(alloc: Global, line: &str) -> Result<Request, ParseFault> {
+pub(crate) fn read(alloc: Global, line: &str) -> Result<Request, ParseFault> {
     let words: Vec<&str> = line.split(' ').collect(alloc)?;
     request_of(alloc, &words)
 }

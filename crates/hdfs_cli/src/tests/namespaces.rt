@@ -2,6 +2,7 @@ ghost use Rattle.std.specs.Prelude.{◌≡◌, true, IsTrue};
 ghost use Rattle.flat_rows.specs.Namespace.{has_parent};
 
 use crate::explain::rows_of;
+use crate::tests::lines::read;
 use acl_entries::acl::Acl;
 use flat_rows::decision::verdict;
 use flat_rows::demand::{Demand, Enforcement};
@@ -20,6 +21,16 @@ use inode_tree::tree::Tree;
 use principals::users::Users;
 use std::alloc::{AllocError, Global};
 use std::test::Fail;
+
+// These have no clauses, so that no proof of a test computes what they read.
+
+fn path_of(alloc: Global, text: &str) -> Result<Path, Fail> {
+    Ok(Path::parse(alloc, text)?)
+}
+
+fn who_of(alloc: Global, text: &str) -> Result<Who, Fail> {
+    Ok(Who::parse(alloc, text)?)
+}
 
 /// Whether there is a directory that holds the path.
 fn is_held(rows: &[Row], path: &Path) -> bool
@@ -48,18 +59,18 @@ fn put_into_tree(
 /// Puts a file of `ann` and the group `crew` into a tree, and tells whether there is a directory that holds it.
 pub(crate) fn put_file(rt: &HostRuntime, tree: &mut Tree, path: &str) -> Result<bool, Fail> {
     let alloc = rt.alloc();
-    let path = Path::parse(alloc, path)?;
-    let (owner, group) = (Who::parse(alloc, "ann")?, Who::parse(alloc, "crew")?);
+    let path = path_of(alloc, path)?;
+    let (owner, group) = (who_of(alloc, "ann")?, who_of(alloc, "crew")?);
     Ok(put_into_tree(alloc, tree, &path, owner, group)?)
 }
 
 /// A file of mode 0755 that `ann` and the group `crew` own.
 fn file_at(alloc: Global, path: &str) -> Result<Row, Fail> {
     Ok(Row {
-        path: Path::parse(alloc, path)?,
+        path: path_of(alloc, path)?,
         kind: ObjectKind::File,
-        owner: Who::parse(alloc, "ann")?,
-        group: Who::parse(alloc, "crew")?,
+        owner: who_of(alloc, "ann")?,
+        group: who_of(alloc, "crew")?,
         acl: Acl::from_mode(Mode::root(), ObjectKind::File),
     })
 }
@@ -73,25 +84,41 @@ fn put_among_rows(alloc: Global, rows: &mut Rows, row: Row) -> Result<bool, Allo
     Ok(true)
 }
 
-fn superuser(alloc: Global) -> Result<Who, Fail> {
-    Ok(Who::parse(alloc, "hdfs")?)
+/// The rows of a new namespace.
+fn opening_rows(alloc: Global) -> Result<Rows, Fail> {
+    Ok(Rows::new(alloc, &who_of(alloc, "hdfs")?, &who_of(alloc, "supergroup")?)?)
 }
 
-fn supergroup(alloc: Global) -> Result<Who, Fail> {
-    Ok(Who::parse(alloc, "supergroup")?)
+/// A new namespace.
+fn opening_tree(alloc: Global) -> Result<Tree, Fail> {
+    Ok(Tree::new(alloc, who_of(alloc, "hdfs")?, who_of(alloc, "supergroup")?))
+}
+
+/// The owner of the row that has a path, or none.
+fn owner_at(alloc: Global, rows: &Rows, path: &str) -> Result<Option<Who>, Fail> {
+    match rows.get(&path_of(alloc, path)?) {
+        Some(row) => Ok(Some(row.owner.clone()?)),
+        None => Ok(None),
+    }
+}
+
+#[test]
+fn new_rows_are_the_root(rt: HostRuntime) -> Result<(), Fail> {
+    let alloc = rt.alloc();
+    let rows = opening_rows(alloc)?;
+    let (root, other) = (owner_at(alloc, &rows, "/")?, owner_at(alloc, &rows, "/f")?);
+    assert_eq!(rt; root.ok_or("no root")?.as_str(), "hdfs");
+    assert!(rt; other.is_none());
+    Ok(())
 }
 
 #[test]
 fn rows_are_put_and_found(rt: HostRuntime) -> Result<(), Fail> {
     let alloc = rt.alloc();
-    let mut rows = Rows::new(alloc, &superuser(alloc)?, &supergroup(alloc)?)?;
-    let path = Path::parse(alloc, "/f")?;
-    assert!(rt; rows.get(&path).is_none());
+    let mut rows = opening_rows(alloc)?;
     assert!(rt; put_among_rows(alloc, &mut rows, file_at(alloc, "/f")?)?);
-    assert!(rt; !put_among_rows(alloc, &mut rows, file_at(alloc, "/f/x")?)?);
-    let found = rows.get(&path).ok_or("no row")?;
-    assert!(rt; !found.is_directory());
-    assert_eq!(rt; found.owner.as_str(), "ann");
+    let owner = owner_at(alloc, &rows, "/f")?.ok_or("no row")?;
+    assert_eq!(rt; owner.as_str(), "ann");
     assert_eq!(rt; rows.as_slice().len(), 2);
     Ok(())
 }
@@ -100,33 +127,45 @@ fn rows_are_put_and_found(rt: HostRuntime) -> Result<(), Fail> {
 fn files_above_are_found(rt: HostRuntime) -> Result<(), Fail> {
     let alloc = rt.alloc();
     let rows = vec![in alloc; file_at(alloc, "/f")?]?;
-    let beneath = Path::parse(alloc, "/f/x/y")?;
+    let beneath = path_of(alloc, "/f/x/y")?;
     let above = file_above(&rows, beneath.names()).ok_or("no file")?;
-    assert!(rt; above.path == Path::parse(alloc, "/f")?);
+    assert!(rt; above.path == path_of(alloc, "/f")?);
     assert!(rt; file_above(&rows, above.path.names()).is_none());
     Ok(())
+}
+
+/// Kind, owner and group of what a tree has at a path, or none.
+fn found_at(alloc: Global, tree: &Tree, path: &str) -> Result<Option<String>, Fail> {
+    let Some(found) = tree.get(&path_of(alloc, path)?) else {
+        return Ok(None);
+    };
+    let kind = match found.kind() {
+        ObjectKind::File => "file",
+        ObjectKind::Directory => "directory",
+    };
+    let (owner, group) = (found.owner(), found.group());
+    Ok(Some(format!(in alloc; "{kind} {owner} {group}")?))
 }
 
 #[test]
 fn trees_take_files(rt: HostRuntime) -> Result<(), Fail> {
     let alloc = rt.alloc();
-    let mut tree = Tree::new(alloc, superuser(alloc)?, supergroup(alloc)?);
+    let mut tree = opening_tree(alloc)?;
     assert!(rt; put_file(&rt, &mut tree, "/f")?);
     assert!(rt; !put_file(&rt, &mut tree, "/f/x")?);
-    let file = tree.get(&Path::parse(alloc, "/f")?).ok_or("no file")?;
-    assert_eq!(rt; file.kind(), ObjectKind::File);
-    assert_eq!(rt; file.owner().as_str(), "ann");
-    assert_eq!(rt; file.group().as_str(), "crew");
-    assert!(rt; tree.get(&Path::parse(alloc, "/f/x")?).is_none());
+    let (root, file) = (found_at(alloc, &tree, "/")?, found_at(alloc, &tree, "/f")?);
+    assert_eq!(rt; root.ok_or("no root")?.as_str(), "directory hdfs supergroup");
+    assert_eq!(rt; file.ok_or("no file")?.as_str(), "file ann crew");
+    assert!(rt; found_at(alloc, &tree, "/f/x")?.is_none());
     Ok(())
 }
 
 /// The users of a namespace: `bob`, who is no superuser, has the group `g1`.
 fn users_with_bob(alloc: Global) -> Result<Users, Fail> {
-    let mut users = Users::new(alloc, superuser(alloc)?, supergroup(alloc)?);
-    let group = Who::parse(alloc, "g1")?;
+    let mut users = Users::new(alloc, who_of(alloc, "hdfs")?, who_of(alloc, "supergroup")?);
+    let group = who_of(alloc, "g1")?;
     users.add(
-        Who::parse(alloc, "bob")?,
+        who_of(alloc, "bob")?,
         Groups::new(vec![in alloc; group]?),
     )?;
     Ok(users)
@@ -142,10 +181,10 @@ fn users_tell_who_is_above_all(rt: HostRuntime) -> Result<(), Fail> {
 
 /// What denies `bob` a directory in the root.
 fn bobs_denial(alloc: Global) -> Result<Denial, Fail> {
-    let rows = Rows::new(alloc, &superuser(alloc)?, &supergroup(alloc)?)?;
+    let rows = opening_rows(alloc)?;
     let users = users_with_bob(alloc)?;
-    let op = Op::Mkdirs(Path::parse(alloc, "/z")?, Mode::root());
-    let denial = verdict(alloc, &rows, &users, &Who::parse(alloc, "bob")?, &op)?;
+    let request = read(alloc, "0 bob mkdirs /z 755")?;
+    let denial = verdict(alloc, &rows, &users, &request.caller, &request.op)?;
     Ok(denial.ok_or("nothing denies it")?)
 }
 
@@ -171,7 +210,7 @@ fn denials_keep_their_evidence(rt: HostRuntime) -> Result<(), Fail> {
 
 #[test]
 fn demands_tell_when_they_are_judged(rt: HostRuntime) -> Result<(), Fail> {
-    let path = Path::parse(rt.alloc(), "/a")?;
+    let path = path_of(rt.alloc(), "/a")?;
     let (removal, ownership) = (Demand::removal(&path), Demand::ownership(&path));
     assert_eq!(rt; removal.enforcement(), Enforcement::WhileChecking);
     assert_eq!(rt; ownership.enforcement(), Enforcement::Always);
@@ -181,8 +220,8 @@ fn demands_tell_when_they_are_judged(rt: HostRuntime) -> Result<(), Fail> {
 /// What `bob` is told of a path by a look that lends the tree.
 fn status_for_bob(alloc: Global, tree: &Tree, path: &str) -> Result<String, Fail> {
     let users = users_with_bob(alloc)?;
-    let op = Op::Stat(Path::parse(alloc, path)?);
-    match answer_look(alloc, tree, &users, &Who::parse(alloc, "bob")?, &op)? {
+    let op = Op::Stat(path_of(alloc, path)?);
+    match answer_look(alloc, tree, &users, &who_of(alloc, "bob")?, &op)? {
         Verdict::Done(Reply::Status(status)) => Ok(status.to_string(alloc)?),
         Verdict::Refused(refusal) => Ok(refusal.to_string(alloc)?),
         _ => Ok(String::new(alloc)),
@@ -192,7 +231,7 @@ fn status_for_bob(alloc: Global, tree: &Tree, path: &str) -> Result<String, Fail
 #[test]
 fn looks_are_answered_over_what_is_lent(rt: HostRuntime) -> Result<(), Fail> {
     let alloc = rt.alloc();
-    let tree = Tree::new(alloc, superuser(alloc)?, supergroup(alloc)?);
+    let tree = opening_tree(alloc)?;
     let (root, missing) = (status_for_bob(alloc, &tree, "/")?, status_for_bob(alloc, &tree, "/x")?);
     assert_eq!(rt; root.as_str(), "dir 0755 hdfs supergroup");
     assert_eq!(rt; missing.as_str(), "2 NotFound");
