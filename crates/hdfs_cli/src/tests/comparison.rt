@@ -77,7 +77,8 @@ fn tree_and_rows_deny_the_same_on_the_first_path(rt: HostRuntime) -> Result<(), 
     Ok(())
 }
 
-const RENAME: &str = "0 hdfs mkdirs /r/a/b 755\n0 hdfs mkdirs /r/c 755\n0 hdfs rename /r/a /r/a/b/z\n\
+const RENAME: &str =
+    "0 hdfs mkdirs /r/a/b 755\n0 hdfs mkdirs /r/c 755\n0 hdfs rename /r/a /r/a/b/z\n\
 0 hdfs rename /r/a /r/c\n0 hdfs rename /r/q /r/y\n0 hdfs rename / /x\n0 hdfs rename /r/a /r/c/a\n0 hdfs ls /r/c/a\n\
 0 hdfs ls /r/c/a/b";
 
@@ -87,7 +88,8 @@ fn tree_and_rows_deny_nothing_of_the_renames(rt: HostRuntime) -> Result<(), Fail
     Ok(())
 }
 
-const SUBTREE_RIGHTS: &str = "0 hdfs mkdirs /p 777\n0 alice mkdirs /p/x/m 755\n0 alice mkdirs /p/x/b 755\n\
+const SUBTREE_RIGHTS: &str =
+    "0 hdfs mkdirs /p 777\n0 alice mkdirs /p/x/m 755\n0 alice mkdirs /p/x/b 755\n\
 0 hdfs chown /p/x/b hdfs -\n0 hdfs chown /p/x/m hdfs -\n0 alice delete /p/x recursive\n0 alice du /p/x\n\
 0 hdfs delete /p/x\n0 hdfs delete /p/x recursive\n0 hdfs delete / recursive";
 
@@ -99,7 +101,8 @@ fn tree_and_rows_deny_the_same_of_sub_trees(rt: HostRuntime) -> Result<(), Fail>
 }
 
 /// A denial by each kind of need, and by each class of entries.
-const KINDS: &str = "0 hdfs adduser ann g1\n0 hdfs mkdirs /s 1777\n0 ann mkdirs /s/x 750\n0 ann chown /s/x - g1\n\
+const KINDS: &str =
+    "0 hdfs adduser ann g1\n0 hdfs mkdirs /s 1777\n0 ann mkdirs /s/x 750\n0 ann chown /s/x - g1\n\
 0 hdfs adduser bob g1\n0 bob delete /s/x\n0 bob rename /s/x /s/y\n0 bob mkdirs /s/x/z 755\n0 bob chmod /s/x 777\n\
 0 bob chown /s/x - g1\n0 ann chown /s/x bob -\n0 ann chown /s/x - g2\n0 ann groups ann g2\n0 carl ls /s/x\n0 ann chmod /s/x 0\n\
 0 ann ls /s/x\n0 bob stat /s/x/z";

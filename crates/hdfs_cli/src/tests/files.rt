@@ -55,6 +55,18 @@ fn files_are_told(rt: HostRuntime) -> Result<(), Fail> {
 }
 
 #[test]
+fn files_change_owners_and_modes(rt: HostRuntime) -> Result<(), Fail> {
+    let table = [
+        ("0 bob chmod /f 777", "denied /f owner by owner:ann"),
+        ("0 ann chmod /f 1640", "ok"),
+        ("0 hdfs chown /f bob -", "ok"),
+        ("0 bob stat /f", "ok file 0640 bob crew"),
+    ];
+    assert!(rt; tell(&rt, &table)?);
+    Ok(())
+}
+
+#[test]
 fn directories_are_not_made_at_files_or_beneath_them(rt: HostRuntime) -> Result<(), Fail> {
     let table = [
         ("0 bob mkdirs /f 755", "refused 5 Exists"),

@@ -86,7 +86,11 @@ fn put_among_rows(alloc: Global, rows: &mut Rows, row: Row) -> Result<bool, Allo
 
 /// The rows of a new namespace.
 fn opening_rows(alloc: Global) -> Result<Rows, Fail> {
-    Ok(Rows::new(alloc, &who_of(alloc, "hdfs")?, &who_of(alloc, "supergroup")?)?)
+    Ok(Rows::new(
+        alloc,
+        &who_of(alloc, "hdfs")?,
+        &who_of(alloc, "supergroup")?,
+    )?)
 }
 
 /// A new namespace.
@@ -154,7 +158,10 @@ fn trees_take_files(rt: HostRuntime) -> Result<(), Fail> {
     assert!(rt; put_file(&rt, &mut tree, "/f")?);
     assert!(rt; !put_file(&rt, &mut tree, "/f/x")?);
     let (root, file) = (found_at(alloc, &tree, "/")?, found_at(alloc, &tree, "/f")?);
-    assert_eq!(rt; root.ok_or("no root")?.as_str(), "directory hdfs supergroup");
+    assert_eq!(rt;
+        root.ok_or("no root")?.as_str(),
+        "directory hdfs supergroup"
+    );
     assert_eq!(rt; file.ok_or("no file")?.as_str(), "file ann crew");
     assert!(rt; found_at(alloc, &tree, "/f/x")?.is_none());
     Ok(())
@@ -164,10 +171,7 @@ fn trees_take_files(rt: HostRuntime) -> Result<(), Fail> {
 fn users_with_bob(alloc: Global) -> Result<Users, Fail> {
     let mut users = Users::new(alloc, who_of(alloc, "hdfs")?, who_of(alloc, "supergroup")?);
     let group = who_of(alloc, "g1")?;
-    users.add(
-        who_of(alloc, "bob")?,
-        Groups::new(vec![in alloc; group]?),
-    )?;
+    users.add(who_of(alloc, "bob")?, Groups::new(vec![in alloc; group]?))?;
     Ok(users)
 }
 
@@ -232,7 +236,10 @@ fn status_for_bob(alloc: Global, tree: &Tree, path: &str) -> Result<String, Fail
 fn looks_are_answered_over_what_is_lent(rt: HostRuntime) -> Result<(), Fail> {
     let alloc = rt.alloc();
     let tree = opening_tree(alloc)?;
-    let (root, missing) = (status_for_bob(alloc, &tree, "/")?, status_for_bob(alloc, &tree, "/x")?);
+    let (root, missing) = (
+        status_for_bob(alloc, &tree, "/")?,
+        status_for_bob(alloc, &tree, "/x")?,
+    );
     assert_eq!(rt; root.as_str(), "dir 0755 hdfs supergroup");
     assert_eq!(rt; missing.as_str(), "2 NotFound");
     Ok(())
