@@ -12,6 +12,7 @@ pub mod Number
 pub mod Path
 pub mod PathOrder
 pub mod Rights
+pub mod Spec
 pub mod Mode
 pub mod Moment
 pub mod Modes

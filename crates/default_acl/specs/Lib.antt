@@ -1,0 +1,2 @@
+pub mod AclChange
+pub mod Inheritance
