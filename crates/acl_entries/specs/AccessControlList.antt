@@ -1,10 +1,10 @@
 -- The access control list of a file or a directory: the entries that are judged, which its mode shows, the sticky bit, and on a
 -- directory the default entries that what is made in it inherits.
 -- (HDFS Permissions Guide, "Overview" and "ACLs (Access Control Lists)".)
-use Rattle.std.specs.Prelude.{ℕ, ◌+◌, ◌*◌, ◌<◌, ◌≤◌, Bool, true, false, not, ◌&&◌, ◌||◌, ◌==◌, List, [], ◌∷◌, ◌++◌, map, length, nat_lt, nat_le, if◌then◌else◌, Option, Some, None, unwrap_or, IsTrue}
+use Rattle.std.specs.Prelude.{ℕ, ◌+◌, ◌*◌, Bool, true, false, ◌&&◌, ◌||◌, List, [], ◌∷◌, ◌++◌, map, length, nat_lt, nat_le, if◌then◌else◌, Option, Some, None, unwrap_or, IsTrue}
 use Rattle.std.specs.List.{list_all, fold}
-use Rattle.std.specs.List.Sorted.{IsStrictlySortedBy}
-use Rattle.std.specs.Option.{is_some, option_map_or}
+use Rattle.std.specs.Option.{is_some, is_none, option_map_or}
+use Rattle.std.specs.Ordering.{is_lt}
 use Rattle.std.specs.Int.RustNames.{bit_and, bit_or}
 use Rattle.hdfs_types.specs.Text.{text_cmp}
 use Rattle.hdfs_types.specs.Mode.{user_bits, group_bits, other_bits, is_sticky}
@@ -16,7 +16,7 @@ use Rattle.hdfs_types.specs.declared.entry.EntryKind.TheVariants.{User, Group, M
 use Rattle.hdfs_types.specs.declared.entry.Scope.{Scope}
 use Rattle.hdfs_types.specs.declared.entry.Scope.TheVariants.{Access, Default}
 use Rattle.hdfs_types.specs.declared.reply.ObjectKind.{ObjectKind}
-use Rattle.hdfs_types.specs.declared.reply.ObjectKind.TheVariants as kind
+use Rattle.hdfs_types.specs.declared.reply.ObjectKind.TheVariants.{File, Directory}
 use Rattle.acl_entries.specs.declared.entry_list.NamedEntry.{NamedEntry}
 
 -- the entries of one scope: those of the owner, the owning group and all others, those of named users and groups in the order of
@@ -53,8 +53,8 @@ base_entries user group other = record { user = user; users = []; group = group;
 
 -- a file has no sticky bit
 abbrev pub sticky_bit : ℕ → ObjectKind → Bool
-sticky_bit mode kind.File = false
-sticky_bit mode kind.Directory = is_sticky mode
+sticky_bit mode File = false
+sticky_bit mode Directory = is_sticky mode
 
 -- the list that a mode alone gives
 abbrev pub acl_of_mode : ℕ → ObjectKind → AccessControlList
@@ -73,10 +73,9 @@ abbrev pub has_named : EntryList → Bool
 has_named list = nat_lt 0 (length list.users + length list.groups)
 
 -- an extended access list, or a default list: what a mode doesn't show
-abbrev pub has_more : AccessControlList → Bool
-has_more acl = has_named acl.access || is_some acl.default
+abbrev pub has_acl : AccessControlList → Bool
+has_acl acl = has_named acl.access || is_some acl.default
 
--- in the order in which they are printed: owner, named users, owning group, named groups, mask, others
 abbrev pub base_entry : Scope → EntryKind → Rights → Entry
 base_entry scope kind granted = record { scope = scope; kind = kind; name = None; rights = granted }
 
@@ -87,48 +86,49 @@ abbrev pub mask_entries : Scope → Option Rights → List Entry
 mask_entries scope None = []
 mask_entries scope (Some mask) = base_entry scope Mask mask ∷ []
 
+-- in the order in which they are printed: owner, named users, owning group, named groups, mask, others
 abbrev pub entries_in : Scope → EntryList → List Entry
 entries_in scope list =
     base_entry scope User list.user ∷ (map (named_entry scope User) list.users
     ++ base_entry scope Group list.group ∷ (map (named_entry scope Group) list.groups
     ++ (mask_entries scope list.mask ++ base_entry scope Other list.other ∷ [])))
 
-abbrev pub default_entries : Option EntryList → List Entry
-default_entries None = []
-default_entries (Some list) = entries_in Default list
-
+-- those of both scopes
 abbrev pub entries : AccessControlList → List Entry
-entries acl = entries_in Access acl.access ++ default_entries acl.default
+entries acl = entries_in Access acl.access ++ option_map_or (entries_in Default) acl.default []
 
 -- at most 32 entries stand in a scope
 abbrev pub fits : EntryList → Bool
 fits list = nat_le (length (entries_in Access list)) 32
 
+-- rights have three bits
 abbrev pub are_rights : Rights → Bool
 are_rights granted = nat_lt granted.0 8
 
-abbrev pub is_named_list : List NamedEntry → Bool
-is_named_list named = list_all (λ entry. are_rights entry.rights) named
+abbrev pub are_bases : Rights → Rights → Rights → Bool
+are_bases user group other = are_rights user && (are_rights group && are_rights other)
 
-abbrev pub names_of : List NamedEntry → List (List ℕ)
-names_of named = map (λ entry. entry.name) named
+abbrev pub grant_rights : List NamedEntry → Bool
+grant_rights named = list_all (λ entry. are_rights entry.rights) named
 
--- rights have three bits, names ascend, and no more entries stand in the list than may
-pub record IsEntryList (list : EntryList) : Type 0 where
-  pub rights : IsTrue (are_rights list.user && are_rights list.group && are_rights list.other && option_map_or are_rights list.mask true)
-  pub named : IsTrue (is_named_list list.users && is_named_list list.groups)
-  pub users : IsStrictlySortedBy text_cmp (names_of list.users)
-  pub groups : IsStrictlySortedBy text_cmp (names_of list.groups)
-  pub limit : IsTrue (fits list)
+-- each name stands before the next, in the order of their bytes
+abbrev pub ascend : List NamedEntry → Bool
+ascend [] = true
+ascend (entry ∷ []) = true
+ascend (entry ∷ next ∷ named) = is_lt (text_cmp entry.name next.name) && ascend (next ∷ named)
+
+abbrev pub is_entry_list : EntryList → Bool
+is_entry_list list =
+    ascend list.users && (ascend list.groups && (grant_rights list.users && (grant_rights list.groups
+    && (fits list && (option_map_or are_rights list.mask true && are_bases list.user list.group list.other)))))
+
+abbrev pub IsEntryList : EntryList → Type 0
+IsEntryList list = IsTrue (is_entry_list list)
 
 -- a mask stands exactly where a named entry is
 abbrev pub is_access_list : EntryList → Bool
-is_access_list list = is_some list.mask == has_named list
+is_access_list list = if has_named list then is_some list.mask else is_none list.mask
 
--- a default list always has a mask
-abbrev pub is_default_list : Option EntryList → Bool
-is_default_list None = true
-is_default_list (Some list) = is_some list.mask
-
+-- and a default list always has one
 abbrev pub IsAccessControlList : AccessControlList → Type 0
-IsAccessControlList acl = IsTrue (is_access_list acl.access && is_default_list acl.default)
+IsAccessControlList acl = IsTrue (is_access_list acl.access && option_map_or (λ list. is_some list.mask) acl.default true)

@@ -1,17 +1,15 @@
 -- The entry of an object's list that decides for a caller, and whether it grants the rights that are needed.
 -- (HDFS Permissions Guide, "ACLs (Access Control Lists)": the algorithm of the access check.)
-use Rattle.std.specs.Prelude.{ℕ, Bool, List, [], ◌∷◌, ◌++◌, map, filter, if◌then◌else◌, Option, Some, None, unwrap_or, true}
-use Rattle.std.specs.List.{find}
+use Rattle.std.specs.Prelude.{ℕ, Bool, List, [], ◌∷◌, ◌++◌, map, filter, if◌then◌else◌, Option, None, unwrap_or}
+use Rattle.std.specs.List.{find, slice_get}
 use Rattle.std.specs.Option.{option_map_or, option_or}
 use Rattle.hdfs_types.specs.Text.{same}
 use Rattle.hdfs_types.specs.Groups.{has_group}
 use Rattle.hdfs_types.specs.Rights.{covers}
 use Rattle.hdfs_types.specs.declared.rights.Rights.{Rights}
 use Rattle.hdfs_types.specs.declared.entry.Entry.{Entry}
-use Rattle.hdfs_types.specs.declared.entry.EntryKind.{EntryKind}
 use Rattle.hdfs_types.specs.declared.entry.EntryKind.TheVariants.{User, Group, Other}
 use Rattle.hdfs_types.specs.declared.entry.Scope.TheVariants.{Access}
-use Rattle.acl_entries.specs.declared.entry_list.NamedEntry.{NamedEntry}
 use Rattle.acl_entries.specs.AccessControlList.{AccessControlList, EntryList, common, base_entry, named_entry}
 
 -- the entry, the mask where one filters it, and whether they grant what is needed
@@ -35,7 +33,7 @@ group_entries group list groups =
 
 -- the first judgement that grants, else the first
 abbrev pub best : List Judgement → Option Judgement
-best judgements = option_or (find (λ judgement. judgement.granted) judgements) (find (λ judgement. true) judgements)
+best judgements = option_or (find (λ judgement. judgement.granted) judgements) (slice_get judgements 0)
 
 -- among groups and others: where groups match, the first that grants decides, else the first of them; and others only where none does
 abbrev pub judged_by_groups : List ℕ → EntryList → List (List ℕ) → Rights → Judgement

@@ -2,9 +2,9 @@
 -- change of a mode.
 -- (HDFS Permissions Guide, "ACLs (Access Control Lists)" and "ACLs Shell Commands". Which lists are emptied or completed, the order of
 -- refusals, and the masks that clear and remove leave are this project's own choice.)
-use Rattle.std.specs.Prelude.{ℕ, ◌<◌, Bool, true, false, not, ◌&&◌, ◌||◌, List, [], ◌∷◌, ◌++◌, map, filter, if◌then◌else◌, Option, Some, None, unwrap_or, Result, Ok, Err}
+use Rattle.std.specs.Prelude.{ℕ, Bool, true, false, not, ◌&&◌, ◌||◌, List, [], ◌∷◌, filter, if◌then◌else◌, Option, Some, None, unwrap_or, Result, Ok, Err}
 use Rattle.std.specs.List.{list_any, find, fold, filter_map}
-use Rattle.std.specs.Option.{is_some, is_none, option_map, option_or}
+use Rattle.std.specs.Option.{is_some, is_none, option_map, option_map_or, option_or}
 use Rattle.std.specs.Ordering.{is_lt}
 use Rattle.hdfs_types.specs.Text.{same, text_cmp}
 use Rattle.hdfs_types.specs.Mode.{user_bits, group_bits, other_bits}
@@ -21,28 +21,34 @@ use Rattle.hdfs_types.specs.declared.acl_change.AclChange.TheVariants.{Set, Modi
 use Rattle.hdfs_types.specs.declared.fault.AclFault.{AclFault}
 use Rattle.hdfs_types.specs.declared.fault.AclFault.TheVariants.{DefaultOnFile, NoBase, BaseRemoved, MaskRemoved}
 use Rattle.hdfs_types.specs.declared.reply.ObjectKind.{ObjectKind}
-use Rattle.hdfs_types.specs.declared.reply.ObjectKind.TheVariants as kind
+use Rattle.hdfs_types.specs.declared.reply.ObjectKind.TheVariants.{File, Directory}
 use Rattle.hdfs_types.specs.declared.reply.Refusal.{Refusal}
 use Rattle.hdfs_types.specs.declared.reply.Refusal.TheVariants.{BadAcl, TooManyEntries}
 use Rattle.acl_entries.specs.declared.entry_list.NamedEntry.{NamedEntry}
-use Rattle.acl_entries.specs.AccessControlList.{AccessControlList, EntryList, common, union_of_group_class, has_named, fits, sticky_bit, is_default_list}
+use Rattle.acl_entries.specs.AccessControlList.{AccessControlList, EntryList, base_entries, common, union_of_group_class, has_named, fits, sticky_bit}
 
 -- ── what a spec says of a scope ──
 
 abbrev pub is_base_of : Scope → EntryKind → Entry → Bool
 is_base_of scope kind entry = same_scope entry.scope scope && (same_kind entry.kind kind && is_none entry.name)
 
--- the rights that it gives to the owner, the owning group, the mask or all others
+-- it has an entry for the owner, the owning group, the mask or all others
+abbrev pub has_base : Scope → EntryKind → List Entry → Bool
+has_base scope kind spec = list_any (is_base_of scope kind) spec
+
+-- the rights that this entry grants
 abbrev pub given : Scope → EntryKind → List Entry → Option Rights
 given scope kind spec = option_map (λ entry. entry.rights) (find (is_base_of scope kind) spec)
 
-abbrev pub if_named : Scope → EntryKind → Entry → Option NamedEntry
-if_named scope kind entry =
-    if same_scope entry.scope scope && same_kind entry.kind kind then option_map (λ name. record { name = name; rights = entry.rights }) entry.name else None
+abbrev pub is_for : Scope → EntryKind → Entry → Bool
+is_for scope kind entry = same_scope entry.scope scope && same_kind entry.kind kind
+
+abbrev pub with_name : Entry → Option NamedEntry
+with_name entry = option_map (λ name. record { name = name; rights = entry.rights }) entry.name
 
 -- its entries for named users, or for named groups
-abbrev pub named : Scope → EntryKind → List Entry → List NamedEntry
-named scope kind spec = filter_map (if_named scope kind) spec
+abbrev pub named_in : Scope → EntryKind → List Entry → List NamedEntry
+named_in scope kind spec = filter_map with_name (filter (is_for scope kind) spec)
 
 -- it has an entry in the scope
 abbrev pub touches : Scope → List Entry → Bool
@@ -65,106 +71,103 @@ with_each entries others = fold (λ list entry. put entry list) entries others
 abbrev pub without : List NamedEntry → List NamedEntry → List NamedEntry
 without entries others = filter (λ entry. not (list_any (λ other. same other.name entry.name) others)) entries
 
--- ── the entries of a scope while they change: bases may be missing ──
+-- ── the entries of a scope without its mask, while they change: bases may be missing ──
 
-pub record Entries : Type 0 where
+pub record PartialList : Type 0 where
   pub user : Option Rights
   pub users : List NamedEntry
   pub group : Option Rights
   pub groups : List NamedEntry
-  pub mask : Option Rights
   pub other : Option Rights
 
-abbrev pub no_entries : Entries
-no_entries = record { user = None; users = []; group = None; groups = []; mask = None; other = None }
+abbrev pub no_entries : PartialList
+no_entries = record { user = None; users = []; group = None; groups = []; other = None }
 
--- the entries of a list, but its mask: a touched scope gets a mask anew
-abbrev pub of_list : EntryList → Entries
-of_list list = record { user = Some list.user; users = list.users; group = Some list.group; groups = list.groups; mask = None; other = Some list.other }
-
-abbrev pub of_default : Option EntryList → Entries
-of_default None = no_entries
-of_default (Some list) = of_list list
+abbrev pub all_of : EntryList → PartialList
+all_of list = record { user = Some list.user; users = list.users; group = Some list.group; groups = list.groups; other = Some list.other }
 
 -- with each entry that the spec has in the scope, instead of one that stands there
-abbrev pub with_spec : Scope → List Entry → Entries → Entries
-with_spec scope spec old = record {
+abbrev pub after_addition : Scope → List Entry → PartialList → PartialList
+after_addition scope spec old = record {
   user = option_or (given scope User spec) old.user;
-  users = with_each old.users (named scope User spec);
+  users = with_each old.users (named_in scope User spec);
   group = option_or (given scope Group spec) old.group;
-  groups = with_each old.groups (named scope Group spec);
-  mask = given scope Mask spec;
+  groups = with_each old.groups (named_in scope Group spec);
   other = option_or (given scope Other spec) old.other;
 }
 
-abbrev pub unless_given : Option Rights → Option Rights → Option Rights
-unless_given None old = old
-unless_given (Some rights) old = None
+abbrev pub unless : Bool → Option Rights → Option Rights
+unless true granted = None
+unless false granted = granted
 
 -- without the entries that the spec has in the scope
-abbrev pub without_spec : Scope → List Entry → Entries → Entries
-without_spec scope spec old = record {
-  user = unless_given (given scope User spec) old.user;
-  users = without old.users (named scope User spec);
-  group = unless_given (given scope Group spec) old.group;
-  groups = without old.groups (named scope Group spec);
-  mask = None;
-  other = unless_given (given scope Other spec) old.other;
+abbrev pub after_removal : Scope → List Entry → PartialList → PartialList
+after_removal scope spec old = record {
+  user = unless (has_base scope User spec) old.user;
+  users = without old.users (named_in scope User spec);
+  group = unless (has_base scope Group spec) old.group;
+  groups = without old.groups (named_in scope Group spec);
+  other = unless (has_base scope Other spec) old.other;
 }
 
--- only a mask is left, or nothing
-abbrev pub has_no_entry : Entries → Bool
-has_no_entry entries = is_none entries.user && is_none entries.group && is_none entries.other
-    && not (list_any (λ entry. true) entries.users) && not (list_any (λ entry. true) entries.groups)
+abbrev pub is_empty : List NamedEntry → Bool
+is_empty [] = true
+is_empty (entry ∷ entries) = false
 
--- ── a list again: missing bases from another list, and the mask that is named, else the union of the group class ──
+abbrev pub has_no_entry : PartialList → Bool
+has_no_entry list = is_none list.user && (is_none list.group && (is_none list.other && (is_empty list.users && is_empty list.groups)))
 
-abbrev pub with_mask : Option Rights → EntryList → EntryList
-with_mask named list = record { user = list.user; users = list.users; group = list.group; groups = list.groups; mask = Some (unwrap_or named (union_of_group_class list)); other = list.other }
+-- ── a list again: missing bases from another list, and a mask ──
 
-abbrev pub completed : EntryList → Entries → EntryList
-completed other entries = with_mask entries.mask (record {
-  user = unwrap_or entries.user other.user; users = entries.users;
-  group = unwrap_or entries.group other.group; groups = entries.groups;
-  mask = None; other = unwrap_or entries.other other.other;
-})
+abbrev pub with_bases_of : EntryList → PartialList → EntryList
+with_bases_of other list = record {
+  user = unwrap_or list.user other.user; users = list.users;
+  group = unwrap_or list.group other.group; groups = list.groups;
+  mask = None; other = unwrap_or list.other other.other;
+}
+
+-- the mask that a spec names, else the union of the group class
+abbrev pub mask_after : Option Rights → EntryList → EntryList
+mask_after named list = record {
+  user = list.user; users = list.users; group = list.group; groups = list.groups;
+  mask = Some (unwrap_or named (union_of_group_class list)); other = list.other;
+}
+
+abbrev pub completed : Option Rights → EntryList → PartialList → EntryList
+completed named_mask other list = mask_after named_mask (with_bases_of other list)
 
 -- an access list without named entries is kept as mode bits, its group behind the mask
-abbrev pub kept_plain : EntryList → EntryList
-kept_plain list =
+abbrev pub as_kept : EntryList → EntryList
+as_kept list =
     if has_named list then list
-    else record { user = list.user; users = []; group = common list.group (unwrap_or list.mask list.group); groups = []; mask = None; other = list.other }
+    else base_entries list.user (option_map_or (common list.group) list.mask list.group) list.other
 
--- ── the lists after a change ──
+-- ── the lists after a change: an untouched scope stays ──
 
--- an untouched scope stays; what is said of a base that isn't there has no meaning where `set` and `remove` are refused without one
-abbrev pub access_where : Bool → EntryList → Entries → EntryList
-access_where false old entries = old
-access_where true old entries = kept_plain (completed old entries)
-
-abbrev pub default_where : Bool → Option EntryList → EntryList → Entries → Option EntryList
-default_where false old access entries = old
-default_where true old access entries = Some (completed access entries)
-
--- a list of which nothing is left is empty
-abbrev pub unless_empty : Bool → Option EntryList → Option EntryList
-unless_empty true list = None
-unless_empty false list = list
+-- missing bases are the old ones; that matters for `clear` alone, since `set` and `remove` without a base are refused
+abbrev pub access_where : Bool → Option Rights → EntryList → PartialList → EntryList
+access_where touched named_mask old list = if touched then as_kept (completed named_mask old list) else old
 
 abbrev pub access_after : AclChange → EntryList → EntryList
-access_after (Set spec) old = access_where (touches Access spec) old (with_spec Access spec no_entries)
-access_after (Modify spec) old = access_where (touches Access spec) old (with_spec Access spec (of_list old))
-access_after (Remove spec) old = access_where (touches Access spec) old (without_spec Access spec (of_list old))
+access_after (Set spec) old = access_where (touches Access spec) (given Access Mask spec) old (after_addition Access spec no_entries)
+access_after (Modify spec) old = access_where (touches Access spec) (given Access Mask spec) old (after_addition Access spec (all_of old))
+access_after (Remove spec) old = access_where (touches Access spec) None old (after_removal Access spec (all_of old))
 access_after RemoveDefault old = old
-access_after Clear old = kept_plain (completed old (record { user = None; users = []; group = None; groups = []; mask = None; other = None }))
+access_after Clear old = access_where true None old no_entries
 
 -- missing bases are those of the access list after the change
+abbrev pub default_where : Bool → Option Rights → Option EntryList → EntryList → PartialList → Option EntryList
+default_where touched named_mask old access list = if touched then Some (completed named_mask access list) else old
+
+-- a list of which at most a mask is left is empty
+abbrev pub default_left : Bool → Option EntryList → EntryList → PartialList → Option EntryList
+default_left touched old access list = if touched && has_no_entry list then None else default_where touched None old access list
+
 abbrev pub default_after : AclChange → EntryList → Option EntryList → Option EntryList
-default_after (Set spec) access old = default_where (touches Default spec) old access (with_spec Default spec no_entries)
-default_after (Modify spec) access old = default_where (touches Default spec) old access (with_spec Default spec (of_default old))
-default_after (Remove spec) access old =
-    let left = without_spec Default spec (of_default old) in
-    unless_empty (touches Default spec && has_no_entry left) (default_where (touches Default spec) old access left)
+default_after (Set spec) access old = default_where (touches Default spec) (given Default Mask spec) old access (after_addition Default spec no_entries)
+default_after (Modify spec) access old =
+    default_where (touches Default spec) (given Default Mask spec) old access (after_addition Default spec (option_map_or all_of old no_entries))
+default_after (Remove spec) access old = default_left (touches Default spec) old access (after_removal Default spec (option_map_or all_of old no_entries))
 default_after RemoveDefault access old = None
 default_after Clear access old = None
 
@@ -175,35 +178,34 @@ acl_after change old =
 
 -- ── refusals ──
 
-abbrev pub spec_of : AclChange → List Entry
-spec_of (Set spec) = spec
-spec_of (Modify spec) = spec
-spec_of (Remove spec) = spec
-spec_of RemoveDefault = []
-spec_of Clear = []
+abbrev pub spec_in : AclChange → List Entry
+spec_in (Set spec) = spec
+spec_in (Modify spec) = spec
+spec_in (Remove spec) = spec
+spec_in RemoveDefault = []
+spec_in Clear = []
 
 abbrev pub is_file : ObjectKind → Bool
-is_file kind.File = true
-is_file kind.Directory = false
+is_file File = true
+is_file Directory = false
 
 -- a default entry of a file
 abbrev pub default_on_file : AclChange → ObjectKind → Bool
-default_on_file change kind = is_file kind && touches Default (spec_of change)
+default_on_file change kind = is_file kind && touches Default (spec_in change)
 
 -- the access scope is set without owner, owning group or others
 abbrev pub lacks_base : AclChange → Bool
-lacks_base (Set spec) =
-    touches Access spec && not (is_some (given Access User spec) && is_some (given Access Group spec) && is_some (given Access Other spec))
+lacks_base (Set spec) = touches Access spec && not (has_base Access User spec && (has_base Access Group spec && has_base Access Other spec))
 lacks_base _ = false
 
 -- the access entry of owner, owning group or others is taken away
 abbrev pub removes_base : AclChange → Bool
-removes_base (Remove spec) = is_some (given Access User spec) || is_some (given Access Group spec) || is_some (given Access Other spec)
+removes_base (Remove spec) = has_base Access User spec || (has_base Access Group spec || has_base Access Other spec)
 removes_base _ = false
 
 -- the mask of an extended access list is taken away
 abbrev pub removes_mask : AclChange → EntryList → Bool
-removes_mask (Remove spec) access = is_some (given Access Mask spec) && has_named access
+removes_mask (Remove spec) access = has_base Access Mask spec && has_named access
 removes_mask _ access = false
 
 -- the first that applies
@@ -215,12 +217,8 @@ first_acl_fault change kind acl =
     if removes_mask change acl.access then Some MaskRemoved else None
 
 -- no scope has more entries than may stand in one
-abbrev pub fits_default : Option EntryList → Bool
-fits_default None = true
-fits_default (Some list) = fits list
-
 abbrev pub if_it_fits : AccessControlList → Result AccessControlList Refusal
-if_it_fits acl = if fits acl.access && fits_default acl.default then Ok acl else Err TooManyEntries
+if_it_fits acl = if fits acl.access && option_map_or fits acl.default true then Ok acl else Err TooManyEntries
 
 abbrev pub unless_fault : Option AclFault → AccessControlList → Result AccessControlList Refusal
 unless_fault (Some fault) acl = Err (BadAcl fault)
@@ -232,8 +230,8 @@ acl_change change kind acl = unless_fault (first_acl_fault change kind acl) (acl
 
 -- ── the change of a mode ──
 
-abbrev pub access_of_mode : ℕ → EntryList → EntryList
-access_of_mode mode list = record {
+abbrev pub access_with_mode : ℕ → EntryList → EntryList
+access_with_mode mode list = record {
   user = rights (user_bits mode); users = list.users;
   group = if is_some list.mask then list.group else rights (group_bits mode); groups = list.groups;
   mask = option_map (λ mask. rights (group_bits mode)) list.mask;
@@ -242,4 +240,4 @@ access_of_mode mode list = record {
 
 -- a mode sets owner, others, and the mask where there is one, else the group; and the sticky bit of a directory
 abbrev pub with_mode : ℕ → ObjectKind → AccessControlList → AccessControlList
-with_mode mode kind acl = record { sticky = sticky_bit mode kind; access = access_of_mode mode acl.access; default = acl.default }
+with_mode mode kind acl = record { sticky = sticky_bit mode kind; access = access_with_mode mode acl.access; default = acl.default }
