@@ -83,7 +83,7 @@ module _ (group : List ℕ) (list : EntryList) (groups : List (List ℕ)) (need 
     where
       by : (member : Bool)
           → unwrap_or (best (map (λ entry. judged_by entry list.mask need) (cond member (base_entry Access Group list.group ∷ []) [] ++ map (named_entry Access Group) (filter (λ entry. has_group groups entry.name) list.groups)))) other
-            ≡ chosen_of member own (option_map by_named granting_entry) (option_map by_named matching_entry) other
+          ≡ chosen_of member own (option_map by_named granting_entry) (option_map by_named matching_entry) other
       by true = chosen_is true own judge other _ _ (granting (λ entry. has_group groups entry.name) (named_entry Access Group) (λ entry. judged_by entry list.mask need) list.groups) (matching (λ entry. has_group groups entry.name) (named_entry Access Group) (λ entry. judged_by entry list.mask need) list.groups)
       by false = chosen_is false own judge other _ _ (granting (λ entry. has_group groups entry.name) (named_entry Access Group) (λ entry. judged_by entry list.mask need) list.groups) (matching (λ entry. has_group groups entry.name) (named_entry Access Group) (λ entry. judged_by entry list.mask need) list.groups)
 

@@ -39,7 +39,7 @@ best judgements = option_or (find (λ judgement. judgement.granted) judgements) 
 abbrev pub judged_by_groups : List ℕ → EntryList → List (List ℕ) → Rights → Judgement
 judged_by_groups group list groups need =
     unwrap_or (best (map (λ entry. judged_by entry list.mask need) (group_entries group list groups)))
-              (judged_by (base_entry Access Other list.other) None need)
+    (judged_by (base_entry Access Other list.other) None need)
 
 -- the owner's entry for the owner, else that of a user of the caller's name, else those of groups and others. The mask filters
 -- all but the owner's and the others'.
@@ -47,5 +47,5 @@ abbrev pub judged_entry : List ℕ → List ℕ → AccessControlList → List �
 judged_entry owner group acl caller groups need =
     if same caller owner then judged_by (base_entry Access User acl.access.user) None need
     else option_map_or (λ entry. judged_by (named_entry Access User entry) acl.access.mask need)
-                       (find (λ entry. same caller entry.name) acl.access.users)
-                       (judged_by_groups group acl.access groups need)
+    (find (λ entry. same caller entry.name) acl.access.users)
+    (judged_by_groups group acl.access groups need)

@@ -37,9 +37,7 @@ fn first_granting<'a>(
 ) -> Option<&'a NamedEntry>
     ensures { option_copied result ≡ find (λ entry. is_member groups.now entry.name && covers (masked mask entry.rights).0 need.0) named.now }
 {
-    named
-        .iter()
-        .find(|entry| has_group(groups, &entry.name) && grants(entry.rights, mask, need))
+    named.iter().find(|entry| has_group(groups, &entry.name) && grants(entry.rights, mask, need))
 }
 
 #[tactic(auto, using(crate::proofs::Searches::by_searches))]
