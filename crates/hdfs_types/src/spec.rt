@@ -1,5 +1,6 @@
 ghost use Rattle.std.specs.Prelude.{◌≡◌, IfOk};
 ghost use Rattle.std.specs.List.{list_any};
+ghost use Rattle.std.specs.Option.{option_copied};
 ghost use Rattle.hdfs_types.specs.Spec.{IsSpec, MakesSpec, is_named_base, spec_of_entries};
 ghost use Rattle.hdfs_types.specs.Spec as definition;
 
@@ -38,7 +39,9 @@ struct Key<'a> {
 }
 
 fn key_of(entry: &Entry) -> Key<'_>
-    ensures { result ≡ definition.key_of entry.now }
+    ensures scope { result.scope ≡ entry.now.scope }
+    ensures kind { result.kind ≡ entry.now.kind }
+    ensures name { option_copied result.name ≡ entry.now.name }
 {
     Key {
         scope: entry.scope,
