@@ -124,7 +124,6 @@ duplicate_more (x ∷ xs) y =
     grouped false true false d = refl
     grouped false false c d = refl
 
-
 -- and a list that goes on from there repeats one as well
 pub duplicate_stays : (xs ys : List Entry) → has_duplicate xs ≡ true → has_duplicate (xs ++ ys) ≡ true
 duplicate_stays [] ys h = cc

@@ -1,7 +1,7 @@
 -- A spec: the entries that a change of an access control list names. No two have the same scope, kind and name, and no mask
 -- and no entry of all others has a name.
 -- (HDFS Permissions Guide, "ACLs Shell Commands".)
-use Rattle.std.specs.Prelude.{◌≡◌, ℕ, Bool, true, false, ◌==◌, ◌&&◌, ◌||◌, List, [], ◌∷◌, if◌then◌else◌, Option, Some, None, Result, Ok, Err}
+use Rattle.std.specs.Prelude.{◌≡◌, Bool, true, false, ◌&&◌, ◌||◌, List, [], ◌∷◌, if◌then◌else◌, Option, Some, None, Result, Ok, Err}
 use Rattle.std.specs.List.{list_any}
 use Rattle.std.specs.Option.{is_some, option_eq}
 use Rattle.hdfs_types.specs.Text.{same}

@@ -1,7 +1,5 @@
 use Rattle.std.proofs.Common.{arith, ◌<◌, ◌≡◌, ◌∙◌, sym, length}
-use Rattle.std.specs.BTreeSet.{contains}
-use Rattle.hdfs_types.specs.declared.spec.Key.{Key}
-use Rattle.hdfs_types.proofs.SpecKeys.{key_cmp, with_key, bare, known, seen_more, new_more, repeated}
+use Rattle.hdfs_types.proofs.SpecKeys.{with_key, bare, known, seen_more, new_more, repeated}
 use Rattle.hdfs_types.proofs.spec.has_duplicate.Goals as goal
 
 pub loop-entry-preserved : goal.loop-entry-preserved
