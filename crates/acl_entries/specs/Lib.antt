@@ -1,4 +1,5 @@
 pub mod AccessControlList
 pub mod JudgedEntry
 pub mod Kept
+pub mod Printed
 pub mod SpecText
