@@ -1,7 +1,7 @@
 -- The access control list of a file or a directory: the entries that are judged, which its mode shows, the sticky bit, and on a
 -- directory the default entries that what is made in it inherits.
 -- (HDFS Permissions Guide, "Overview" and "ACLs (Access Control Lists)".)
-use Rattle.std.specs.Prelude.{ℕ, ◌+◌, ◌*◌, Bool, true, false, ◌&&◌, ◌||◌, List, [], ◌∷◌, ◌++◌, map, length, nat_lt, nat_le, if◌then◌else◌, Option, Some, None, unwrap_or, IsTrue}
+use Rattle.std.specs.Prelude.{ℕ, ◌+◌, ◌*◌, Bool, true, false, not, ◌&&◌, ◌||◌, List, [], ◌∷◌, ◌++◌, map, length, nat_lt, nat_le, if◌then◌else◌, Option, Some, None, unwrap_or, IsTrue}
 use Rattle.std.specs.List.{list_all, fold}
 use Rattle.std.specs.Option.{is_some, is_none, option_map_or}
 use Rattle.std.specs.Ordering.{is_lt}
@@ -100,6 +100,10 @@ entries acl = entries_in Access acl.access ++ option_map_or (entries_in Default)
 -- at most 32 entries stand in a scope
 abbrev pub fits : EntryList → Bool
 fits list = nat_le (length (entries_in Access list)) 32
+
+-- a file can have the list: neither a sticky bit nor a default list stands in it
+abbrev pub suits_file : AccessControlList → Bool
+suits_file acl = not acl.sticky && is_none acl.default
 
 -- rights have three bits
 abbrev pub are_rights : Rights → Bool
