@@ -1,0 +1,2 @@
+pub mod SpecTexts
+pub mod SpecSpellings
