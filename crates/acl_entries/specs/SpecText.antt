@@ -1,14 +1,14 @@
 -- The text of a spec: entries joined by commas, an entry being `[default:]TYPE:[NAME]:RIGHTS`. Where entries are taken away, no
 -- rights are written: `[default:]TYPE`, `[default:]TYPE:NAME`, and either with one colon more.
 -- (HDFS Permissions Guide, "ACLs Shell Commands".)
-use Rattle.std.specs.Prelude.{ℕ, Bool, true, false, ◌==◌, List, [], ◌∷◌, map, if◌then◌else◌, Option, Some, None, Result, Ok, Err, codes}
+use Rattle.std.specs.Prelude.{ℕ, Bool, true, false, ◌==◌, ◌&&◌, nat_lt, List, [], ◌∷◌, map, if◌then◌else◌, Option, Some, None, Result, Err, codes}
 use Rattle.std.specs.List.{join_with_byte, slice_split}
-use Rattle.std.specs.Option.{option_and_then, option_map}
+use Rattle.std.specs.Option.{option_map, option_map_or}
 use Rattle.hdfs_types.specs.Text.{same}
-use Rattle.hdfs_types.specs.Who.{who_of}
+use Rattle.hdfs_types.specs.Who.{is_who, who_of}
 use Rattle.hdfs_types.specs.Rights.{rights, rights_of}
 use Rattle.hdfs_types.specs.Entry.{entry_text, kind_text}
-use Rattle.hdfs_types.specs.Spec.{spec_fault}
+use Rattle.hdfs_types.specs.Spec.{spec_of_entries}
 use Rattle.hdfs_types.specs.declared.rights.Rights.{Rights}
 use Rattle.hdfs_types.specs.declared.entry.Scope.{Scope}
 use Rattle.hdfs_types.specs.declared.entry.Scope.TheVariants.{Access, Default}
@@ -75,15 +75,15 @@ abbrev pub entries_of : Bool → List (List ℕ) → Option (List Entry)
 entries_of with_rights [] = Some []
 entries_of with_rights (text ∷ texts) = both (entry_of with_rights text) (entries_of with_rights texts)
 
-abbrev pub checked : Option AclFault → List Entry → Result (List Entry) AclFault
-checked None entries = Ok entries
-checked (Some fault) entries = Err fault
-
 abbrev pub spec_or_fault : Option (List Entry) → Result (List Entry) AclFault
 spec_or_fault None = Err Form
-spec_or_fault (Some entries) = checked (spec_fault entries) entries
+spec_or_fault (Some entries) = spec_of_entries entries
 
 -- the spec that a text spells, or how it doesn't: the form of the whole text first, then an entry that stands twice, then a name
 -- where none belongs
 abbrev pub spec_of : Bool → List ℕ → Result (List Entry) AclFault
 spec_of with_rights text = spec_or_fault (entries_of with_rights (pieces_at 44 text))
+
+-- what has a text of its own: its rights have three bits, and its name is one of a user or a group
+abbrev pub is_printable : Entry → Bool
+is_printable entry = nat_lt entry.rights.0 8 && option_map_or is_who entry.name true

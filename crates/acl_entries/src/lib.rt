@@ -7,3 +7,4 @@ pub mod acl;
 pub mod deciding_entry;
 pub mod entry_list;
 pub mod print;
+pub mod spec_text;
