@@ -1,4 +1,4 @@
-use Rattle.std.proofs.Common.{◌≡◌, ◌∙◌, arith}
+use Rattle.std.proofs.Common.{arith}
 use Rattle.flat_rows.specs.Rows.{is_directory}
 use Rattle.flat_rows.specs.Changes.{rows_under}
 use Rattle.fs_operations.proofs.Counting.{parted}
