@@ -1,7 +1,8 @@
-ghost use Rattle.std.specs.Prelude.{◌≡◌, ℕ, List, length, IfOk, OnErr, unwrap_or};
+ghost use Rattle.std.specs.Prelude.{◌≡◌, ℕ, List, true, false, length, IfOk, OnErr, unwrap_or};
 ghost use Rattle.principals.specs.Principals.{Principals, caller_of};
 ghost use Rattle.flat_rows.specs.declared.row.Row.{Row};
 ghost use Rattle.flat_rows.specs.Outcome as spec;
+ghost use Rattle.flat_rows.specs.Outcome.{is_alone};
 ghost use Rattle.flat_rows.specs.Changes.{rows_under};
 ghost use Rattle.flat_rows.specs.Rows.{is_missing};
 ghost use Rattle.perm_walk.specs.Reached.{IsReach};
@@ -56,10 +57,16 @@ pub(crate) fn mkdirs(
     Ok(Verdict::Done(Reply::Empty))
 }
 
-/// How many files and directories a deletion takes away; a number that can't be told counts as want of memory.
-fn deleted_at(tree: &Tree, path: &Path) -> Result<u64, AllocError>
+/// How many files and directories a deletion takes away: one where it isn't recursive, since nothing is beneath then. A number
+/// that can't be told counts as want of memory.
+fn deleted_at(tree: &Tree, path: &Path, recursive: bool) -> Result<u64, AllocError>
+    requires there { is_missing path.now tree.now ≡ false }
+    requires alone { recursive ≡ false → is_alone (rows_under path.now tree.now) ≡ true }
     ensures { IfOk result (λ deleted. deleted ≡ length (rows_under path.now tree.now)) }
 {
+    if !recursive {
+        return Ok(1);
+    }
     let counts = counts_at(tree, path)?;
     match counts.directories.checked_add(counts.files) {
         Some(deleted) => Ok(deleted),
@@ -93,7 +100,7 @@ pub(crate) fn delete(
     if !recursive && !tree.is_alone(path) {
         return Ok(Verdict::Refused(Refusal::NotEmpty));
     }
-    let deleted = deleted_at(tree, path)?;
+    let deleted = deleted_at(tree, path, recursive)?;
     tree.remove(path);
     Ok(Verdict::Done(Reply::Deleted(deleted)))
 }

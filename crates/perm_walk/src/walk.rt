@@ -218,7 +218,14 @@ pub fn walk_along_both<'a>(
             follow(tree, to.names(), caller),
         ));
     }
-    judged_on_both(alloc, tree, from.names(), to.names(), needs.as_slice(), caller)
+    judged_on_both(
+        alloc,
+        tree,
+        from.names(),
+        to.names(),
+        needs.as_slice(),
+        caller,
+    )
 }
 
 /// The first of the needs that fails for the caller, or none: the decision of the flat list of rows (HDFS Permissions Guide,

@@ -31,28 +31,28 @@ returns-in-None c =
     let rest = rest_on c.args.path.now c.loop-depth.depth c.index-path-depth.result c.loop-depth-test.true c.index-path-depth.is in
     let passed = subst (λ r. Passed c.args.path.now c.args.tree.now (take c.loop-depth.depth c.args.path.now) r (branch_at c.loop-depth.last) c.loop-depth.above) rest c.loop-depth.invariant.passed in
     record {
-        granted = sym (on_none c.args.asked c.args.caller.now c.args.path.now c.args.tree.now c.loop-depth.depth (branch_at c.loop-depth.last) c.index-path-depth.result c.loop-depth-test.true c.index-path-depth.is c.loop-depth.invariant.left
+      granted = sym (on_none c.args.asked c.args.caller.now c.args.path.now c.args.tree.now c.loop-depth.depth (branch_at c.loop-depth.last) c.index-path-depth.result c.loop-depth-test.true c.index-path-depth.is c.loop-depth.invariant.left
           (sym c.is_shut.ensures ∙ c.if-is_shut.false) c.in-None.ensures.part);
-        leads = record {
-          at = c.stopped.ensures.at ∙ stops_missing c.args.path.now c.args.tree.now (take c.loop-depth.depth c.args.path.now) (branch_at c.loop-depth.last) c.loop-depth.above c.index-path-depth.result ns passed c.in-None.ensures.part;
-          parent = c.stopped.ensures.parent
+      leads = record {
+        at = c.stopped.ensures.at ∙ stops_missing c.args.path.now c.args.tree.now (take c.loop-depth.depth c.args.path.now) (branch_at c.loop-depth.last) c.loop-depth.above c.index-path-depth.result ns passed c.in-None.ensures.part;
+        parent = c.stopped.ensures.parent
             ∙ stops_held c.args.path.now c.args.tree.now (take c.loop-depth.depth c.args.path.now) (branch_at c.loop-depth.last) c.loop-depth.above c.index-path-depth.result ns passed c.in-None.ensures.part
-              (length c.args.path.now - c.loop-depth.depth == 1) (last_left c.args.path.now c.loop-depth.depth c.loop-depth-test.true)
-              (ap (λ r. take c.loop-depth.depth c.args.path.now ++ r) (sym rest) ∙ take-append-drop c.loop-depth.depth c.args.path.now);
-          ancestor = c.stopped.ensures.ancestor ∙ stops_beneath c.args.path.now c.args.tree.now (take c.loop-depth.depth c.args.path.now) (branch_at c.loop-depth.last) c.loop-depth.above c.index-path-depth.result ns passed c.in-None.ensures.part;
-          file = c.stopped.ensures.file ∙ stops_at_file c.args.path.now c.args.tree.now (take c.loop-depth.depth c.args.path.now) (branch_at c.loop-depth.last) c.loop-depth.above c.index-path-depth.result ns passed c.in-None.ensures.part;
-          tree = c.root-last.ensures.tree;
-        };
+            (length c.args.path.now - c.loop-depth.depth == 1) (last_left c.args.path.now c.loop-depth.depth c.loop-depth-test.true)
+            (ap (λ r. take c.loop-depth.depth c.args.path.now ++ r) (sym rest) ∙ take-append-drop c.loop-depth.depth c.args.path.now);
+        ancestor = c.stopped.ensures.ancestor ∙ stops_beneath c.args.path.now c.args.tree.now (take c.loop-depth.depth c.args.path.now) (branch_at c.loop-depth.last) c.loop-depth.above c.index-path-depth.result ns passed c.in-None.ensures.part;
+        file = c.stopped.ensures.file ∙ stops_at_file c.args.path.now c.args.tree.now (take c.loop-depth.depth c.args.path.now) (branch_at c.loop-depth.last) c.loop-depth.above c.index-path-depth.result ns passed c.in-None.ensures.part;
+        tree = c.root-last.ensures.tree;
+      };
     }
 
 pub loop-depth-preserved : goal.loop-depth-preserved
 loop-depth-preserved c = record {
   passed =
-    passed_next c.args.path.now c.args.tree.now c.loop-depth.depth c.index-path-depth.result (branch_at c.loop-depth.last) (branch_at c.in-Some.child) c.loop-depth.above c.new-in-Some.result c.loop-depth-test.true c.index-path-depth.is
-    c.loop-depth.invariant.passed c.in-Some.ensures.part c.in-Some.ensures.directory c.new-in-Some.ensures;
+      passed_next c.args.path.now c.args.tree.now c.loop-depth.depth c.index-path-depth.result (branch_at c.loop-depth.last) (branch_at c.in-Some.child) c.loop-depth.above c.new-in-Some.result c.loop-depth-test.true c.index-path-depth.is
+      c.loop-depth.invariant.passed c.in-Some.ensures.part c.in-Some.ensures.directory c.new-in-Some.ensures;
   left =
-    on_next c.args.asked c.args.caller.now c.args.path.now c.args.tree.now c.loop-depth.depth (branch_at c.loop-depth.last) c.index-path-depth.result c.loop-depth-test.true c.index-path-depth.is c.loop-depth.invariant.left
-    (branch_at c.in-Some.child) (sym c.is_shut.ensures ∙ c.if-is_shut.false) c.in-Some.ensures.part;
+      on_next c.args.asked c.args.caller.now c.args.path.now c.args.tree.now c.loop-depth.depth (branch_at c.loop-depth.last) c.index-path-depth.result c.loop-depth-test.true c.index-path-depth.is c.loop-depth.invariant.left
+      (branch_at c.in-Some.child) (sym c.is_shut.ensures ∙ c.if-is_shut.false) c.in-Some.ensures.part;
 }
 
 pub returns : goal.returns
@@ -61,13 +61,13 @@ returns c =
     let whole = take_all c.loop-depth.depth c.args.path.now c.loop-depth-test.false in
     let passed = subst (λ r. Passed c.args.path.now c.args.tree.now (take c.loop-depth.depth c.args.path.now) r (branch_at c.loop-depth.last) c.loop-depth.above) nothing c.loop-depth.invariant.passed in
     record {
-        granted = sym (left_end c.args.asked c.args.caller.now c.args.path.now c.args.tree.now (take c.loop-depth.depth c.args.path.now) (branch_at c.loop-depth.last)
+      granted = sym (left_end c.args.asked c.args.caller.now c.args.path.now c.args.tree.now (take c.loop-depth.depth c.args.path.now) (branch_at c.loop-depth.last)
           (subst (λ r. Left c.args.asked c.args.caller.now c.args.path.now c.args.tree.now (take c.loop-depth.depth c.args.path.now) r (branch_at c.loop-depth.last)) nothing c.loop-depth.invariant.left));
-        leads = record {
-          at = c.ended.ensures.at ∙ ends_at c.args.path.now c.args.tree.now (take c.loop-depth.depth c.args.path.now) (branch_at c.loop-depth.last) c.loop-depth.above passed whole;
-          parent = c.ended.ensures.parent ∙ ends_held c.args.path.now c.args.tree.now (take c.loop-depth.depth c.args.path.now) (branch_at c.loop-depth.last) c.loop-depth.above passed whole;
-          ancestor = c.ended.ensures.ancestor ∙ ends_beneath c.args.path.now c.args.tree.now (take c.loop-depth.depth c.args.path.now) (branch_at c.loop-depth.last) c.loop-depth.above passed;
-          file = c.ended.ensures.file ∙ ends_clear c.args.path.now c.args.tree.now (take c.loop-depth.depth c.args.path.now) (branch_at c.loop-depth.last) c.loop-depth.above passed;
-          tree = c.root-last.ensures.tree;
-        };
+      leads = record {
+        at = c.ended.ensures.at ∙ ends_at c.args.path.now c.args.tree.now (take c.loop-depth.depth c.args.path.now) (branch_at c.loop-depth.last) c.loop-depth.above passed whole;
+        parent = c.ended.ensures.parent ∙ ends_held c.args.path.now c.args.tree.now (take c.loop-depth.depth c.args.path.now) (branch_at c.loop-depth.last) c.loop-depth.above passed whole;
+        ancestor = c.ended.ensures.ancestor ∙ ends_beneath c.args.path.now c.args.tree.now (take c.loop-depth.depth c.args.path.now) (branch_at c.loop-depth.last) c.loop-depth.above passed;
+        file = c.ended.ensures.file ∙ ends_clear c.args.path.now c.args.tree.now (take c.loop-depth.depth c.args.path.now) (branch_at c.loop-depth.last) c.loop-depth.above passed;
+        tree = c.root-last.ensures.tree;
+      };
     }

@@ -8,5 +8,5 @@ use Rattle.perm_walk.proofs.reach.enter.Given as goal
 abbrev pub invariant-loop-depth : goal.invariant-loop-depth
 invariant-loop-depth l = record {
   passed : Passed l.path l.tree (take l.depth l.path) (drop l.depth l.path) (branch_at l.last) l.above;
-  left : Left l.asked l.caller l.path l.tree (take l.depth l.path) (drop l.depth l.path) (branch_at l.last)
+  left : Left l.asked l.caller l.path l.tree (take l.depth l.path) (drop l.depth l.path) (branch_at l.last);
 }

@@ -10,5 +10,5 @@ invariant-loop-demand l = record {
   from : IsDescent l.tree l.from;
   to : IsDescent l.tree l.to;
   from_path : l.from.path.now ≡ l.initial.from.path.now;
-  to_path : l.to.path.now ≡ l.initial.to.path.now
+  to_path : l.to.path.now ≡ l.initial.to.path.now;
 }

@@ -8,5 +8,5 @@ abbrev pub invariant-loop-demand : goal.invariant-loop-demand
 invariant-loop-demand l = record {
   answers : first_answer (λ demand. first_answer (denial_of l.caller) (asks_of l.tree demand)) (drop l.demand-index l.demands) ≡ first_answer (λ demand. first_answer (denial_of l.caller) (asks_of l.tree demand)) l.demands;
   descent : IsDescent l.tree l.descent;
-  path : l.descent.path.now ≡ l.initial.descent.path.now
+  path : l.descent.path.now ≡ l.initial.descent.path.now;
 }
