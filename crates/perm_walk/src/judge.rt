@@ -179,14 +179,8 @@ fn denial_at_final(
     if is_met(need, component, above, caller) {
         return Ok(None);
     }
-    Denial::at(
-        alloc,
-        need,
-        component.to_row(alloc)?,
-        above,
-        caller.name(),
-        caller.groups(),
-    )
+    let row = component.to_row(alloc)?;
+    Denial::at(alloc, need, row, above, caller.name(), caller.groups())
 }
 
 /// The denial of rights of the components in a role on a path, for a caller who is no superuser.
