@@ -1,20 +1,19 @@
 -- What no refusal of a rename tells, and what has a path in a namespace.
 use Rattle.std.proofs.Common.{◌≡◌, ℕ, Bool, true, false, ◌&&◌, ◌||◌, List, [], ◌∷◌, length, take, cond, Option, Some, None, refl, sym, ap, ◌∙◌, subst}
-use Rattle.std.specs.Prelude.{filter, map, not, IsTrue}
-use Rattle.std.specs.List.{list_all, list_any}
-use Rattle.std.specs.Option.{option_or, option_and_then}
-use Rattle.hdfs_types.specs.Path.{is_prefix, parent_of}
+use Rattle.std.specs.Prelude.{filter, not}
+use Rattle.std.specs.List.{list_all}
+use Rattle.std.specs.Option.{option_or}
+use Rattle.hdfs_types.specs.Path.{is_prefix}
 use Rattle.hdfs_types.specs.PathOrder.{same_path}
-use Rattle.hdfs_types.specs.Text.{same}
 use Rattle.hdfs_types.proofs.Texts.{same_self}
 use Rattle.hdfs_types.specs.declared.op.Op.TheVariants.{Rename}
 use Rattle.hdfs_types.specs.declared.reply.Refusal.{Refusal}
 use Rattle.acl_entries.specs.AccessList.{AccessList}
 use Rattle.principals.specs.Principals.{Principals}
 use Rattle.flat_rows.specs.declared.row.Row.{Row}
-use Rattle.flat_rows.specs.First.{first, first_answer}
+use Rattle.flat_rows.specs.First.{first}
 use Rattle.flat_rows.specs.Rows.{is_directory, is_none, is_missing, row_at, if_directory, directory_of}
-use Rattle.flat_rows.specs.Namespace.{is_child, is_root, has_parent, suits_kind}
+use Rattle.flat_rows.specs.Namespace.{is_child, has_parent, suits_kind}
 use Rattle.flat_rows.specs.Changes.{are_paths, suits_list}
 use Rattle.flat_rows.specs.Outcome.{refused_where, nothing_at, something_at, beneath_file, first_refusal, rows_moved}
 use Rattle.flat_rows.proofs.Tests.{both, or_right}

@@ -1,7 +1,7 @@
 use Rattle.std.proofs.Common.{◌≡◌, subst}
 use Rattle.std.specs.Prelude.{IfOk}
 use Rattle.perm_walk.proofs.Denials.{closed_first}
-use Rattle.perm_walk.proofs.walk.closed_beneath.Goals as goal
+use Rattle.perm_walk.proofs.judge.closed_beneath.Goals as goal
 
 pub returns : goal.returns
 returns c =
