@@ -3,8 +3,8 @@ ghost use Rattle.hdfs_types.specs.Request.{is_look};
 ghost use Rattle.flat_rows.specs.RequiredRights.{required_rights};
 ghost use Rattle.flat_rows.specs.Outcome as spec;
 
-use crate::change::{add_user, delete, mkdirs, rename, set_groups, set_mode, set_owner};
-use crate::look::{list, stat, summary};
+use crate::change::{add_user, delete, mkdirs, rename, set_acl, set_groups, set_mode, set_owner};
+use crate::look::{get_acl, list, stat, summary};
 use flat_rows::demand::{Needs, needs_of};
 use flat_rows::verdict::Verdict;
 use hdfs_types::op::{Op, Request};
@@ -42,9 +42,11 @@ fn perform(
         Op::SetOwner(path, owner, group) => {
             set_owner(alloc, tree, &asking, needs, path, owner, group)
         }
+        Op::SetAcl(path, change) => set_acl(alloc, tree, &asking, needs, path, change),
         Op::AddUser(user, groups) => add_user(alloc, tree, users, caller, needs, user, groups),
         Op::SetGroups(user, groups) => set_groups(alloc, tree, users, caller, needs, user, groups),
         Op::Stat(path) => stat(alloc, tree, &asking, needs, path),
+        Op::GetAcl(path) => get_acl(alloc, tree, &asking, needs, path),
         Op::List(path) => list(alloc, tree, &asking, needs, path),
         Op::Summary(path) => summary(alloc, tree, &asking, needs, path),
     }
@@ -87,6 +89,7 @@ fn tell(
     let asking = users.caller(caller);
     match op {
         Op::Stat(path) => stat(alloc, tree, &asking, needs, path),
+        Op::GetAcl(path) => get_acl(alloc, tree, &asking, needs, path),
         Op::List(path) => list(alloc, tree, &asking, needs, path),
         Op::Summary(path) => summary(alloc, tree, &asking, needs, path),
         _ => unreachable!(),

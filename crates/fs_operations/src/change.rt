@@ -1,5 +1,6 @@
 ghost use Rattle.std.specs.Prelude.{◌≡◌, ℕ, List, true, false, length, IfOk, OnErr, unwrap_or};
 ghost use Rattle.principals.specs.Principals.{Principals, caller_of};
+ghost use Rattle.default_acl.specs.AclChange.{acl_change};
 ghost use Rattle.flat_rows.specs.declared.row.Row.{Row};
 ghost use Rattle.flat_rows.specs.Outcome as spec;
 ghost use Rattle.flat_rows.specs.Outcome.{is_alone};
@@ -12,8 +13,12 @@ ghost use Rattle.fs_operations.specs.Judged.{judged_step};
 use crate::found::{Found, standing};
 use crate::look::counts_at;
 use acl_entries::acl::Acl;
+use default_acl::change::change as change_list;
+use default_acl::chmod::chmod;
+use default_acl::fault::AclChangeFault;
 use flat_rows::demand::Needs;
 use flat_rows::verdict::Verdict;
+use hdfs_types::acl_change::AclChange;
 use hdfs_types::groups::Groups;
 use hdfs_types::mode::Mode;
 use hdfs_types::op::Op;
@@ -126,7 +131,55 @@ pub(crate) fn set_mode(
         Found::There(component) => component.inode(),
         Found::Refused(refusal) => return Ok(Verdict::Refused(refusal)),
     };
-    let acl = Acl::from_mode(mode, inode.kind());
+    let mut acl = inode.acl().clone()?;
+    chmod(&mut acl, mode, inode.kind());
+    let (owner, group) = (inode.owner().clone()?, inode.group().clone()?);
+    tree.rewrite(path, owner, group, acl);
+    Ok(Verdict::Done(Reply::Empty))
+}
+
+/// A copy of an access control list, changed, or why it can't be changed so.
+fn changed(
+    alloc: Global,
+    acl: &Acl,
+    kind: ObjectKind,
+    change: &AclChange,
+) -> Result<Result<Acl, Refusal>, AllocError>
+    ensures { IfOk result (λ due. due ≡ acl_change change.now kind acl.now) }
+{
+    let mut copy = acl.clone()?;
+    match change_list(alloc, &mut copy, kind, change) {
+        Ok(()) => Ok(Ok(copy)),
+        Err(AclChangeFault::Refused(refusal)) => Ok(Err(refusal)),
+        Err(AclChangeFault::OutOfMemory) => Err(AllocError),
+    }
+}
+
+/// Changes the access control list of what has a path.
+pub(crate) fn set_acl(
+    alloc: Global,
+    tree: &mut Tree,
+    caller: &Caller,
+    needs: &Needs,
+    path: &Path,
+    change: &AclChange,
+) -> Result<Verdict, AllocError>
+    requires { AreOn path.now needs.now }
+    ensures ok { (users : Principals) → IfOk result (λ verdict. record { verdict = verdict; rows = tree.new; users = users } ≡ judged_step tree.old users caller.now needs.now (Op.SetAcl path.now change.now)) }
+    ensures err { OnErr result (tree.new ≡ tree.old) }
+{
+    let reach = match walk_along(alloc, tree, caller, needs, path)? {
+        Walked::Denied(denial) => return Ok(Verdict::Denied(denial)),
+        Walked::Reached(reach) => reach,
+    };
+    let inode = match standing(alloc, reach)? {
+        Found::There(component) => component.inode(),
+        Found::Refused(refusal) => return Ok(Verdict::Refused(refusal)),
+    };
+    let acl = match changed(alloc, inode.acl(), inode.kind(), change)? {
+        Ok(acl) => acl,
+        Err(refusal) => return Ok(Verdict::Refused(refusal)),
+    };
     let (owner, group) = (inode.owner().clone()?, inode.group().clone()?);
     tree.rewrite(path, owner, group, acl);
     Ok(Verdict::Done(Reply::Empty))

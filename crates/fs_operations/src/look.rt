@@ -8,12 +8,13 @@ ghost use Rattle.perm_walk.specs.Walked.{AreOn};
 ghost use Rattle.fs_operations.specs.Judged.{judged_step};
 
 use crate::found::{Found, standing};
+use acl_entries::print::print;
 use flat_rows::demand::Needs;
 use flat_rows::verdict::Verdict;
 use hdfs_types::name::Name;
 use hdfs_types::op::Op;
 use hdfs_types::path::Path;
-use hdfs_types::reply::{ContentSummary, FileStatus, Names, ObjectKind, Reply};
+use hdfs_types::reply::{AclStatus, ContentSummary, FileStatus, Names, ObjectKind, Reply};
 use inode_tree::tree::Tree;
 use inode_tree::visit::Counts;
 use perm_walk::component::Component;
@@ -28,6 +29,7 @@ fn status_of(component: &Component) -> Result<Reply, AllocError>
     Ok(Reply::Status(FileStatus {
         kind: inode.kind(),
         mode: inode.acl().mode(),
+        has_acl: inode.acl().has_acl(),
         owner: inode.owner().clone()?,
         group: inode.group().clone()?,
     }))
@@ -50,6 +52,37 @@ pub(crate) fn stat(
     };
     match standing(alloc, reach)? {
         Found::There(component) => Ok(Verdict::Done(status_of(&component)?)),
+        Found::Refused(refusal) => Ok(Verdict::Refused(refusal)),
+    }
+}
+
+fn acl_status_of(alloc: Global, component: &Component) -> Result<Reply, AllocError>
+    ensures { IfOk result (λ reply. reply ≡ spec.acl_status_of (Some component.now)) }
+{
+    let inode = component.inode();
+    let owner = inode.owner().clone()?;
+    let group = inode.group().clone()?;
+    let text = print(alloc, inode.acl())?;
+    Ok(Reply::Acl(AclStatus::new(owner, group, text)))
+}
+
+/// Tells the access control list of what has a path.
+pub(crate) fn get_acl(
+    alloc: Global,
+    tree: &Tree,
+    caller: &Caller,
+    needs: &Needs,
+    path: &Path,
+) -> Result<Verdict, AllocError>
+    requires { AreOn path.now needs.now }
+    ensures { (users : Principals) → IfOk result (λ verdict. record { verdict = verdict; rows = tree.now; users = users } ≡ judged_step tree.now users caller.now needs.now (Op.GetAcl path.now)) }
+{
+    let reach = match walk_along(alloc, tree, caller, needs, path)? {
+        Walked::Denied(denial) => return Ok(Verdict::Denied(denial)),
+        Walked::Reached(reach) => reach,
+    };
+    match standing(alloc, reach)? {
+        Found::There(component) => Ok(Verdict::Done(acl_status_of(alloc, &component)?)),
         Found::Refused(refusal) => Ok(Verdict::Refused(refusal)),
     }
 }

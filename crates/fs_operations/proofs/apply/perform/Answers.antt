@@ -51,3 +51,15 @@ returns-in-Summary-clause-ok c =
     subst (λ step. IfOk c.summary.result (λ verdict. record { verdict = verdict; rows = c.args.tree.now; users = c.args.users.now } ≡ step))
     (as_step c.args.tree.now c.args.users.now c.args.caller.now c.caller-asking.result c.args.needs.now c.args.op.now (op.Summary c.in-Summary.path) c.caller-asking.ensures c.requires c.in-Summary.is)
     (c.summary.ensures c.args.users.now)
+
+pub returns-in-SetAcl-clause-ok : goal.returns-in-SetAcl-clause-ok
+returns-in-SetAcl-clause-ok c =
+    subst (λ step. IfOk c.set_acl.result (λ verdict. record { verdict = verdict; rows = c.set_acl.new.tree; users = c.args.users.now } ≡ step))
+    (as_step c.args.tree.now c.args.users.now c.args.caller.now c.caller-asking.result c.args.needs.now c.args.op.now (op.SetAcl c.in-SetAcl.path c.in-SetAcl.change) c.caller-asking.ensures c.requires c.in-SetAcl.is)
+    (c.set_acl.ensures.ok c.args.users.now)
+
+pub returns-in-GetAcl-clause-ok : goal.returns-in-GetAcl-clause-ok
+returns-in-GetAcl-clause-ok c =
+    subst (λ step. IfOk c.get_acl.result (λ verdict. record { verdict = verdict; rows = c.args.tree.now; users = c.args.users.now } ≡ step))
+    (as_step c.args.tree.now c.args.users.now c.args.caller.now c.caller-asking.result c.args.needs.now c.args.op.now (op.GetAcl c.in-GetAcl.path) c.caller-asking.ensures c.requires c.in-GetAcl.is)
+    (c.get_acl.ensures c.args.users.now)

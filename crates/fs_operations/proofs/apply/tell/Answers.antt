@@ -22,3 +22,9 @@ returns-in-Summary c =
     if_ok c.summary.result (λ verdict judged. ap (λ (s : Step). s.verdict) (judged
     ∙ as_step c.args.tree.now c.args.users.now c.args.caller.now c.caller-asking.result c.args.needs.now c.args.op.now (op.Summary c.in-Summary.path) c.caller-asking.ensures c.requires.needs c.in-Summary.is))
     (c.summary.ensures c.args.users.now)
+
+pub returns-in-GetAcl : goal.returns-in-GetAcl
+returns-in-GetAcl c =
+    if_ok c.get_acl.result (λ verdict judged. ap (λ (s : Step). s.verdict) (judged
+    ∙ as_step c.args.tree.now c.args.users.now c.args.caller.now c.caller-asking.result c.args.needs.now c.args.op.now (op.GetAcl c.in-GetAcl.path) c.caller-asking.ensures c.requires.needs c.in-GetAcl.is))
+    (c.get_acl.ensures c.args.users.now)
