@@ -10,13 +10,12 @@ ghost use Rattle.hdfs_cli.specs.Explanation as spec;
 ghost use Rattle.hdfs_cli.specs.Output as output;
 ghost use Rattle.hdfs_cli.specs.Shown.{Shows};
 
-use crate::channel::{ReadFault, read_all, write_text};
-use crate::line::request_of;
-use crate::script::{ScriptFault, Session, Status, run_lines};
-use crate::words::{is_skipped, pieces_between, without_return, words_in};
+use crate::channel::write_text;
+use crate::line::read_line;
+use crate::script::{ScriptFault, Session, Status, read_script, run_lines};
+use crate::words::{is_skipped, pieces_between, without_return};
 use flat_rows::rows::Rows;
 use flat_rows::trail::{Judged, trail};
-use hdfs_types::fault::ParseFault;
 use hdfs_types::op::Request;
 use hdfs_types::path::Path;
 use inode_tree::tree::Tree;
@@ -40,23 +39,17 @@ fn request_in(alloc: Global, line: &str) -> Result<Option<Request>, AllocError>
     if is_skipped(line) {
         return Ok(None);
     }
-    let words = words_in(alloc, line)?;
-    match request_of(alloc, &words) {
-        Ok(request) => Ok(Some(request)),
-        Err(ParseFault::IllFormed(_)) => Ok(None),
-        Err(ParseFault::OutOfMemory) => Err(AllocError),
-    }
+    Ok(read_line(alloc, line)?.ok())
 }
 
 /// Prints the needs, a line each, and tells whether all are met.
-fn print_needs(alloc: Global, needs: &[Judged], out: &mut String) -> Result<bool, AllocError>
+fn print_needs(needs: &[Judged], out: &mut String) -> Result<bool, AllocError>
     ensures text { OnOk result (string_bytes out.new ≡ string_bytes out.old ++ flat_map spec.judged_line needs.now) }
     ensures granted { IfOk result (λ granted. granted ≡ list_all (λ need. need.granted) needs.now) }
 {
     let mut granted = true;
     for need in needs {
-        let line = format!(in alloc; "{need}\n")?;
-        out.push_str(line.as_str())?;
+        writeln!(out, "{need}")?;
         granted = granted && need.granted;
     }
     Ok(granted)
@@ -66,7 +59,7 @@ fn text_of(alloc: Global, needs: &[Judged]) -> Result<String, AllocError>
     ensures { IfOk result (λ text. string_bytes text ≡ spec.trail_text needs.now) }
 {
     let mut out = String::new(alloc);
-    if print_needs(alloc, needs, &mut out)? {
+    if print_needs(needs, &mut out)? {
         out.push_str("granted\n")?;
     }
     Ok(out)
@@ -80,7 +73,7 @@ struct Explanation {
 }
 
 /// The tree as a flat list of rows.
-fn rows_of(alloc: Global, tree: &Tree) -> Result<Rows, AllocError>
+pub(crate) fn rows_of(alloc: Global, tree: &Tree) -> Result<Rows, AllocError>
     ensures { IfOk result (λ rows. rows ≡ tree.now) }
 {
     let rows = tree.rows_under(&Path::root(alloc))?;
@@ -166,15 +159,8 @@ pub fn explain<R: Read, W: Write>(
     ensures no_memory { result ≡ Err ScriptFault.OutOfMemory → Keeps (W.contents writer.old) (W.contents writer.new) }
     ensures unwritten { result ≡ Err ScriptFault.CannotWrite → IfSome (R.remaining reader.old) (λ script. AppendsFront (W.contents writer.old) (W.contents writer.new) (spec.explanation number script)) }
 {
-    let script = match read_all(alloc, reader) {
-        Ok(script) => script,
-        Err(ReadFault::OutOfMemory) => return Err(ScriptFault::OutOfMemory),
-        Err(ReadFault::CannotRead) => return Err(ScriptFault::CannotRead),
-    };
-    let Ok(text) = str::from_utf8(&script) else {
-        return Err(ScriptFault::NotUtf8);
-    };
-    let Ok(explanation) = explain_line(alloc, text, number) else {
+    let script = read_script(alloc, reader)?;
+    let Ok(explanation) = explain_line(alloc, &script, number) else {
         return Err(ScriptFault::OutOfMemory);
     };
     write_text(writer, explanation.text.as_bytes()).map_err(|_| ScriptFault::CannotWrite)?;

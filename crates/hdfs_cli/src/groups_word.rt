@@ -20,17 +20,6 @@ fn groups_in(alloc: Global, pieces: &[&str]) -> Result<Groups, ParseFault>
     Ok(Groups::new(groups))
 }
 
-/// The groups with a comma between each two; none where the word is `-`.
-fn groups_of(alloc: Global, word: &str) -> Result<Groups, ParseFault>
-    ensures { Parses IllFormed.BadName result (spec.groups_of word.now) }
-{
-    if is_word(word, "-") {
-        return Ok(Groups::new(Vec::new(alloc)));
-    }
-    let pieces = pieces_between(alloc, word, ',')?;
-    groups_in(alloc, &pieces)
-}
-
 /// Reads a list of groups: names with a comma between each two, or `-` for none. A group may stand twice.
 ///
 /// # Errors
@@ -38,5 +27,9 @@ fn groups_of(alloc: Global, word: &str) -> Result<Groups, ParseFault>
 pub fn groups_word(alloc: Global, word: &str) -> Result<Groups, ParseFault>
     ensures { Forms result (spec.groups_word word.now) }
 {
-    groups_of(alloc, word)
+    if is_word(word, "-") {
+        return Ok(Groups::new(Vec::new(alloc)));
+    }
+    let pieces = pieces_between(alloc, word, ',')?;
+    groups_in(alloc, &pieces)
 }

@@ -1,9 +1,10 @@
-ghost use Rattle.std.specs.Prelude.{◌≡◌, Some, Result, map};
+ghost use Rattle.std.specs.Prelude.{◌≡◌, Some, Result, IfOk, map};
 ghost use Rattle.hdfs_cli.specs.LineForms.{Forms, FormsOption};
 ghost use Rattle.hdfs_cli.specs.Script as spec;
+ghost use Rattle.hdfs_cli.specs.Words.{words_of};
 
 use crate::groups_word::groups_word;
-use crate::words::is_word;
+use crate::words::{is_word, words_in};
 use hdfs_types::fault::{IllFormed, ParseFault};
 use hdfs_types::mode::Mode;
 use hdfs_types::moment::Moment;
@@ -11,7 +12,7 @@ use hdfs_types::number::number_of;
 use hdfs_types::op::{Op, Request};
 use hdfs_types::path::Path;
 use hdfs_types::who::Who;
-use std::alloc::Global;
+use std::alloc::{AllocError, Global};
 
 fn moment_word(word: &str) -> Result<Moment, ParseFault>
     ensures { Forms result (spec.moment_word word.now) }
@@ -242,5 +243,20 @@ pub fn request_of(alloc: Global, words: &[&str]) -> Result<Request, ParseFault>
     match op_of(alloc, verb, others) {
         Some(op) => request_with(alloc, moment, caller, op),
         None => Err(ParseFault::IllFormed(IllFormed::BadLine)),
+    }
+}
+
+/// The request that a line makes, or how the line is ill-formed.
+///
+/// # Errors
+/// Want of memory.
+pub fn read_line(alloc: Global, line: &str) -> Result<Result<Request, IllFormed>, AllocError>
+    ensures { IfOk result (λ said. said ≡ spec.request_of (words_of line.now)) }
+{
+    let words = words_in(alloc, line)?;
+    match request_of(alloc, &words) {
+        Ok(request) => Ok(Ok(request)),
+        Err(ParseFault::IllFormed(fault)) => Ok(Err(fault)),
+        Err(ParseFault::OutOfMemory) => Err(AllocError),
     }
 }

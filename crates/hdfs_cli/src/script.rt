@@ -1,4 +1,4 @@
-ghost use Rattle.std.specs.Prelude.{◌≡◌, ◌+◌, ◌<◌, ◌^◌, ◌||◌, ℕ, [], ◌∷◌, ◌++◌, take, length, IfOk, OnOk, OnErr, IfSome, map};
+ghost use Rattle.std.specs.Prelude.{◌≡◌, ◌≢◌, ◌+◌, ◌<◌, ◌^◌, ◌||◌, ℕ, [], ◌∷◌, ◌++◌, take, length, IfOk, OnOk, OnErr, IfSome, map};
 ghost use Rattle.std.specs.Io.KnownBytes.{Appends, Keeps};
 ghost use Rattle.std.specs.String.{string_bytes};
 ghost use Rattle.std.specs.Str.{IsUtf8};
@@ -13,8 +13,8 @@ ghost use Rattle.hdfs_cli.specs.Words as words;
 
 use crate::answer::Answer;
 use crate::channel::{ReadFault, read_all, write_text};
-use crate::line::request_of;
-use crate::words::{is_skipped, pieces_between, without_return, words_in};
+use crate::line::read_line;
+use crate::words::{is_skipped, pieces_between, without_return};
 use fs_operations::apply::apply;
 use hdfs_types::fault::ParseFault;
 use hdfs_types::who::Who;
@@ -63,26 +63,26 @@ fn answer_to(
     ensures ok { IfOk result (λ answer. record { answer = answer; rows = tree.new; users = users.new } ≡ spec.answered tree.old users.old (request_said (words.words_of line.now))) }
     ensures err { OnErr result ((tree.new ≡ tree.old) × (users.new ≡ users.old)) }
 {
-    let words = words_in(alloc, line)?;
-    match request_of(alloc, &words) {
+    match read_line(alloc, line)? {
         Ok(request) => Ok(Answer::Given(apply(alloc, tree, users, &request)?)),
-        Err(ParseFault::IllFormed(fault)) => Ok(Answer::Bad(fault)),
-        Err(ParseFault::OutOfMemory) => Err(AllocError),
+        Err(fault) => Ok(Answer::Bad(fault)),
     }
 }
 
-/// Adds an answer behind the number of its line.
+/// Adds an answer behind the number of its line. It is formatted in a `line` that is used again, and not in the output itself:
+/// no contract says what a failed `write!` leaves of the text that it was to go on with.
 fn print_answer(
-    alloc: Global,
     number: usize,
     answer: &Answer,
+    line: &mut String,
     out: &mut String,
 ) -> Result<(), AllocError>
     ensures ok { OnOk result (string_bytes out.new ≡ string_bytes out.old ++ answer_line number answer.now) }
     ensures err { OnErr result (string_bytes out.new ≡ string_bytes out.old) }
 {
-    let text = format!(in alloc; "{number} {answer}\n")?;
-    out.push_str(text.as_str())
+    line.clear();
+    write!(line, "{number} {answer}\n")?;
+    out.push_str(line.as_str())
 }
 
 /// A script that is being run: the namespace, the lines so far, and what they print.
@@ -95,6 +95,8 @@ pub(crate) struct Session {
     /// Whether one of them was ill-formed.
     pub(crate) has_bad: bool,
     out: String,
+    /// Where an answer is formatted.
+    line: String,
 }
 
 impl Session {
@@ -111,6 +113,7 @@ impl Session {
             number: 0,
             has_bad: false,
             out: String::new(alloc),
+            line: String::new(alloc),
         })
     }
 
@@ -127,7 +130,7 @@ impl Session {
             return Ok(());
         }
         let answer = answer_to(alloc, &mut self.tree, &mut self.users, line)?;
-        print_answer(alloc, self.number, &answer, &mut self.out)?;
+        print_answer(self.number, &answer, &mut self.line, &mut self.out)?;
         self.has_bad = self.has_bad || answer.is_bad();
         Ok(())
     }
@@ -173,6 +176,26 @@ fn run_text(alloc: Global, session: &mut Session, script: &str) -> Result<Status
     Ok(Status::by(session.has_bad))
 }
 
+/// The text of a script, read whole.
+///
+/// # Errors
+/// `CannotRead` where the reader fails, or hasn't ended after 4,294,967,295 reads, `NotUtf8` and `OutOfMemory`.
+pub(crate) fn read_script<R: Read>(alloc: Global, reader: &mut R) -> Result<String, ScriptFault>
+    ensures ok { IfOk result (λ script. IfSome (R.remaining reader.old) (λ input. string_bytes script ≡ input)) }
+    ensures not_text { result ≡ Err ScriptFault.NotUtf8 → IfSome (R.remaining reader.old) (λ input. ¬ (IsUtf8 input)) }
+    ensures read_only { result ≢ Err ScriptFault.CannotWrite }
+{
+    let bytes = match read_all(alloc, reader) {
+        Ok(bytes) => bytes,
+        Err(ReadFault::OutOfMemory) => return Err(ScriptFault::OutOfMemory),
+        Err(ReadFault::CannotRead) => return Err(ScriptFault::CannotRead),
+    };
+    match String::from_utf8(bytes) {
+        Ok(script) => Ok(script),
+        Err(_) => Err(ScriptFault::NotUtf8),
+    }
+}
+
 /// Reads a script whole, runs its lines, and writes what they print and nothing else. Linear in the script beside the
 /// requests.
 ///
@@ -191,18 +214,11 @@ pub fn run_script<R: Read, W: Write>(
     ensures no_memory { result ≡ Err ScriptFault.OutOfMemory → IfSome (R.remaining reader.old) (λ script. AppendsAnswersBefore (W.contents writer.old) (W.contents writer.new) script) }
     ensures unwritten { result ≡ Err ScriptFault.CannotWrite → IfSome (R.remaining reader.old) (λ script. AppendsFront (W.contents writer.old) (W.contents writer.new) (spec.output_of script)) }
 {
-    let script = match read_all(alloc, reader) {
-        Ok(script) => script,
-        Err(ReadFault::OutOfMemory) => return Err(ScriptFault::OutOfMemory),
-        Err(ReadFault::CannotRead) => return Err(ScriptFault::CannotRead),
-    };
-    let Ok(text) = str::from_utf8(&script) else {
-        return Err(ScriptFault::NotUtf8);
-    };
+    let script = read_script(alloc, reader)?;
     let Ok(mut session) = Session::open(alloc) else {
         return Err(ScriptFault::OutOfMemory);
     };
-    let ended = run_text(alloc, &mut session, text);
+    let ended = run_text(alloc, &mut session, &script);
     write_text(writer, session.out.as_bytes()).map_err(|_| ScriptFault::CannotWrite)?;
     ended.map_err(|_| ScriptFault::OutOfMemory)
 }

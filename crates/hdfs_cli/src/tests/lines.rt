@@ -7,7 +7,7 @@ use std::alloc::{AllocError, Global};
 use std::test::Fail;
 
 /// The request of a line whose words single blanks separate. It has no clauses, so that no proof of a test computes it.
-fn read(alloc: Global, line: &str) -> Result<Request, ParseFault> {
+pub(crate) fn read(alloc: Global, line: &str) -> Result<Request, ParseFault> {
     let words: Vec<&str> = line.split(' ').collect(alloc)?;
     request_of(alloc, &words)
 }
@@ -67,7 +67,7 @@ fn parts_of(alloc: Global, op: &Op) -> Result<String, AllocError> {
 }
 
 /// What a line makes: moment, caller and operation, or how it is ill-formed.
-fn made(alloc: Global, line: &str) -> Result<String, AllocError> {
+pub(crate) fn made(alloc: Global, line: &str) -> Result<String, AllocError> {
     match read(alloc, line) {
         Ok(request) => {
             let moment = request.moment.milliseconds();

@@ -1,6 +1,10 @@
+mod comparison;
 mod explanations;
+mod files;
 mod lines;
+mod namespaces;
 mod operations;
+mod requests;
 mod scripts;
 mod tokens;
 mod values;

@@ -99,6 +99,36 @@ fn moved_paths_have_limits(rt: HostRuntime) -> Result<(), Fail> {
     Ok(())
 }
 
+/// Requests that meet two refusals: a path beneath itself whose parent is missing; a path that exists, or whose parent is
+/// missing, where a moved path would pass the limits.
+#[test]
+fn the_first_refusal_of_a_rename_counts(rt: HostRuntime) -> Result<(), Fail> {
+    let above = deep(&rt, 31, 255, 255)?;
+    let (there, missing) = (deep(&rt, 1, 62, 62)?, deep(&rt, 1, 60, 60)?);
+    let script = format!(in rt.alloc();
+        "0 hdfs mkdirs {above}{there} 755\n0 hdfs mkdirs /r/b 755\n0 hdfs rename /r /r/none/x\n0 hdfs rename /r {above}{there}\n0 hdfs rename /r {above}/n{missing}\n"
+    )?;
+    let want = "1 ok\n2 ok\n3 refused 8 UnderItself\n4 refused 5 Exists\n5 refused 2 NotFound\n";
+    assert!(rt; prints(&rt, script.as_str(), want, Status::Clean)?);
+    Ok(())
+}
+
+#[test]
+fn denials_come_before_refusals(rt: HostRuntime) -> Result<(), Fail> {
+    let table = [
+        ("hdfs mkdirs /c/d 700", "ok"),
+        ("bob ls /c/none", "denied /c --x by other::---"),
+        ("bob chmod /c/none 777", "denied /c --x by other::---"),
+        ("bob chown /c/none bob -", "denied /c --x by other::---"),
+        ("bob delete /c", "denied / -w- by other::r-x"),
+        ("bob adduser dn-5 -", "denied / superuser by superuser"),
+        ("bob adduser bob -", "denied / superuser by superuser"),
+        ("bob groups none -", "denied / superuser by superuser"),
+    ];
+    assert!(rt; answers(&rt, &table)?);
+    Ok(())
+}
+
 #[test]
 fn looks_need_their_rights(rt: HostRuntime) -> Result<(), Fail> {
     let table = [

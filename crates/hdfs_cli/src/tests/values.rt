@@ -5,10 +5,11 @@ use hdfs_types::ids::{BlockId, Serial};
 use hdfs_types::mode::Mode;
 use hdfs_types::modes::Modes;
 use hdfs_types::moment::Moment;
+use hdfs_types::name::Name;
 use hdfs_types::node_id::{NodeId, node_of};
 use hdfs_types::op::{Op, Request, is_look};
 use hdfs_types::path::Path;
-use hdfs_types::reply::Refusal;
+use hdfs_types::reply::{Names, Refusal};
 use hdfs_types::rights::Rights;
 use hdfs_types::who::Who;
 use std::test::Fail;
@@ -61,6 +62,42 @@ fn numbers_have_ranges(rt: HostRuntime) {
     );
     assert!(rt; Serial::new(4294967294).next().is_none());
     assert_eq!(rt; BlockId::new(9).get(), 9);
+}
+
+#[test]
+fn the_later_moment_is_told(rt: HostRuntime) -> Result<(), Fail> {
+    let (early, late) = (
+        Moment::new(5).ok_or("moment")?,
+        Moment::new(9).ok_or("moment")?,
+    );
+    assert_eq!(rt; early.later(late).milliseconds(), 9);
+    assert_eq!(rt; late.later(early).milliseconds(), 9);
+    Ok(())
+}
+
+#[test]
+fn nodes_have_the_ids_of_their_principals(rt: HostRuntime) -> Result<(), Fail> {
+    let node = node_of(&Who::parse(rt.alloc(), "dn-7")?).ok_or("no node")?;
+    assert_eq!(rt; node.get(), 7);
+    Ok(())
+}
+
+#[test]
+fn modes_lose_the_sticky_bit_alone(rt: HostRuntime) -> Result<(), Fail> {
+    assert_eq!(rt; Mode::parse("1754")?.without_sticky(), Mode::parse("754")?);
+    Ok(())
+}
+
+#[test]
+fn names_are_lent_in_their_order(rt: HostRuntime) -> Result<(), Fail> {
+    let alloc = rt.alloc();
+    let (first, second) = (Name::parse(alloc, "b")?, Name::parse(alloc, "a")?);
+    let names = Names::new(vec![in alloc; first, second]?);
+    let lent = names.as_slice();
+    assert_eq!(rt; lent.len(), 2);
+    assert_eq!(rt; lent[0].as_str(), "b");
+    assert_eq!(rt; lent[1].as_str(), "a");
+    Ok(())
 }
 
 #[test]

@@ -2,15 +2,15 @@ use Rattle.std.specs.String.{string_bytes}
 use Rattle.hdfs_cli.proofs.Endings.{nothing_written, ended_front, partly_written}
 use Rattle.hdfs_cli.proofs.script.run_script.Goals as goal
 
-pub returns-in-Err-OutOfMemory-clause-no_memory : goal.returns-in-Err-OutOfMemory-clause-no_memory
-returns-in-Err-OutOfMemory-clause-no_memory g c = λ _. nothing_written (g.R.Read.remaining c.args.reader.now) (g.W.Write.contents c.args.writer.now)
+pub returns-in_err-script-clause-no_memory : goal.returns-in_err-script-clause-no_memory
+returns-in_err-script-clause-no_memory g c = λ _. nothing_written (g.R.Read.remaining c.args.reader.now) (g.W.Write.contents c.args.writer.now)
 
-pub returns-in_default-open-clause-no_memory : goal.returns-in_default-open-clause-no_memory
-returns-in_default-open-clause-no_memory g c = λ _. nothing_written (g.R.Read.remaining c.args.reader.now) (g.W.Write.contents c.args.writer.now)
+pub returns-in_default-clause-no_memory : goal.returns-in_default-clause-no_memory
+returns-in_default-clause-no_memory g c = λ _. nothing_written (g.R.Read.remaining c.args.reader.now) (g.W.Write.contents c.args.writer.now)
 
 pub returns-in_err-map_err-clause-unwritten : goal.returns-in_err-map_err-clause-unwritten
 returns-in_err-map_err-clause-unwritten g c = λ _.
-    partly_written (g.R.Read.remaining c.args.reader.now) (g.W.Write.contents c.args.writer.now) (g.W.Write.contents c.write_text.new.writer) c.in-Ok-from_utf8.text.now (string_bytes c.run_text-ended.new.session.out)
-    (rw (c.in-Ok-from_utf8.ensures.cases.0, c.deref.ensures.value) c.in-Ok.ensures)
-    (ended_front c.run_text-ended.result c.in-Ok-from_utf8.text.now (string_bytes c.run_text-ended.new.session.out) c.run_text-ended.ensures.ok c.run_text-ended.ensures.err)
+    partly_written (g.R.Read.remaining c.args.reader.now) (g.W.Write.contents c.args.writer.now) (g.W.Write.contents c.write_text.new.writer) c.deref.result.now (string_bytes c.run_text-ended.new.session.out)
+    (rw c.deref.ensures c.in_ok-script.ensures.ok)
+    (ended_front c.run_text-ended.result c.deref.result.now (string_bytes c.run_text-ended.new.session.out) c.run_text-ended.ensures.ok c.run_text-ended.ensures.err)
     (rw c.as_bytes.ensures.value at c.write_text.ensures.front)

@@ -1,0 +1,119 @@
+use crate::explain::rows_of;
+use crate::script::Session;
+use crate::tests::lines::read;
+use flat_rows::decision::verdict;
+use flat_rows::verdict::Verdict;
+use fs_operations::apply::apply;
+use hdfs_types::op::Request;
+use inode_tree::tree::Tree;
+use principals::users::Users;
+use std::test::Fail;
+
+/// What the plain program over the rows denies a request by.
+fn denied_by_rows(
+    rt: &HostRuntime,
+    tree: &Tree,
+    users: &Users,
+    request: &Request,
+) -> Result<Option<String>, Fail> {
+    let alloc = rt.alloc();
+    let rows = rows_of(alloc, tree)?;
+    match verdict(alloc, &rows, users, &request.caller, &request.op)? {
+        Some(denial) => Ok(Some(denial.to_string(alloc)?)),
+        None => Ok(None),
+    }
+}
+
+/// Does a request on the tree, and tells what it is denied by.
+fn denied_by_tree(
+    rt: &HostRuntime,
+    tree: &mut Tree,
+    users: &mut Users,
+    request: &Request,
+) -> Result<Option<String>, Fail> {
+    let alloc = rt.alloc();
+    match apply(alloc, tree, users, request)? {
+        Verdict::Denied(denial) => Ok(Some(denial.to_string(alloc)?)),
+        _ => Ok(None),
+    }
+}
+
+/// What both deny a line's request by; where they differ, that they do.
+fn denied_by_both(
+    rt: &HostRuntime,
+    session: &mut Session,
+    line: &str,
+) -> Result<Option<String>, Fail> {
+    let request = read(rt.alloc(), line)?;
+    let by_rows = denied_by_rows(rt, &session.tree, &session.users, &request)?;
+    let by_tree = denied_by_tree(rt, &mut session.tree, &mut session.users, &request)?;
+    if by_rows != by_tree {
+        return Ok(Some(format!(in rt.alloc(); "they differ: {line}")?));
+    }
+    Ok(by_tree)
+}
+
+/// What is denied of a script's requests, a line each.
+fn denials(rt: &HostRuntime, script: &str) -> Result<String, Fail> {
+    let mut session = Session::open(rt.alloc())?;
+    let mut found = String::new(rt.alloc());
+    for line in script.split('\n') {
+        if let Some(denial) = denied_by_both(rt, &mut session, line)? {
+            found.push_str(denial.as_str())?;
+            found.push_str("\n")?;
+        }
+    }
+    Ok(found)
+}
+
+const FIRST_PATH: &str = "0 hdfs mkdirs /a 1777\n0 alice mkdirs /a/b/c 700\n0 bob stat /a/b/c\n\
+0 bob stat /a/b\n0 bob stat /a/x/y\n0 bob stat /a/b/x/y\n0 bob mkdirs /z 755\n0 alice mkdirs /a/b/c 755\n0 hdfs stat /";
+
+#[test]
+fn tree_and_rows_deny_the_same_on_the_first_path(rt: HostRuntime) -> Result<(), Fail> {
+    let found = denials(&rt, FIRST_PATH)?;
+    let want = "/a/b --x by other::---\n/a/b --x by other::---\n/ -w- by other::r-x\n";
+    assert_eq!(rt; found.as_str(), want);
+    Ok(())
+}
+
+const RENAME: &str =
+    "0 hdfs mkdirs /r/a/b 755\n0 hdfs mkdirs /r/c 755\n0 hdfs rename /r/a /r/a/b/z\n\
+0 hdfs rename /r/a /r/c\n0 hdfs rename /r/q /r/y\n0 hdfs rename / /x\n0 hdfs rename /r/a /r/c/a\n0 hdfs ls /r/c/a\n\
+0 hdfs ls /r/c/a/b";
+
+#[test]
+fn tree_and_rows_deny_nothing_of_the_renames(rt: HostRuntime) -> Result<(), Fail> {
+    assert_eq!(rt; denials(&rt, RENAME)?.as_str(), "");
+    Ok(())
+}
+
+const SUBTREE_RIGHTS: &str =
+    "0 hdfs mkdirs /p 777\n0 alice mkdirs /p/x/m 755\n0 alice mkdirs /p/x/b 755\n\
+0 hdfs chown /p/x/b hdfs -\n0 hdfs chown /p/x/m hdfs -\n0 alice delete /p/x recursive\n0 alice du /p/x\n\
+0 hdfs delete /p/x\n0 hdfs delete /p/x recursive\n0 hdfs delete / recursive";
+
+#[test]
+fn tree_and_rows_deny_the_same_of_sub_trees(rt: HostRuntime) -> Result<(), Fail> {
+    let found = denials(&rt, SUBTREE_RIGHTS)?;
+    assert_eq!(rt; found.as_str(), "/p/x/b rwx by other::r-x\n");
+    Ok(())
+}
+
+/// A denial by each kind of need, and by each class of entries.
+const KINDS: &str =
+    "0 hdfs adduser ann g1\n0 hdfs mkdirs /s 1777\n0 ann mkdirs /s/x 750\n0 ann chown /s/x - g1\n\
+0 hdfs adduser bob g1\n0 bob delete /s/x\n0 bob rename /s/x /s/y\n0 bob mkdirs /s/x/z 755\n0 bob chmod /s/x 777\n\
+0 bob chown /s/x - g1\n0 ann chown /s/x bob -\n0 ann chown /s/x - g2\n0 ann groups ann g2\n0 carl ls /s/x\n0 ann chmod /s/x 0\n\
+0 ann ls /s/x\n0 bob stat /s/x/z";
+
+const KINDS_DENIED: &str = "/s/x sticky by owner:ann dir:hdfs\n/s/x sticky by owner:ann dir:hdfs\n\
+/s/x -w- by group::r-x\n/s/x owner by owner:ann\n/s/x owner by owner:ann\n/s/x superuser by superuser\n\
+/s/x member:g2 by group:g2\n/ superuser by superuser\n/s/x r-x by other::---\n/s/x r-x by user::---\n/s/x --x by group::---\n";
+
+#[test]
+fn tree_and_rows_deny_the_same_by_each_need(rt: HostRuntime) -> Result<(), Fail> {
+    let found = denials(&rt, KINDS)?;
+    assert_eq!(rt; found.as_str(), KINDS_DENIED);
+    Ok(())
+}
