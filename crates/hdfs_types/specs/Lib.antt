@@ -4,6 +4,7 @@ pub mod Parsed
 pub mod Entry
 pub mod Request
 pub mod Reply
+pub mod AclStatus
 pub mod Name
 pub mod Who
 pub mod Groups
