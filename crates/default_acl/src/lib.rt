@@ -2,7 +2,11 @@
 //! Guide, "ACLs (Access Control Lists)" and "ACLs Shell Commands").
 #![tactic(auto)]
 
+pub mod change;
+pub mod chmod;
+mod completed;
 pub mod fault;
+pub mod inherit;
 mod named;
 mod partial;
 mod scope;

@@ -1,4 +1,4 @@
-ghost use Rattle.std.specs.Prelude.{◌≡◌, ◌<◌, ◌+◌, length, IfOk};
+ghost use Rattle.std.specs.Prelude.{◌≡◌, ◌<◌, ◌+◌, length, nat_lt, IfOk};
 ghost use Rattle.default_acl.specs.Answers.{IfRefused, named_count};
 ghost use Rattle.default_acl.specs.AclChange as definition;
 
@@ -104,6 +104,13 @@ impl PartialList {
             groups: without(alloc, list.groups(), scope, EntryKind::Group, spec)?,
             other: unless(has_base(scope, EntryKind::Other, spec), Some(list.other())),
         })
+    }
+
+    /// Whether there are entries for named users or named groups.
+    pub(crate) fn has_named(&self) -> bool
+        ensures { result ≡ nat_lt 0 (named_count self.now) }
+    {
+        !self.users.is_empty() || !self.groups.is_empty()
     }
 
     /// Whether there is no entry.
