@@ -170,3 +170,23 @@ pub kept_from : (named : Option Rights) (other : EntryList) (list : PartialList)
     → mask ≡ unwrap_or named bases.group → group.0 ≡ bit_and bases.group.0 mask.0 → are_bases bases.user group bases.other ≡ true
 kept_from named other list bases mask group good_mask others parts user owning all is cut =
     rw (user, all, cut, is, owning) (bases_good named other list good_mask others parts)
+
+-- ---- other rights for owner, mask and others
+
+mask_length : (a b : Option Rights) → is_some a ≡ is_some b → length (mask_entries Access a) ≡ length (mask_entries Access b)
+mask_length None None h = refl
+mask_length None (Some b) h = cc
+mask_length (Some a) None h = cc
+mask_length (Some a) (Some b) h = refl
+
+pub remasked_good : (list : EntryList) (user other : Rights) (mask : Option Rights) → IsEntryList list → is_some mask ≡ is_some list.mask
+    → are_rights user ≡ true → option_map_or are_rights mask true ≡ true → are_rights other ≡ true
+    → IsEntryList (record { user = user; users = list.users; group = list.group; groups = list.groups; mask = mask; other = other })
+remasked_good list user other mask h masked users masks others =
+    let parts : Good list = good list h in
+    let new : EntryList = record { user = user; users = list.users; group = list.group; groups = list.groups; mask = mask; other = other } in
+    let count : length (entries_in Access new) ≡ length (entries_in Access list) =
+        entries_count new ∙ ap (λ n. 3 + n + length list.users + length list.groups) (mask_length mask list.mask masked) ∙ sym (entries_count list) in
+    is_good new (record {
+      users_ascend = parts.users_ascend; groups_ascend = parts.groups_ascend; users_grant = parts.users_grant; groups_grant = parts.groups_grant;
+      list_fits = ap (λ n. nat_le n 32) count ∙ parts.list_fits; mask = masks; user = users; group = parts.group; other = others })

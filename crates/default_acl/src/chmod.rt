@@ -18,6 +18,8 @@ pub fn chmod(acl: &mut Acl, mode: Mode, kind: ObjectKind)
         acl.set_bases(bases, None);
         return;
     }
+    // a call on the list tells the prover what each list keeps
+    let _user = access.user();
     let Bases { user, group, other } = bases;
     let own = access.group();
     acl.set_bases(

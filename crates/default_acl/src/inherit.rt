@@ -1,6 +1,8 @@
-ghost use Rattle.std.specs.Prelude.{◌≡◌, None, IfOk, IsOk, IsTrue};
-ghost use Rattle.std.specs.Option.{is_some};
-ghost use Rattle.acl_entries.specs.AccessControlList.{IsEntryList};
+ghost use Rattle.std.specs.Prelude.{◌≡◌, None, IfOk, IsOk};
+ghost use Rattle.std.specs.Option.{option_map};
+ghost use Rattle.hdfs_types.specs.Mode.{group_bits};
+ghost use Rattle.hdfs_types.specs.Rights.{rights};
+ghost use Rattle.acl_entries.specs.AccessControlList.{common};
 ghost use Rattle.default_acl.specs.AclChange.{as_kept};
 ghost use Rattle.default_acl.specs.Inheritance as definition;
 
@@ -11,30 +13,42 @@ use acl_entries::entry_list::{Bases, EntryList};
 use bitflags::Flags;
 use hdfs_types::mode::Mode;
 use hdfs_types::reply::ObjectKind;
+use hdfs_types::rights::Rights;
 use std::alloc::{AllocError, Global};
+
+/// A mask of which a mode leaves what it grants the group.
+fn cut_mask(mask: Option<Rights>, mode: Mode) -> Option<Rights>
+    ensures { result ≡ option_map (λ own. common own (rights (group_bits mode))) mask }
+{
+    match mask {
+        Some(mask) => Some(mask.intersection(mode.group())),
+        None => None,
+    }
+}
 
 /// The access list of what is made with a mode below a default list.
 fn cut_to(alloc: Global, mode: Mode, list: &EntryList) -> Result<EntryList, AllocError>
-    requires { IsTrue (is_some list.now.mask) }
     ensures { IfOk result (λ access. access ≡ as_kept (definition.cut_to mode list.now)) }
 {
     let user = list.user().intersection(mode.user());
     let other = list.other().intersection(mode.other());
-    let mask = match list.mask() {
-        Some(mask) => mask.intersection(mode.group()),
-        None => mode.group(),
-    };
-    let group = list.group();
+    let mask = cut_mask(list.mask(), mode);
+    let own = list.group();
     if list.users().is_empty() && list.groups().is_empty() {
-        return Ok(EntryList::of_bases(Bases {
-            user,
-            group: group.intersection(mask),
-            other,
-        }));
+        let group = match mask {
+            Some(mask) => own.intersection(mask),
+            None => own,
+        };
+        return Ok(EntryList::of_bases(Bases { user, group, other }));
     }
     let users = copies(alloc, list.users())?;
     let groups = copies(alloc, list.groups())?;
-    EntryList::new(alloc, Bases { user, group, other }, Some(mask), users, groups)
+    let bases = Bases {
+        user,
+        group: own,
+        other,
+    };
+    EntryList::new(alloc, bases, mask, users, groups)
 }
 
 /// What a directory takes on as its own default list.
@@ -65,6 +79,8 @@ pub fn inherit(
     let Some(list) = parent.default_list() else {
         return Ok(Acl::from_mode(mode, kind));
     };
+    // a call on the parent tells the prover that its default list has a mask
+    let _access = parent.access();
     let access = cut_to(alloc, mode, list)?;
     let default = passed_on(kind, list)?;
     let sticky = kind == ObjectKind::Directory && mode.is_sticky();

@@ -1,4 +1,5 @@
 ghost use Rattle.std.specs.Prelude.{◌≡◌, ◌<◌, ◌+◌, length, nat_lt, IfOk};
+ghost use Rattle.acl_entries.specs.AccessControlList.{IsEntryList};
 ghost use Rattle.default_acl.specs.Answers.{IfRefused, named_count};
 ghost use Rattle.default_acl.specs.AclChange as definition;
 
@@ -54,7 +55,8 @@ impl PartialList {
 
     /// All entries of a list but its mask.
     pub(crate) fn all_of(alloc: Global, list: &EntryList) -> Result<PartialList, AllocError>
-        ensures { IfOk result (λ all. all ≡ definition.all_of list.now) }
+        ensures all { IfOk result (λ all. all ≡ definition.all_of list.now) }
+        ensures entries { IsEntryList list.now }
     {
         Ok(PartialList {
             user: Some(list.user()),
@@ -95,7 +97,8 @@ impl PartialList {
         scope: Scope,
         spec: &[Entry],
     ) -> Result<PartialList, AllocError>
-        ensures { IfOk result (λ left. left ≡ definition.after_removal scope spec.now (definition.all_of list.now)) }
+        ensures left { IfOk result (λ left. left ≡ definition.after_removal scope spec.now (definition.all_of list.now)) }
+        ensures entries { IsEntryList list.now }
     {
         Ok(PartialList {
             user: unless(has_base(scope, EntryKind::User, spec), Some(list.user())),
