@@ -2,7 +2,7 @@
 -- change of a mode.
 -- (HDFS Permissions Guide, "ACLs (Access Control Lists)" and "ACLs Shell Commands". Which lists are emptied or completed, the order of
 -- refusals, and the masks that clear and remove leave are this project's own choice.)
-use Rattle.std.specs.Prelude.{ℕ, Bool, true, false, not, ◌&&◌, ◌||◌, List, [], ◌∷◌, filter, if◌then◌else◌, Option, Some, None, unwrap_or, Result, Ok, Err}
+use Rattle.std.specs.Prelude.{ℕ, ◌%◌, Bool, true, false, not, ◌&&◌, ◌||◌, List, [], ◌∷◌, filter, if◌then◌else◌, Option, Some, None, unwrap_or, Result, Ok, Err}
 use Rattle.std.specs.List.{list_any, find, fold, filter_map}
 use Rattle.std.specs.Option.{is_some, is_none, option_map, option_map_or, option_or}
 use Rattle.std.specs.Ordering.{is_lt}
@@ -36,15 +36,19 @@ is_base_of scope kind entry = same_scope entry.scope scope && (same_kind entry.k
 abbrev pub has_base : Scope → EntryKind → List Entry → Bool
 has_base scope kind spec = list_any (is_base_of scope kind) spec
 
+-- the rights that an entry grants: rights have three bits, and any further ones grant nothing
+abbrev pub granted_by : Entry → Rights
+granted_by entry = rights (entry.rights.0 % 8)
+
 -- the rights that this entry grants
 abbrev pub given : Scope → EntryKind → List Entry → Option Rights
-given scope kind spec = option_map (λ entry. entry.rights) (find (is_base_of scope kind) spec)
+given scope kind spec = option_map granted_by (find (is_base_of scope kind) spec)
 
 abbrev pub is_for : Scope → EntryKind → Entry → Bool
 is_for scope kind entry = same_scope entry.scope scope && same_kind entry.kind kind
 
 abbrev pub with_name : Entry → Option NamedEntry
-with_name entry = option_map (λ name. record { name = name; rights = entry.rights }) entry.name
+with_name entry = option_map (λ name. record { name = name; rights = granted_by entry }) entry.name
 
 -- its entries for named users, or for named groups
 abbrev pub named_in : Scope → EntryKind → List Entry → List NamedEntry

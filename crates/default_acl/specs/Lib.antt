@@ -1,2 +1,4 @@
 pub mod AclChange
 pub mod Inheritance
+pub mod Answers
+pub mod Seen

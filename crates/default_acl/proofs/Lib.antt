@@ -1,0 +1,6 @@
+pub mod Tests
+pub mod NamedLists
+pub mod Completing
+pub mod Partials
+pub mod Changing
+pub mod Inheriting
