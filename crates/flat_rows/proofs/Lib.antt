@@ -5,3 +5,4 @@ pub mod NewDirectories
 pub mod Changes
 pub mod Moves
 pub mod Missing
+pub mod Endings

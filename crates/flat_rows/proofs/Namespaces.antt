@@ -1,5 +1,5 @@
 -- A namespace with the rows of a new sub-tree is a namespace.
-use Rattle.std.proofs.Common.{◌≡◌, ℕ, Bool, true, false, ◌&&◌, ◌||◌, List, [], ◌∷◌, ◌++◌, refl, sym, ap, ◌∙◌, subst, Ordering, Less, Equal, Greater, cond}
+use Rattle.std.proofs.Common.{◌≡◌, ℕ, Bool, true, false, ◌&&◌, ◌||◌, List, [], ◌∷◌, ◌++◌, refl, sym, ap, ◌∙◌, Ordering, Less, Equal, Greater, cond}
 use Rattle.std.specs.Prelude.{filter, not}
 use Rattle.std.specs.List.{list_all, list_any}
 use Rattle.std.specs.Ordering.{is_gt, is_lt}
@@ -8,8 +8,8 @@ use Rattle.hdfs_types.specs.Path.{is_prefix}
 use Rattle.hdfs_types.specs.PathOrder.{path_cmp, same_path, paths_total}
 use Rattle.flat_rows.specs.declared.row.Row.{Row}
 use Rattle.flat_rows.specs.Rows.{is_directory, is_before, is_beyond, replaced, with_sub_tree}
-use Rattle.flat_rows.specs.Namespace.{IsNamespace, is_namespace, is_ascending, is_before_all, is_child, has_parent, is_root, is_rooted, have_parents, suits_kind, is_sub_tree, fits}
-use Rattle.flat_rows.proofs.Tests.{both, and, or_left, or_right, all_imp, any_imp, all_both, all_append, all_filtered, all_kept, any_parted}
+use Rattle.flat_rows.specs.Namespace.{IsNamespace, is_ascending, is_before_all, is_child, has_parent, is_root, is_rooted, have_parents, suits_kind, is_sub_tree, fits}
+use Rattle.flat_rows.proofs.Tests.{both, and, or_left, or_right, all_imp, all_both, all_append, all_filtered, all_kept, any_parted}
 use Rattle.flat_rows.proofs.PathOrders.{less_is, greater_is, starts_upto, tied_starts, less_upto, greater_back, beyond_starts, child_starts, child_apart, same_path_is}
 
 -- order

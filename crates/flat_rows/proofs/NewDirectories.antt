@@ -1,5 +1,5 @@
 -- The directories that are made beneath the last component that exists fit among the rows.
-use Rattle.std.proofs.Common.{◌≡◌, ℕ, zero, suc, ◌+◌, Bool, true, false, ◌&&◌, ◌||◌, List, [], ◌∷◌, ◌++◌, length, drop, take, Option, Some, None, refl, sym, ap, ◌∙◌, subst, Ordering, Less, Equal, Greater, is_eq, cond}
+use Rattle.std.proofs.Common.{◌≡◌, ℕ, Bool, true, false, ◌&&◌, ◌||◌, List, [], ◌∷◌, ◌++◌, length, drop, take, Option, Some, None, refl, sym, ap, ◌∙◌, subst, Ordering, Less, Equal, Greater, is_eq, cond}
 use Rattle.std.specs.Prelude.{filter, not}
 use Rattle.std.specs.List.{list_all, list_any, last_or}
 use Rattle.std.specs.Ordering.{is_lt, ordering_then}
@@ -10,7 +10,7 @@ use Rattle.hdfs_types.proofs.Texts.{same_is, same_self}
 use Rattle.flat_rows.specs.declared.row.Row.{Row}
 use Rattle.flat_rows.specs.First.{first}
 use Rattle.flat_rows.specs.Rows.{is_directory, file_above, ancestor}
-use Rattle.flat_rows.specs.Namespace.{is_ascending, is_before_all, is_child, has_parent, suits_kind, is_sub_tree, fits}
+use Rattle.flat_rows.specs.Namespace.{is_ascending, is_before_all, is_child, has_parent, suits_kind, fits}
 use Rattle.flat_rows.specs.Outcome.{directory_at, new_directory, new_directories, mode_of_new}
 use Rattle.flat_rows.proofs.Tests.{both, and, or_left, or_right, all_imp, all_filtered}
 use Rattle.flat_rows.proofs.PathOrders.{less_is}

@@ -1,11 +1,10 @@
 -- The order of paths beside prefixes: what stands before a path, what is_prefix with it, and what stands beyond.
-use Rattle.std.proofs.Common.{◌≡◌, ℕ, Bool, true, false, ◌&&◌, ◌||◌, List, [], ◌∷◌, refl, sym, ap, ◌∙◌, subst, Ordering, Less, Equal, Greater, is_eq}
-use Rattle.std.specs.Prelude.{not}
+use Rattle.std.proofs.Common.{◌≡◌, ℕ, true, false, ◌&&◌, List, [], ◌∷◌, refl, sym, ap, ◌∙◌, Ordering, Less, Equal, Greater, is_eq}
 use Rattle.std.specs.Cmp.{IsTotalOrder}
 use Rattle.std.specs.Ordering.{is_gt, is_lt, ordering_reverse, ordering_then}
 use Rattle.std.proofs.lemmas.Cmp.{nat_list_cmp_total}
 use Rattle.hdfs_types.specs.Text.{text_cmp, same}
-use Rattle.hdfs_types.specs.Path.{is_prefix, is_beneath}
+use Rattle.hdfs_types.specs.Path.{is_prefix}
 use Rattle.hdfs_types.specs.PathOrder.{path_cmp, same_path, paths_total}
 use Rattle.hdfs_types.proofs.Texts.{same_is}
 use Rattle.flat_rows.specs.Namespace.{is_child}

@@ -1,10 +1,9 @@
 -- The decision: the first need of an operation that fails, or none. A need of a component that isn't there is passed over,
 -- and so is one whose condition doesn't hold.
 -- (HDFS Permissions Guide, "Permission Checks" and "The Super-User".)
-use Rattle.std.specs.Prelude.{ℕ, Bool, true, false, not, List, [], ◌∷◌, if◌then◌else◌, Option, Some, None, map}
+use Rattle.std.specs.Prelude.{ℕ, Bool, true, List, [], ◌∷◌, if◌then◌else◌, Option, None, map}
 use Rattle.std.specs.List.{flat_map}
 use Rattle.std.specs.Option.{option_to_list}
-use Rattle.hdfs_types.specs.Text.{same}
 use Rattle.hdfs_types.specs.declared.op.Op.{Op}
 use Rattle.principals.specs.Principals.{Principals, Asking, caller_of}
 use Rattle.flat_rows.specs.declared.row.Row.{Row}

@@ -1,7 +1,7 @@
 -- What decides about a need at a component, and a denial: the need that failed, what decided, the row of the component,
 -- and for whom it was judged.
 -- (HDFS Permissions Guide, "Permission Checks" and "The Sticky Bit".)
-use Rattle.std.specs.Prelude.{◌≡◌, ℕ, Bool, true, false, ◌||◌, List, [], if◌then◌else◌, Option, Some, None}
+use Rattle.std.specs.Prelude.{◌≡◌, ℕ, Bool, false, ◌||◌, List, [], if◌then◌else◌, Option, Some, None}
 use Rattle.hdfs_types.specs.Text.{same}
 use Rattle.hdfs_types.specs.Groups.{has_group}
 use Rattle.hdfs_types.specs.declared.rights.Rights as bits

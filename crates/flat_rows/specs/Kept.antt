@@ -1,13 +1,13 @@
 -- How the types of this crate are seen.
-use Rattle.std.specs.Prelude.{ℕ, Bool, true, false, ◌&&◌, List, IsTrue}
+use Rattle.std.specs.Prelude.{Bool, true, false, ◌&&◌, IsTrue}
 use Rattle.hdfs_types.specs.Path.{is_path}
 use Rattle.flat_rows.specs.declared.ask.Ask.TheInside as ask
 use Rattle.flat_rows.specs.declared.denial.Denial.TheInside as denial
 use Rattle.flat_rows.specs.declared.demand.Demand.TheInside as demand
 use Rattle.flat_rows.specs.declared.demand.Role.{Role}
-use Rattle.flat_rows.specs.declared.demand.Role.TheVariants.{Traversed, Ancestor, Parent, Final, SubTree}
+use Rattle.flat_rows.specs.declared.demand.Role.TheVariants.{Final}
 use Rattle.flat_rows.specs.declared.need.Need.{Need}
-use Rattle.flat_rows.specs.declared.need.Need.TheVariants.{Rights, Sticky, Owner, Member, Superuser}
+use Rattle.flat_rows.specs.declared.need.Need.TheVariants.{Rights}
 use Rattle.flat_rows.specs.Decision.{Ask}
 use Rattle.flat_rows.specs.Denied.{Denied}
 use Rattle.flat_rows.specs.RequiredRights.{Demand}

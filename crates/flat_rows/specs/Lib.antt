@@ -7,6 +7,7 @@ pub mod NeedText
 pub mod Denied
 pub mod DenialText
 pub mod Decision
+pub mod Laws
 pub mod Kept
 pub mod Outcome
 pub mod Changes

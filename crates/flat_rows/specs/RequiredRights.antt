@@ -1,6 +1,6 @@
 -- The needs of each operation, in the order in which they are judged.
 -- (HDFS Permissions Guide, "Permission Checks".)
-use Rattle.std.specs.Prelude.{ℕ, Bool, true, List, [], ◌∷◌, ◌++◌, Option, Some, None}
+use Rattle.std.specs.Prelude.{ℕ, List, [], ◌∷◌, ◌++◌, Option, Some, None}
 use Rattle.hdfs_types.specs.Rights.{rights}
 use Rattle.hdfs_types.specs.declared.rights.Rights as bits
 use Rattle.hdfs_types.specs.declared.op.Op.{Op}

@@ -1,5 +1,11 @@
-ghost use Rattle.std.specs.Prelude.{◌≡◌, IfOk, map};
+ghost use Rattle.std.specs.Prelude.{◌≡◌, ℕ, true, List, Some, None, IfOk, map};
+ghost use Rattle.std.specs.Option.{is_some};
+ghost use Rattle.hdfs_types.specs.declared.op.Op as asked;
+ghost use Rattle.principals.specs.Principals.{Principals};
+ghost use Rattle.flat_rows.specs.declared.row.Row.{Row};
+ghost use Rattle.flat_rows.specs.Denied.{Denied};
 ghost use Rattle.flat_rows.specs.Decision as spec;
+ghost use Rattle.flat_rows.specs.Laws as law;
 
 use crate::ask::{Ask, asks_of};
 use crate::demand::needs_of;
@@ -96,3 +102,11 @@ pub fn trail(
     let asks = asks_of(alloc, rows.as_slice(), needs.as_slice())?;
     judged_up_to_denied(alloc, &users.caller(caller), &asks)
 }
+
+/// A trail ends as the decision: its last need isn't met exactly where the decision is a denial. Then component, need and
+/// what decided are those of the denial, and all needs before are met; where nothing is denied, all are.
+pub fn trails_end_as_decisions()
+    ensures fails { (rows : List Row) (users : Principals) (caller : List ℕ) (op : asked.Op) → law.ends_failed (spec.trail rows users caller op) ≡ is_some (spec.decision rows users caller op) }
+    ensures denied { (rows : List Row) (users : Principals) (caller : List ℕ) (op : asked.Op) (denied : Denied) → spec.decision rows users caller op ≡ Some denied → law.EndsAs (spec.trail rows users caller op) denied }
+    ensures granted { (rows : List Row) (users : Principals) (caller : List ℕ) (op : asked.Op) → spec.decision rows users caller op ≡ None → law.are_granted (spec.trail rows users caller op) ≡ true }
+{}

@@ -8,6 +8,7 @@ mod mkdirs;
 mod namespace;
 mod paths;
 mod rename_dir;
+mod script;
 mod stat;
 #[cfg(test)]
 mod tests;
@@ -24,7 +25,7 @@ use std::process::ExitCode;
 const BAD_COMMAND_LINE: u8 = 2;
 
 const USAGE: &str =
-    "usage: hdfs_bench NAME N, with a NAME of: check_token_uncached mkdirs stat ls rename_dir delete_recursive";
+    "usage: hdfs_bench NAME N, with a NAME of: check_token_uncached mkdirs stat ls rename_dir delete_recursive script";
 
 /// What a command line asks to be done, and of which size.
 fn asked(words: &[String]) -> Option<(Workload, u32)> {

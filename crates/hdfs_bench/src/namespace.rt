@@ -20,7 +20,8 @@ pub const MAKER: &str = "alice";
 /// Who looks at them, by the rights of all others.
 pub const READER: &str = "bob";
 
-const SUPERUSER: &str = "hdfs";
+/// Who may do all.
+pub const SUPERUSER: &str = "hdfs";
 
 const SUPERGROUP: &str = "supergroup";
 

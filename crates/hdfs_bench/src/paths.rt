@@ -8,9 +8,9 @@ pub fn parsed(alloc: Global, text: &str) -> Result<Path> {
     Path::parse(alloc, text).ok().context("no path")
 }
 
-/// The path of an index beneath a directory: five names, each with two digits of the index, so that no directory holds more
-/// than 100. Each index has another path.
-pub fn path_of(alloc: Global, above: &str, index: u32) -> Result<Path> {
+/// The text of the path of an index beneath a directory: five names, each with two digits of the index, so that no directory
+/// holds more than 100. Each index has another path.
+pub fn text_of(alloc: Global, above: &str, index: u32) -> Result<String> {
     let first = index / 100_000_000;
     let second = index / 1_000_000 % 100;
     let third = index / 10_000 % 100;
@@ -19,7 +19,12 @@ pub fn path_of(alloc: Global, above: &str, index: u32) -> Result<Path> {
     let text = format!(in alloc;
         "{above}/d{first:02}/d{second:02}/d{third:02}/d{fourth:02}/d{fifth:02}"
     )?;
-    parsed(alloc, text.as_str())
+    Ok(text)
+}
+
+/// The path of an index beneath a directory.
+pub fn path_of(alloc: Global, above: &str, index: u32) -> Result<Path> {
+    parsed(alloc, text_of(alloc, above, index)?.as_str())
 }
 
 /// The directory that holds the path of an index.

@@ -1,5 +1,7 @@
+use crate::script;
 use crate::timed::Timed;
 use crate::workload::Workload;
+use hdfs_cli::script::run_script;
 use std::test::Fail;
 use std::time::Duration;
 
@@ -13,6 +15,7 @@ fn workloads_run(rt: HostRuntime) -> Result<(), Fail> {
         ("rename_dir", 20_000),
         // The three, the four above them and the directory itself.
         ("delete_recursive", 8),
+        ("script", 3),
     ];
     for (name, operations) in cases {
         let workload = Workload::named(name).ok_or("workload")?;
@@ -21,6 +24,38 @@ fn workloads_run(rt: HostRuntime) -> Result<(), Fail> {
         workload.run(&rt, 0)?;
     }
     assert!(rt; Workload::named("nothing").is_none());
+    Ok(())
+}
+
+/// What the script of the workload prints. It has no clauses, so that no proof of a test computes it.
+fn script_prints(rt: &HostRuntime, count: u32) -> Result<String, Fail> {
+    let script = script::text(rt.alloc(), count)?;
+    let mut reader = script.as_bytes();
+    let mut writer = Vec::new(rt.alloc());
+    run_script(rt.alloc(), &mut reader, &mut writer)?;
+    Ok(String::from_str(rt.alloc(), str::from_utf8(&writer)?)?)
+}
+
+const SCRIPT: &str = "0 hdfs mkdirs /shared 777\n\
+0 alice mkdirs /shared/d00/d00/d00/d00/d00 755\n\
+0 bob stat /shared/d00/d00/d00/d00/d00\n\
+0 alice mkdirs /shared/d00/d00/d00/d00/d01 755\n";
+
+#[test]
+fn script_lines_are_granted(rt: HostRuntime) -> Result<(), Fail> {
+    let script = script::text(rt.alloc(), 4)?;
+    assert_eq!(rt; script.as_str(), SCRIPT);
+    let printed = script_prints(&rt, 4)?;
+    assert_eq!(rt;
+        printed.as_str(),
+        "1 ok\n2 ok\n3 ok dir 0755 alice supergroup\n4 ok\n"
+    );
+    let printed = script_prints(&rt, 250)?;
+    let lines: Vec<&str> = printed.as_str().lines().collect(rt.alloc())?;
+    assert_eq!(rt; lines.len(), 250);
+    for line in &lines {
+        assert!(rt; line.contains(" ok"), "{line}");
+    }
     Ok(())
 }
 

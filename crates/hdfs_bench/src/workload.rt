@@ -1,5 +1,5 @@
 use crate::timed::Timed;
-use crate::{delete_recursive, ls, mkdirs, rename_dir, stat, tokens};
+use crate::{delete_recursive, ls, mkdirs, rename_dir, script, stat, tokens};
 use anyhow::Result;
 use std::time::Clock;
 
@@ -18,6 +18,8 @@ pub enum Workload {
     RenameDir,
     /// A directory is deleted with all that is beneath it.
     DeleteRecursive,
+    /// The lines of a script are answered, from its text to theirs.
+    Script,
 }
 
 impl Workload {
@@ -29,6 +31,7 @@ impl Workload {
             "ls" => Some(Workload::Ls),
             "rename_dir" => Some(Workload::RenameDir),
             "delete_recursive" => Some(Workload::DeleteRecursive),
+            "script" => Some(Workload::Script),
             _ => None,
         }
     }
@@ -41,6 +44,7 @@ impl Workload {
             Workload::Ls => "ls",
             Workload::RenameDir => "rename_dir",
             Workload::DeleteRecursive => "delete_recursive",
+            Workload::Script => "script",
         }
     }
 
@@ -57,6 +61,7 @@ impl Workload {
             Workload::Ls => ls::run(rt, count),
             Workload::RenameDir => rename_dir::run(rt, count),
             Workload::DeleteRecursive => delete_recursive::run(rt, count),
+            Workload::Script => script::run(rt, count),
         }
     }
 }

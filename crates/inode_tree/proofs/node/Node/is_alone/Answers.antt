@@ -1,11 +1,8 @@
-use Rattle.std.proofs.Common.{◌≡◌, ℕ, Bool, true, false, List, [], ◌∷◌, length, refl, sym, ap, ◌∙◌, subst}
-use Rattle.std.specs.BTreeMap.{BTreeMap}
+use Rattle.std.proofs.Common.{◌≡◌, Bool, true, false, [], ◌∷◌, length, refl, sym, subst}
 use Rattle.flat_rows.specs.declared.row.Row.{Row}
 use Rattle.flat_rows.specs.Outcome.{is_alone}
-use Rattle.inode_tree.specs.Branch.{Branch, rows, row_of, flatten}
+use Rattle.inode_tree.specs.Branch.{rows, row_of, flatten}
 use Rattle.inode_tree.specs.Kept.{branch_of, rows_in}
-use Rattle.inode_tree.specs.declared.node.Held.TheVariants.{Directory}
-use Rattle.inode_tree.specs.declared.node.Node.TheInside.{Inside}
 use Rattle.inode_tree.proofs.Filters.{Entries}
 use Rattle.inode_tree.proofs.node.Node.is_alone.Goals as goal
 

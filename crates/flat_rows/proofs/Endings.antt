@@ -1,0 +1,87 @@
+-- Where the needs that are judged end: at the first denial.
+use Rattle.std.proofs.Common.{◌≡◌, ℕ, Bool, true, false, not, List, [], ◌∷◌, ◌++◌, Option, Some, None, map, refl, ap, ◌∙◌, cond}
+use Rattle.std.specs.List.{last_or, flat_map}
+use Rattle.std.specs.Option.{is_some, option_or}
+use Rattle.hdfs_types.specs.declared.op.Op.{Op}
+use Rattle.principals.specs.Principals.{Principals, Asking, caller_of}
+use Rattle.flat_rows.specs.declared.row.Row.{Row}
+use Rattle.flat_rows.specs.declared.need.By.{By}
+use Rattle.flat_rows.specs.declared.need.By.TheVariants.{Superuser}
+use Rattle.flat_rows.specs.declared.trail.Judged.{Judged}
+use Rattle.flat_rows.specs.First.{first_answer}
+use Rattle.flat_rows.specs.RequiredRights.{required_rights}
+use Rattle.flat_rows.specs.Denied.{Denied, Decided, deciding, denial_at}
+use Rattle.flat_rows.specs.Decision.{Ask, asks_of, denial_of, judged, up_to_denied, decision, trail}
+use Rattle.flat_rows.specs.Laws.{are_granted, failed, ends_failed, is_failed, EndsAs}
+use Rattle.flat_rows.proofs.Tests.{both, and}
+
+-- a need as it is judged, beside its denial or none
+abbrev Judges : Judged → Option Denied → Type 0
+Judges need None = need.granted ≡ true
+Judges need (Some denied) = need ≡ failed denied
+
+-- needs up to the first denial, beside it or none
+abbrev Ends : List Judged → Option Denied → Type 0
+Ends needs None = are_granted needs ≡ true
+Ends needs (Some denied) = EndsAs needs denied
+
+module _ (caller : Asking) (ask : Ask) where
+  abbrev as_judged : Decided → Judged
+  as_judged what = record { path = ask.row.path; need = ask.need; by = what.by; granted = what.granted }
+
+  of_decided : (what : By) (met : Bool)
+      → Judges (as_judged (record { by = what; granted = met }))
+      (cond met None (Some (record { need = ask.need; by = what; row = ask.row; caller = caller.name; groups = caller.groups })))
+  of_decided what true = refl
+  of_decided what false = refl
+
+  of_caller : (superuser : Bool)
+      → Judges (as_judged (cond superuser (record { by = Superuser; granted = true }) (deciding ask.need ask.row ask.above caller.name caller.groups)))
+      (cond superuser None (denial_at ask.need ask.row ask.above caller.name caller.groups))
+  of_caller true = refl
+  of_caller false = let what = deciding ask.need ask.row ask.above caller.name caller.groups in of_decided what.by what.granted
+
+  judges : Judges (judged caller ask) (denial_of caller ask)
+  judges = of_caller caller.is_superuser
+
+-- one more need in front
+more : (need : Judged) (here : Option Denied) (needs : List Judged) (later : Option Denied) → Judges need here → Ends needs later
+    → Ends (need ∷ cond need.granted needs []) (option_or here later)
+more need (Some denied) needs later is ends = rw is (record { met = []; granted = refl; ends = refl })
+more need None needs None met ends = rw met ends
+more need None needs (Some denied) met ends = record {
+  met = need ∷ ends.met;
+  granted = and need.granted (are_granted ends.met) met ends.granted;
+  ends = ap (λ (b : Bool). need ∷ cond b needs []) met ∙ ap (λ (xs : List Judged). need ∷ xs) ends.ends;
+}
+
+up_to_denial : (caller : Asking) (asks : List Ask) → Ends (up_to_denied (map (judged caller) asks)) (first_answer (denial_of caller) asks)
+up_to_denial caller [] = refl
+up_to_denial caller (ask ∷ asks) =
+    more (judged caller ask) (denial_of caller ask) (up_to_denied (map (judged caller) asks)) (first_answer (denial_of caller) asks) (judges caller ask) (up_to_denial caller asks)
+
+-- what stands at the end of a list is its last
+last_behind : {X : Type 0} (first : Option X) (xs : List X) (x : X) → last_or first (xs ++ x ∷ []) ≡ Some x
+last_behind first [] x = refl
+last_behind first (y ∷ xs) x = last_behind (Some y) xs x
+
+last_granted : (first : Option Judged) (needs : List Judged) → is_failed first ≡ false → are_granted needs ≡ true → is_failed (last_or first needs) ≡ false
+last_granted first [] met all = met
+last_granted first (need ∷ needs) met all = let parts = both need.granted (are_granted needs) all in last_granted (Some need) needs (ap not parts.0) parts.1
+
+last_tells : (needs : List Judged) (decided : Option Denied) → Ends needs decided → ends_failed needs ≡ is_some decided
+last_tells needs None ends = last_granted None needs refl ends
+last_tells needs (Some denied) ends = ap ends_failed ends.ends ∙ ap is_failed (last_behind None ends.met (failed denied))
+
+module _ (rows : List Row) (users : Principals) (caller : List ℕ) (op : Op) where
+  trail_ends : Ends (trail rows users caller op) (decision rows users caller op)
+  trail_ends = up_to_denial (caller_of users caller) (flat_map (asks_of rows) (required_rights op))
+
+pub ends_where_decided : (rows : List Row) (users : Principals) (caller : List ℕ) (op : Op) → ends_failed (trail rows users caller op) ≡ is_some (decision rows users caller op)
+ends_where_decided rows users caller op = last_tells (trail rows users caller op) (decision rows users caller op) (trail_ends rows users caller op)
+
+pub ends_as_denied : (rows : List Row) (users : Principals) (caller : List ℕ) (op : Op) (denied : Denied) → decision rows users caller op ≡ Some denied → EndsAs (trail rows users caller op) denied
+ends_as_denied rows users caller op denied is = rw is at (trail_ends rows users caller op)
+
+pub granted_where_undenied : (rows : List Row) (users : Principals) (caller : List ℕ) (op : Op) → decision rows users caller op ≡ None → are_granted (trail rows users caller op) ≡ true
+granted_where_undenied rows users caller op is = rw is at (trail_ends rows users caller op)
