@@ -29,7 +29,7 @@ completed_fits named other list = rw (entries_count (completed named other list)
 pub too_many : (named : Option Rights) (other : EntryList) (list : PartialList) → 32 < named_count list → fits (completed named other list) ≡ false
 too_many named other list many = completed_fits named other list ∙ grind (arith, nat_tests)
 
-kept_named : (list : EntryList) → has_named list ≡ true → as_kept list ≡ list
+pub kept_named : (list : EntryList) → has_named list ≡ true → as_kept list ≡ list
 kept_named list h = rw h refl
 
 pub too_many_kept : (named : Option Rights) (other : EntryList) (list : PartialList) → 32 < named_count list → fits (as_kept (completed named other list)) ≡ false
@@ -113,6 +113,21 @@ good_parts list h =
 pub are_good_parts : (list : PartialList) → GoodParts list → IsPartialList list
 are_good_parts list g = and _ _ g.users_ascend (and _ _ g.groups_ascend (and _ _ g.users_grant (and _ _ g.groups_grant (and _ _ g.user (and _ _ g.group g.other)))))
 
+-- ---- without named entries a mask filters the owning group for good
+
+module _ (named : Option Rights) (other : EntryList) (list : PartialList) where
+  abbrev pub kept_bases : EntryList
+  kept_bases = base_entries (unwrap_or list.user other.user) (common (unwrap_or list.group other.group) (unwrap_or named (unwrap_or list.group other.group))) (unwrap_or list.other other.other)
+
+  pub kept_is_bases : nat_lt 0 (named_count list) ≡ false → as_kept (completed named other list) ≡ kept_bases
+  kept_is_bases none =
+      let users : list.users ≡ [] = empty_is list.users (grind (arith, nat_tests)) in
+      let groups : list.groups ≡ [] = empty_is list.groups (grind (arith, nat_tests)) in
+      let group = unwrap_or list.group other.group in
+      ap (λ b. cond b (completed named other list) (base_entries (unwrap_or list.user other.user) (common group (unwrap_or named (union_of_named (union_of_named group list.users) list.groups))) (unwrap_or list.other other.other))) none
+      ∙ ap (λ named_too. base_entries (unwrap_or list.user other.user) (common group (unwrap_or named (union_of_named (union_of_named group named_too) list.groups))) (unwrap_or list.other other.other)) users
+      ∙ ap (λ named_too. base_entries (unwrap_or list.user other.user) (common group (unwrap_or named (union_of_named group named_too))) (unwrap_or list.other other.other)) groups
+
 -- ---- what is completed is a list of entries
 
 module _ (named : Option Rights) (other : EntryList) (list : PartialList) (mask : option_map_or are_rights named true ≡ true) (others : IsEntryList other) (parts : IsPartialList list) where
@@ -137,24 +152,11 @@ module _ (named : Option Rights) (other : EntryList) (list : PartialList) (mask 
     list_fits = completed_fits named other list ∙ few; mask = mask_good;
     user = unwrapped_good list.user other.user p.user o.user; group = group_good; other = unwrapped_good list.other other.other p.other o.other })
 
-  abbrev pub kept_bases : EntryList
-  kept_bases = base_entries (unwrap_or list.user other.user) (common (unwrap_or list.group other.group) (unwrap_or named (unwrap_or list.group other.group))) (unwrap_or list.other other.other)
-
-  pub bases_good : are_bases kept_bases.user kept_bases.group kept_bases.other ≡ true
+  pub bases_good : are_bases (kept_bases named other list).user (kept_bases named other list).group (kept_bases named other list).other ≡ true
   bases_good = and _ _ (unwrapped_good list.user other.user p.user o.user)
       (and _ _ (common_good (unwrap_or list.group other.group) (unwrap_or named (unwrap_or list.group other.group)) group_good) (unwrapped_good list.other other.other p.other o.other))
 
-  -- without named entries
-  pub kept_is_bases : nat_lt 0 (named_count list) ≡ false → as_kept (completed named other list) ≡ kept_bases
-  kept_is_bases none =
-      let users : list.users ≡ [] = empty_is list.users (grind (arith, nat_tests)) in
-      let groups : list.groups ≡ [] = empty_is list.groups (grind (arith, nat_tests)) in
-      let group = unwrap_or list.group other.group in
-      ap (λ b. cond b (completed named other list) (base_entries (unwrap_or list.user other.user) (common group (unwrap_or named (union_of_named (union_of_named group list.users) list.groups))) (unwrap_or list.other other.other))) none
-      ∙ ap (λ named_too. base_entries (unwrap_or list.user other.user) (common group (unwrap_or named (union_of_named (union_of_named group named_too) list.groups))) (unwrap_or list.other other.other)) users
-      ∙ ap (λ named_too. base_entries (unwrap_or list.user other.user) (common group (unwrap_or named (union_of_named group named_too))) (unwrap_or list.other other.other)) groups
-
-  pub kept_bases_good : IsEntryList kept_bases
+  pub kept_bases_good : IsEntryList (kept_bases named other list)
   kept_bases_good = bases_good
 
 -- the parts that the code makes
