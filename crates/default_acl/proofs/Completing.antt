@@ -1,23 +1,19 @@
 -- Lists that are completed with a mask, and access lists as they are kept.
-use Rattle.std.proofs.Common.{◌≡◌, ℕ, ◌+◌, ◌<◌, ◌≤◌, Bool, true, false, ◌&&◌, not, List, [], ◌∷◌, ◌++◌, map, length, cond, Option, Some, None, refl, sym, ap, subst, ◌∙◌, arith, length-append}
+use Rattle.std.proofs.Common.{◌≡◌, ◌+◌, ◌<◌, true, false, List, [], ◌∷◌, length, cond, Option, Some, None, refl, sym, ap, ◌∙◌, arith, length-append}
 use Rattle.std.proofs.lemmas.List.{length-map}
-use Rattle.std.specs.Prelude.{unwrap_or, nat_lt, nat_le, fold}
-use Rattle.std.specs.List.{list_all}
-use Rattle.std.specs.Option.{option_map_or, is_some, is_none}
+use Rattle.std.specs.Prelude.{unwrap_or, nat_lt, nat_le}
+use Rattle.std.specs.Option.{option_map_or, is_some}
 use Rattle.std.proofs.lemmas.Bool.Decides.{nat_tests}
 use Rattle.std.proofs.lemmas.Nat.{or_lt, and_le_l}
 use Rattle.std.specs.Int.RustNames.{bit_and, bit_or}
-use Rattle.hdfs_types.specs.declared.entry.Entry.{Entry}
-use Rattle.hdfs_types.specs.declared.entry.Scope.{Scope}
 use Rattle.hdfs_types.specs.declared.entry.Scope.TheVariants.{Access}
-use Rattle.hdfs_types.specs.declared.entry.EntryKind.TheVariants.{User, Group, Mask, Other}
 use Rattle.hdfs_types.specs.declared.rights.Rights.{Rights}
 use Rattle.acl_entries.specs.declared.entry_list.NamedEntry.{NamedEntry}
 use Rattle.acl_entries.specs.declared.entry_list.Bases.{Bases}
 use Rattle.acl_entries.specs.Kept.{list_of_parts}
-use Rattle.acl_entries.specs.AccessControlList.{EntryList, base_entries, common, union, union_of_named, union_of_group_class, has_named, named_entry, entries_in, mask_entries, fits, ascend, grant_rights, are_rights, are_bases, is_entry_list, IsEntryList, is_access_list}
-use Rattle.default_acl.specs.AclChange.{PartialList, completed, with_bases_of, mask_after, as_kept}
-use Rattle.default_acl.specs.Answers.{is_partial_list, IsPartialList, named_count}
+use Rattle.acl_entries.specs.AccessControlList.{EntryList, base_entries, common, union, union_of_named, union_of_group_class, has_named, entries_in, mask_entries, fits, ascend, grant_rights, are_rights, are_bases, IsEntryList}
+use Rattle.default_acl.specs.AclChange.{PartialList, completed, with_bases_of, as_kept}
+use Rattle.default_acl.specs.Answers.{IsPartialList, named_count}
 use Rattle.default_acl.proofs.Tests.{both, and}
 
 pub entries_count : (list : EntryList) → length (entries_in Access list) ≡ 3 + length (mask_entries Access list.mask) + length list.users + length list.groups
@@ -148,9 +144,16 @@ module _ (named : Option Rights) (other : EntryList) (list : PartialList) (mask 
 
   pub completed_good : nat_le (named_count list) 28 ≡ true → IsEntryList (completed named other list)
   completed_good few = is_good (completed named other list) (record {
-    users_ascend = p.users_ascend; groups_ascend = p.groups_ascend; users_grant = p.users_grant; groups_grant = p.groups_grant;
-    list_fits = completed_fits named other list ∙ few; mask = mask_good;
-    user = unwrapped_good list.user other.user p.user o.user; group = group_good; other = unwrapped_good list.other other.other p.other o.other })
+    users_ascend = p.users_ascend;
+    groups_ascend = p.groups_ascend;
+    users_grant = p.users_grant;
+    groups_grant = p.groups_grant;
+    list_fits = completed_fits named other list ∙ few;
+    mask = mask_good;
+    user = unwrapped_good list.user other.user p.user o.user;
+    group = group_good;
+    other = unwrapped_good list.other other.other p.other o.other;
+  })
 
   pub bases_good : are_bases (kept_bases named other list).user (kept_bases named other list).group (kept_bases named other list).other ≡ true
   bases_good = and _ _ (unwrapped_good list.user other.user p.user o.user)
@@ -188,7 +191,15 @@ remasked_good list user other mask h masked users masks others =
     let parts : Good list = good list h in
     let new : EntryList = record { user = user; users = list.users; group = list.group; groups = list.groups; mask = mask; other = other } in
     let count : length (entries_in Access new) ≡ length (entries_in Access list) =
-        entries_count new ∙ ap (λ n. 3 + n + length list.users + length list.groups) (mask_length mask list.mask masked) ∙ sym (entries_count list) in
+    entries_count new ∙ ap (λ n. 3 + n + length list.users + length list.groups) (mask_length mask list.mask masked) ∙ sym (entries_count list) in
     is_good new (record {
-      users_ascend = parts.users_ascend; groups_ascend = parts.groups_ascend; users_grant = parts.users_grant; groups_grant = parts.groups_grant;
-      list_fits = ap (λ n. nat_le n 32) count ∙ parts.list_fits; mask = masks; user = users; group = parts.group; other = others })
+      users_ascend = parts.users_ascend;
+      groups_ascend = parts.groups_ascend;
+      users_grant = parts.users_grant;
+      groups_grant = parts.groups_grant;
+      list_fits = ap (λ n. nat_le n 32) count ∙ parts.list_fits;
+      mask = masks;
+      user = users;
+      group = parts.group;
+      other = others;
+    })

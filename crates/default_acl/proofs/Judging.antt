@@ -1,9 +1,9 @@
 -- The entry that decides: what a mask bounds, and who is judged by the entry of all others.
-use Rattle.std.proofs.Common.{◌≡◌, ℕ, Bool, true, false, ◌&&◌, ◌||◌, List, [], ◌∷◌, ◌++◌, map, cond, Option, Some, None, refl, sym, ap, subst, ◌∙◌, arith}
-use Rattle.std.specs.Prelude.{filter, unwrap_or, ◌==◌}
+use Rattle.std.proofs.Common.{◌≡◌, ℕ, Bool, true, false, ◌||◌, List, [], ◌∷◌, ◌++◌, map, cond, Option, Some, None, refl, ap, ◌∙◌, arith}
+use Rattle.std.specs.Prelude.{filter, unwrap_or}
 use Rattle.std.specs.Int.RustNames.{bit_and}
 use Rattle.std.specs.List.{find, list_any, slice_get}
-use Rattle.std.specs.Option.{is_some, option_map_or, option_or}
+use Rattle.std.specs.Option.{option_map_or, option_or}
 use Rattle.std.proofs.lemmas.Bool.{eqb-true}
 use Rattle.std.proofs.lemmas.Bool.Decides.{nat_tests}
 use Rattle.std.proofs.lemmas.Nat.{and_assoc, and_le_r}
@@ -15,9 +15,9 @@ use Rattle.hdfs_types.specs.declared.entry.Entry.{Entry}
 use Rattle.hdfs_types.specs.declared.entry.EntryKind.TheVariants.{User, Group, Other}
 use Rattle.hdfs_types.specs.declared.entry.Scope.TheVariants.{Access}
 use Rattle.acl_entries.specs.declared.entry_list.NamedEntry.{NamedEntry}
-use Rattle.acl_entries.specs.AccessControlList.{AccessControlList, EntryList, base_entry, named_entry}
-use Rattle.acl_entries.specs.JudgedEntry.{Judgement, judged_by, judged_entry, judged_by_groups, group_entries, best, masked}
-use Rattle.default_acl.specs.Laws.{is_of_masked_class, IsStranger, MasksBoundWhatIsGranted, StrangersAreOthers}
+use Rattle.acl_entries.specs.AccessControlList.{base_entry, named_entry}
+use Rattle.acl_entries.specs.JudgedEntry.{Judgement, judged_by, judged_by_groups, group_entries, best, masked}
+use Rattle.default_acl.specs.Laws.{is_of_masked_class, MasksBoundWhatIsGranted, StrangersAreOthers}
 
 -- ---- what a mask bounds
 
@@ -26,7 +26,7 @@ mask_covers : (granted mask need : ℕ) → covers (bit_and granted mask) need �
 mask_covers granted mask need h =
     let within : bit_and (bit_and granted mask) need ≡ need = eqb-true _ _ h in
     let has : bit_and mask need ≡ need =
-        omega (arith, within, and_assoc need granted mask, and_le_r granted (bit_and mask need), and_le_r mask need) in
+    omega (arith, within, and_assoc need granted mask, and_le_r granted (bit_and mask need), and_le_r mask need) in
     grind (arith, nat_tests)
 
 module _ (mask : Option Rights) (need : Rights) where
@@ -60,7 +60,7 @@ module _ (mask : Option Rights) (need : Rights) where
   best_bound : (entries : List Entry) (other : Judgement) → IsBound other → IsBound (unwrap_or (best (map (λ entry. judged_by entry mask need) entries)) other)
   best_bound entries other h =
       by (find (λ j. j.granted) (map (λ entry. judged_by entry mask need) entries)) (slice_get (map (λ entry. judged_by entry mask need) entries) 0)
-          (found_bound entries (unwrap_or (slice_get (map (λ entry. judged_by entry mask need) entries) 0) other) (first_bound entries other h))
+      (found_bound entries (unwrap_or (slice_get (map (λ entry. judged_by entry mask need) entries) 0) other) (first_bound entries other h))
     where
       by : (found first : Option Judgement) → IsBound (unwrap_or found (unwrap_or first other)) → IsBound (unwrap_or (option_or found first) other)
       by None first g = g
@@ -109,7 +109,7 @@ strangers owner group acl caller groups need stranger =
     let named = λ (entry : NamedEntry). judged_by (named_entry Access User entry) acl.access.mask need in
     let judge = λ (entry : Entry). judged_by entry acl.access.mask need in
     ap (λ b. cond b (judged_by (base_entry Access User acl.access.user) None need)
-        (option_map_or named (find (λ entry. same caller entry.name) acl.access.users) (judged_by_groups group acl.access groups need))) stranger.no_owner
+    (option_map_or named (find (λ entry. same caller entry.name) acl.access.users) (judged_by_groups group acl.access groups need))) stranger.no_owner
     ∙ ap (λ entry. option_map_or named entry (judged_by_groups group acl.access groups need)) (none_found (λ entry. same caller entry.name) acl.access.users stranger.no_named_user)
     ∙ ap (λ b. unwrap_or (best (map judge (cond b (base_entry Access Group acl.access.group ∷ []) [] ++ map (named_entry Access Group) (filter (λ entry. has_group groups entry.name) acl.access.groups)))) other) stranger.not_in_group
     ∙ ap (λ entries. unwrap_or (best (map judge (map (named_entry Access Group) entries))) other) (none_left (λ entry. has_group groups entry.name) acl.access.groups stranger.in_no_named_group)

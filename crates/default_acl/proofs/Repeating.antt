@@ -1,9 +1,9 @@
 -- A list that was modified by a spec is modified by it again: nothing changes.
-use Rattle.std.proofs.Common.{◌≡◌, ℕ, ◌+◌, ◌<◌, Bool, true, false, ◌&&◌, ◌||◌, List, [], ◌∷◌, length, cond, Option, Some, None, Ok, Err, Result, inl, inr, ◌⊎◌, refl, sym, ap, subst, ◌∙◌, Ordering, Less, Equal, Greater, is_eq, arith}
+use Rattle.std.proofs.Common.{◌≡◌, ℕ, ◌+◌, ◌<◌, Bool, true, false, ◌&&◌, ◌||◌, List, [], ◌∷◌, length, cond, Option, Some, None, Ok, Err, inl, inr, ◌⊎◌, refl, sym, ap, ◌∙◌, Ordering, Less, Equal, Greater, is_eq, arith}
 use Rattle.std.specs.Prelude.{filter, nat_lt, unwrap_or}
 use Rattle.std.specs.List.{list_any, filter_map, cons_option}
-use Rattle.std.specs.Option.{option_eq, option_map, option_map_or, option_or, is_some}
-use Rattle.std.specs.Ordering.{is_gt, is_lt, ordering_reverse}
+use Rattle.std.specs.Option.{option_eq, option_map, option_map_or, option_or}
+use Rattle.std.specs.Ordering.{is_lt, ordering_reverse}
 use Rattle.std.specs.Int.RustNames.{bit_and}
 use Rattle.std.specs.Int.Bits.{and_self}
 use Rattle.std.proofs.lemmas.Cmp.{nat_list_cmp_total}
@@ -60,10 +60,10 @@ put_stands new (e ∷ es) = by (text_cmp new.name e.name) refl (put_stands new e
 stands_is : (new : NamedEntry) (entries : List NamedEntry) → Stands new entries → put new entries ≡ entries
 stands_is new [] h = absurd h
 stands_is new (e ∷ es) h = elim h [
-    inl is ↦ ap (λ b. cond b (new ∷ es) (cond (is_lt (text_cmp new.name e.name)) (new ∷ e ∷ es) (e ∷ put new es))) (ap (λ entry. same new.name entry.name) is ∙ same_self new.name)
-        ∙ ap (λ entry. entry ∷ es) (sym is)
+  | inl is ↦ ap (λ b. cond b (new ∷ es) (cond (is_lt (text_cmp new.name e.name)) (new ∷ e ∷ es) (e ∷ put new es))) (ap (λ entry. same new.name entry.name) is ∙ same_self new.name)
+      ∙ ap (λ entry. entry ∷ es) (sym is)
   | inr others ↦ ap (λ o. cond (is_eq o) (new ∷ es) (cond (is_lt o) (new ∷ e ∷ es) (e ∷ put new es))) others.0 ∙ ap (λ list. e ∷ list) (stands_is new es others.1)
-  ]
+]
 
 stands_beside : (new other : NamedEntry) (entries : List NamedEntry) → same other.name new.name ≡ false → Stands new entries → Stands new (put other entries)
 stands_beside new other [] apart h = absurd h
@@ -212,9 +212,9 @@ module _ (scope : Scope) (spec : List Entry) (mask : Option Rights) (users_apart
       let users = each_again old.users (named_in scope User spec) users_apart in
       let groups = each_again old.groups (named_in scope Group spec) groups_apart in
       ap (λ r. built mask r (with_each once.users (named_in scope User spec)) (unwrap_or (option_or (given scope Group spec) (Some once.group)) second.group)
-          (with_each once.groups (named_in scope Group spec)) (unwrap_or (option_or (given scope Other spec) (Some once.other)) second.other)) user
+      (with_each once.groups (named_in scope Group spec)) (unwrap_or (option_or (given scope Other spec) (Some once.other)) second.other)) user
       ∙ ap (λ l. built mask once.user l (unwrap_or (option_or (given scope Group spec) (Some once.group)) second.group)
-          (with_each once.groups (named_in scope Group spec)) (unwrap_or (option_or (given scope Other spec) (Some once.other)) second.other)) users
+      (with_each once.groups (named_in scope Group spec)) (unwrap_or (option_or (given scope Other spec) (Some once.other)) second.other)) users
       ∙ ap (λ r. built mask once.user once.users r (with_each once.groups (named_in scope Group spec)) (unwrap_or (option_or (given scope Other spec) (Some once.other)) second.other)) group
       ∙ ap (λ l. built mask once.user once.users once.group l (unwrap_or (option_or (given scope Other spec) (Some once.other)) second.other)) groups
       ∙ ap (λ r. built mask once.user once.users once.group once.groups r) other
@@ -256,10 +256,10 @@ module _ (spec : List Entry) (mask : Option Rights) (users_apart : AreApart (nam
       let no_users : named_in Access User spec ≡ [] = none_put old.users (named_in Access User spec) (grind (arith, nat_tests)) in
       let no_groups : named_in Access Group spec ≡ [] = none_put old.groups (named_in Access Group spec) (grind (arith, nat_tests)) in
       let none : nat_lt 0 (named once) ≡ false =
-          ap (λ l. nat_lt 0 (length (with_each [] l) + length (with_each [] (named_in Access Group spec)))) no_users ∙ ap (λ l. nat_lt 0 (length (with_each [] []) + length (with_each [] l))) no_groups in
+      ap (λ l. nat_lt 0 (length (with_each [] l) + length (with_each [] (named_in Access Group spec)))) no_users ∙ ap (λ l. nat_lt 0 (length (with_each [] []) + length (with_each [] l))) no_groups in
       ap step kept ∙ kept_is_bases mask once (after_addition Access spec (all_of once)) none
       ∙ ap (λ r. base_entries r (common (unwrap_or (option_or (given Access Group spec) (Some once.group)) once.group) (unwrap_or mask (unwrap_or (option_or (given Access Group spec) (Some once.group)) once.group)))
-            (unwrap_or (option_or (given Access Other spec) (Some once.other)) once.other)) (base_again (given Access User spec) (Some old.user) old.user once.user)
+      (unwrap_or (option_or (given Access Other spec) (Some once.other)) once.other)) (base_again (given Access User spec) (Some old.user) old.user once.user)
       ∙ ap (λ r. base_entries once.user r (unwrap_or (option_or (given Access Other spec) (Some once.other)) once.other)) (group_again (given Access Group spec) mask old.group)
       ∙ ap (λ r. base_entries once.user once.group r) (base_again (given Access Other spec) (Some old.other) old.other once.other)
       ∙ sym kept

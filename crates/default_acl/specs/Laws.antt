@@ -1,5 +1,5 @@
 -- Laws about access control lists, which follow from the definitions of changes, of inheritance and of the entry that decides.
-use Rattle.std.specs.Prelude.{◌≡◌, ℕ, Bool, true, false, ◌||◌, List, Option, None, Result, Ok, IsTrue}
+use Rattle.std.specs.Prelude.{◌≡◌, ℕ, Bool, true, false, ◌||◌, List, None, Ok, IsTrue}
 use Rattle.std.specs.List.{list_any}
 use Rattle.std.specs.Option.{is_some, option_map_or}
 use Rattle.hdfs_types.specs.Text.{same}
