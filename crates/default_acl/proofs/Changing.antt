@@ -1,7 +1,6 @@
 -- A change as a whole: its faults, and that its lists make an access control list again.
-use Rattle.std.proofs.Common.{◌≡◌, ℕ, ◌<◌, Bool, true, false, ◌&&◌, List, cond, Option, Some, None, Ok, Err, Result, refl, sym, ap, subst, ◌∙◌}
+use Rattle.std.proofs.Common.{◌≡◌, ◌<◌, Bool, true, false, ◌&&◌, cond, Option, Some, None, Ok, Err, refl, sym, ap, subst, ◌∙◌}
 use Rattle.std.specs.Option.{option_map_or, is_some, is_none}
-use Rattle.hdfs_types.specs.declared.entry.Entry.{Entry}
 use Rattle.hdfs_types.specs.declared.entry.Scope.TheVariants.{Access, Default}
 use Rattle.hdfs_types.specs.declared.entry.EntryKind.TheVariants.{Mask}
 use Rattle.hdfs_types.specs.declared.rights.Rights.{Rights}
@@ -9,10 +8,9 @@ use Rattle.hdfs_types.specs.declared.acl_change.AclChange.{AclChange}
 use Rattle.hdfs_types.specs.declared.acl_change.AclChange.TheVariants.{Set, Modify, Remove, RemoveDefault, Clear}
 use Rattle.hdfs_types.specs.declared.fault.AclFault.{AclFault}
 use Rattle.hdfs_types.specs.declared.reply.ObjectKind.{ObjectKind}
-use Rattle.hdfs_types.specs.declared.reply.Refusal.{Refusal}
 use Rattle.hdfs_types.specs.declared.reply.Refusal.TheVariants.{BadAcl, TooManyEntries}
 use Rattle.acl_entries.specs.AccessControlList.{AccessControlList, EntryList, IsEntryList, IsAccessControlList, base_entries, common, has_named, fits, is_access_list}
-use Rattle.default_acl.specs.AclChange.{PartialList, completed, as_kept, touches, given, all_of, no_entries, has_no_entry, after_addition, after_removal, access_where, access_after, default_where, default_left, default_after, acl_after, first_acl_fault, if_it_fits, unless_fault, acl_change}
+use Rattle.default_acl.specs.AclChange.{PartialList, completed, as_kept, touches, given, all_of, no_entries, has_no_entry, after_addition, after_removal, access_where, access_after, default_where, default_after, acl_after, first_acl_fault, unless_fault, acl_change}
 use Rattle.default_acl.specs.Answers.{Changes, IfRefused, Makes, MakesAny, named_count}
 use Rattle.default_acl.specs.declared.fault.AclChangeFault.{AclChangeFault}
 use Rattle.default_acl.specs.declared.fault.AclChangeFault.TheVariants.{Refused, OutOfMemory}
@@ -106,9 +104,11 @@ module _ (change : AclChange) (kind : ObjectKind) (acl : AccessControlList) wher
     pub refused_by_default : (fault : AclChangeFault) → None ≡ first_acl_fault change kind acl → MakesAny (Err fault) (default_after change access acl.default)
         → Changes {T = Unit} (Err fault) (acl_change change kind acl) acl acl
     refused_by_default (Refused refusal) none h =
-        let overfull_default : option_map_or fits due_default true ≡ false = ap (λ list. option_map_or fits (default_after change list acl.default) true) (sym is) ∙ h.1 in
-        (answered none (fits due_access) false refl overfull_default
-            ∙ ap (λ c. cond c (Ok (acl_after change acl)) (Err TooManyEntries)) (and_false (fits due_access) false refl) ∙ ap (λ r. Err r) (sym h.0), refl)
+        let overfull_default : option_map_or fits due_default true ≡ false = ap (λ list. option_map_or fits (default_after change list acl.default) true) (sym is) ∙ h.1 in (
+          answered none (fits due_access) false refl overfull_default
+              ∙ ap (λ c. cond c (Ok (acl_after change acl)) (Err TooManyEntries)) (and_false (fits due_access) false refl) ∙ ap (λ r. Err r) (sym h.0),
+          refl,
+        )
     refused_by_default OutOfMemory none h = refl
 
     module _ (default : Option EntryList) (is_too : default ≡ default_after change access acl.default) where

@@ -1,23 +1,19 @@
 -- Lists that are completed with a mask, and access lists as they are kept.
-use Rattle.std.proofs.Common.{◌≡◌, ℕ, ◌+◌, ◌<◌, ◌≤◌, Bool, true, false, ◌&&◌, not, List, [], ◌∷◌, ◌++◌, map, length, cond, Option, Some, None, refl, sym, ap, subst, ◌∙◌, arith, length-append}
+use Rattle.std.proofs.Common.{◌≡◌, ◌+◌, ◌<◌, true, false, List, [], ◌∷◌, length, cond, Option, Some, None, refl, sym, ap, ◌∙◌, arith, length-append}
 use Rattle.std.proofs.lemmas.List.{length-map}
-use Rattle.std.specs.Prelude.{unwrap_or, nat_lt, nat_le, fold}
-use Rattle.std.specs.List.{list_all}
-use Rattle.std.specs.Option.{option_map_or, is_some, is_none}
+use Rattle.std.specs.Prelude.{unwrap_or, nat_lt, nat_le}
+use Rattle.std.specs.Option.{option_map_or, is_some}
 use Rattle.std.proofs.lemmas.Bool.Decides.{nat_tests}
 use Rattle.std.proofs.lemmas.Nat.{or_lt, and_le_l}
 use Rattle.std.specs.Int.RustNames.{bit_and, bit_or}
-use Rattle.hdfs_types.specs.declared.entry.Entry.{Entry}
-use Rattle.hdfs_types.specs.declared.entry.Scope.{Scope}
 use Rattle.hdfs_types.specs.declared.entry.Scope.TheVariants.{Access}
-use Rattle.hdfs_types.specs.declared.entry.EntryKind.TheVariants.{User, Group, Mask, Other}
 use Rattle.hdfs_types.specs.declared.rights.Rights.{Rights}
 use Rattle.acl_entries.specs.declared.entry_list.NamedEntry.{NamedEntry}
 use Rattle.acl_entries.specs.declared.entry_list.Bases.{Bases}
 use Rattle.acl_entries.specs.Kept.{list_of_parts}
-use Rattle.acl_entries.specs.AccessControlList.{EntryList, base_entries, common, union, union_of_named, union_of_group_class, has_named, named_entry, entries_in, mask_entries, fits, ascend, grant_rights, are_rights, are_bases, is_entry_list, IsEntryList, is_access_list}
-use Rattle.default_acl.specs.AclChange.{PartialList, completed, with_bases_of, mask_after, as_kept}
-use Rattle.default_acl.specs.Answers.{is_partial_list, IsPartialList, named_count}
+use Rattle.acl_entries.specs.AccessControlList.{EntryList, base_entries, common, union, union_of_named, union_of_group_class, has_named, entries_in, mask_entries, fits, ascend, grant_rights, are_rights, are_bases, IsEntryList}
+use Rattle.default_acl.specs.AclChange.{PartialList, completed, with_bases_of, as_kept}
+use Rattle.default_acl.specs.Answers.{IsPartialList, named_count}
 use Rattle.default_acl.proofs.Tests.{both, and}
 
 pub entries_count : (list : EntryList) → length (entries_in Access list) ≡ 3 + length (mask_entries Access list.mask) + length list.users + length list.groups
@@ -29,7 +25,7 @@ completed_fits named other list = rw (entries_count (completed named other list)
 pub too_many : (named : Option Rights) (other : EntryList) (list : PartialList) → 32 < named_count list → fits (completed named other list) ≡ false
 too_many named other list many = completed_fits named other list ∙ grind (arith, nat_tests)
 
-kept_named : (list : EntryList) → has_named list ≡ true → as_kept list ≡ list
+pub kept_named : (list : EntryList) → has_named list ≡ true → as_kept list ≡ list
 kept_named list h = rw h refl
 
 pub too_many_kept : (named : Option Rights) (other : EntryList) (list : PartialList) → 32 < named_count list → fits (as_kept (completed named other list)) ≡ false
@@ -113,6 +109,21 @@ good_parts list h =
 pub are_good_parts : (list : PartialList) → GoodParts list → IsPartialList list
 are_good_parts list g = and _ _ g.users_ascend (and _ _ g.groups_ascend (and _ _ g.users_grant (and _ _ g.groups_grant (and _ _ g.user (and _ _ g.group g.other)))))
 
+-- ---- without named entries a mask filters the owning group for good
+
+module _ (named : Option Rights) (other : EntryList) (list : PartialList) where
+  abbrev pub kept_bases : EntryList
+  kept_bases = base_entries (unwrap_or list.user other.user) (common (unwrap_or list.group other.group) (unwrap_or named (unwrap_or list.group other.group))) (unwrap_or list.other other.other)
+
+  pub kept_is_bases : nat_lt 0 (named_count list) ≡ false → as_kept (completed named other list) ≡ kept_bases
+  kept_is_bases none =
+      let users : list.users ≡ [] = empty_is list.users (grind (arith, nat_tests)) in
+      let groups : list.groups ≡ [] = empty_is list.groups (grind (arith, nat_tests)) in
+      let group = unwrap_or list.group other.group in
+      ap (λ b. cond b (completed named other list) (base_entries (unwrap_or list.user other.user) (common group (unwrap_or named (union_of_named (union_of_named group list.users) list.groups))) (unwrap_or list.other other.other))) none
+      ∙ ap (λ named_too. base_entries (unwrap_or list.user other.user) (common group (unwrap_or named (union_of_named (union_of_named group named_too) list.groups))) (unwrap_or list.other other.other)) users
+      ∙ ap (λ named_too. base_entries (unwrap_or list.user other.user) (common group (unwrap_or named (union_of_named group named_too))) (unwrap_or list.other other.other)) groups
+
 -- ---- what is completed is a list of entries
 
 module _ (named : Option Rights) (other : EntryList) (list : PartialList) (mask : option_map_or are_rights named true ≡ true) (others : IsEntryList other) (parts : IsPartialList list) where
@@ -133,28 +144,22 @@ module _ (named : Option Rights) (other : EntryList) (list : PartialList) (mask 
 
   pub completed_good : nat_le (named_count list) 28 ≡ true → IsEntryList (completed named other list)
   completed_good few = is_good (completed named other list) (record {
-    users_ascend = p.users_ascend; groups_ascend = p.groups_ascend; users_grant = p.users_grant; groups_grant = p.groups_grant;
-    list_fits = completed_fits named other list ∙ few; mask = mask_good;
-    user = unwrapped_good list.user other.user p.user o.user; group = group_good; other = unwrapped_good list.other other.other p.other o.other })
+    users_ascend = p.users_ascend;
+    groups_ascend = p.groups_ascend;
+    users_grant = p.users_grant;
+    groups_grant = p.groups_grant;
+    list_fits = completed_fits named other list ∙ few;
+    mask = mask_good;
+    user = unwrapped_good list.user other.user p.user o.user;
+    group = group_good;
+    other = unwrapped_good list.other other.other p.other o.other;
+  })
 
-  abbrev pub kept_bases : EntryList
-  kept_bases = base_entries (unwrap_or list.user other.user) (common (unwrap_or list.group other.group) (unwrap_or named (unwrap_or list.group other.group))) (unwrap_or list.other other.other)
-
-  pub bases_good : are_bases kept_bases.user kept_bases.group kept_bases.other ≡ true
+  pub bases_good : are_bases (kept_bases named other list).user (kept_bases named other list).group (kept_bases named other list).other ≡ true
   bases_good = and _ _ (unwrapped_good list.user other.user p.user o.user)
       (and _ _ (common_good (unwrap_or list.group other.group) (unwrap_or named (unwrap_or list.group other.group)) group_good) (unwrapped_good list.other other.other p.other o.other))
 
-  -- without named entries
-  pub kept_is_bases : nat_lt 0 (named_count list) ≡ false → as_kept (completed named other list) ≡ kept_bases
-  kept_is_bases none =
-      let users : list.users ≡ [] = empty_is list.users (grind (arith, nat_tests)) in
-      let groups : list.groups ≡ [] = empty_is list.groups (grind (arith, nat_tests)) in
-      let group = unwrap_or list.group other.group in
-      ap (λ b. cond b (completed named other list) (base_entries (unwrap_or list.user other.user) (common group (unwrap_or named (union_of_named (union_of_named group list.users) list.groups))) (unwrap_or list.other other.other))) none
-      ∙ ap (λ named_too. base_entries (unwrap_or list.user other.user) (common group (unwrap_or named (union_of_named (union_of_named group named_too) list.groups))) (unwrap_or list.other other.other)) users
-      ∙ ap (λ named_too. base_entries (unwrap_or list.user other.user) (common group (unwrap_or named (union_of_named group named_too))) (unwrap_or list.other other.other)) groups
-
-  pub kept_bases_good : IsEntryList kept_bases
+  pub kept_bases_good : IsEntryList (kept_bases named other list)
   kept_bases_good = bases_good
 
 -- the parts that the code makes
@@ -186,7 +191,15 @@ remasked_good list user other mask h masked users masks others =
     let parts : Good list = good list h in
     let new : EntryList = record { user = user; users = list.users; group = list.group; groups = list.groups; mask = mask; other = other } in
     let count : length (entries_in Access new) ≡ length (entries_in Access list) =
-        entries_count new ∙ ap (λ n. 3 + n + length list.users + length list.groups) (mask_length mask list.mask masked) ∙ sym (entries_count list) in
+    entries_count new ∙ ap (λ n. 3 + n + length list.users + length list.groups) (mask_length mask list.mask masked) ∙ sym (entries_count list) in
     is_good new (record {
-      users_ascend = parts.users_ascend; groups_ascend = parts.groups_ascend; users_grant = parts.users_grant; groups_grant = parts.groups_grant;
-      list_fits = ap (λ n. nat_le n 32) count ∙ parts.list_fits; mask = masks; user = users; group = parts.group; other = others })
+      users_ascend = parts.users_ascend;
+      groups_ascend = parts.groups_ascend;
+      users_grant = parts.users_grant;
+      groups_grant = parts.groups_grant;
+      list_fits = ap (λ n. nat_le n 32) count ∙ parts.list_fits;
+      mask = masks;
+      user = users;
+      group = parts.group;
+      other = others;
+    })

@@ -1,5 +1,5 @@
 -- What a default list leaves to what is made below it.
-use Rattle.std.proofs.Common.{◌≡◌, ℕ, Bool, List, true, false, Option, Some, None, refl, sym, ap, ◌∙◌}
+use Rattle.std.proofs.Common.{◌≡◌, ℕ, Bool, List, true, Option, Some, None, refl, ◌∙◌}
 use Rattle.std.specs.Option.{option_map, option_map_or, is_some}
 use Rattle.hdfs_types.specs.Mode.{user_bits, group_bits, other_bits}
 use Rattle.hdfs_types.specs.Rights.{rights}
@@ -9,7 +9,7 @@ use Rattle.hdfs_types.specs.declared.reply.ObjectKind.TheVariants.{File, Directo
 use Rattle.acl_entries.specs.declared.entry_list.Bases.{Bases}
 use Rattle.acl_entries.specs.declared.entry_list.NamedEntry.{NamedEntry}
 use Rattle.acl_entries.specs.Kept.{list_of_parts}
-use Rattle.acl_entries.specs.AccessControlList.{AccessControlList, EntryList, IsEntryList, IsAccessControlList, are_rights, common}
+use Rattle.acl_entries.specs.AccessControlList.{EntryList, IsEntryList, IsAccessControlList, are_rights, common}
 use Rattle.default_acl.specs.AclChange.{as_kept}
 use Rattle.default_acl.specs.Inheritance.{cut_to, passed_on}
 use Rattle.default_acl.proofs.Tests.{and}
@@ -28,8 +28,8 @@ pub cut_good : (mode : ℕ) (list : EntryList) → IsEntryList list → IsEntryL
 cut_good mode list h =
     let parts : Good list = good list h in
     remasked_good list (common list.user (rights (user_bits mode))) (common list.other (rights (other_bits mode))) (option_map (λ mask. common mask (rights (group_bits mode))) list.mask)
-        h (mask_stays list.mask (rights (group_bits mode)))
-        (common_good list.user (rights (user_bits mode)) parts.user) (mask_good list.mask (rights (group_bits mode)) parts.mask) (common_good list.other (rights (other_bits mode)) parts.other)
+    h (mask_stays list.mask (rights (group_bits mode)))
+    (common_good list.user (rights (user_bits mode)) parts.user) (mask_good list.mask (rights (group_bits mode)) parts.mask) (common_good list.other (rights (other_bits mode)) parts.other)
 
 -- the parts that the code makes
 pub cut_from : (mode : ℕ) (list : EntryList) (bases : Bases) (mask : Option Rights) (users groups : List NamedEntry) → IsEntryList list

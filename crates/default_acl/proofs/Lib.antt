@@ -4,3 +4,5 @@ pub mod Completing
 pub mod Partials
 pub mod Changing
 pub mod Inheriting
+pub mod Repeating
+pub mod Judging

@@ -1,7 +1,7 @@
 -- Lists of named entries in the order of their names: what is put in and taken away.
-use Rattle.std.proofs.Common.{◌≡◌, ℕ, ◌+◌, ◌<◌, ◌≤◌, Bool, true, false, ◌&&◌, ◌||◌, not, List, [], ◌∷◌, ◌++◌, length, take, drop, cond, Option, Some, None, refl, sym, ap, subst, ◌∙◌, Ordering, Less, Equal, Greater, is_eq, arith, one-add, suc, set, add-one, get_or, append_assoc, drop-cons}
-use Rattle.std.specs.Prelude.{filter, insert, fold}
-use Rattle.std.specs.List.{list_all, list_any, prefix_len, slice_get, filter_map, cons_option}
+use Rattle.std.proofs.Common.{◌≡◌, ℕ, ◌+◌, ◌<◌, ◌≤◌, Bool, true, false, ◌&&◌, ◌||◌, List, [], ◌∷◌, ◌++◌, length, drop, cond, Option, Some, None, refl, sym, ap, subst, ◌∙◌, Ordering, Less, Equal, Greater, is_eq, arith, one-add, set, add-one, get_or, append_assoc, drop-cons}
+use Rattle.std.specs.Prelude.{filter, insert}
+use Rattle.std.specs.List.{list_any, prefix_len, slice_get, filter_map, cons_option}
 use Rattle.std.specs.Option.{option_map_or, option_map}
 use Rattle.std.specs.Ordering.{is_gt, is_lt, ordering_reverse}
 use Rattle.std.proofs.lemmas.Cmp.{nat_list_cmp_total}
@@ -13,8 +13,8 @@ use Rattle.hdfs_types.specs.declared.entry.EntryKind.{EntryKind}
 use Rattle.hdfs_types.specs.declared.entry.Scope.{Scope}
 use Rattle.acl_entries.specs.declared.entry_list.NamedEntry.{NamedEntry}
 use Rattle.acl_entries.specs.AccessControlList.{ascend, grant_rights, are_rights}
-use Rattle.default_acl.specs.AclChange.{put, with_each, without, is_for, with_name, named_in, granted_by}
-use Rattle.default_acl.proofs.Tests.{both, and, all_filter}
+use Rattle.default_acl.specs.AclChange.{put, with_each, is_for, with_name, named_in, granted_by}
+use Rattle.default_acl.proofs.Tests.{both, and}
 
 -- ---- where an entry is put
 
@@ -226,12 +226,12 @@ names_one scope kind name (e ∷ es) = by (is_for scope kind e) (names_one scope
   where
     named : (own : Option (List ℕ)) → list_any (λ e. is_for scope kind e && option_map_or (λ own. same own name) e.name false) es ≡ list_any (λ other. same other.name name) (named_in scope kind es)
         → (option_map_or (λ own. same own name) own false || list_any (λ e. is_for scope kind e && option_map_or (λ own. same own name) e.name false) es)
-          ≡ list_any (λ other. same other.name name) (cons_option (option_map (λ own. record { name = own; rights = granted_by e }) own) (named_in scope kind es))
+        ≡ list_any (λ other. same other.name name) (cons_option (option_map (λ own. record { name = own; rights = granted_by e }) own) (named_in scope kind es))
     named None others = others
     named (Some own) others = ap (λ b. same own name || b) others
 
     by : (b : Bool) → list_any (λ e. is_for scope kind e && option_map_or (λ own. same own name) e.name false) es ≡ list_any (λ other. same other.name name) (named_in scope kind es)
         → ((b && option_map_or (λ own. same own name) e.name false) || list_any (λ e. is_for scope kind e && option_map_or (λ own. same own name) e.name false) es)
-          ≡ list_any (λ other. same other.name name) (filter_map with_name (cond b (e ∷ filter (is_for scope kind) es) (filter (is_for scope kind) es)))
+        ≡ list_any (λ other. same other.name name) (filter_map with_name (cond b (e ∷ filter (is_for scope kind) es) (filter (is_for scope kind) es)))
     by true others = named e.name others
     by false others = others

@@ -1,7 +1,7 @@
 -- What is left of a list, and what a spec adds to it, can stand in an access control list.
-use Rattle.std.proofs.Common.{◌≡◌, ℕ, ◌<◌, ◌%◌, Bool, true, false, ◌&&◌, not, List, [], ◌∷◌, cond, Option, Some, None, refl, sym, ap, subst, ◌∙◌, arith}
-use Rattle.std.specs.Prelude.{filter, nat_lt}
-use Rattle.std.specs.List.{list_all, list_any, find, filter_map, cons_option}
+use Rattle.std.proofs.Common.{◌≡◌, ℕ, ◌<◌, ◌%◌, Bool, true, false, not, List, [], ◌∷◌, cond, Option, Some, None, refl, arith}
+use Rattle.std.specs.Prelude.{filter}
+use Rattle.std.specs.List.{list_any, find, filter_map, cons_option}
 use Rattle.std.specs.Option.{option_map_or, option_map, option_or}
 use Rattle.std.proofs.lemmas.Bool.Decides.{nat_tests}
 use Rattle.hdfs_types.specs.Text.{same}
@@ -12,7 +12,7 @@ use Rattle.hdfs_types.specs.declared.entry.EntryKind.{EntryKind}
 use Rattle.hdfs_types.specs.declared.entry.EntryKind.TheVariants.{User, Group, Other}
 use Rattle.acl_entries.specs.declared.entry_list.NamedEntry.{NamedEntry}
 use Rattle.acl_entries.specs.AccessControlList.{EntryList, IsEntryList, grant_rights, are_rights}
-use Rattle.default_acl.specs.AclChange.{PartialList, all_of, after_addition, after_removal, given, granted_by, has_base, is_base_of, is_for, named_in, unless, with_name, without}
+use Rattle.default_acl.specs.AclChange.{PartialList, all_of, after_addition, after_removal, given, granted_by, has_base, is_base_of, is_for, named_in, unless, with_name}
 use Rattle.default_acl.specs.Answers.{IsPartialList}
 use Rattle.default_acl.proofs.Tests.{and, all_filter}
 use Rattle.default_acl.proofs.NamedLists.{with_each_ascends, with_each_grants, filter_ascends}
@@ -60,7 +60,8 @@ added_good scope spec list h =
       groups_grant = with_each_grants list.groups (named_in scope Group spec) (named_good scope Group spec) parts.groups_grant;
       user = either_good (given scope User spec) list.user (given_good scope User spec) parts.user;
       group = either_good (given scope Group spec) list.group (given_good scope Group spec) parts.group;
-      other = either_good (given scope Other spec) list.other (given_good scope Other spec) parts.other })
+      other = either_good (given scope Other spec) list.other (given_good scope Other spec) parts.other;
+    })
 
 pub removed_good : (scope : Scope) (spec : List Entry) (list : PartialList) → IsPartialList list → IsPartialList (after_removal scope spec list)
 removed_good scope spec list h =
@@ -73,11 +74,18 @@ removed_good scope spec list h =
       groups_grant = all_filter (λ entry. are_rights entry.rights) (stays (named_in scope Group spec)) list.groups parts.groups_grant;
       user = unless_good (has_base scope User spec) list.user parts.user;
       group = unless_good (has_base scope Group spec) list.group parts.group;
-      other = unless_good (has_base scope Other spec) list.other parts.other })
+      other = unless_good (has_base scope Other spec) list.other parts.other;
+    })
 
 pub all_good : (list : EntryList) → IsEntryList list → IsPartialList (all_of list)
 all_good list h =
     let parts : Good list = good list h in
     are_good_parts (all_of list) (record {
-      users_ascend = parts.users_ascend; groups_ascend = parts.groups_ascend; users_grant = parts.users_grant; groups_grant = parts.groups_grant;
-      user = parts.user; group = parts.group; other = parts.other })
+      users_ascend = parts.users_ascend;
+      groups_ascend = parts.groups_ascend;
+      users_grant = parts.users_grant;
+      groups_grant = parts.groups_grant;
+      user = parts.user;
+      group = parts.group;
+      other = parts.other;
+    })

@@ -125,16 +125,23 @@ has_no_entry list = is_none list.user && (is_none list.group && (is_none list.ot
 
 abbrev pub with_bases_of : EntryList → PartialList → EntryList
 with_bases_of other list = record {
-  user = unwrap_or list.user other.user; users = list.users;
-  group = unwrap_or list.group other.group; groups = list.groups;
-  mask = None; other = unwrap_or list.other other.other;
+  user = unwrap_or list.user other.user;
+  users = list.users;
+  group = unwrap_or list.group other.group;
+  groups = list.groups;
+  mask = None;
+  other = unwrap_or list.other other.other;
 }
 
 -- the mask that a spec names, else the union of the group class
 abbrev pub mask_after : Option Rights → EntryList → EntryList
 mask_after named list = record {
-  user = list.user; users = list.users; group = list.group; groups = list.groups;
-  mask = Some (unwrap_or named (union_of_group_class list)); other = list.other;
+  user = list.user;
+  users = list.users;
+  group = list.group;
+  groups = list.groups;
+  mask = Some (unwrap_or named (union_of_group_class list));
+  other = list.other;
 }
 
 abbrev pub completed : Option Rights → EntryList → PartialList → EntryList
@@ -236,8 +243,10 @@ acl_change change kind acl = unless_fault (first_acl_fault change kind acl) (acl
 
 abbrev pub access_with_mode : ℕ → EntryList → EntryList
 access_with_mode mode list = record {
-  user = rights (user_bits mode); users = list.users;
-  group = if is_some list.mask then list.group else rights (group_bits mode); groups = list.groups;
+  user = rights (user_bits mode);
+  users = list.users;
+  group = if is_some list.mask then list.group else rights (group_bits mode);
+  groups = list.groups;
   mask = option_map (λ mask. rights (group_bits mode)) list.mask;
   other = rights (other_bits mode);
 }

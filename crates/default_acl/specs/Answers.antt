@@ -1,7 +1,6 @@
 -- What the calls of this crate answer, beside what the definitions say. Want of memory may stand in place of any answer.
-use Rattle.std.specs.Prelude.{◌≡◌, ℕ, ◌+◌, ◌<◌, Bool, true, false, ◌&&◌, List, length, Option, Result, Ok, Err, IsTrue}
+use Rattle.std.specs.Prelude.{◌≡◌, ℕ, ◌+◌, Bool, true, false, ◌&&◌, length, Option, Result, Ok, Err, IsTrue}
 use Rattle.std.specs.Option.{option_map_or}
-use Rattle.hdfs_types.specs.declared.rights.Rights.{Rights}
 use Rattle.hdfs_types.specs.declared.reply.Refusal.{Refusal}
 use Rattle.hdfs_types.specs.declared.reply.Refusal.TheVariants.{TooManyEntries}
 use Rattle.acl_entries.specs.AccessControlList.{AccessControlList, EntryList, IsEntryList, fits, ascend, grant_rights, are_rights}

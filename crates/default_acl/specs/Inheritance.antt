@@ -13,8 +13,10 @@ use Rattle.default_acl.specs.AclChange.{as_kept}
 -- owner, mask and others no more than the mode grants them; named entries and group as they stand
 abbrev pub cut_to : ℕ → EntryList → EntryList
 cut_to mode list = record {
-  user = common list.user (rights (user_bits mode)); users = list.users;
-  group = list.group; groups = list.groups;
+  user = common list.user (rights (user_bits mode));
+  users = list.users;
+  group = list.group;
+  groups = list.groups;
   mask = option_map (λ mask. common mask (rights (group_bits mode))) list.mask;
   other = common list.other (rights (other_bits mode));
 }

@@ -1,10 +1,10 @@
-ghost use Rattle.std.specs.Prelude.{◌≡◌, ◌&&◌, ◌||◌, None, IsTrue, IfOk, OnOk, OnErr, IfErr, Ok};
+ghost use Rattle.std.specs.Prelude.{◌≡◌, ◌&&◌, None, OnOk, OnErr, Ok};
 ghost use Rattle.std.specs.Option.{option_copied};
 ghost use Rattle.hdfs_types.specs.declared.reply.ObjectKind.{ObjectKind};
 ghost use Rattle.hdfs_types.specs.declared.acl_change.AclChange.TheVariants.{Set, Modify, Remove, RemoveDefault, Clear};
 ghost use Rattle.hdfs_types.specs.declared.entry.Scope.TheVariants.{Access, Default};
 ghost use Rattle.hdfs_types.specs.declared.entry.EntryKind.TheVariants.{Mask};
-ghost use Rattle.acl_entries.specs.AccessControlList.{AccessControlList, IsAccessControlList, IsEntryList};
+ghost use Rattle.acl_entries.specs.AccessControlList.{AccessControlList, IsAccessControlList};
 ghost use Rattle.default_acl.specs.Answers.{Changes, Makes, MakesAny, IsPartialList};
 ghost use Rattle.default_acl.specs.AclChange as definition;
 

@@ -1,6 +1,6 @@
 ghost use Rattle.std.specs.Prelude.{◌≡◌, ◌+◌, nat_le, true, Some, length, unwrap_or, IfOk, IsTrue};
-ghost use Rattle.std.specs.Option.{option_map_or, option_copied, option_map};
-ghost use Rattle.acl_entries.specs.AccessControlList.{IsEntryList, union_of_named, are_rights, fits};
+ghost use Rattle.std.specs.Option.{option_map_or};
+ghost use Rattle.acl_entries.specs.AccessControlList.{IsEntryList, union_of_named, are_rights};
 ghost use Rattle.default_acl.specs.Answers.{Makes, IsPartialList};
 ghost use Rattle.default_acl.specs.AclChange as definition;
 

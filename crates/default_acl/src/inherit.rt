@@ -67,12 +67,7 @@ fn passed_on(kind: ObjectKind, list: &EntryList) -> Result<Option<EntryList>, Al
 ///
 /// # Errors
 /// Want of memory.
-pub fn inherit(
-    alloc: Global,
-    parent: &Acl,
-    mode: Mode,
-    kind: ObjectKind,
-) -> Result<Acl, AllocError>
+pub fn inherit(alloc: Global, parent: &Acl, mode: Mode, kind: ObjectKind) -> Result<Acl, AllocError>
     ensures list { IfOk result (λ acl. acl ≡ definition.inherited parent.now mode kind) }
     ensures plain { parent.now.default ≡ None → IsOk result }
 {

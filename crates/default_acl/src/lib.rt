@@ -7,6 +7,7 @@ pub mod chmod;
 mod completed;
 pub mod fault;
 pub mod inherit;
+pub mod laws;
 mod named;
 mod partial;
 mod scope;

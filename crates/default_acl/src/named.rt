@@ -83,7 +83,7 @@ fn put_of(
 }
 
 /// Puts in the entries of a spec for named users, or for named groups, of a scope. Stops where more stand there than may stand in a
-/// scope, so it costs the spec, and 32 comparisons for each of at most 65 entries.
+/// scope. So it costs the spec and, as no spec names anyone twice, some 33 comparisons for each of at most 33 entries.
 pub(crate) fn put_each(
     entries: &mut Vec<NamedEntry>,
     scope: Scope,
@@ -106,8 +106,7 @@ pub(crate) fn put_each(
 fn names(name: &Who, scope: Scope, kind: EntryKind, spec: &[Entry]) -> bool
     ensures { result ≡ list_any (λ entry. definition.is_for scope kind entry && option_map_or (λ own. same own name.now) entry.name false) spec.now }
 {
-    spec.iter()
-        .any(|entry| is_for(entry, scope, kind) && is_named(entry, name))
+    spec.iter().any(|entry| is_for(entry, scope, kind) && is_named(entry, name))
 }
 
 fn is_named(entry: &Entry, name: &Who) -> bool

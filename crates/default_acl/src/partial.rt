@@ -1,4 +1,4 @@
-ghost use Rattle.std.specs.Prelude.{◌≡◌, ◌<◌, ◌+◌, length, nat_lt, IfOk};
+ghost use Rattle.std.specs.Prelude.{◌≡◌, ◌<◌, nat_lt, IfOk};
 ghost use Rattle.acl_entries.specs.AccessControlList.{IsEntryList};
 ghost use Rattle.default_acl.specs.Answers.{IfRefused, named_count};
 ghost use Rattle.default_acl.specs.AclChange as definition;

@@ -7,8 +7,8 @@ use Rattle.default_acl.proofs.named.put.Goals as goal
 pub returns-then-not-is_at : goal.returns-then-not-is_at
 returns-then-not-is_at c =
     c.in_ok-insert.ensures.items ∙ inserted_at c.args.new c.args.entries.now.items c.place_of-place.result
-        (c.place_of-place.ensures.place ∙ ap (place_in c.args.new.name) c.deref.ensures.value)
-        (ap (λ entries. is_at c.args.new.name (slice_get entries c.place_of-place.result)) (sym c.deref-2.ensures.value) ∙ sym c.is_at.ensures ∙ c.if-not-is_at.true)
+    (c.place_of-place.ensures.place ∙ ap (place_in c.args.new.name) c.deref.ensures.value)
+    (ap (λ entries. is_at c.args.new.name (slice_get entries c.place_of-place.result)) (sym c.deref-2.ensures.value) ∙ sym c.is_at.ensures ∙ c.if-not-is_at.true)
 
 -- src/named.rt:50:5
 pub index_mut-requires : goal.index_mut-requires
@@ -18,5 +18,5 @@ index_mut-requires c = omega (arith, c.deref-2.ensures.len, is_at_within c.args.
 pub returns : goal.returns
 returns c =
     replaced_at c.args.new c.args.entries.now.items c.place_of-place.result
-        (c.place_of-place.ensures.place ∙ ap (place_in c.args.new.name) c.deref.ensures.value)
-        (ap (λ entries. is_at c.args.new.name (slice_get entries c.place_of-place.result)) (sym c.deref-2.ensures.value) ∙ sym c.is_at.ensures ∙ c.if-not-is_at.false)
+    (c.place_of-place.ensures.place ∙ ap (place_in c.args.new.name) c.deref.ensures.value)
+    (ap (λ entries. is_at c.args.new.name (slice_get entries c.place_of-place.result)) (sym c.deref-2.ensures.value) ∙ sym c.is_at.ensures ∙ c.if-not-is_at.false)
