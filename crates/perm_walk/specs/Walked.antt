@@ -2,6 +2,7 @@
 use Rattle.std.specs.Prelude.{◌≡◌, ℕ, List, Some, None, IfSome}
 use Rattle.std.specs.List.{All}
 use Rattle.hdfs_types.specs.declared.rights.Rights as bits
+use Rattle.hdfs_types.specs.Path.{IsPath}
 use Rattle.principals.specs.Principals.{Asking}
 use Rattle.flat_rows.specs.declared.row.Row.{Row}
 use Rattle.flat_rows.specs.declared.demand.Role.TheVariants.{Traversed}
@@ -27,9 +28,10 @@ pub record IsTraversal (asked : bits.Rights) (demand : Demand) : Type 0 where
   pub condition : demand.condition ≡ Always
   pub need : demand.need ≡ Rights asked
 
--- how far the path leads, where that is known
-abbrev pub IsDescent : List Row → Descent → Type 0
-IsDescent rows descent = IfSome descent.reach (IsReach descent.path.now rows)
+-- a path, and how far it leads where that is known
+pub record IsDescent (rows : List Row) (descent : Descent) : Type 0 where
+  pub within : IsPath descent.path.now
+  pub known : IfSome descent.reach (IsReach descent.path.now rows)
 
 -- no need fails, and the path leads there
 pub record IsGranted (path : List (List ℕ)) (rows : List Row) (caller : Asking) (needs : List Demand) (reach : Reach) : Type 0 where

@@ -222,6 +222,7 @@ fn denial_on(
     requires reach { IsReach demand.now.path tree.now reach.now }
     ensures { IfOk result (λ denial. denial ≡ first_answer (spec.denial_of caller.now) (spec.asks_of tree.now demand.now)) }
 {
+    // It says that what isn't a need of rights is of what has the path.
     let _path = demand.path();
     if !holds(demand.condition(), reach) {
         return Ok(None);
@@ -259,7 +260,6 @@ fn denial_on_the_way<'a>(
     ensures path { descent.new.path.now ≡ descent.old.path.now }
     ensures descent { IsDescent tree.now descent.new }
 {
-    let _path = demand.path();
     let component = match enter(tree, descent.path, caller, Some(asked)) {
         Entered::Closed(component) => component,
         Entered::Reached(reach) => {
@@ -299,7 +299,6 @@ pub(crate) fn denial_by<'a>(
     if let Some(reach) = &descent.reach {
         return denial_on(alloc, tree, demand, reach, caller);
     }
-    let _path = demand.path();
     let reach = follow(tree, descent.path, caller);
     let denial = denial_on(alloc, tree, demand, &reach, caller);
     descent.reach = Some(reach);

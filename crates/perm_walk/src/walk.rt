@@ -34,8 +34,7 @@ pub enum WalkedBoth<'a> {
 
 /// How far the path leads, by another descent where that isn't known.
 fn reached<'a>(tree: &'a Tree, descent: Descent<'a>, caller: &Caller) -> Reach<'a>
-    requires path { IsPath descent.path.now }
-    requires descent { IsDescent tree.now descent }
+    requires { IsDescent tree.now descent }
     ensures { IsReach descent.entry.path.now tree.now result }
 {
     match descent.reach {
