@@ -127,10 +127,10 @@ fn access_after_set(
 ) -> Result<EntryList, AclChangeFault>
     ensures { Makes result (definition.access_after (Set spec.now) old.now) }
 {
-    if !touches(Scope::Access, spec) {
-        return Ok(copy_of(old)?);
+    if touches(Scope::Access, spec) {
+        return added_access(alloc, spec, PartialList::new(alloc), old);
     }
-    added_access(alloc, spec, PartialList::new(alloc), old)
+    Ok(copy_of(old)?)
 }
 
 fn default_after_set(
@@ -141,10 +141,10 @@ fn default_after_set(
 ) -> Result<Option<EntryList>, AclChangeFault>
     ensures { MakesAny result (definition.default_after (Set spec.now) access.now (option_copied old.entry)) }
 {
-    if !touches(Scope::Default, spec) {
-        return copy_of_default(old);
+    if touches(Scope::Default, spec) {
+        return added_default(alloc, spec, PartialList::new(alloc), access);
     }
-    added_default(alloc, spec, PartialList::new(alloc), access)
+    copy_of_default(old)
 }
 
 fn access_after_modify(
