@@ -1,0 +1,4 @@
+pub mod Printing
+pub mod Searches
+pub mod SpecTexts
+pub mod SpecSpellings

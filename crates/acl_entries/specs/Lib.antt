@@ -1,3 +1,5 @@
-pub mod AccessList
+pub mod AccessControlList
 pub mod JudgedEntry
 pub mod Kept
+pub mod Printed
+pub mod SpecText

@@ -1,5 +1,10 @@
 ghost use Rattle.std.specs.Prelude.{◌≡◌, IfOk};
+ghost use Rattle.hdfs_types.specs.Rights.{covers};
+ghost use Rattle.hdfs_types.specs.declared.entry.Scope.TheVariants.{Access};
+ghost use Rattle.acl_entries.specs.JudgedEntry.{masked};
 
+use crate::entry_list::NamedEntry;
+use bitflags::Flags;
 use hdfs_types::entry::{Entry, EntryKind, Scope};
 use hdfs_types::rights::Rights;
 use hdfs_types::who::Who;
@@ -27,19 +32,53 @@ impl<'a> Model for Chosen<'a> {
     ghost view = { judgement_of };
 }
 
-impl<'a> Chosen<'a> {
-    ghost use Rattle.acl_entries.specs.JudgedEntry.{by_base_entry};
+/// Whether rights behind a mask, where there is one, are all that is needed.
+pub(crate) fn grants(rights: Rights, mask: Option<Rights>, need: Rights) -> bool
+    ensures { result ≡ covers (masked mask rights).0 need.0 }
+{
+    match mask {
+        Some(mask) => rights.intersection(mask).covers(need),
+        None => rights.covers(need),
+    }
+}
 
-    /// A base entry, which has no name and isn't filtered by a mask.
-    pub fn by_base_entry(kind: EntryKind, rights: Rights, need: Rights) -> Chosen<'a>
-        ensures { result ≡ by_base_entry kind rights need }
+impl<'a> Chosen<'a> {
+    ghost use Rattle.acl_entries.specs.AccessControlList.{base_entry, named_entry};
+    ghost use Rattle.acl_entries.specs.JudgedEntry.{judged_by};
+
+    /// The entry of the owner, the owning group or all others.
+    pub fn by_base_entry(
+        kind: EntryKind,
+        rights: Rights,
+        mask: Option<Rights>,
+        need: Rights,
+    ) -> Chosen<'a>
+        ensures { result ≡ judged_by (base_entry Access kind rights) mask need }
     {
         Chosen {
             kind,
             name: None,
             rights,
-            mask: None,
-            granted: rights.covers(need),
+            mask,
+            granted: grants(rights, mask, need),
+        }
+    }
+
+    /// The entry of a named user or a named group.
+    pub fn by_named_entry(
+        kind: EntryKind,
+        entry: &'a NamedEntry,
+        mask: Option<Rights>,
+        need: Rights,
+    ) -> Chosen<'a>
+        ensures { result ≡ judged_by (named_entry Access kind entry.now) mask need }
+    {
+        Chosen {
+            kind,
+            name: Some(&entry.name),
+            rights: entry.rights,
+            mask,
+            granted: grants(entry.rights, mask, need),
         }
     }
 

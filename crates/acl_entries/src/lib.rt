@@ -5,3 +5,6 @@
 pub mod access_check;
 pub mod acl;
 pub mod deciding_entry;
+pub mod entry_list;
+pub mod print;
+pub mod spec_text;

@@ -9,7 +9,7 @@ use Rattle.std.specs.Ordering.{is_lt, is_eq}
 use Rattle.hdfs_types.specs.Path.{is_path, is_prefix}
 use Rattle.hdfs_types.specs.PathOrder.{path_cmp, same_path, paths_total}
 use Rattle.hdfs_types.proofs.Fronts.{front_path}
-use Rattle.acl_entries.specs.AccessList.{AccessList}
+use Rattle.acl_entries.specs.AccessControlList.{AccessControlList}
 use Rattle.flat_rows.specs.declared.row.Row.{Row}
 use Rattle.flat_rows.specs.First.{first}
 use Rattle.flat_rows.specs.Rows.{is_directory, row_at, ancestor, is_before, is_beyond, replaced, with_sub_tree}
@@ -151,7 +151,7 @@ module _ (f : Row → Row) (paths : (row : Row) → (f row).path ≡ row.path) (
       let tests = namespace_tests rows h in
       namespace_of (map f rows) (record { rooted = map_rooted rows ∙ tests.rooted; ascending = map_ascending rows ∙ tests.ascending; held = map_held rows ∙ tests.held; suit = suits })
 
-module _ (path : List (List ℕ)) (owner group : List ℕ) (acl : AccessList) where
+module _ (path : List (List ℕ)) (owner group : List ℕ) (acl : AccessControlList) where
   abbrev anew : Row → Row
   anew row = cond (same_path path row.path) (given owner group acl row) row
 

@@ -7,13 +7,11 @@ use Rattle.hdfs_types.specs.Text.{same, text_cmp}
 use Rattle.hdfs_types.specs.Path.{is_prefix, is_beneath}
 use Rattle.hdfs_types.specs.PathOrder.{path_cmp, same_path, paths_total}
 use Rattle.hdfs_types.proofs.Texts.{same_is, same_self}
-use Rattle.hdfs_types.specs.declared.reply.ObjectKind.TheVariants.{Directory}
-use Rattle.acl_entries.specs.AccessList.{acl_of_mode}
 use Rattle.flat_rows.specs.declared.row.Row.{Row}
 use Rattle.flat_rows.specs.First.{first}
 use Rattle.flat_rows.specs.Rows.{is_directory, file_above, ancestor}
 use Rattle.flat_rows.specs.Namespace.{is_ascending, is_before_all, is_child, has_parent, suits_kind, fits}
-use Rattle.flat_rows.specs.Outcome.{new_directory, new_directories, mode_of_new}
+use Rattle.flat_rows.specs.Outcome.{directory_at, new_directory, new_directories, mode_of_new}
 use Rattle.flat_rows.proofs.Tests.{both, and, or_left, or_right, all_imp, all_filtered}
 use Rattle.flat_rows.proofs.PathOrders.{less_is}
 
@@ -191,12 +189,12 @@ module _ (owner : List ℕ) (mode : ℕ) where
       by_kind true e beneath among = refl
       by_kind false e beneath among = sym none ∙ among (λ row. is_beneath path row.path && not (is_directory row)) (and _ _ beneath (ap not e))
 
-  -- only the path and the group of the row above are read
-  pub same_chain : (a b : Row) (names : List (List ℕ)) → a.path ≡ b.path → a.group ≡ b.group → new_directories a owner mode names ≡ new_directories b owner mode names
-  same_chain a b [] p g = refl
-  same_chain a b (name ∷ names) p g =
-      let one : made_of a name names ≡ made_of b name names = ap (λ t. made_from t a.group) p ∙ ap (made_from b.path) g in
+  -- only the path, the group and the access control list of the row above are read
+  pub same_chain : (a b : Row) (names : List (List ℕ)) → a.path ≡ b.path → a.group ≡ b.group → a.acl ≡ b.acl → new_directories a owner mode names ≡ new_directories b owner mode names
+  same_chain a b [] p g l = refl
+  same_chain a b (name ∷ names) p g l =
+      let one : made_of a name names ≡ made_of b name names =
+      ap (λ t. directory_at a.acl a.group owner (mode_of_new mode names) (t ++ name ∷ [])) p
+      ∙ ap (λ t. directory_at a.acl t owner (mode_of_new mode names) (b.path ++ name ∷ [])) g
+      ∙ ap (λ t. directory_at t b.group owner (mode_of_new mode names) (b.path ++ name ∷ [])) l in
       ap (λ made. made ∷ new_directories made owner mode names) one
-    where
-      made_from : List (List ℕ) → List ℕ → Row
-      made_from above group = record { path = above ++ name ∷ []; kind = Directory; owner = owner; group = group; acl = acl_of_mode (mode_of_new mode names) Directory }

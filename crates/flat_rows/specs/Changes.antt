@@ -4,7 +4,7 @@ use Rattle.std.specs.Prelude.{ℕ, Bool, true, ◌||◌, not, List, [], ◌∷�
 use Rattle.std.specs.List.{list_all}
 use Rattle.hdfs_types.specs.Path.{is_path, is_prefix}
 use Rattle.hdfs_types.specs.PathOrder.{same_path}
-use Rattle.acl_entries.specs.AccessList.{AccessList}
+use Rattle.acl_entries.specs.AccessControlList.{AccessControlList, suits_file}
 use Rattle.flat_rows.specs.declared.row.Row.{Row}
 use Rattle.flat_rows.specs.Rows.{is_directory, replaced}
 use Rattle.flat_rows.specs.Namespace.{is_child}
@@ -39,17 +39,17 @@ abbrev pub moved : List (List ℕ) → List (List ℕ) → List Row → List Row
 moved from to rows = replaced to (map (moved_row from to) (rows_under from rows)) (without from rows)
 
 -- a row given anew to an owner and a group, with another access list
-abbrev pub given : List ℕ → List ℕ → AccessList → Row → Row
+abbrev pub given : List ℕ → List ℕ → AccessControlList → Row → Row
 given owner group acl row = record { path = row.path; kind = row.kind; owner = owner; group = group; acl = acl }
 
 -- the rows with the one at a path given anew
-abbrev pub rewritten : List (List ℕ) → List ℕ → List ℕ → AccessList → List Row → List Row
+abbrev pub rewritten : List (List ℕ) → List ℕ → List ℕ → AccessControlList → List Row → List Row
 rewritten path owner group acl rows = map (λ row. if same_path path row.path then given owner group acl row else row) rows
 
--- the access list suits what stands there: a file has no sticky bit
-abbrev pub suits_list : AccessList → Option Row → Bool
+-- the list suits what stands there
+abbrev pub suits_list : AccessControlList → Option Row → Bool
 suits_list acl None = true
-suits_list acl (Some row) = is_directory row || not acl.sticky
+suits_list acl (Some row) = is_directory row || suits_file acl
 
 -- each path is within the limits
 abbrev pub are_paths : List Row → Bool

@@ -1,17 +1,22 @@
 -- What an operation that no need forbids answers, and the rows and users that it leaves: the first refusal of its list that applies, else done.
 -- (HDFS Architecture, "The File System Namespace"; HDFS Permissions Guide, "Overview".)
-use Rattle.std.specs.Prelude.{ℕ, Bool, true, false, ◌&&◌, ◌||◌, not, List, [], ◌∷◌, ◌++◌, map, filter, length, drop, if◌then◌else◌, Option, Some, None, unwrap_or}
+use Rattle.std.specs.Prelude.{ℕ, Bool, true, false, ◌&&◌, ◌||◌, not, List, [], ◌∷◌, ◌++◌, map, filter, length, drop, if◌then◌else◌, Option, Some, None, unwrap_or, Result, Ok, Err}
 use Rattle.std.specs.Option.{option_map}
+use Rattle.std.specs.Result.{result_err}
 use Rattle.hdfs_types.specs.Mode.{for_missing_parent}
 use Rattle.hdfs_types.specs.Path.{is_prefix}
 use Rattle.hdfs_types.specs.declared.op.Op.{Op}
 use Rattle.hdfs_types.specs.declared.op.Op.TheVariants as op
+use Rattle.hdfs_types.specs.declared.acl_change.AclChange.{AclChange}
 use Rattle.hdfs_types.specs.declared.reply.ObjectKind.TheVariants.{Directory}
 use Rattle.hdfs_types.specs.declared.reply.Reply.{Reply}
 use Rattle.hdfs_types.specs.declared.reply.Reply.TheVariants as reply
 use Rattle.hdfs_types.specs.declared.reply.Refusal.{Refusal}
 use Rattle.hdfs_types.specs.declared.reply.Refusal.TheVariants.{BadPath, NotFound, NotDirectory, Exists, NotEmpty, IsRoot, UnderItself}
-use Rattle.acl_entries.specs.AccessList.{acl_of_mode, shown_mode}
+use Rattle.acl_entries.specs.AccessControlList.{AccessControlList, shown_mode, has_acl, entries}
+use Rattle.acl_entries.specs.SpecText.{spec_text}
+use Rattle.default_acl.specs.AclChange.{acl_change, with_mode}
+use Rattle.default_acl.specs.Inheritance.{inherited}
 use Rattle.principals.specs.Principals.{Principals, refusal_of_new, refusal_of_known, with_user, with_groups}
 use Rattle.flat_rows.specs.declared.row.Row.{Row}
 use Rattle.flat_rows.specs.declared.verdict.Verdict.{Verdict}
@@ -52,6 +57,11 @@ abbrev pub refused_where : Bool → Refusal → Option Refusal
 refused_where true refusal = Some refusal
 refused_where false refusal = None
 
+-- an access control list can't be changed in this way
+abbrev pub refused_change : AclChange → Option Row → Option Refusal
+refused_change change None = None
+refused_change change (Some row) = result_err (acl_change change row.kind row.acl)
+
 abbrev pub is_alone : List Row → Bool
 is_alone [] = true
 is_alone (row ∷ []) = true
@@ -83,13 +93,20 @@ first_refusal (op.Rename from to) rows users = first_some (
     ∷ refused_where (not (are_paths (rows_moved from to rows))) BadPath ∷ [])
 first_refusal (op.SetMode path mode) rows users = refusal_of_missing path rows
 first_refusal (op.SetOwner path owner group) rows users = refusal_of_missing path rows
+first_refusal (op.GetAcl path) rows users = refusal_of_missing path rows
+first_refusal (op.SetAcl path change) rows users = first_some (beneath_file path rows ∷ nothing_at (row_at path rows) ∷ refused_change change (row_at path rows) ∷ [])
 first_refusal (op.AddUser user groups) rows users = refusal_of_new users user
 first_refusal (op.SetGroups user groups) rows users = refusal_of_known users user
 
 -- what `stat` tells of a row; where there is none, NotFound came first
 abbrev pub status_of : Option Row → Reply
 status_of None = reply.Empty
-status_of (Some row) = reply.Status (record { kind = row.kind; mode = shown_mode row.acl; owner = row.owner; group = row.group })
+status_of (Some row) = reply.Status (record { kind = row.kind; mode = shown_mode row.acl; has_acl = has_acl row.acl; owner = row.owner; group = row.group })
+
+-- what `getfacl` tells of a row
+abbrev pub acl_status_of : Option Row → Reply
+acl_status_of None = reply.Empty
+acl_status_of (Some row) = reply.Acl (record { owner = row.owner; group = row.group; spec = spec_text (entries row.acl) })
 
 -- the name of what has a path; the root has none
 abbrev pub own_name : List (List ℕ) → List (List ℕ)
@@ -110,10 +127,12 @@ reply_of (op.Stat path) rows = status_of (row_at path rows)
 reply_of (op.List path) rows = reply.Names (listed path (row_at path rows) rows)
 reply_of (op.Summary path) rows = summary_of (rows_under path rows)
 reply_of (op.Delete path recursive) rows = reply.Deleted (length (rows_under path rows))
+reply_of (op.GetAcl path) rows = acl_status_of (row_at path rows)
 reply_of (op.Mkdirs path mode) rows = reply.Empty
 reply_of (op.Rename from to) rows = reply.Empty
 reply_of (op.SetMode path mode) rows = reply.Empty
 reply_of (op.SetOwner path owner group) rows = reply.Empty
+reply_of (op.SetAcl path change) rows = reply.Empty
 reply_of (op.AddUser user groups) rows = reply.Empty
 reply_of (op.SetGroups user groups) rows = reply.Empty
 
@@ -122,12 +141,13 @@ abbrev pub mode_of_new : ℕ → List (List ℕ) → ℕ
 mode_of_new mode [] = mode
 mode_of_new mode (name ∷ names) = for_missing_parent mode
 
-abbrev pub directory_at : List ℕ → List ℕ → ℕ → List (List ℕ) → Row
-directory_at group owner mode path = record { path = path; kind = Directory; owner = owner; group = group; acl = acl_of_mode mode Directory }
+-- a new directory in one with this access control list inherits from it
+abbrev pub directory_at : AccessControlList → List ℕ → List ℕ → ℕ → List (List ℕ) → Row
+directory_at above group owner mode path = record { path = path; kind = Directory; owner = owner; group = group; acl = inherited above mode Directory }
 
 -- a new row has its parent's group
 abbrev pub new_directory : Row → List ℕ → ℕ → List ℕ → Row
-new_directory above owner mode name = directory_at above.group owner mode (above.path ++ name ∷ [])
+new_directory above owner mode name = directory_at above.acl above.group owner mode (above.path ++ name ∷ [])
 
 -- directories of these names, each beneath the one before
 abbrev pub new_directories : Row → List ℕ → ℕ → List (List ℕ) → List Row
@@ -148,11 +168,20 @@ made_at path mode owner (Some row) rows = rows
 -- the rows with what stands at a path given another mode, or another owner and group
 abbrev pub with_mode_at : List (List ℕ) → ℕ → Option Row → List Row → List Row
 with_mode_at path mode None rows = rows
-with_mode_at path mode (Some row) rows = rewritten path row.owner row.group (acl_of_mode mode row.kind) rows
+with_mode_at path mode (Some row) rows = rewritten path row.owner row.group (with_mode mode row.kind row.acl) rows
 
 abbrev pub with_owner_at : List (List ℕ) → Option (List ℕ) → Option (List ℕ) → Option Row → List Row → List Row
 with_owner_at path owner group None rows = rows
 with_owner_at path owner group (Some row) rows = rewritten path (unwrap_or owner row.owner) (unwrap_or group row.group) row.acl rows
+
+-- the rows with the access control list of what stands at a path changed
+abbrev pub with_list_at : List (List ℕ) → Row → Result AccessControlList Refusal → List Row → List Row
+with_list_at path row (Ok acl) rows = rewritten path row.owner row.group acl rows
+with_list_at path row (Err refusal) rows = rows
+
+abbrev pub with_acl_at : List (List ℕ) → AclChange → Option Row → List Row → List Row
+with_acl_at path change None rows = rows
+with_acl_at path change (Some row) rows = with_list_at path row (acl_change change row.kind row.acl) rows
 
 abbrev pub rows_after : Op → List ℕ → List Row → List Row
 rows_after (op.Mkdirs path mode) caller rows = made_at path mode caller (row_at path rows) rows
@@ -160,6 +189,8 @@ rows_after (op.Delete path recursive) caller rows = without path rows
 rows_after (op.Rename from to) caller rows = moved from to rows
 rows_after (op.SetMode path mode) caller rows = with_mode_at path mode (row_at path rows) rows
 rows_after (op.SetOwner path owner group) caller rows = with_owner_at path owner group (row_at path rows) rows
+rows_after (op.SetAcl path change) caller rows = with_acl_at path change (row_at path rows) rows
+rows_after (op.GetAcl path) caller rows = rows
 rows_after (op.Stat path) caller rows = rows
 rows_after (op.List path) caller rows = rows
 rows_after (op.Summary path) caller rows = rows
@@ -174,6 +205,8 @@ users_after (op.Delete path recursive) users = users
 users_after (op.Rename from to) users = users
 users_after (op.SetMode path mode) users = users
 users_after (op.SetOwner path owner group) users = users
+users_after (op.SetAcl path change) users = users
+users_after (op.GetAcl path) users = users
 users_after (op.Stat path) users = users
 users_after (op.List path) users = users
 users_after (op.Summary path) users = users

@@ -97,5 +97,7 @@ required_rights (op.Delete path recursive) = traversal path ∷ sticky_bit path 
 required_rights (op.Rename from to) = traversal from ∷ traversal to ∷ sticky_bit from ∷ write_above to ∷ removal from ∷ []
 required_rights (op.SetMode path mode) = strict_traversal path ∷ ownership path ∷ []
 required_rights (op.SetOwner path owner group) = strict_traversal path ∷ ownership path ∷ (owner_demands path owner ++ group_demands path group)
+required_rights (op.GetAcl path) = traversal path ∷ []
+required_rights (op.SetAcl path change) = strict_traversal path ∷ ownership path ∷ []
 required_rights (op.AddUser user groups) = administration ∷ []
 required_rights (op.SetGroups user groups) = administration ∷ []

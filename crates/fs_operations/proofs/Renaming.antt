@@ -1,20 +1,19 @@
 -- What no refusal of a rename tells, and what has a path in a namespace.
 use Rattle.std.proofs.Common.{◌≡◌, ℕ, Bool, true, false, ◌&&◌, ◌||◌, List, [], ◌∷◌, length, take, cond, Option, Some, None, refl, sym, ap, ◌∙◌, subst}
-use Rattle.std.specs.Prelude.{filter, map, not, IsTrue}
-use Rattle.std.specs.List.{list_all, list_any}
-use Rattle.std.specs.Option.{option_or, option_and_then}
-use Rattle.hdfs_types.specs.Path.{is_prefix, parent_of}
+use Rattle.std.specs.Prelude.{filter, not}
+use Rattle.std.specs.List.{list_all}
+use Rattle.std.specs.Option.{option_or}
+use Rattle.hdfs_types.specs.Path.{is_prefix}
 use Rattle.hdfs_types.specs.PathOrder.{same_path}
-use Rattle.hdfs_types.specs.Text.{same}
 use Rattle.hdfs_types.proofs.Texts.{same_self}
 use Rattle.hdfs_types.specs.declared.op.Op.TheVariants.{Rename}
 use Rattle.hdfs_types.specs.declared.reply.Refusal.{Refusal}
-use Rattle.acl_entries.specs.AccessList.{AccessList}
+use Rattle.acl_entries.specs.AccessControlList.{AccessControlList}
 use Rattle.principals.specs.Principals.{Principals}
 use Rattle.flat_rows.specs.declared.row.Row.{Row}
-use Rattle.flat_rows.specs.First.{first, first_answer}
+use Rattle.flat_rows.specs.First.{first}
 use Rattle.flat_rows.specs.Rows.{is_directory, is_none, is_missing, row_at, if_directory, directory_of}
-use Rattle.flat_rows.specs.Namespace.{is_child, is_root, has_parent, suits_kind}
+use Rattle.flat_rows.specs.Namespace.{is_child, has_parent, suits_kind}
 use Rattle.flat_rows.specs.Changes.{are_paths, suits_list}
 use Rattle.flat_rows.specs.Outcome.{refused_where, nothing_at, something_at, beneath_file, first_refusal, rows_moved}
 use Rattle.flat_rows.proofs.Tests.{both, or_right}
@@ -102,7 +101,7 @@ abbrev is_suited : Option Row → Bool
 is_suited None = true
 is_suited (Some row) = suits_kind row
 
-first_suits : (p : Row → Bool) (rows : List Row) (row : Row) → list_all suits_kind rows ≡ true → first (filter p rows) ≡ Some row → suits_kind row ≡ true
+pub first_suits : (p : Row → Bool) (rows : List Row) (row : Row) → list_all suits_kind rows ≡ true → first (filter p rows) ≡ Some row → suits_kind row ≡ true
 first_suits p [] row h is = cc
 first_suits p (other ∷ rows) row h is = by (p other) is (first_suits p rows row)
   where
@@ -113,6 +112,6 @@ first_suits p (other ∷ rows) row h is = by (p other) is (first_suits p rows ro
     by true k others = subst (λ o. is_suited o ≡ true) k parts.0
     by false k others = others parts.1 k
 
-pub own_list_suits : (path : List (List ℕ)) (rows : List Row) (row : Row) (acl : AccessList) → IsTree rows → row_at path rows ≡ Some row → acl ≡ row.acl → suits_list acl (row_at path rows) ≡ true
+pub own_list_suits : (path : List (List ℕ)) (rows : List Row) (row : Row) (acl : AccessControlList) → IsTree rows → row_at path rows ≡ Some row → acl ≡ row.acl → suits_list acl (row_at path rows) ≡ true
 own_list_suits path rows row acl tree is own =
     ap (suits_list acl) is ∙ ap (λ a. suits_list a (Some row)) own ∙ first_suits (λ other. same_path path other.path) rows row (namespace_tests rows tree.namespace).suit is

@@ -1,13 +1,24 @@
-ghost use Rattle.std.specs.Prelude.{◌≡◌, ℕ, List, length, IfOk, OnErr, unwrap_or};
-ghost use Rattle.principals.specs.Principals.{Principals};
+ghost use Rattle.std.specs.Prelude.{◌≡◌, ℕ, List, true, false, length, IfOk, OnErr, unwrap_or};
+ghost use Rattle.principals.specs.Principals.{Principals, caller_of};
+ghost use Rattle.default_acl.specs.AclChange.{acl_change};
 ghost use Rattle.flat_rows.specs.declared.row.Row.{Row};
 ghost use Rattle.flat_rows.specs.Outcome as spec;
+ghost use Rattle.flat_rows.specs.Outcome.{is_alone};
 ghost use Rattle.flat_rows.specs.Changes.{rows_under};
+ghost use Rattle.flat_rows.specs.Rows.{is_missing};
+ghost use Rattle.perm_walk.specs.Reached.{IsReach};
+ghost use Rattle.perm_walk.specs.Walked.{AreOn};
+ghost use Rattle.fs_operations.specs.Judged.{judged_step};
 
-use crate::found::{Found, find};
+use crate::found::{Found, standing};
 use crate::look::counts_at;
 use acl_entries::acl::Acl;
+use default_acl::change::change as change_list;
+use default_acl::chmod::chmod;
+use default_acl::fault::AclChangeFault;
+use flat_rows::demand::Needs;
 use flat_rows::verdict::Verdict;
+use hdfs_types::acl_change::AclChange;
 use hdfs_types::groups::Groups;
 use hdfs_types::mode::Mode;
 use hdfs_types::op::Op;
@@ -15,7 +26,9 @@ use hdfs_types::path::Path;
 use hdfs_types::reply::{ObjectKind, Refusal, Reply};
 use hdfs_types::who::Who;
 use inode_tree::tree::Tree;
-use perm_walk::reach::{directory_of, follow};
+use perm_walk::reach::Reach;
+use perm_walk::walk::{Walked, WalkedBoth, walk, walk_along, walk_along_both};
+use principals::caller::Caller;
 use principals::users::{UserFault, Users};
 use std::alloc::{AllocError, Global};
 
@@ -23,14 +36,19 @@ use std::alloc::{AllocError, Global};
 pub(crate) fn mkdirs(
     alloc: Global,
     tree: &mut Tree,
-    caller: &Who,
+    caller: &Caller,
+    needs: &Needs,
     path: &Path,
     mode: Mode,
 ) -> Result<Verdict, AllocError>
-    ensures ok { (users : Principals) → IfOk result (λ verdict. record { verdict = verdict; rows = tree.new; users = users } ≡ spec.outcome tree.old users caller.now (Op.Mkdirs path.now mode)) }
+    requires { AreOn path.now needs.now }
+    ensures ok { (users : Principals) → IfOk result (λ verdict. record { verdict = verdict; rows = tree.new; users = users } ≡ judged_step tree.old users caller.now needs.now (Op.Mkdirs path.now mode)) }
     ensures err { OnErr result (tree.new ≡ tree.old) }
 {
-    let reach = follow(tree, path.names());
+    let reach = match walk_along(alloc, tree, caller, needs, path)? {
+        Walked::Denied(denial) => return Ok(Verdict::Denied(denial)),
+        Walked::Reached(reach) => reach,
+    };
     if let Some(file) = reach.file {
         return Ok(Verdict::Refused(Refusal::NotDirectory(file.to_path(alloc)?)));
     }
@@ -40,14 +58,20 @@ pub(crate) fn mkdirs(
             ObjectKind::File => Ok(Verdict::Refused(Refusal::Exists)),
         };
     }
-    tree.make_directories(path, mode, caller)?;
+    tree.make_directories(path, mode, caller.name())?;
     Ok(Verdict::Done(Reply::Empty))
 }
 
-/// How many files and directories a deletion takes away; a number that can't be told counts as want of memory.
-fn deleted_at(tree: &Tree, path: &Path) -> Result<u64, AllocError>
+/// How many files and directories a deletion takes away: one where it isn't recursive, since nothing is beneath then. A number
+/// that can't be told counts as want of memory.
+fn deleted_at(tree: &Tree, path: &Path, recursive: bool) -> Result<u64, AllocError>
+    requires there { is_missing path.now tree.now ≡ false }
+    requires alone { recursive ≡ false → is_alone (rows_under path.now tree.now) ≡ true }
     ensures { IfOk result (λ deleted. deleted ≡ length (rows_under path.now tree.now)) }
 {
+    if !recursive {
+        return Ok(1);
+    }
     let counts = counts_at(tree, path)?;
     match counts.directories.checked_add(counts.files) {
         Some(deleted) => Ok(deleted),
@@ -59,22 +83,29 @@ fn deleted_at(tree: &Tree, path: &Path) -> Result<u64, AllocError>
 pub(crate) fn delete(
     alloc: Global,
     tree: &mut Tree,
+    caller: &Caller,
+    needs: &Needs,
     path: &Path,
     recursive: bool,
 ) -> Result<Verdict, AllocError>
-    ensures ok { (users : Principals) → (caller : List ℕ) → IfOk result (λ verdict. record { verdict = verdict; rows = tree.new; users = users } ≡ spec.outcome tree.old users caller (Op.Delete path.now recursive)) }
+    requires { AreOn path.now needs.now }
+    ensures ok { (users : Principals) → IfOk result (λ verdict. record { verdict = verdict; rows = tree.new; users = users } ≡ judged_step tree.old users caller.now needs.now (Op.Delete path.now recursive)) }
     ensures err { OnErr result (tree.new ≡ tree.old) }
 {
+    let reach = match walk_along(alloc, tree, caller, needs, path)? {
+        Walked::Denied(denial) => return Ok(Verdict::Denied(denial)),
+        Walked::Reached(reach) => reach,
+    };
     if path.depth() == 0 {
         return Ok(Verdict::Refused(Refusal::IsRoot));
     }
-    if let Found::Refused(refusal) = find(alloc, tree, path)? {
+    if let Found::Refused(refusal) = standing(alloc, reach)? {
         return Ok(Verdict::Refused(refusal));
     }
     if !recursive && !tree.is_alone(path) {
         return Ok(Verdict::Refused(Refusal::NotEmpty));
     }
-    let deleted = deleted_at(tree, path)?;
+    let deleted = deleted_at(tree, path, recursive)?;
     tree.remove(path);
     Ok(Verdict::Done(Reply::Deleted(deleted)))
 }
@@ -83,17 +114,72 @@ pub(crate) fn delete(
 pub(crate) fn set_mode(
     alloc: Global,
     tree: &mut Tree,
+    caller: &Caller,
+    needs: &Needs,
     path: &Path,
     mode: Mode,
 ) -> Result<Verdict, AllocError>
-    ensures ok { (users : Principals) → (caller : List ℕ) → IfOk result (λ verdict. record { verdict = verdict; rows = tree.new; users = users } ≡ spec.outcome tree.old users caller (Op.SetMode path.now mode)) }
+    requires { AreOn path.now needs.now }
+    ensures ok { (users : Principals) → IfOk result (λ verdict. record { verdict = verdict; rows = tree.new; users = users } ≡ judged_step tree.old users caller.now needs.now (Op.SetMode path.now mode)) }
     ensures err { OnErr result (tree.new ≡ tree.old) }
 {
-    let inode = match find(alloc, tree, path)? {
+    let reach = match walk_along(alloc, tree, caller, needs, path)? {
+        Walked::Denied(denial) => return Ok(Verdict::Denied(denial)),
+        Walked::Reached(reach) => reach,
+    };
+    let inode = match standing(alloc, reach)? {
         Found::There(component) => component.inode(),
         Found::Refused(refusal) => return Ok(Verdict::Refused(refusal)),
     };
-    let acl = Acl::from_mode(mode, inode.kind());
+    let mut acl = inode.acl().clone()?;
+    chmod(&mut acl, mode, inode.kind());
+    let (owner, group) = (inode.owner().clone()?, inode.group().clone()?);
+    tree.rewrite(path, owner, group, acl);
+    Ok(Verdict::Done(Reply::Empty))
+}
+
+/// A copy of an access control list, changed, or why it can't be changed so.
+fn changed(
+    alloc: Global,
+    acl: &Acl,
+    kind: ObjectKind,
+    change: &AclChange,
+) -> Result<Result<Acl, Refusal>, AllocError>
+    ensures { IfOk result (λ due. due ≡ acl_change change.now kind acl.now) }
+{
+    let mut copy = acl.clone()?;
+    match change_list(alloc, &mut copy, kind, change) {
+        Ok(()) => Ok(Ok(copy)),
+        Err(AclChangeFault::Refused(refusal)) => Ok(Err(refusal)),
+        Err(AclChangeFault::OutOfMemory) => Err(AllocError),
+    }
+}
+
+/// Changes the access control list of what has a path.
+pub(crate) fn set_acl(
+    alloc: Global,
+    tree: &mut Tree,
+    caller: &Caller,
+    needs: &Needs,
+    path: &Path,
+    change: &AclChange,
+) -> Result<Verdict, AllocError>
+    requires { AreOn path.now needs.now }
+    ensures ok { (users : Principals) → IfOk result (λ verdict. record { verdict = verdict; rows = tree.new; users = users } ≡ judged_step tree.old users caller.now needs.now (Op.SetAcl path.now change.now)) }
+    ensures err { OnErr result (tree.new ≡ tree.old) }
+{
+    let reach = match walk_along(alloc, tree, caller, needs, path)? {
+        Walked::Denied(denial) => return Ok(Verdict::Denied(denial)),
+        Walked::Reached(reach) => reach,
+    };
+    let inode = match standing(alloc, reach)? {
+        Found::There(component) => component.inode(),
+        Found::Refused(refusal) => return Ok(Verdict::Refused(refusal)),
+    };
+    let acl = match changed(alloc, inode.acl(), inode.kind(), change)? {
+        Ok(acl) => acl,
+        Err(refusal) => return Ok(Verdict::Refused(refusal)),
+    };
     let (owner, group) = (inode.owner().clone()?, inode.group().clone()?);
     tree.rewrite(path, owner, group, acl);
     Ok(Verdict::Done(Reply::Empty))
@@ -113,14 +199,21 @@ fn given_or(given: &Option<Who>, own: &Who) -> Result<Who, AllocError>
 pub(crate) fn set_owner(
     alloc: Global,
     tree: &mut Tree,
+    caller: &Caller,
+    needs: &Needs,
     path: &Path,
     owner: &Option<Who>,
     group: &Option<Who>,
 ) -> Result<Verdict, AllocError>
-    ensures ok { (users : Principals) → (caller : List ℕ) → IfOk result (λ verdict. record { verdict = verdict; rows = tree.new; users = users } ≡ spec.outcome tree.old users caller (Op.SetOwner path.now owner.now group.now)) }
+    requires { AreOn path.now needs.now }
+    ensures ok { (users : Principals) → IfOk result (λ verdict. record { verdict = verdict; rows = tree.new; users = users } ≡ judged_step tree.old users caller.now needs.now (Op.SetOwner path.now owner.now group.now)) }
     ensures err { OnErr result (tree.new ≡ tree.old) }
 {
-    let inode = match find(alloc, tree, path)? {
+    let reach = match walk_along(alloc, tree, caller, needs, path)? {
+        Walked::Denied(denial) => return Ok(Verdict::Denied(denial)),
+        Walked::Reached(reach) => reach,
+    };
+    let inode = match standing(alloc, reach)? {
         Found::There(component) => component.inode(),
         Found::Refused(refusal) => return Ok(Verdict::Refused(refusal)),
     };
@@ -139,26 +232,29 @@ fn refusal_of_rename(
     tree: &Tree,
     from: &Path,
     to: &Path,
+    from_reach: Reach<'_>,
+    to_reach: Reach<'_>,
 ) -> Result<Option<Refusal>, AllocError>
+    requires from { IsReach from.now tree.now from_reach }
+    requires to { IsReach to.now tree.now to_reach }
     ensures { (users : Principals) → IfOk result (λ refusal. refusal ≡ spec.first_refusal (Op.Rename from.now to.now) tree.now users) }
 {
     if from.depth() == 0 || to.depth() == 0 {
         return Ok(Some(Refusal::IsRoot));
     }
-    if let Found::Refused(refusal) = find(alloc, tree, from)? {
+    if let Found::Refused(refusal) = standing(alloc, from_reach)? {
         return Ok(Some(refusal));
     }
-    let reach = follow(tree, to.names());
-    if let Some(file) = reach.file {
+    if let Some(file) = to_reach.file {
         return Ok(Some(Refusal::NotDirectory(file.to_path(alloc)?)));
     }
     if to.is_at_or_under(from) {
         return Ok(Some(Refusal::UnderItself));
     }
-    if reach.at.is_some() {
+    if to_reach.at.is_some() {
         return Ok(Some(Refusal::Exists));
     }
-    if directory_of(tree, to.names()).is_none() {
+    if to_reach.parent.is_none() {
         return Ok(Some(Refusal::NotFound));
     }
     if !tree.can_move(from, to) {
@@ -172,13 +268,19 @@ fn refusal_of_rename(
 pub(crate) fn rename(
     alloc: Global,
     tree: &mut Tree,
+    caller: &Caller,
+    needs: &Needs,
     from: &Path,
     to: &Path,
 ) -> Result<Verdict, AllocError>
-    ensures ok { (users : Principals) → (caller : List ℕ) → IfOk result (λ verdict. record { verdict = verdict; rows = tree.new; users = users } ≡ spec.outcome tree.old users caller (Op.Rename from.now to.now)) }
+    ensures ok { (users : Principals) → IfOk result (λ verdict. record { verdict = verdict; rows = tree.new; users = users } ≡ judged_step tree.old users caller.now needs.now (Op.Rename from.now to.now)) }
     ensures err { OnErr result (tree.new ≡ tree.old) }
 {
-    if let Some(refusal) = refusal_of_rename(alloc, tree, from, to)? {
+    let (from_reach, to_reach) = match walk_along_both(alloc, tree, caller, needs, from, to)? {
+        WalkedBoth::Denied(denial) => return Ok(Verdict::Denied(denial)),
+        WalkedBoth::Reached(from_reach, to_reach) => (from_reach, to_reach),
+    };
+    if let Some(refusal) = refusal_of_rename(alloc, tree, from, to, from_reach, to_reach)? {
         return Ok(Verdict::Refused(refusal));
     }
     tree.move_to(from, to)?;
@@ -187,13 +289,20 @@ pub(crate) fn rename(
 
 /// Makes a user known.
 pub(crate) fn add_user(
+    alloc: Global,
+    tree: &Tree,
     users: &mut Users,
+    caller: &Who,
+    needs: &Needs,
     user: &Who,
     groups: &Groups,
 ) -> Result<Verdict, AllocError>
-    ensures ok { (rows : List Row) → (caller : List ℕ) → IfOk result (λ verdict. record { verdict = verdict; rows = rows; users = users.new } ≡ spec.outcome rows users.old caller (Op.AddUser user.now groups.now)) }
+    ensures ok { IfOk result (λ verdict. record { verdict = verdict; rows = tree.now; users = users.new } ≡ judged_step tree.now users.old (caller_of users.old caller.now) needs.now (Op.AddUser user.now groups.now)) }
     ensures err { OnErr result (users.new ≡ users.old) }
 {
+    if let Some(denial) = walk(alloc, tree, users, caller, needs)? {
+        return Ok(Verdict::Denied(denial));
+    }
     match users.add(user.clone()?, groups.clone()?) {
         Ok(()) => Ok(Verdict::Done(Reply::Empty)),
         Err(UserFault::Refused(refusal)) => Ok(Verdict::Refused(refusal)),
@@ -203,13 +312,20 @@ pub(crate) fn add_user(
 
 /// Gives a known user other groups.
 pub(crate) fn set_groups(
+    alloc: Global,
+    tree: &Tree,
     users: &mut Users,
+    caller: &Who,
+    needs: &Needs,
     user: &Who,
     groups: &Groups,
 ) -> Result<Verdict, AllocError>
-    ensures ok { (rows : List Row) → (caller : List ℕ) → IfOk result (λ verdict. record { verdict = verdict; rows = rows; users = users.new } ≡ spec.outcome rows users.old caller (Op.SetGroups user.now groups.now)) }
+    ensures ok { IfOk result (λ verdict. record { verdict = verdict; rows = tree.now; users = users.new } ≡ judged_step tree.now users.old (caller_of users.old caller.now) needs.now (Op.SetGroups user.now groups.now)) }
     ensures err { OnErr result (users.new ≡ users.old) }
 {
+    if let Some(denial) = walk(alloc, tree, users, caller, needs)? {
+        return Ok(Verdict::Denied(denial));
+    }
     match users.set_groups(user, groups.clone()?) {
         Ok(()) => Ok(Verdict::Done(Reply::Empty)),
         Err(refusal) => Ok(Verdict::Refused(refusal)),

@@ -1,12 +1,11 @@
-ghost use Rattle.std.specs.Prelude.{◌≡◌, IfOk};
-ghost use Rattle.inode_tree.specs.Tree.{IsTree};
+ghost use Rattle.std.specs.Prelude.{ℕ, List, IfOk};
+ghost use Rattle.flat_rows.specs.declared.row.Row.{Row};
+ghost use Rattle.perm_walk.specs.Reached.{IsReach};
 ghost use Rattle.fs_operations.specs.Found.{IsFound};
 
-use hdfs_types::path::Path;
 use hdfs_types::reply::Refusal;
-use inode_tree::tree::Tree;
 use perm_walk::component::Component;
-use perm_walk::reach::follow;
+use perm_walk::reach::Reach;
 use std::alloc::{AllocError, Global};
 
 /// What has a path, or why nothing has.
@@ -16,16 +15,10 @@ pub(crate) enum Found<'a> {
     Refused(Refusal),
 }
 
-/// What has the path: one descent.
-pub(crate) fn find<'a>(
-    alloc: Global,
-    tree: &'a Tree,
-    path: &'a Path,
-) -> Result<Found<'a>, AllocError>
-    ensures found { IfOk result (IsFound path.now tree.now) }
-    ensures tree { IsTree tree.now }
+/// What has a path that leads so far.
+pub(crate) fn standing<'a>(alloc: Global, reach: Reach<'a>) -> Result<Found<'a>, AllocError>
+    ensures { (path : List (List ℕ)) → (rows : List Row) → IsReach path rows reach.entry → IfOk result (IsFound path rows) }
 {
-    let reach = follow(tree, path.names());
     if let Some(file) = reach.file {
         return Ok(Found::Refused(Refusal::NotDirectory(file.to_path(alloc)?)));
     }

@@ -4,16 +4,22 @@ ghost use Rattle.principals.specs.Principals.{Principals};
 ghost use Rattle.flat_rows.specs.Rows as rows_spec;
 ghost use Rattle.flat_rows.specs.Changes as changes;
 ghost use Rattle.flat_rows.specs.Outcome as spec;
+ghost use Rattle.perm_walk.specs.Walked.{AreOn};
+ghost use Rattle.fs_operations.specs.Judged.{judged_step};
 
-use crate::found::{Found, find};
+use crate::found::{Found, standing};
+use acl_entries::print::print;
+use flat_rows::demand::Needs;
 use flat_rows::verdict::Verdict;
 use hdfs_types::name::Name;
 use hdfs_types::op::Op;
 use hdfs_types::path::Path;
-use hdfs_types::reply::{ContentSummary, FileStatus, Names, ObjectKind, Reply};
+use hdfs_types::reply::{AclStatus, ContentSummary, FileStatus, Names, ObjectKind, Reply};
 use inode_tree::tree::Tree;
 use inode_tree::visit::Counts;
 use perm_walk::component::Component;
+use perm_walk::walk::{Walked, walk_along};
+use principals::caller::Caller;
 use std::alloc::{AllocError, Global};
 
 fn status_of(component: &Component) -> Result<Reply, AllocError>
@@ -23,17 +29,60 @@ fn status_of(component: &Component) -> Result<Reply, AllocError>
     Ok(Reply::Status(FileStatus {
         kind: inode.kind(),
         mode: inode.acl().mode(),
+        has_acl: inode.acl().has_acl(),
         owner: inode.owner().clone()?,
         group: inode.group().clone()?,
     }))
 }
 
 /// Tells what has a path.
-pub(crate) fn stat(alloc: Global, tree: &Tree, path: &Path) -> Result<Verdict, AllocError>
-    ensures { (users : Principals) → (caller : List ℕ) → IfOk result (λ verdict. record { verdict = verdict; rows = tree.now; users = users } ≡ spec.outcome tree.now users caller (Op.Stat path.now)) }
+pub(crate) fn stat(
+    alloc: Global,
+    tree: &Tree,
+    caller: &Caller,
+    needs: &Needs,
+    path: &Path,
+) -> Result<Verdict, AllocError>
+    requires { AreOn path.now needs.now }
+    ensures { (users : Principals) → IfOk result (λ verdict. record { verdict = verdict; rows = tree.now; users = users } ≡ judged_step tree.now users caller.now needs.now (Op.Stat path.now)) }
 {
-    match find(alloc, tree, path)? {
+    let reach = match walk_along(alloc, tree, caller, needs, path)? {
+        Walked::Denied(denial) => return Ok(Verdict::Denied(denial)),
+        Walked::Reached(reach) => reach,
+    };
+    match standing(alloc, reach)? {
         Found::There(component) => Ok(Verdict::Done(status_of(&component)?)),
+        Found::Refused(refusal) => Ok(Verdict::Refused(refusal)),
+    }
+}
+
+fn acl_status_of(alloc: Global, component: &Component) -> Result<Reply, AllocError>
+    ensures { IfOk result (λ reply. reply ≡ spec.acl_status_of (Some component.now)) }
+{
+    let inode = component.inode();
+    let owner = inode.owner().clone()?;
+    let group = inode.group().clone()?;
+    let text = print(alloc, inode.acl())?;
+    Ok(Reply::Acl(AclStatus::new(owner, group, text)))
+}
+
+/// Tells the access control list of what has a path.
+pub(crate) fn get_acl(
+    alloc: Global,
+    tree: &Tree,
+    caller: &Caller,
+    needs: &Needs,
+    path: &Path,
+) -> Result<Verdict, AllocError>
+    requires { AreOn path.now needs.now }
+    ensures { (users : Principals) → IfOk result (λ verdict. record { verdict = verdict; rows = tree.now; users = users } ≡ judged_step tree.now users caller.now needs.now (Op.GetAcl path.now)) }
+{
+    let reach = match walk_along(alloc, tree, caller, needs, path)? {
+        Walked::Denied(denial) => return Ok(Verdict::Denied(denial)),
+        Walked::Reached(reach) => reach,
+    };
+    match standing(alloc, reach)? {
+        Found::There(component) => Ok(Verdict::Done(acl_status_of(alloc, &component)?)),
         Found::Refused(refusal) => Ok(Verdict::Refused(refusal)),
     }
 }
@@ -74,10 +123,21 @@ fn listed(
 }
 
 /// Lists the names that a directory holds, or a file's own. Costs also what it holds.
-pub(crate) fn list(alloc: Global, tree: &Tree, path: &Path) -> Result<Verdict, AllocError>
-    ensures { (users : Principals) → (caller : List ℕ) → IfOk result (λ verdict. record { verdict = verdict; rows = tree.now; users = users } ≡ spec.outcome tree.now users caller (Op.List path.now)) }
+pub(crate) fn list(
+    alloc: Global,
+    tree: &Tree,
+    caller: &Caller,
+    needs: &Needs,
+    path: &Path,
+) -> Result<Verdict, AllocError>
+    requires { AreOn path.now needs.now }
+    ensures { (users : Principals) → IfOk result (λ verdict. record { verdict = verdict; rows = tree.now; users = users } ≡ judged_step tree.now users caller.now needs.now (Op.List path.now)) }
 {
-    match find(alloc, tree, path)? {
+    let reach = match walk_along(alloc, tree, caller, needs, path)? {
+        Walked::Denied(denial) => return Ok(Verdict::Denied(denial)),
+        Walked::Reached(reach) => reach,
+    };
+    match standing(alloc, reach)? {
         Found::There(component) => {
             let names = listed(alloc, tree, path, &component)?;
             Ok(Verdict::Done(Reply::Names(Names::new(names))))
@@ -99,10 +159,21 @@ pub(crate) fn counts_at(tree: &Tree, path: &Path) -> Result<Counts, AllocError>
 }
 
 /// Counts what stands at a path and beneath it. Costs also what stands there.
-pub(crate) fn summary(alloc: Global, tree: &Tree, path: &Path) -> Result<Verdict, AllocError>
-    ensures { (users : Principals) → (caller : List ℕ) → IfOk result (λ verdict. record { verdict = verdict; rows = tree.now; users = users } ≡ spec.outcome tree.now users caller (Op.Summary path.now)) }
+pub(crate) fn summary(
+    alloc: Global,
+    tree: &Tree,
+    caller: &Caller,
+    needs: &Needs,
+    path: &Path,
+) -> Result<Verdict, AllocError>
+    requires { AreOn path.now needs.now }
+    ensures { (users : Principals) → IfOk result (λ verdict. record { verdict = verdict; rows = tree.now; users = users } ≡ judged_step tree.now users caller.now needs.now (Op.Summary path.now)) }
 {
-    if let Found::Refused(refusal) = find(alloc, tree, path)? {
+    let reach = match walk_along(alloc, tree, caller, needs, path)? {
+        Walked::Denied(denial) => return Ok(Verdict::Denied(denial)),
+        Walked::Reached(reach) => reach,
+    };
+    if let Found::Refused(refusal) = standing(alloc, reach)? {
         return Ok(Verdict::Refused(refusal));
     }
     let counts = counts_at(tree, path)?;

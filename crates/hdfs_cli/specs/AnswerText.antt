@@ -2,9 +2,9 @@
 use Rattle.std.specs.Prelude.{ℕ, List, [], ◌∷◌, ◌++◌, codes}
 use Rattle.std.specs.Fmt.{decimal}
 use Rattle.hdfs_types.specs.Faults.{ill_formed_text}
-use Rattle.hdfs_types.specs.Reply.{status_text, names_text, summary_text, refusal_text}
+use Rattle.hdfs_types.specs.Reply.{status_text, acl_status_text, names_text, summary_text, refusal_text}
 use Rattle.hdfs_types.specs.declared.reply.Reply.{Reply}
-use Rattle.hdfs_types.specs.declared.reply.Reply.TheVariants.{Empty, Status, Names, Summary, Deleted}
+use Rattle.hdfs_types.specs.declared.reply.Reply.TheVariants.{Empty, Status, Acl, Names, Summary, Deleted}
 use Rattle.flat_rows.specs.DenialText.{denial_text}
 use Rattle.flat_rows.specs.declared.verdict.Verdict.{Verdict}
 use Rattle.flat_rows.specs.declared.verdict.Verdict.TheVariants.{Done, Denied, Refused}
@@ -14,6 +14,7 @@ use Rattle.hdfs_cli.specs.declared.answer.Answer.TheVariants.{Bad, Given}
 abbrev pub reply_text : Reply → List ℕ
 reply_text Empty = codes "ok"
 reply_text (Status status) = codes "ok " ++ status_text status
+reply_text (Acl status) = codes "ok " ++ acl_status_text status
 reply_text (Names names) = codes "ok list" ++ names_text names
 reply_text (Summary summary) = codes "ok summary" ++ summary_text summary
 reply_text (Deleted count) = codes "ok deleted " ++ decimal count

@@ -1,6 +1,6 @@
 -- The request that a line of a script makes: `MOMENT CALLER VERB WORDS`, or how it is ill-formed.
 -- An unknown verb and a wrong number of words come first, and then the first ill-formed word.
-use Rattle.std.specs.Prelude.{ℕ, Bool, true, false, List, [], ◌∷◌, if◌then◌else◌, Option, Some, None, Result, Ok, Err, codes, ok_or}
+use Rattle.std.specs.Prelude.{ℕ, Bool, true, false, not, ◌&&◌, ◌||◌, List, [], ◌∷◌, if◌then◌else◌, Option, Some, None, Result, Ok, Err, codes, ok_or}
 use Rattle.std.specs.List.{list_all}
 use Rattle.std.specs.Option.{option_and_then}
 use Rattle.hdfs_types.specs.Text.{same}
@@ -10,10 +10,15 @@ use Rattle.hdfs_types.specs.Who.{is_who, who_of}
 use Rattle.hdfs_types.specs.Path.{path_of}
 use Rattle.hdfs_types.specs.Mode.{mode_of}
 use Rattle.hdfs_types.specs.declared.fault.IllFormed.{IllFormed}
-use Rattle.hdfs_types.specs.declared.fault.IllFormed.TheVariants.{BadLine, BadPath, BadName, BadMode}
+use Rattle.hdfs_types.specs.declared.fault.IllFormed.TheVariants.{BadLine, BadPath, BadName, BadMode, BadAcl}
 use Rattle.hdfs_types.specs.declared.op.Op.{Op}
 use Rattle.hdfs_types.specs.declared.op.Op.TheVariants as op
 use Rattle.hdfs_types.specs.declared.op.Request.{Request}
+use Rattle.hdfs_types.specs.declared.entry.Entry.{Entry}
+use Rattle.hdfs_types.specs.declared.fault.AclFault.{AclFault}
+use Rattle.hdfs_types.specs.declared.acl_change.AclChange.{AclChange}
+use Rattle.hdfs_types.specs.declared.acl_change.AclChange.TheVariants as change
+use Rattle.acl_entries.specs.SpecText.{spec_of}
 use Rattle.hdfs_cli.specs.Words.{pieces_at}
 
 -- the first fault, else what comes next makes of the value
@@ -110,6 +115,66 @@ chown_of path owner group = do
   g ← change_word group
   Ok (op.SetOwner p o g)
 
+abbrev pub getfacl_of : List ℕ → Result Op IllFormed
+getfacl_of path = do
+  p ← path_word path
+  Ok (op.GetAcl p)
+
+abbrev pub spec_or_bad : Result (List Entry) AclFault → Result (List Entry) IllFormed
+spec_or_bad (Ok spec) = Ok spec
+spec_or_bad (Err fault) = Err (BadAcl fault)
+
+-- entries of an access control list, with their rights or without
+abbrev pub spec_word : Bool → List ℕ → Result (List Entry) IllFormed
+spec_word with_rights word = spec_or_bad (spec_of with_rights word)
+
+abbrev pub set_to : List ℕ → Result AclChange IllFormed
+set_to spec = do
+  s ← spec_word true spec
+  Ok (change.Set s)
+
+abbrev pub modify_by : List ℕ → Result AclChange IllFormed
+modify_by spec = do
+  s ← spec_word true spec
+  Ok (change.Modify s)
+
+abbrev pub remove_all : List ℕ → Result AclChange IllFormed
+remove_all spec = do
+  s ← spec_word false spec
+  Ok (change.Remove s)
+
+-- a change that names entries
+abbrev pub change_by : List ℕ → List ℕ → Result AclChange IllFormed
+change_by form spec =
+    if same form (codes "set") then set_to spec else
+    if same form (codes "modify") then modify_by spec else
+    if same form (codes "remove") then remove_all spec else Err BadLine
+
+-- a change that names none
+abbrev pub bare_change : List ℕ → Result AclChange IllFormed
+bare_change form =
+    if same form (codes "default") then Ok change.RemoveDefault else
+    if same form (codes "clear") then Ok change.Clear else Err BadLine
+
+abbrev pub setfacl_of : List ℕ → List ℕ → Result Op IllFormed
+setfacl_of path form = do
+  p ← path_word path
+  c ← bare_change form
+  Ok (op.SetAcl p c)
+
+abbrev pub setfacl_with : List ℕ → List ℕ → List ℕ → Result Op IllFormed
+setfacl_with path form spec = do
+  p ← path_word path
+  c ← change_by form spec
+  Ok (op.SetAcl p c)
+
+-- a form that is known wants a spec, or none
+abbrev pub wants_spec : List ℕ → Bool
+wants_spec form = same form (codes "set") || (same form (codes "modify") || same form (codes "remove"))
+
+abbrev pub wants_none : List ℕ → Bool
+wants_none form = same form (codes "default") || same form (codes "clear")
+
 abbrev pub adduser_of : List ℕ → List ℕ → Result Op IllFormed
 adduser_of user groups = do
   u ← who_word user
@@ -128,7 +193,8 @@ op_of_one verb path =
     if same verb (codes "stat") then Some (stat_of path) else
     if same verb (codes "ls") then Some (ls_of path) else
     if same verb (codes "du") then Some (du_of path) else
-    if same verb (codes "delete") then Some (delete_of path) else None
+    if same verb (codes "delete") then Some (delete_of path) else
+    if same verb (codes "getfacl") then Some (getfacl_of path) else None
 
 abbrev pub op_of_two : List ℕ → List ℕ → List ℕ → Option (Result Op IllFormed)
 op_of_two verb first second =
@@ -137,10 +203,13 @@ op_of_two verb first second =
     if same verb (codes "rename") then Some (rename_of first second) else
     if same verb (codes "chmod") then Some (chmod_of first second) else
     if same verb (codes "adduser") then Some (adduser_of first second) else
-    if same verb (codes "groups") then Some (set_groups_of first second) else None
+    if same verb (codes "groups") then Some (set_groups_of first second) else
+    if same verb (codes "setfacl") && not (wants_spec second) then Some (setfacl_of first second) else None
 
 abbrev pub op_of_three : List ℕ → List ℕ → List ℕ → List ℕ → Option (Result Op IllFormed)
-op_of_three verb path owner group = if same verb (codes "chown") then Some (chown_of path owner group) else None
+op_of_three verb first second third =
+    if same verb (codes "chown") then Some (chown_of first second third) else
+    if same verb (codes "setfacl") && not (wants_none second) then Some (setfacl_with first second third) else None
 
 -- the operation that a verb and its words say; nothing where the verb is unknown or wants another number of words
 abbrev pub op_of : List ℕ → List (List ℕ) → Option (Result Op IllFormed)

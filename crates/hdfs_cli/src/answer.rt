@@ -38,6 +38,7 @@ impl fmt::Display for Answer {
             Answer::Bad(fault) => write!(f, "bad {fault}"),
             Answer::Given(Verdict::Done(Reply::Empty)) => write!(f, "ok"),
             Answer::Given(Verdict::Done(Reply::Status(status))) => write!(f, "ok {status}"),
+            Answer::Given(Verdict::Done(Reply::Acl(status))) => write!(f, "ok {status}"),
             Answer::Given(Verdict::Done(Reply::Names(names))) => write!(f, "ok list{names}"),
             Answer::Given(Verdict::Done(Reply::Summary(summary))) => {
                 write!(f, "ok summary{summary}")

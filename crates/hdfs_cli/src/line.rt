@@ -3,6 +3,7 @@ ghost use Rattle.hdfs_cli.specs.LineForms.{Forms, FormsOption};
 ghost use Rattle.hdfs_cli.specs.Script as spec;
 ghost use Rattle.hdfs_cli.specs.Words.{words_of};
 
+use crate::acl_words::{bare_change, change_by, wants_none, wants_spec};
 use crate::groups_word::groups_word;
 use crate::words::{is_word, words_in};
 use hdfs_types::fault::{IllFormed, ParseFault};
@@ -135,6 +136,29 @@ fn chown_of(alloc: Global, path: &str, owner: &str, group: &str) -> Result<Op, P
     Ok(Op::SetOwner(path, owner, group))
 }
 
+fn getfacl_of(alloc: Global, path: &str) -> Result<Op, ParseFault>
+    ensures { Forms result (spec.getfacl_of path.now) }
+{
+    let path = path_word(alloc, path)?;
+    Ok(Op::GetAcl(path))
+}
+
+fn setfacl_of(alloc: Global, path: &str, form: &str) -> Result<Op, ParseFault>
+    ensures { Forms result (spec.setfacl_of path.now form.now) }
+{
+    let path = path_word(alloc, path)?;
+    let change = bare_change(form)?;
+    Ok(Op::SetAcl(path, change))
+}
+
+fn setfacl_with(alloc: Global, path: &str, form: &str, entries: &str) -> Result<Op, ParseFault>
+    ensures { Forms result (spec.setfacl_with path.now form.now entries.now) }
+{
+    let path = path_word(alloc, path)?;
+    let change = change_by(alloc, form, entries)?;
+    Ok(Op::SetAcl(path, change))
+}
+
 fn adduser_of(alloc: Global, user: &str, groups: &str) -> Result<Op, ParseFault>
     ensures { Forms result (spec.adduser_of user.now groups.now) }
 {
@@ -162,6 +186,8 @@ fn op_of_one(alloc: Global, verb: &str, path: &str) -> Option<Result<Op, ParseFa
         Some(du_of(alloc, path))
     } else if is_word(verb, "delete") {
         Some(delete_of(alloc, path))
+    } else if is_word(verb, "getfacl") {
+        Some(getfacl_of(alloc, path))
     } else {
         None
     }
@@ -182,6 +208,8 @@ fn op_of_two(alloc: Global, verb: &str, first: &str, second: &str) -> Option<Res
         Some(adduser_of(alloc, first, second))
     } else if is_word(verb, "groups") {
         Some(set_groups_of(alloc, first, second))
+    } else if is_word(verb, "setfacl") && !wants_spec(second) {
+        Some(setfacl_of(alloc, first, second))
     } else {
         None
     }
@@ -190,14 +218,16 @@ fn op_of_two(alloc: Global, verb: &str, first: &str, second: &str) -> Option<Res
 fn op_of_three(
     alloc: Global,
     verb: &str,
-    path: &str,
-    owner: &str,
-    group: &str,
+    first: &str,
+    second: &str,
+    third: &str,
 ) -> Option<Result<Op, ParseFault>>
-    ensures { FormsOption result (spec.op_of_three verb.now path.now owner.now group.now) }
+    ensures { FormsOption result (spec.op_of_three verb.now first.now second.now third.now) }
 {
     if is_word(verb, "chown") {
-        Some(chown_of(alloc, path, owner, group))
+        Some(chown_of(alloc, first, second, third))
+    } else if is_word(verb, "setfacl") && !wants_none(second) {
+        Some(setfacl_with(alloc, first, second, third))
     } else {
         None
     }

@@ -4,6 +4,7 @@ pub mod Parsed
 pub mod Entry
 pub mod Request
 pub mod Reply
+pub mod AclStatus
 pub mod Name
 pub mod Who
 pub mod Groups
@@ -12,6 +13,7 @@ pub mod Number
 pub mod Path
 pub mod PathOrder
 pub mod Rights
+pub mod Spec
 pub mod Mode
 pub mod Moment
 pub mod Modes

@@ -1,22 +1,33 @@
 -- The codes and the texts of replies and refusals.
-use Rattle.std.specs.Prelude.{ℕ, List, [], ◌∷◌, ◌++◌, codes}
+use Rattle.std.specs.Prelude.{ℕ, Bool, true, false, List, [], ◌∷◌, ◌++◌, codes}
 use Rattle.std.specs.Fmt.{decimal}
 use Rattle.std.specs.List.{flat_map}
 use Rattle.hdfs_types.specs.Mode.{mode_text}
 use Rattle.hdfs_types.specs.Path.{path_text}
+use Rattle.hdfs_types.specs.AclStatus.{AclStatusParts}
+use Rattle.hdfs_types.specs.Faults.{acl_fault_text}
 use Rattle.hdfs_types.specs.declared.reply.ObjectKind.{ObjectKind}
 use Rattle.hdfs_types.specs.declared.reply.ObjectKind.TheVariants.{File, Directory}
 use Rattle.hdfs_types.specs.declared.reply.FileStatus.{FileStatus}
 use Rattle.hdfs_types.specs.declared.reply.ContentSummary.{ContentSummary}
 use Rattle.hdfs_types.specs.declared.reply.Refusal.{Refusal}
-use Rattle.hdfs_types.specs.declared.reply.Refusal.TheVariants.{BadPath, NotFound, NotDirectory, Exists, NotEmpty, IsRoot, UnderItself, BadName}
+use Rattle.hdfs_types.specs.declared.reply.Refusal.TheVariants.{BadPath, NotFound, NotDirectory, Exists, NotEmpty, IsRoot, UnderItself, BadAcl, TooManyEntries, BadName}
 
 abbrev pub object_kind_text : ObjectKind → List ℕ
 object_kind_text File = codes "file"
 object_kind_text Directory = codes "dir"
 
+-- behind a mode that doesn't show the whole access control list
+abbrev pub acl_mark : Bool → List ℕ
+acl_mark true = codes "+"
+acl_mark false = []
+
 abbrev pub status_text : FileStatus → List ℕ
-status_text status = object_kind_text status.kind ++ (32 ∷ (mode_text status.mode ++ (32 ∷ (status.owner ++ (32 ∷ status.group)))))
+status_text status =
+    object_kind_text status.kind ++ (32 ∷ (mode_text status.mode ++ (acl_mark status.has_acl ++ (32 ∷ (status.owner ++ (32 ∷ status.group))))))
+
+abbrev pub acl_status_text : AclStatusParts → List ℕ
+acl_status_text status = status.owner ++ (32 ∷ (status.group ++ (32 ∷ status.spec)))
 
 -- each name behind a blank
 abbrev pub names_text : List (List ℕ) → List ℕ
@@ -33,6 +44,8 @@ refusal_code Exists = 5
 refusal_code NotEmpty = 6
 refusal_code IsRoot = 7
 refusal_code UnderItself = 8
+refusal_code (BadAcl fault) = 9
+refusal_code TooManyEntries = 10
 refusal_code BadName = 19
 
 abbrev pub refusal_text : Refusal → List ℕ
@@ -43,4 +56,6 @@ refusal_text Exists = codes "5 Exists"
 refusal_text NotEmpty = codes "6 NotEmpty"
 refusal_text IsRoot = codes "7 IsRoot"
 refusal_text UnderItself = codes "8 UnderItself"
+refusal_text (BadAcl fault) = codes "9 BadAcl " ++ acl_fault_text fault
+refusal_text TooManyEntries = codes "10 TooManyEntries"
 refusal_text BadName = codes "19 BadName"

@@ -7,7 +7,7 @@ use std::fmt;
 
 /// Which list of an object an entry stands in: the one that is judged, or the one that what is made beneath inherits
 /// (HDFS Permissions Guide, "ACLs (Access Control Lists)").
-#[derive(Clone, Copy, Debug, PartialEq, Eq)]
+#[derive(Clone, Copy, Debug, PartialEq, Eq, PartialOrd, Ord)]
 pub enum Scope {
     Access,
     Default,
@@ -15,7 +15,7 @@ pub enum Scope {
 
 /// Whom an entry is for: the owner or a named user, the owning group or a named group, the mask of the named entries and
 /// the owning group, or all others.
-#[derive(Clone, Copy, Debug, PartialEq, Eq)]
+#[derive(Clone, Copy, Debug, PartialEq, Eq, PartialOrd, Ord)]
 pub enum EntryKind {
     User,
     Group,

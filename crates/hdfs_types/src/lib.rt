@@ -2,6 +2,7 @@
 //! moments, requests and replies. Each text that is read has one grammar with the text that is printed.
 #![tactic(auto)]
 
+pub mod acl_change;
 pub mod entry;
 pub mod fault;
 pub mod groups;
@@ -16,4 +17,5 @@ pub mod op;
 pub mod path;
 pub mod reply;
 pub mod rights;
+pub mod spec;
 pub mod who;

@@ -1,6 +1,7 @@
 ghost use Rattle.std.specs.Prelude.{◌≡◌, IfOk};
 ghost use Rattle.hdfs_types.specs.Request as spec;
 
+use crate::acl_change::AclChange;
 use crate::groups::Groups;
 use crate::mode::Mode;
 use crate::moment::Moment;
@@ -19,6 +20,8 @@ pub enum Op {
     List(Path),
     /// Asks how many directories and files there are at a path and beneath it.
     Summary(Path),
+    /// Asks for the access control list of a file or a directory.
+    GetAcl(Path),
     /// Deletes what has a path, a directory that isn't empty only where the deletion is recursive.
     Delete(Path, bool),
     /// Moves what has the first path, with all that is beneath it, to the second.
@@ -27,6 +30,8 @@ pub enum Op {
     SetMode(Path, Mode),
     /// Gives what has a path another owner and another group; `None` keeps what it has.
     SetOwner(Path, Option<Who>, Option<Who>),
+    /// Changes the access control list of what has a path.
+    SetAcl(Path, AclChange),
     /// Makes a user known, with these groups.
     AddUser(Who, Groups),
     /// Gives a known user these groups, instead of those that it had.
@@ -52,6 +57,7 @@ impl Clone for Op {
             Op::Stat(path) => Ok(Op::Stat(path.clone()?)),
             Op::List(path) => Ok(Op::List(path.clone()?)),
             Op::Summary(path) => Ok(Op::Summary(path.clone()?)),
+            Op::GetAcl(path) => Ok(Op::GetAcl(path.clone()?)),
             Op::Delete(path, recursive) => Ok(Op::Delete(path.clone()?, *recursive)),
             Op::Rename(from, to) => Ok(Op::Rename(from.clone()?, to.clone()?)),
             Op::SetMode(path, mode) => Ok(Op::SetMode(path.clone()?, *mode)),
@@ -60,6 +66,7 @@ impl Clone for Op {
                 copied(owner)?,
                 copied(group)?,
             )),
+            Op::SetAcl(path, change) => Ok(Op::SetAcl(path.clone()?, change.clone()?)),
             Op::AddUser(user, groups) => Ok(Op::AddUser(user.clone()?, groups.clone()?)),
             Op::SetGroups(user, groups) => Ok(Op::SetGroups(user.clone()?, groups.clone()?)),
         }
@@ -92,12 +99,13 @@ pub fn is_look(op: &Op) -> bool
     ensures { result ≡ spec.is_look op.now }
 {
     match op {
-        Op::Stat(_) | Op::List(_) | Op::Summary(_) => true,
+        Op::Stat(_) | Op::List(_) | Op::Summary(_) | Op::GetAcl(_) => true,
         Op::Mkdirs(_, _)
         | Op::Delete(_, _)
         | Op::Rename(_, _)
         | Op::SetMode(_, _)
         | Op::SetOwner(_, _, _)
+        | Op::SetAcl(_, _)
         | Op::AddUser(_, _)
         | Op::SetGroups(_, _) => false,
     }

@@ -1,5 +1,7 @@
 ghost use Rattle.std.specs.Prelude.{◌≡◌, Some};
+ghost use Rattle.std.specs.String.{string_bytes};
 
+use crate::fault::AclFault;
 use crate::mode::Mode;
 use crate::name::Name;
 use crate::path::Path;
@@ -18,11 +20,14 @@ pub enum ObjectKind {
 pub struct FileStatus {
     pub kind: ObjectKind,
     pub mode: Mode,
+    /// Whether an access list with named entries, or a default list, stands behind the mode.
+    pub has_acl: bool,
     pub owner: Who,
     pub group: Who,
 }
 
-/// Prints `dir` or `file`, and then mode, owner and group, each behind a blank.
+/// Prints `dir` or `file`, and then mode, owner and group, each behind a blank; and right behind the mode a `+` where an access
+/// list stands behind it, as `ls` does (HDFS Permissions Guide, "ACLs (Access Control Lists)").
 impl fmt::Display for FileStatus {
     ghost use Rattle.hdfs_types.specs.Reply.{status_text};
 
@@ -32,9 +37,10 @@ impl fmt::Display for FileStatus {
         let mode = self.mode;
         let owner = &self.owner;
         let group = &self.group;
+        let mark = if self.has_acl { "+" } else { "" };
         match self.kind {
-            ObjectKind::File => write!(f, "file {mode} {owner} {group}"),
-            ObjectKind::Directory => write!(f, "dir {mode} {owner} {group}"),
+            ObjectKind::File => write!(f, "file {mode}{mark} {owner} {group}"),
+            ObjectKind::Directory => write!(f, "dir {mode}{mark} {owner} {group}"),
         }
     }
 }
@@ -105,12 +111,72 @@ impl fmt::Display for ContentSummary {
     }
 }
 
+/// What `getfacl` tells of a file or a directory: the owner, the owning group, and the entries of its access control list.
+#[derive(Debug, Drop)]
+pub struct AclStatus {
+    owner: Who,
+    group: Who,
+    spec: String,
+}
+
+impl Model for AclStatus {
+    ghost use Rattle.std.specs.String.{string_bytes};
+    ghost use Rattle.hdfs_types.specs.AclStatus.{AclStatusParts};
+
+    ghost Value = { AclStatusParts };
+
+    ghost view = { λ status. record { owner = status.owner; group = status.group; spec = string_bytes status.spec } };
+}
+
+impl AclStatus {
+    /// Of this owner and this group, with the text of the entries. Takes no memory.
+    pub fn new(owner: Who, group: Who, spec: String) -> AclStatus
+        ensures { result ≡ record { owner = owner; group = group; spec = string_bytes spec } }
+    {
+        AclStatus { owner, group, spec }
+    }
+
+    pub fn owner(&self) -> &Who
+        ensures { result.now ≡ self.now.owner }
+    {
+        &self.owner
+    }
+
+    pub fn group(&self) -> &Who
+        ensures { result.now ≡ self.now.group }
+    {
+        &self.group
+    }
+
+    /// The text of the entries, joined by commas.
+    pub fn spec(&self) -> &str
+        ensures { result.now ≡ self.now.spec }
+    {
+        self.spec.as_str()
+    }
+}
+
+/// Prints owner, group and entries, with a blank between each two.
+impl fmt::Display for AclStatus {
+    ghost use Rattle.hdfs_types.specs.Reply.{acl_status_text};
+
+    ghost output = { λ status. Some (acl_status_text status) };
+
+    fn fmt<W: fmt::Write>(&self, f: &mut fmt::Formatter<W>) -> fmt::Result {
+        let owner = &self.owner;
+        let group = &self.group;
+        let spec = self.spec.as_str();
+        write!(f, "{owner} {group} {spec}")
+    }
+}
+
 /// What the NameNode answers to a request that it has done.
 #[derive(Debug, Drop)]
 pub enum Reply {
     /// It is done, and there is nothing to tell.
     Empty,
     Status(FileStatus),
+    Acl(AclStatus),
     /// The names that a directory holds, or a file's own.
     Names(Names),
     Summary(ContentSummary),
@@ -135,6 +201,10 @@ pub enum Refusal {
     IsRoot,
     /// A directory can't be moved to a path beneath itself: code 8.
     UnderItself,
+    /// The access control list can't be changed so: code 9.
+    BadAcl(AclFault),
+    /// More entries would stand in a scope of an access control list than may: code 10.
+    TooManyEntries,
     /// That name is a DataNode's: code 19.
     BadName,
 }
@@ -154,6 +224,8 @@ impl Refusal {
             Refusal::NotEmpty => 6,
             Refusal::IsRoot => 7,
             Refusal::UnderItself => 8,
+            Refusal::BadAcl(_) => 9,
+            Refusal::TooManyEntries => 10,
             Refusal::BadName => 19,
         }
     }
@@ -174,6 +246,8 @@ impl fmt::Display for Refusal {
             Refusal::NotEmpty => write!(f, "6 NotEmpty"),
             Refusal::IsRoot => write!(f, "7 IsRoot"),
             Refusal::UnderItself => write!(f, "8 UnderItself"),
+            Refusal::BadAcl(fault) => write!(f, "9 BadAcl {fault}"),
+            Refusal::TooManyEntries => write!(f, "10 TooManyEntries"),
             Refusal::BadName => write!(f, "19 BadName"),
         }
     }

@@ -7,7 +7,7 @@ use Rattle.std.specs.Map.{keys_of, lookup, set_value, remove_entry}
 use Rattle.std.specs.BTreeMap.{insert_entry}
 use Rattle.std.specs.Ordering.{is_eq, is_gt, is_lt}
 use Rattle.hdfs_types.specs.PathOrder.{path_cmp, same_path}
-use Rattle.acl_entries.specs.AccessList.{AccessList}
+use Rattle.acl_entries.specs.AccessControlList.{AccessControlList}
 use Rattle.flat_rows.specs.declared.row.Row.{Row}
 use Rattle.flat_rows.specs.Rows.{is_before, is_beyond, replaced}
 use Rattle.flat_rows.specs.Changes.{without, given, rewritten}
@@ -135,7 +135,7 @@ cut_entry n es sorted =
 
 -- rewriting
 
-module _ (owner group : List ℕ) (acl : AccessList) where
+module _ (owner group : List ℕ) (acl : AccessControlList) where
   abbrev one : List (List ℕ) → Row → Row
   one path row = cond (same_path path row.path) (given owner group acl row) row
 

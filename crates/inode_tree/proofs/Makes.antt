@@ -8,6 +8,9 @@ use Rattle.std.specs.BTreeMap.{insert_entry}
 use Rattle.std.specs.Option.{option_map}
 use Rattle.hdfs_types.specs.Mode.{for_missing_parent}
 use Rattle.hdfs_types.specs.Path.{is_beneath}
+use Rattle.hdfs_types.specs.declared.reply.ObjectKind.TheVariants.{Directory}
+use Rattle.acl_entries.specs.AccessControlList.{AccessControlList}
+use Rattle.default_acl.specs.Inheritance.{inherited}
 use Rattle.flat_rows.specs.declared.row.Row.{Row}
 use Rattle.flat_rows.specs.First.{first}
 use Rattle.flat_rows.specs.Rows.{is_directory, is_missing, file_above, ancestor, with_sub_tree, replaced}
@@ -81,24 +84,28 @@ module _ (owner : List ℕ) (mode : ℕ) where
   under_new n a [] = refl
   under_new n a (m ∷ ms) = ap (λ t. new_directory (under n a) owner (mode_of_new mode ms) m ∷ t) (under_new n (new_directory a owner (mode_of_new mode ms) m) ms)
 
-  chain_under : (n : List ℕ) (ns : List (List ℕ)) (t : Top) → map (under n) (chain t.group owner mode ns) ≡ new_directories (row_of [] t) owner mode (n ∷ ns)
-  chain_under n ns t = ap (λ x. new_directory (row_of [] t) owner (mode_of_new mode ns) n ∷ x) (under_new n (directory_at t.group owner (mode_of_new mode ns) []) ns)
+  chain_under : (n : List ℕ) (ns : List (List ℕ)) (t : Top) → map (under n) (chain t.acl t.group owner mode ns) ≡ new_directories (row_of [] t) owner mode (n ∷ ns)
+  chain_under n ns t = ap (λ x. new_directory (row_of [] t) owner (mode_of_new mode ns) n ∷ x) (under_new n (directory_at t.acl t.group owner (mode_of_new mode ns) []) ns)
 
-  pub chain_on : (group : List ℕ) (n : List ℕ) (ns names : List (List ℕ)) (inner : Branch) (es : Entries) → names ≡ n ∷ ns → es ≡ (n, inner) ∷ [] → rows inner ≡ chain group owner mode ns
-      → directory_at group owner (for_missing_parent mode) [] ∷ flatten es ≡ chain group owner mode names
-  chain_on group n ns names inner es is one within =
-      let top : Row = directory_at group owner (for_missing_parent mode) [] in
-      ap (λ x. top ∷ flatten x) one ∙ ap (λ x. top ∷ x) (append-nil (map (under n) (rows inner)) ∙ ap (map (under n)) within ∙ chain_under n ns (record { kind = top.kind; owner = top.owner; group = top.group; acl = top.acl }))
-      ∙ ap (chain group owner mode) (sym is)
+  -- a directory of this list, as it is made
+  abbrev made_with : AccessControlList → List ℕ → Row
+  made_with acl group = row_of [] (record { kind = Directory; owner = owner; group = group; acl = acl })
 
-  pub chain_end : (group : List ℕ) (names : List (List ℕ)) (es : Entries) → names ≡ [] → es ≡ [] → directory_at group owner mode [] ∷ flatten es ≡ chain group owner mode names
-  chain_end group names es is none = ap (λ x. directory_at group owner mode [] ∷ flatten x) none ∙ ap (chain group owner mode) (sym is)
+  pub chain_on : (parent acl : AccessControlList) (group : List ℕ) (n : List ℕ) (ns names : List (List ℕ)) (inner : Branch) (es : Entries) → acl ≡ inherited parent (for_missing_parent mode) Directory
+      → names ≡ n ∷ ns → es ≡ (n, inner) ∷ [] → rows inner ≡ chain acl group owner mode ns → made_with acl group ∷ flatten es ≡ chain parent group owner mode names
+  chain_on parent acl group n ns names inner es list is one within =
+      ap (λ x. made_with acl group ∷ flatten x) one ∙ ap (λ x. made_with acl group ∷ x) (append-nil (map (under n) (rows inner)) ∙ ap (map (under n)) within ∙ chain_under n ns (record { kind = Directory; owner = owner; group = group; acl = acl }))
+      ∙ ap (λ l. made_with l group ∷ new_directories (made_with l group) owner mode (n ∷ ns)) list ∙ ap (chain parent group owner mode) (sym is)
+
+  pub chain_end : (parent acl : AccessControlList) (group : List ℕ) (names : List (List ℕ)) (es : Entries) → acl ≡ inherited parent mode Directory → names ≡ [] → es ≡ []
+      → made_with acl group ∷ flatten es ≡ chain parent group owner mode names
+  chain_end parent acl group names es list is none = ap (λ x. made_with acl group ∷ flatten x) none ∙ ap (λ l. made_with l group ∷ []) list ∙ ap (chain parent group owner mode) (sym is)
 
   -- the rows with the directories that are missing
   abbrev pub made : List (List ℕ) → List Row → List Row
   made path all = with_directories path mode owner (ancestor path all) all
 
-  pub make_here : (n : List ℕ) (ns : List (List ℕ)) (t : Top) (c : Branch) (es fs : Entries) → Sorted es → lookup (at n) es ≡ None → rows c ≡ chain t.group owner mode ns → fs ≡ insert_entry R es n c
+  pub make_here : (n : List ℕ) (ns : List (List ℕ)) (t : Top) (c : Branch) (es fs : Entries) → Sorted es → lookup (at n) es ≡ None → rows c ≡ chain t.acl t.group owner mode ns → fs ≡ insert_entry R es n c
       → row_of [] t ∷ flatten fs ≡ made (n ∷ ns) (row_of [] t ∷ flatten es)
   make_here n ns t c es fs sorted found is inserted =
       ap (λ x. row_of [] t ∷ flatten x) inserted ∙ ap (λ x. row_of [] t ∷ x) (put_entry n es c sorted ∙ ap (λ block. replaced (n ∷ []) block (flatten es)) (ap (map (under n)) is ∙ chain_under n ns t))

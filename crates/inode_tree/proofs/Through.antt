@@ -6,7 +6,7 @@ use Rattle.std.proofs.lemmas.Bool.{false≢true}
 use Rattle.std.specs.BTreeMap.{BTreeMap, insert_entry}
 use Rattle.std.proofs.lemmas.List.{map-append}
 use Rattle.hdfs_types.specs.PathOrder.{same_path}
-use Rattle.acl_entries.specs.AccessList.{AccessList}
+use Rattle.acl_entries.specs.AccessControlList.{AccessControlList}
 use Rattle.std.proofs.lemmas.Map.Steps.{set_value_same}
 use Rattle.std.specs.Option.{option_copied_mut}
 use Rattle.std.specs.Borrow.{MutBor}
@@ -187,7 +187,7 @@ taken_through n m ms names es b p sorted is found whole =
 
 -- rewriting
 
-module _ (owner group : List ℕ) (acl : AccessList) where
+module _ (owner group : List ℕ) (acl : AccessControlList) where
   untouched_row : (m : List ℕ) (rs : List Row) → rewritten [] owner group acl (map (under m) rs) ≡ map (under m) rs
   untouched_row m [] = refl
   untouched_row m (r ∷ rs) = ap (λ t. under m r ∷ t) (untouched_row m rs)

@@ -4,7 +4,7 @@ use Rattle.std.proofs.lemmas.Bool.{false≢true}
 use Rattle.std.proofs.lemmas.List.{append-nil}
 use Rattle.std.specs.declared.alloc.AllocError.{AllocError}
 use Rattle.hdfs_types.specs.Path.{IsPath, is_prefix}
-use Rattle.acl_entries.specs.AccessList.{AccessList}
+use Rattle.acl_entries.specs.AccessControlList.{AccessControlList}
 use Rattle.flat_rows.specs.declared.row.Row.{Row}
 use Rattle.flat_rows.specs.Rows.{is_missing, row_at, file_above, ancestor, replaced, with_sub_tree}
 use Rattle.flat_rows.specs.Namespace.{has_parent, is_root, suits_kind, fits}
@@ -37,7 +37,7 @@ made_tree owner mode path all clear is tree = by (ancestor path all) refl
 pub without_tree : (path : List (List ℕ)) (all : List Row) → is_root path ≡ false → IsTree all → IsTree (without path all)
 without_tree path all below tree = record { namespace = without_namespace path all below tree.namespace; paths = without_paths path all tree.paths }
 
-pub rewritten_tree : (path : List (List ℕ)) (owner group : List ℕ) (acl : AccessList) (all : List Row) → suits_list acl (row_at path all) ≡ true → IsTree all → IsTree (rewritten path owner group acl all)
+pub rewritten_tree : (path : List (List ℕ)) (owner group : List ℕ) (acl : AccessControlList) (all : List Row) → suits_list acl (row_at path all) ≡ true → IsTree all → IsTree (rewritten path owner group acl all)
 rewritten_tree path owner group acl all suits tree = record { namespace = rewritten_namespace path owner group acl all tree.namespace suits; paths = rewritten_paths path owner group acl all tree.paths }
 
 -- after a call that may fail
@@ -73,7 +73,7 @@ module _ (path names : List (List ℕ)) (is : names ≡ path) (b : Branch) (all 
       either_tree r (rows b) (rows new) (with_directories names mode owner (ancestor names (rows b)) (rows b)) ok (on_err r (ap rows) err)
       (made_tree owner mode names (rows b) (ap (λ p. file_above p (rows b)) is ∙ ap (file_above path) seen ∙ clear) (subst IsPath (sym is) within) tree) tree
 
-  pub rewrite_keeps : (owner group : List ℕ) (acl : AccessList) (new : Branch) → suits_list acl (row_at path all) ≡ true → rows new ≡ rewritten names owner group acl (rows b) → IsTree (rows new)
+  pub rewrite_keeps : (owner group : List ℕ) (acl : AccessControlList) (new : Branch) → suits_list acl (row_at path all) ≡ true → rows new ≡ rewritten names owner group acl (rows b) → IsTree (rows new)
   rewrite_keeps owner group acl new suits done =
       subst IsTree (sym done) (rewritten_tree names owner group acl (rows b) (ap (λ p. suits_list acl (row_at p (rows b))) is ∙ ap (λ l. suits_list acl (row_at path l)) seen ∙ suits) tree)
 

@@ -1,7 +1,7 @@
 -- A branch of the namespace: what stands at its top, and the rows beneath, each with its path from the top on.
 use Rattle.std.specs.Prelude.{ℕ, List, [], ◌∷◌, ◌++◌, map, Option, Some, None}
 use Rattle.hdfs_types.specs.declared.reply.ObjectKind.{ObjectKind}
-use Rattle.acl_entries.specs.AccessList.{AccessList}
+use Rattle.acl_entries.specs.AccessControlList.{AccessControlList}
 use Rattle.flat_rows.specs.declared.row.Row.{Row}
 
 -- a row without its path
@@ -9,7 +9,7 @@ pub record Top : Type 0 where
   pub kind : ObjectKind
   pub owner : List ℕ
   pub group : List ℕ
-  pub acl : AccessList
+  pub acl : AccessControlList
 
 pub record Branch : Type 0 where
   pub top : Top

@@ -1,5 +1,6 @@
 -- What a change of one branch leaves of the rows that it is a part of.
 use Rattle.std.specs.Prelude.{ℕ, Bool, true, List, [], ◌∷◌, ◌++◌, map}
+use Rattle.acl_entries.specs.AccessControlList.{AccessControlList}
 use Rattle.flat_rows.specs.declared.row.Row.{Row}
 use Rattle.flat_rows.specs.Rows.{replaced}
 use Rattle.flat_rows.specs.Namespace.{has_parent}
@@ -16,5 +17,5 @@ holds_parent [] name beneath = true
 holds_parent (first ∷ names) name beneath = has_parent (first ∷ (names ++ name ∷ [])) beneath
 
 -- a new directory with the missing ones of these names beneath it
-abbrev pub chain : List ℕ → List ℕ → ℕ → List (List ℕ) → List Row
-chain group owner mode names = let top = directory_at group owner (mode_of_new mode names) [] in top ∷ new_directories top owner mode names
+abbrev pub chain : AccessControlList → List ℕ → List ℕ → ℕ → List (List ℕ) → List Row
+chain above group owner mode names = let top = directory_at above group owner (mode_of_new mode names) [] in top ∷ new_directories top owner mode names

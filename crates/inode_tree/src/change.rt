@@ -13,6 +13,7 @@ ghost use Rattle.inode_tree.specs.Change.{grafted, holds_parent, chain};
 
 use crate::node::{Held, Node};
 use acl_entries::acl::Acl;
+use default_acl::inherit::inherit;
 use hdfs_types::mode::Mode;
 use hdfs_types::name::Name;
 use hdfs_types::reply::ObjectKind;
@@ -103,7 +104,7 @@ impl Node {
             None => {
                 self.owner = owner;
                 self.group = group;
-                self.acl = acl;
+                replace_list(&mut self.acl, acl);
             }
             Some((first, rest)) => match &mut self.held {
                 Held::Directory(map) => rewrite_in(map, first, rest, owner, group, acl),
@@ -119,16 +120,24 @@ impl Node {
         mode: Mode,
         owner: &Who,
         group: &Who,
+        above: &Acl,
     ) -> Result<Node, AllocError>
-        ensures { IfOk result (λ node. rows node ≡ chain group.now owner.now mode names.now) }
+        ensures { IfOk result (λ node. rows node ≡ chain above.now group.now owner.now mode names.now) }
     {
         let mut map = BTreeMap::new(alloc);
         let Some((first, rest)) = names.split_first() else {
-            return new_directory(map, mode, owner, group);
+            let acl = inherit(alloc, above, mode, ObjectKind::Directory)?;
+            return new_directory(map, acl, owner, group);
         };
-        let inner = Node::chain(alloc, rest, mode, owner, group)?;
+        let acl = inherit(
+            alloc,
+            above,
+            mode.for_missing_parent(),
+            ObjectKind::Directory,
+        )?;
+        let inner = Node::chain(alloc, rest, mode, owner, group, &acl)?;
         map.insert(first.clone()?, inner)?;
-        new_directory(map, mode.for_missing_parent(), owner, group)
+        new_directory(map, acl, owner, group)
     }
 
     /// Makes the directories of the path that are missing, or none of them.
@@ -149,26 +158,42 @@ impl Node {
             unreachable!()
         };
         match &mut self.held {
-            Held::Directory(map) => make_in(alloc, map, first, rest, mode, owner, &self.group),
+            Held::Directory(map) => make_in(
+                alloc,
+                map,
+                first,
+                rest,
+                mode,
+                owner,
+                &self.group,
+                &self.acl,
+            ),
             Held::File => unreachable!(),
         }
     }
 }
 
+/// Puts a list in the place of another.
+fn replace_list(place: &mut Acl, acl: Acl)
+    ensures { place.new ≡ acl }
+{
+    *place = acl;
+}
+
 /// A directory that holds these nodes.
 fn new_directory(
     map: BTreeMap<Name, Node>,
-    mode: Mode,
+    acl: Acl,
     owner: &Who,
     group: &Who,
 ) -> Result<Node, AllocError>
     requires { IsStrictlySortedBy text_cmp (keys_of map.entries) }
-    ensures { IfOk result (λ node. rows node ≡ directory_at group.now owner.now mode [] ∷ flatten map.entries) }
+    ensures { IfOk result (λ node. rows node ≡ row_of [] (record { kind = ObjectKind.Directory; owner = owner.now; group = group.now; acl = acl }) ∷ flatten map.entries) }
 {
     Ok(Node {
         owner: owner.clone()?,
         group: group.clone()?,
-        acl: Acl::from_mode(mode, ObjectKind::Directory),
+        acl,
         held: Held::Directory(map),
     })
 }
@@ -261,18 +286,19 @@ fn make_in(
     mode: Mode,
     owner: &Who,
     group: &Who,
+    above: &Acl,
 ) -> Result<(), AllocError>
     requires sorted { IsStrictlySortedBy text_cmp (keys_of map.old.entries) }
     requires missing { is_missing (first.now ∷ rest.now) (flatten map.old.entries) ≡ true }
     requires clear { file_above (first.now ∷ rest.now) (flatten map.old.entries) ≡ None }
     ensures sorted { IsStrictlySortedBy text_cmp (keys_of map.new.entries) }
-    ensures ok { OnOk result ((top : Top) → top.group ≡ group.now → row_of [] top ∷ flatten map.new.entries ≡ with_directories (first.now ∷ rest.now) mode owner.now (ancestor (first.now ∷ rest.now) (row_of [] top ∷ flatten map.old.entries)) (row_of [] top ∷ flatten map.old.entries)) }
+    ensures ok { OnOk result ((top : Top) → top.group ≡ group.now → top.acl ≡ above.now → row_of [] top ∷ flatten map.new.entries ≡ with_directories (first.now ∷ rest.now) mode owner.now (ancestor (first.now ∷ rest.now) (row_of [] top ∷ flatten map.old.entries)) (row_of [] top ∷ flatten map.old.entries)) }
     ensures err { OnErr result (flatten map.new.entries ≡ flatten map.old.entries) }
 {
     match map.get_mut(first) {
         Some(child) => child.make(alloc, rest, mode, owner),
         None => {
-            let chain = Node::chain(alloc, rest, mode, owner, group)?;
+            let chain = Node::chain(alloc, rest, mode, owner, group, above)?;
             map.insert(first.clone()?, chain)?;
             Ok(())
         }

@@ -1,6 +1,7 @@
 ghost use Rattle.std.specs.Prelude.{◌≡◌, [], ◌∷◌, ◌||◌, map, filter, not, None, IsTrue, IfOk, OnOk, OnErr};
 ghost use Rattle.std.specs.Option.{option_map};
 ghost use Rattle.hdfs_types.specs.Path.{is_prefix};
+ghost use Rattle.acl_entries.specs.AccessControlList.{suits_file};
 ghost use Rattle.flat_rows.specs.Opening.{root_row};
 ghost use Rattle.flat_rows.specs.Rows.{row_at, is_directory_kind, is_missing, file_above, ancestor, with_sub_tree};
 ghost use Rattle.flat_rows.specs.Namespace.{has_parent, is_root};
@@ -181,7 +182,7 @@ impl Tree {
         acl: Acl,
     ) -> Result<(), AllocError>
         requires parent { IsTrue (has_parent path.now self.old) }
-        requires suits { IsTrue (is_directory_kind kind || not acl.sticky) }
+        requires suits { IsTrue (is_directory_kind kind || suits_file acl) }
         ensures ok { OnOk result (self.new ≡ with_sub_tree self.old (record { path = path.now; kind = kind; owner = owner; group = group; acl = acl } ∷ [])) }
         ensures err { OnErr result (self.new ≡ self.old) }
     {

@@ -1,5 +1,5 @@
 -- Components that don't grant rights to a caller.
-use Rattle.std.specs.Prelude.{Bool, not, List, Option, filter}
+use Rattle.std.specs.Prelude.{Bool, false, not, List, Option, Some, None, filter}
 use Rattle.hdfs_types.specs.declared.rights.Rights.{Rights}
 use Rattle.principals.specs.Principals.{Asking}
 use Rattle.flat_rows.specs.declared.row.Row.{Row}
@@ -12,3 +12,11 @@ is_closed asked caller row = not (judgement row caller.name caller.groups asked)
 -- the first of the rows that doesn't grant them
 abbrev pub first_closed : Rights → Asking → List Row → Option Row
 first_closed asked caller rows = first (filter (is_closed asked caller) rows)
+
+-- the same where rights are asked; where none are, nothing is shut
+abbrev pub is_shut : Option Rights → Asking → Row → Bool
+is_shut None caller = λ row. false
+is_shut (Some asked) caller = is_closed asked caller
+
+abbrev pub first_shut : Option Rights → Asking → List Row → Option Row
+first_shut asked caller rows = first (filter (is_shut asked caller) rows)

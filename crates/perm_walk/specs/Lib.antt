@@ -1,3 +1,4 @@
 pub mod Kept
-pub mod Reached
 pub mod Closed
+pub mod Reached
+pub mod Walked

@@ -53,6 +53,13 @@ impl<'a> Component<'a> {
         self.inode
     }
 
+    /// The same component, lent once more.
+    pub(crate) fn lent(&self) -> Component<'a>
+        ensures { result ≡ self.now }
+    {
+        Component::new(self.path, self.inode)
+    }
+
     /// A copy of the path. Costs the path.
     pub fn to_path(&self, alloc: Global) -> Result<Path, AllocError>
         ensures { IfOk result (λ path. path ≡ self.now.path) }

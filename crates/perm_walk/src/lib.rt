@@ -3,5 +3,6 @@
 #![tactic(auto)]
 
 pub mod component;
+mod judge;
 pub mod reach;
 pub mod walk;

@@ -1,257 +1,65 @@
-ghost use Rattle.std.specs.Prelude.{◌≡◌, ◌&&◌, [], false, map, IfOk};
-ghost use Rattle.std.specs.Option.{option_to_list};
+ghost use Rattle.std.specs.Prelude.{◌≡◌, false, IfOk};
 ghost use Rattle.hdfs_types.specs.Path.{IsPath};
-ghost use Rattle.inode_tree.specs.Branch.{row_of};
-ghost use Rattle.inode_tree.specs.Tree.{branch_at};
 ghost use Rattle.principals.specs.Principals.{caller_of};
-ghost use Rattle.flat_rows.specs.Denied.{deciding};
 ghost use Rattle.flat_rows.specs.First.{first_answer};
-ghost use Rattle.flat_rows.specs.Rows as rows_spec;
 ghost use Rattle.flat_rows.specs.Decision as spec;
-ghost use Rattle.perm_walk.specs.Closed.{is_closed, first_closed};
+ghost use Rattle.perm_walk.specs.Reached.{IsReach};
+ghost use Rattle.perm_walk.specs.Walked.{AreOn, IsDescent, IsWalked, IsWalkedBoth};
 
-use crate::component::Component;
-use crate::reach::{directory_of, follow};
-use flat_rows::demand::{Condition, Demand, Needs, Role};
+use crate::judge::{Descent, denial_by, follow};
+use crate::reach::Reach;
+use flat_rows::demand::{Demand, Needs};
 use flat_rows::denial::Denial;
-use flat_rows::need::Need;
-use flat_rows::row::Row;
-use hdfs_types::groups::has_group;
 use hdfs_types::name::Name;
-use hdfs_types::reply::ObjectKind;
-use hdfs_types::rights::Rights;
+use hdfs_types::path::{Path, is_same};
 use hdfs_types::who::Who;
-use inode_tree::inode::Inode;
 use inode_tree::tree::Tree;
 use principals::caller::Caller;
 use principals::users::Users;
 use std::alloc::{AllocError, Global};
 
-/// Whether this is a directory that doesn't grant the rights.
-fn is_closed_directory(inode: Inode<'_>, caller: &Caller, asked: Rights) -> bool
-    ensures { result ≡ rows_spec.is_directory (row_of [] (branch_at inode.entry).top) && is_closed asked caller.now (row_of [] (branch_at inode.entry).top) }
-{
-    inode.kind() == ObjectKind::Directory
-        && !inode
-            .judged(caller.name(), caller.groups(), asked)
-            .is_granted()
+/// What a walk finds: the first denial, or where nothing is denied how far the path leads.
+#[derive(Drop)]
+pub enum Walked<'a> {
+    Denied(Denial),
+    Reached(Reach<'a>),
 }
 
-/// The first directory above a path, from the root down, that doesn't grant the rights. One descent, which stops there.
-fn closed_above<'a>(
+/// What a walk along two paths finds: the first denial, or where nothing is denied how far each leads.
+#[derive(Drop)]
+pub enum WalkedBoth<'a> {
+    Denied(Denial),
+    Reached(Reach<'a>, Reach<'a>),
+}
+
+/// How far the path leads, by another descent where that isn't known.
+fn reached<'a>(tree: &'a Tree, descent: Descent<'a>, caller: &Caller) -> Reach<'a>
+    requires { IsDescent tree.now descent }
+    ensures { IsReach descent.entry.path.now tree.now result }
+{
+    match descent.reach {
+        Some(reach) => reach,
+        None => follow(tree, descent.path, caller),
+    }
+}
+
+/// The first denial that demands on one path meet, for a caller who is no superuser.
+fn first_denial_on<'a>(
+    alloc: Global,
     tree: &'a Tree,
-    path: &'a [Name],
-    caller: &Caller,
-    asked: Rights,
-) -> Option<Component<'a>>
-    requires { IsPath path.now }
-    ensures { result ≡ first_closed asked caller.now (rows_spec.directories_above path.now tree.now) }
-{
-    let mut last = tree.root();
-    for depth in 0..path.len() {
-        if is_closed_directory(last, caller, asked) {
-            return Some(Component::new(&path[..depth], last));
-        }
-        match last.child(&path[depth]) {
-            Some(child) => last = child,
-            None => return None,
-        }
-    }
-    None
-}
-
-/// The first directory at a path and beneath it, in path order, that doesn't grant the rights.
-fn closed_beneath(
-    tree: &Tree,
-    path: &[Name],
-    caller: &Caller,
-    asked: Rights,
-) -> Result<Option<Row>, AllocError>
-    ensures { IfOk result (λ row. row ≡ first_closed asked caller.now (rows_spec.directories_beneath path.now tree.now)) }
-{
-    tree.first_closed(path, caller.name(), caller.groups(), asked)
-}
-
-/// The component, where it doesn't grant the rights.
-fn if_closed<'a>(
-    component: Option<Component<'a>>,
-    caller: &Caller,
-    asked: Rights,
-) -> Option<Component<'a>>
-    ensures { result ≡ first_closed asked caller.now (option_to_list component.entry) }
-{
-    let component = component?;
-    if component
-        .inode()
-        .judged(caller.name(), caller.groups(), asked)
-        .is_granted()
-    {
-        return None;
-    }
-    Some(component)
-}
-
-/// The owner of the directory that holds a component; the root, which none holds, has its own.
-fn owner_above<'a>(tree: &'a Tree, component: &Component<'a>) -> &'a Who
-    ensures { result.now ≡ rows_spec.owner_above component.now tree.now }
-{
-    match directory_of(tree, component.path()) {
-        Some(above) => above.inode().owner(),
-        None => component.inode().owner(),
-    }
-}
-
-/// Whether the condition of a need on a path holds.
-fn holds(tree: &Tree, condition: &Condition, path: &[Name]) -> bool
-    requires { IsPath path.now }
-    ensures { result ≡ spec.holds condition.now path.now tree.now }
-{
-    match condition {
-        Condition::Always => true,
-        Condition::WhereMissing => follow(tree, path).at.is_none(),
-        Condition::WhereDirectory => match follow(tree, path).at {
-            Some(component) => component.inode().kind() == ObjectKind::Directory,
-            None => false,
-        },
-        Condition::WhereSticky => match directory_of(tree, path) {
-            Some(above) => above.inode().acl().is_sticky(),
-            None => false,
-        },
-        Condition::WhereOwnedByAnother(user) => match follow(tree, path).at {
-            Some(component) => user != component.inode().owner(),
-            None => false,
-        },
-    }
-}
-
-/// The first component in a role on a path, in path order, that doesn't grant the rights.
-fn first_closed_in_role(
-    alloc: Global,
-    tree: &Tree,
-    role: Role,
-    path: &[Name],
-    caller: &Caller,
-    asked: Rights,
-) -> Result<Option<Row>, AllocError>
-    requires { IsPath path.now }
-    ensures { IfOk result (λ row. row ≡ first_closed asked caller.now (spec.rows_in_role role path.now tree.now)) }
-{
-    let closed = match role {
-        Role::Traversed => closed_above(tree, path, caller, asked),
-        Role::Ancestor => if_closed(follow(tree, path).ancestor, caller, asked),
-        Role::Parent => if_closed(directory_of(tree, path), caller, asked),
-        Role::Final => if_closed(follow(tree, path).at, caller, asked),
-        Role::SubTree => return closed_beneath(tree, path, caller, asked),
-    };
-    match closed {
-        Some(component) => Ok(Some(component.to_row(alloc)?)),
-        None => Ok(None),
-    }
-}
-
-/// Whether a need is met at a component, for a caller who is no superuser; `above` is the owner of the directory that holds
-/// it.
-fn is_met(need: &Need, component: &Component, above: &Who, caller: &Caller) -> bool
-    ensures { result ≡ (deciding need.now component.now above.now caller.now.name caller.now.groups).granted }
-{
-    let inode = component.inode();
-    match need {
-        Need::Rights(asked) => inode
-            .judged(caller.name(), caller.groups(), *asked)
-            .is_granted(),
-        Need::Sticky => caller.name() == inode.owner() || caller.name() == above,
-        Need::Owner => caller.name() == inode.owner(),
-        Need::Member(group) => has_group(caller.groups(), group),
-        Need::Superuser => false,
-    }
-}
-
-/// The denial of a need of what has a path, for a caller who is no superuser.
-fn denial_at_final(
-    alloc: Global,
-    tree: &Tree,
-    path: &[Name],
-    caller: &Caller,
-    need: &Need,
-) -> Result<Option<Denial>, AllocError>
-    requires path { IsPath path.now }
-    requires judged { caller.now.is_superuser ≡ false }
-    ensures { IfOk result (λ denial. denial ≡ first_answer (spec.denial_of caller.now) (map (spec.ask_at tree.now need.now) (spec.rows_in_role Role.Final path.now tree.now))) }
-{
-    let Some(component) = follow(tree, path).at else {
-        return Ok(None);
-    };
-    let above = owner_above(tree, &component);
-    if is_met(need, &component, above, caller) {
-        return Ok(None);
-    }
-    Denial::at(
-        alloc,
-        need,
-        component.to_row(alloc)?,
-        above,
-        caller.name(),
-        caller.groups(),
-    )
-}
-
-/// The denial of rights of the components in a role on a path, for a caller who is no superuser.
-fn denial_of_rights(
-    alloc: Global,
-    tree: &Tree,
-    demand: &Demand,
-    caller: &Caller,
-    asked: Rights,
-) -> Result<Option<Denial>, AllocError>
-    requires need { demand.now.need ≡ Need.Rights asked }
-    requires judged { caller.now.is_superuser ≡ false }
-    ensures { IfOk result (λ denial. denial ≡ first_answer (spec.denial_of caller.now) (map (spec.ask_at tree.now demand.now.need) (spec.rows_in_role demand.now.role demand.now.path tree.now))) }
-{
-    match first_closed_in_role(alloc, tree, demand.role(), demand.path(), caller, asked)? {
-        Some(row) => Denial::at(
-            alloc,
-            demand.need(),
-            row,
-            caller.name(),
-            caller.name(),
-            caller.groups(),
-        ),
-        None => Ok(None),
-    }
-}
-
-/// The first denial that a demand meets, for a caller who is no superuser.
-fn denial_by(
-    alloc: Global,
-    tree: &Tree,
-    demand: &Demand,
-    caller: &Caller,
-) -> Result<Option<Denial>, AllocError>
-    requires { caller.now.is_superuser ≡ false }
-    ensures { IfOk result (λ denial. denial ≡ first_answer (spec.denial_of caller.now) (spec.asks_of tree.now demand.now)) }
-{
-    let path = demand.path();
-    if !holds(tree, demand.condition(), path) {
-        return Ok(None);
-    }
-    match demand.need() {
-        Need::Rights(asked) => denial_of_rights(alloc, tree, demand, caller, *asked),
-        need => denial_at_final(alloc, tree, path, caller, need),
-    }
-}
-
-/// The first denial that demands meet, for a caller who is no superuser.
-fn first_denial(
-    alloc: Global,
-    tree: &Tree,
     demands: &[Demand],
     caller: &Caller,
+    descent: &mut Descent<'a>,
 ) -> Result<Option<Denial>, AllocError>
-    requires { caller.now.is_superuser ≡ false }
-    ensures { IfOk result (λ denial. denial ≡ first_answer (λ demand. first_answer (spec.denial_of caller.now) (spec.asks_of tree.now demand)) demands.now) }
+    requires judged { caller.now.is_superuser ≡ false }
+    requires on { AreOn descent.old.path.now demands.now }
+    requires descent { IsDescent tree.now descent.old }
+    ensures denial { IfOk result (λ denial. denial ≡ first_answer (λ demand. first_answer (spec.denial_of caller.now) (spec.asks_of tree.now demand)) demands.now) }
+    ensures path { descent.new.path.now ≡ descent.old.path.now }
+    ensures descent { IsDescent tree.now descent.new }
 {
     for demand in demands {
-        let denial = denial_by(alloc, tree, demand, caller)?;
+        let denial = denial_by(alloc, tree, demand, caller, descent)?;
         if denial.is_some() {
             return Ok(denial);
         }
@@ -259,9 +67,169 @@ fn first_denial(
     Ok(None)
 }
 
+/// Judges demands on one path, for a caller who is no superuser.
+fn judged_on<'a>(
+    alloc: Global,
+    tree: &'a Tree,
+    path: &'a [Name],
+    demands: &[Demand],
+    caller: &Caller,
+) -> Result<Walked<'a>, AllocError>
+    requires path { IsPath path.now }
+    requires demands { AreOn path.now demands.now }
+    requires judged { caller.now.is_superuser ≡ false }
+    ensures { IfOk result (IsWalked path.now tree.now caller.now demands.now) }
+{
+    let mut descent = Descent { path, reach: None };
+    match first_denial_on(alloc, tree, demands, caller, &mut descent)? {
+        Some(denial) => Ok(Walked::Denied(denial)),
+        None => Ok(Walked::Reached(reached(tree, descent, caller))),
+    }
+}
+
+/// The first denial that a demand meets, for a caller who is no superuser, where its path may be one of two.
+fn denial_on_either<'a>(
+    alloc: Global,
+    tree: &'a Tree,
+    demand: &Demand,
+    caller: &Caller,
+    from: &mut Descent<'a>,
+    to: &mut Descent<'a>,
+) -> Result<Option<Denial>, AllocError>
+    requires judged { caller.now.is_superuser ≡ false }
+    requires from { IsDescent tree.now from.old }
+    requires to { IsDescent tree.now to.old }
+    ensures denial { IfOk result (λ denial. denial ≡ first_answer (spec.denial_of caller.now) (spec.asks_of tree.now demand.now)) }
+    ensures from_path { from.new.path.now ≡ from.old.path.now }
+    ensures from { IsDescent tree.now from.new }
+    ensures to_path { to.new.path.now ≡ to.old.path.now }
+    ensures to { IsDescent tree.now to.new }
+{
+    let path = demand.path();
+    if is_same(path, from.path) {
+        return denial_by(alloc, tree, demand, caller, from);
+    }
+    if is_same(path, to.path) {
+        return denial_by(alloc, tree, demand, caller, to);
+    }
+    let mut other = Descent { path, reach: None };
+    denial_by(alloc, tree, demand, caller, &mut other)
+}
+
+/// The first denial that demands meet, for a caller who is no superuser, where their paths may be one of two.
+fn first_denial<'a>(
+    alloc: Global,
+    tree: &'a Tree,
+    demands: &[Demand],
+    caller: &Caller,
+    from: &mut Descent<'a>,
+    to: &mut Descent<'a>,
+) -> Result<Option<Denial>, AllocError>
+    requires judged { caller.now.is_superuser ≡ false }
+    requires from { IsDescent tree.now from.old }
+    requires to { IsDescent tree.now to.old }
+    ensures denial { IfOk result (λ denial. denial ≡ first_answer (λ demand. first_answer (spec.denial_of caller.now) (spec.asks_of tree.now demand)) demands.now) }
+    ensures from_path { from.new.path.now ≡ from.old.path.now }
+    ensures from { IsDescent tree.now from.new }
+    ensures to_path { to.new.path.now ≡ to.old.path.now }
+    ensures to { IsDescent tree.now to.new }
+{
+    for demand in demands {
+        let denial = denial_on_either(alloc, tree, demand, caller, from, to)?;
+        if denial.is_some() {
+            return Ok(denial);
+        }
+    }
+    Ok(None)
+}
+
+/// Judges demands, most of which are on one of two paths, for a caller who is no superuser.
+fn judged_on_both<'a>(
+    alloc: Global,
+    tree: &'a Tree,
+    from: &'a [Name],
+    to: &'a [Name],
+    demands: &[Demand],
+    caller: &Caller,
+) -> Result<WalkedBoth<'a>, AllocError>
+    requires from { IsPath from.now }
+    requires to { IsPath to.now }
+    requires judged { caller.now.is_superuser ≡ false }
+    ensures { IfOk result (IsWalkedBoth from.now to.now tree.now caller.now demands.now) }
+{
+    let mut first = Descent {
+        path: from,
+        reach: None,
+    };
+    let mut second = Descent {
+        path: to,
+        reach: None,
+    };
+    match first_denial(alloc, tree, demands, caller, &mut first, &mut second)? {
+        Some(denial) => Ok(WalkedBoth::Denied(denial)),
+        None => Ok(WalkedBoth::Reached(
+            reached(tree, first, caller),
+            reached(tree, second, caller),
+        )),
+    }
+}
+
+/// Judges needs that are all on one path, as `walk` does, and answers also how far the path leads where none of them fails.
+/// One descent; a need on a sub-tree costs another and its directories. Memory is taken only for a denial.
+///
+/// # Errors
+/// Want of memory.
+pub fn walk_along<'a>(
+    alloc: Global,
+    tree: &'a Tree,
+    caller: &Caller,
+    needs: &Needs,
+    path: &'a Path,
+) -> Result<Walked<'a>, AllocError>
+    requires { AreOn path.now needs.now }
+    ensures { IfOk result (IsWalked path.now tree.now caller.now needs.now) }
+{
+    if caller.is_superuser() {
+        return Ok(Walked::Reached(follow(tree, path.names(), caller)));
+    }
+    judged_on(alloc, tree, path.names(), needs.as_slice(), caller)
+}
+
+/// Judges needs, most of which are on one of two paths, as `walk` does, and answers also how far the paths lead where none of
+/// the needs fails. One descent for each of the two paths, and one for each need on another; a need on a sub-tree costs
+/// another and its directories. Memory is taken only for a denial.
+///
+/// # Errors
+/// Want of memory.
+pub fn walk_along_both<'a>(
+    alloc: Global,
+    tree: &'a Tree,
+    caller: &Caller,
+    needs: &Needs,
+    from: &'a Path,
+    to: &'a Path,
+) -> Result<WalkedBoth<'a>, AllocError>
+    ensures { IfOk result (IsWalkedBoth from.now to.now tree.now caller.now needs.now) }
+{
+    if caller.is_superuser() {
+        return Ok(WalkedBoth::Reached(
+            follow(tree, from.names(), caller),
+            follow(tree, to.names(), caller),
+        ));
+    }
+    judged_on_both(
+        alloc,
+        tree,
+        from.names(),
+        to.names(),
+        needs.as_slice(),
+        caller,
+    )
+}
+
 /// The first of the needs that fails for the caller, or none: the decision of the flat list of rows (HDFS Permissions Guide,
-/// "Permission Checks"). A superuser fails none. A need costs at most three descents along its path, and one on a sub-tree also
-/// its directories; memory is taken only for a denial.
+/// "Permission Checks"). A superuser fails none. The needs cost one descent for each of the paths of the first two, and one for
+/// each need on another path; a need on a sub-tree costs another and its directories. Memory is taken only for a denial.
 pub fn walk(
     alloc: Global,
     tree: &Tree,
@@ -275,5 +243,21 @@ pub fn walk(
     if caller.is_superuser() {
         return Ok(None);
     }
-    first_denial(alloc, tree, needs.as_slice(), &caller)
+    let demands = needs.as_slice();
+    let Some(first) = demands.first() else {
+        return Ok(None);
+    };
+    let second = match demands.get(1) {
+        Some(second) => second.path(),
+        None => first.path(),
+    };
+    let mut from = Descent {
+        path: first.path(),
+        reach: None,
+    };
+    let mut to = Descent {
+        path: second,
+        reach: None,
+    };
+    first_denial(alloc, tree, demands, &caller, &mut from, &mut to)
 }

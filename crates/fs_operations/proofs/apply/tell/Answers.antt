@@ -1,20 +1,30 @@
-use Rattle.std.proofs.Common.{◌≡◌, sym, ap, subst}
-use Rattle.std.specs.Prelude.{IfOk}
-use Rattle.flat_rows.specs.Outcome.{Step, outcome}
+use Rattle.std.proofs.Common.{◌∙◌, ap}
+use Rattle.hdfs_types.specs.declared.op.Op.TheVariants as op
+use Rattle.flat_rows.specs.Outcome.{Step}
 use Rattle.inode_tree.proofs.Through.{if_ok}
+use Rattle.fs_operations.proofs.Steps.{as_step}
 use Rattle.fs_operations.proofs.apply.tell.Goals as goal
 
 pub returns-in-Stat : goal.returns-in-Stat
 returns-in-Stat c =
-    subst (λ op. IfOk c.stat.result (λ verdict. verdict ≡ (outcome c.args.tree.now c.args.users.now c.args.caller.now op).verdict)) (sym c.in-Stat.is)
-    (if_ok c.stat.result (λ verdict step. ap (λ (s : Step). s.verdict) step) (c.stat.ensures c.args.users.now c.args.caller.now))
+    if_ok c.stat.result (λ verdict judged. ap (λ (s : Step). s.verdict) (judged
+    ∙ as_step c.args.tree.now c.args.users.now c.args.caller.now c.caller-asking.result c.args.needs.now c.args.op.now (op.Stat c.in-Stat.path) c.caller-asking.ensures c.requires.needs c.in-Stat.is))
+    (c.stat.ensures c.args.users.now)
 
 pub returns-in-List : goal.returns-in-List
 returns-in-List c =
-    subst (λ op. IfOk c.list.result (λ verdict. verdict ≡ (outcome c.args.tree.now c.args.users.now c.args.caller.now op).verdict)) (sym c.in-List.is)
-    (if_ok c.list.result (λ verdict step. ap (λ (s : Step). s.verdict) step) (c.list.ensures c.args.users.now c.args.caller.now))
+    if_ok c.list.result (λ verdict judged. ap (λ (s : Step). s.verdict) (judged
+    ∙ as_step c.args.tree.now c.args.users.now c.args.caller.now c.caller-asking.result c.args.needs.now c.args.op.now (op.List c.in-List.path) c.caller-asking.ensures c.requires.needs c.in-List.is))
+    (c.list.ensures c.args.users.now)
 
 pub returns-in-Summary : goal.returns-in-Summary
 returns-in-Summary c =
-    subst (λ op. IfOk c.summary.result (λ verdict. verdict ≡ (outcome c.args.tree.now c.args.users.now c.args.caller.now op).verdict)) (sym c.in-Summary.is)
-    (if_ok c.summary.result (λ verdict step. ap (λ (s : Step). s.verdict) step) (c.summary.ensures c.args.users.now c.args.caller.now))
+    if_ok c.summary.result (λ verdict judged. ap (λ (s : Step). s.verdict) (judged
+    ∙ as_step c.args.tree.now c.args.users.now c.args.caller.now c.caller-asking.result c.args.needs.now c.args.op.now (op.Summary c.in-Summary.path) c.caller-asking.ensures c.requires.needs c.in-Summary.is))
+    (c.summary.ensures c.args.users.now)
+
+pub returns-in-GetAcl : goal.returns-in-GetAcl
+returns-in-GetAcl c =
+    if_ok c.get_acl.result (λ verdict judged. ap (λ (s : Step). s.verdict) (judged
+    ∙ as_step c.args.tree.now c.args.users.now c.args.caller.now c.caller-asking.result c.args.needs.now c.args.op.now (op.GetAcl c.in-GetAcl.path) c.caller-asking.ensures c.requires.needs c.in-GetAcl.is))
+    (c.get_acl.ensures c.args.users.now)

@@ -1,17 +1,21 @@
-use Rattle.std.proofs.Common.{◌≡◌, ◌∙◌, [], Some, None, sym, ap}
+use Rattle.std.proofs.Common.{◌∙◌, [], sym, ap, subst}
 use Rattle.hdfs_types.specs.declared.op.Op.TheVariants.{Rename}
 use Rattle.hdfs_types.specs.declared.reply.Reply.TheVariants.{Empty}
 use Rattle.principals.specs.Principals.{Principals}
-use Rattle.flat_rows.specs.Outcome.{Step, refused_or_done}
+use Rattle.flat_rows.specs.Outcome.{denied_or_outcome, refused_or_done}
+use Rattle.perm_walk.specs.Walked.{IsWalkedBoth}
 use Rattle.flat_rows.specs.declared.verdict.Verdict.TheVariants.{Done}
-use Rattle.fs_operations.proofs.Renaming.{Free, unrefused_rename, parent_there}
+use Rattle.fs_operations.proofs.Renaming.{unrefused_rename, parent_there}
 use Rattle.fs_operations.proofs.change.rename.Goals as goal
 
 nobody : Principals
 nobody = record { known = []; superuser = []; supergroup = [] }
 
 pub returns-in-Some-clause-ok : goal.returns-in-Some-clause-ok
-returns-in-Some-clause-ok c = λ users caller. ap (refused_or_done c.args.tree.now users caller (Rename c.args.from.now c.args.to.now)) (sym c.in-Some.is ∙ c.in_ok-refusal.ensures users)
+returns-in-Some-clause-ok c = λ users.
+    let granted = subst (IsWalkedBoth c.args.from.now c.args.to.now c.args.tree.now c.args.caller.now c.args.needs.now) c.in-Reached.is c.in_ok-denial.ensures in
+    ap (refused_or_done c.args.tree.now users c.args.caller.now.name (Rename c.args.from.now c.args.to.now)) (sym c.in-Some.is ∙ c.in_ok-refusal.ensures users)
+    ∙ ap (denied_or_outcome c.args.tree.now users c.args.caller.now.name (Rename c.args.from.now c.args.to.now)) (sym granted.granted)
 
 pub move_to-requires-clause-there : goal.move_to-requires-clause-there
 move_to-requires-clause-there c = (unrefused_rename c.args.from.now c.args.to.now c.args.tree.now nobody (sym (c.in_ok-refusal.ensures nobody) ∙ c.in_default.is)).there
@@ -29,6 +33,8 @@ pub move_to-requires-clause-within : goal.move_to-requires-clause-within
 move_to-requires-clause-within c = (unrefused_rename c.args.from.now c.args.to.now c.args.tree.now nobody (sym (c.in_ok-refusal.ensures nobody) ∙ c.in_default.is)).within
 
 pub returns-clause-ok : goal.returns-clause-ok
-returns-clause-ok c = λ users caller.
+returns-clause-ok c = λ users.
+    let granted = subst (IsWalkedBoth c.args.from.now c.args.to.now c.args.tree.now c.args.caller.now c.args.needs.now) c.in-Reached.is c.in_ok-denial.ensures in
     ap (λ rows. record { verdict = Done Empty; rows = rows; users = users }) c.in_ok-move_to.ensures.ok
-    ∙ ap (refused_or_done c.args.tree.now users caller (Rename c.args.from.now c.args.to.now)) (sym c.in_default.is ∙ c.in_ok-refusal.ensures users)
+    ∙ ap (refused_or_done c.args.tree.now users c.args.caller.now.name (Rename c.args.from.now c.args.to.now)) (sym c.in_default.is ∙ c.in_ok-refusal.ensures users)
+    ∙ ap (denied_or_outcome c.args.tree.now users c.args.caller.now.name (Rename c.args.from.now c.args.to.now)) (sym granted.granted)

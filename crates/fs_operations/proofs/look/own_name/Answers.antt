@@ -1,4 +1,4 @@
-use Rattle.std.proofs.Common.{◌≡◌, ◌∙◌, [], ◌∷◌, sym, ap}
+use Rattle.std.proofs.Common.{◌∙◌, [], ◌∷◌, sym, ap}
 use Rattle.std.specs.Option.{option_copied, option_to_list}
 use Rattle.flat_rows.specs.Outcome.{own_name}
 use Rattle.fs_operations.proofs.Counting.{last_got}

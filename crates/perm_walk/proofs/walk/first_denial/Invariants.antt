@@ -1,8 +1,14 @@
 use Rattle.std.proofs.Common.{◌≡◌, drop}
 use Rattle.flat_rows.specs.First.{first_answer}
 use Rattle.flat_rows.specs.Decision.{asks_of, denial_of}
+use Rattle.perm_walk.specs.Walked.{IsDescent}
 use Rattle.perm_walk.proofs.walk.first_denial.Given as goal
 
 abbrev pub invariant-loop-demand : goal.invariant-loop-demand
-invariant-loop-demand l =
-    first_answer (λ demand. first_answer (denial_of l.caller) (asks_of l.tree demand)) (drop l.demand-index l.demands) ≡ first_answer (λ demand. first_answer (denial_of l.caller) (asks_of l.tree demand)) l.demands
+invariant-loop-demand l = record {
+  answers : first_answer (λ demand. first_answer (denial_of l.caller) (asks_of l.tree demand)) (drop l.demand-index l.demands) ≡ first_answer (λ demand. first_answer (denial_of l.caller) (asks_of l.tree demand)) l.demands;
+  from : IsDescent l.tree l.from;
+  to : IsDescent l.tree l.to;
+  from_path : l.from.path.now ≡ l.initial.from.path.now;
+  to_path : l.to.path.now ≡ l.initial.to.path.now;
+}

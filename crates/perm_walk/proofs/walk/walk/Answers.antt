@@ -14,4 +14,4 @@ returns-then-is_superuser c =
 pub returns : goal.returns
 returns c =
     subst (λ denial. IfOk c.first_denial.result (λ found. found ≡ denial)) (first_of_all (denial_of (caller_of c.args.users.now c.args.caller.now)) (asks_of c.args.tree.now) c.args.needs.now)
-    (rw (c.caller-caller.ensures, c.as_slice.ensures) at c.first_denial.ensures)
+    (rw (c.caller-caller.ensures, c.as_slice-demands.ensures) at c.first_denial.ensures.denial)

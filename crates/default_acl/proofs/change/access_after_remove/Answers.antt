@@ -1,0 +1,10 @@
+use Rattle.std.proofs.Common.{sym, subst}
+use Rattle.hdfs_types.specs.declared.entry.Scope.TheVariants.{Access}
+use Rattle.default_acl.specs.AclChange.{all_of}
+use Rattle.default_acl.specs.Answers.{IsPartialList}
+use Rattle.default_acl.proofs.Partials.{all_good, removed_good}
+use Rattle.default_acl.proofs.change.access_after_remove.Goals as goal
+
+pub kept-requires-clause-list : goal.kept-requires-clause-list
+kept-requires-clause-list c =
+    subst IsPartialList (sym c.in_ok-list.ensures.left) (removed_good Access c.args.spec.now (all_of c.args.old.now) (all_good c.args.old.now c.without.ensures.entries))

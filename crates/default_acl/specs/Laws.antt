@@ -1,0 +1,68 @@
+-- Laws about access control lists, which follow from the definitions of changes, of inheritance and of the entry that decides.
+use Rattle.std.specs.Prelude.{◌≡◌, ℕ, Bool, true, false, ◌||◌, List, None, Ok, IsTrue}
+use Rattle.std.specs.List.{list_any}
+use Rattle.std.specs.Option.{is_some, option_map_or}
+use Rattle.hdfs_types.specs.Text.{same}
+use Rattle.hdfs_types.specs.Groups.{has_group}
+use Rattle.hdfs_types.specs.Mode.{is_mode, without_sticky}
+use Rattle.hdfs_types.specs.Rights.{covers}
+use Rattle.hdfs_types.specs.Spec.{IsSpec, same_kind}
+use Rattle.hdfs_types.specs.declared.rights.Rights.{Rights}
+use Rattle.hdfs_types.specs.declared.entry.Entry.{Entry}
+use Rattle.hdfs_types.specs.declared.entry.EntryKind.TheVariants.{Group, Other}
+use Rattle.hdfs_types.specs.declared.entry.Scope.TheVariants.{Access}
+use Rattle.hdfs_types.specs.declared.acl_change.AclChange.TheVariants.{Modify, Clear}
+use Rattle.hdfs_types.specs.declared.reply.ObjectKind.{ObjectKind}
+use Rattle.hdfs_types.specs.declared.reply.ObjectKind.TheVariants.{File, Directory}
+use Rattle.acl_entries.specs.AccessControlList.{AccessControlList, base_entry, has_acl, shown_mode}
+use Rattle.acl_entries.specs.JudgedEntry.{judged_by, judged_entry}
+use Rattle.default_acl.specs.AclChange.{acl_after, acl_change, with_mode}
+use Rattle.default_acl.specs.Inheritance.{inherited}
+
+-- ---- modes
+
+abbrev pub DirectoriesShowTheirMode : Type 0
+DirectoriesShowTheirMode = (mode : ℕ) (acl : AccessControlList) → IsTrue (is_mode mode) → shown_mode (with_mode mode Directory acl) ≡ mode
+
+abbrev pub FilesShowTheirMode : Type 0
+FilesShowTheirMode = (mode : ℕ) (acl : AccessControlList) → IsTrue (is_mode mode) → shown_mode (with_mode mode File acl) ≡ without_sticky mode
+
+-- ---- changes
+
+-- no named entries and no default list
+abbrev pub ClearedListsArePlain : Type 0
+ClearedListsArePlain = (acl : AccessControlList) → has_acl (acl_after Clear acl) ≡ false
+
+abbrev pub ModifyingAgainChangesNothing : Type 0
+ModifyingAgainChangesNothing = (spec : List Entry) (kind : ObjectKind) (acl once : AccessControlList)
+    → IsSpec spec → acl_change (Modify spec) kind acl ≡ Ok once → acl_change (Modify spec) kind once ≡ Ok once
+
+-- ---- inheritance
+
+abbrev pub DirectoriesTakeDefaultListsOn : Type 0
+DirectoriesTakeDefaultListsOn = (parent : AccessControlList) (mode : ℕ) → (inherited parent mode Directory).default ≡ parent.default
+
+abbrev pub FilesHaveNoDefaultList : Type 0
+FilesHaveNoDefaultList = (parent : AccessControlList) (mode : ℕ) → (inherited parent mode File).default ≡ None
+
+-- ---- the entry that decides
+
+-- a named entry, or the owning group's
+abbrev pub is_of_masked_class : Entry → Bool
+is_of_masked_class entry = is_some entry.name || same_kind entry.kind Group
+
+abbrev pub MasksBoundWhatIsGranted : Type 0
+MasksBoundWhatIsGranted = (owner group : List ℕ) (acl : AccessControlList) (caller : List ℕ) (groups : List (List ℕ)) (need : Rights)
+    → (judged_entry owner group acl caller groups need).granted ≡ true → is_of_masked_class (judged_entry owner group acl caller groups need).entry ≡ true
+    → option_map_or (λ mask. covers mask.0 need.0) acl.access.mask true ≡ true
+
+-- neither the owner nor a named user, and in no group that the list names
+pub record IsStranger (owner group : List ℕ) (acl : AccessControlList) (caller : List ℕ) (groups : List (List ℕ)) : Type 0 where
+  pub no_owner : same caller owner ≡ false
+  pub no_named_user : list_any (λ entry. same caller entry.name) acl.access.users ≡ false
+  pub not_in_group : has_group groups group ≡ false
+  pub in_no_named_group : list_any (λ entry. has_group groups entry.name) acl.access.groups ≡ false
+
+abbrev pub StrangersAreOthers : Type 0
+StrangersAreOthers = (owner group : List ℕ) (acl : AccessControlList) (caller : List ℕ) (groups : List (List ℕ)) (need : Rights)
+    → IsStranger owner group acl caller groups → judged_entry owner group acl caller groups need ≡ judged_by (base_entry Access Other acl.access.other) None need

@@ -1,0 +1,5 @@
+pub mod AclChange
+pub mod Inheritance
+pub mod Answers
+pub mod Seen
+pub mod Laws
