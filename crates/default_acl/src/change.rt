@@ -233,7 +233,7 @@ fn replace(
 /// Sets the scopes that a spec names to its entries. An access list is set with the entries of owner, owning group and others; a
 /// default list takes missing ones from the access list. A mask that isn't named is the union of its class.
 ///
-/// Costs the spec times a few dozen. Changes nothing where it fails.
+/// Costs a few passes over the spec. Changes nothing where it fails.
 ///
 /// # Errors
 /// `BadAcl` with `DefaultOnFile` or `NoBase`, else `TooManyEntries` where a scope would have more than 32; and want of memory.
@@ -258,7 +258,7 @@ pub fn set(
 /// Adds the entries of a spec, each instead of one of the same scope, kind and name. In a scope that the spec names, a mask that it
 /// doesn't name becomes the union of its class.
 ///
-/// Costs the spec times a few dozen. Changes nothing where it fails.
+/// Costs a few passes over the spec. Changes nothing where it fails.
 ///
 /// # Errors
 /// `BadAcl` with `DefaultOnFile`, else `TooManyEntries` where a scope would have more than 32; and want of memory.
