@@ -2,6 +2,8 @@
 
 ghost use Rattle.default_acl.specs.Laws as law;
 
+use acl_entries::spec_text::specs_have_one_spelling;
+
 /// A directory's list shows the mode that it was given, and a file's the same without the sticky bit, whether it is extended or not.
 pub fn modes_are_shown()
     ensures directories { law.DirectoriesShowTheirMode }
@@ -17,6 +19,19 @@ pub fn clear_leaves_a_mode()
 pub fn modify_twice_is_once()
     ensures { law.ModifyingAgainChangesNothing }
 {}
+
+/// A directory's list that is set to the entries of another list has its access entries, and its default list where it has one.
+pub fn setting_to_entries_copies()
+    ensures { law.SettingToEntriesCopies }
+{}
+
+/// The text of a list's entries is read as those entries, and a directory's list that is set to what is read has them: its access
+/// entries, and its default list where it has one.
+pub fn what_is_printed_is_set_again()
+    ensures { law.WhatIsPrintedIsSetAgain }
+{
+    specs_have_one_spelling();
+}
 
 /// What is made in a directory has the directory's default list as its own, if it is a directory, and none if it is a file.
 pub fn default_lists_are_passed_on()
