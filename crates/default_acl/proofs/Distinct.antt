@@ -1,5 +1,5 @@
 -- No two entries of a list have the same scope, kind and name: its entries are a spec.
-use Rattle.std.proofs.Common.{◌≡◌, ℕ, Bool, true, false, ◌&&◌, ◌||◌, List, [], ◌∷◌, ◌++◌, map, cond, Option, Some, None, refl, sym, ap, ◌∙◌, Ordering, Less, Equal, Greater, is_eq}
+use Rattle.std.proofs.Common.{◌≡◌, ℕ, Bool, true, false, ◌&&◌, ◌||◌, List, [], ◌∷◌, ◌++◌, map, cond, Option, Some, None, refl, ap, ◌∙◌, Ordering, Less, Equal, Greater, is_eq}
 use Rattle.std.specs.List.{list_any}
 use Rattle.std.specs.Option.{option_eq}
 use Rattle.std.specs.Ordering.{is_lt}
@@ -150,7 +150,7 @@ module _ (scope : Scope) (list : EntryList) (others : List Entry) (parts : Good 
       let last_once : has_duplicate last ≡ false = neither (list_any (same_key other) others) (has_duplicate others) (other_scope other others apart) once in
       let groups_once = named_once scope Group from_mask list.groups parts.groups_ascend (named_new_mask Group) (mask_once list.mask last_once) in
       let group_once : has_duplicate from_group ≡ false =
-          neither (list_any (same_key (base_entry scope Group list.group)) from_groups) (has_duplicate from_groups) (base_new_groups Group list.group refl refl) groups_once in
+      neither (list_any (same_key (base_entry scope Group list.group)) from_groups) (has_duplicate from_groups) (base_new_groups Group list.group refl refl) groups_once in
       let users_once = named_once scope User from_group list.users parts.users_ascend named_user_new group_once in
       neither (list_any (same_key (base_entry scope User list.user)) from_users) (has_duplicate from_users) user_new users_once
 

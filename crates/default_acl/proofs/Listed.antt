@@ -1,5 +1,5 @@
 -- What the entries of a list say as a spec: the list itself.
-use Rattle.std.proofs.Common.{◌≡◌, ℕ, ◌<◌, ◌%◌, Bool, true, false, ◌&&◌, ◌||◌, List, [], ◌∷◌, ◌++◌, map, cond, Option, Some, None, refl, ap, ◌∙◌, arith, append_assoc, append-nil}
+use Rattle.std.proofs.Common.{◌≡◌, ◌<◌, ◌%◌, Bool, true, false, ◌&&◌, ◌||◌, List, [], ◌∷◌, ◌++◌, map, cond, Option, Some, None, refl, ap, ◌∙◌, arith, append_assoc, append-nil}
 use Rattle.std.specs.Prelude.{filter}
 use Rattle.std.specs.List.{list_any, find, filter_map}
 use Rattle.std.specs.Option.{is_some, option_map, option_map_or}
@@ -137,10 +137,10 @@ module _ (scope : Scope) (list : EntryList) (others : List Entry) (parts : Good 
   users_here = named_past_base scope User scope User list.user (map (named_entry scope User) list.users ++ from_group)
       ∙ named_here scope User list.users from_group parts.users_grant
       ∙ ap (λ more. list.users ++ more) (named_past_base scope User scope Group list.group (map (named_entry scope Group) list.groups ++ from_mask)
-          ∙ named_past scope User scope Group list.groups from_mask (and_false (same_scope scope scope) false refl)
-          ∙ named_past_mask scope User scope list.mask last
-          ∙ named_past_base scope User scope Other list.other others
-          ∙ silent.users)
+      ∙ named_past scope User scope Group list.groups from_mask (and_false (same_scope scope scope) false refl)
+      ∙ named_past_mask scope User scope list.mask last
+      ∙ named_past_base scope User scope Other list.other others
+      ∙ silent.users)
       ∙ append-nil list.users
 
   groups_here : named_in scope Group (before scope list others) ≡ list.groups

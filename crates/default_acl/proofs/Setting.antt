@@ -1,6 +1,6 @@
 -- Setting a list to the entries of another copies them, and so does setting it to what their text says.
-use Rattle.std.proofs.Common.{◌≡◌, ℕ, ◌+◌, Bool, true, false, not, ◌&&◌, List, [], ◌∷◌, ◌++◌, length, cond, Option, Some, None, Result, Ok, Err, IsTrue, refl, sym, ap, subst, ◌∙◌, Ordering, Less, Equal, Greater, is_eq, append_assoc, append-nil, arith}
-use Rattle.std.specs.Prelude.{nat_lt, unwrap_or}
+use Rattle.std.proofs.Common.{◌≡◌, Bool, true, false, not, ◌&&◌, List, [], ◌∷◌, ◌++◌, cond, Option, Some, None, Result, Ok, Err, IsTrue, refl, sym, ap, subst, ◌∙◌, Greater, is_eq, append_assoc, append-nil, arith}
+use Rattle.std.specs.Prelude.{unwrap_or}
 use Rattle.std.specs.List.{list_all, list_any}
 use Rattle.std.specs.Option.{is_none, is_some, option_map_or, option_or}
 use Rattle.std.specs.Ordering.{is_lt, ordering_reverse}
@@ -23,8 +23,8 @@ use Rattle.hdfs_types.specs.declared.reply.Refusal.TheVariants.{TooManyEntries}
 use Rattle.acl_entries.specs.declared.entry_list.NamedEntry.{NamedEntry}
 use Rattle.acl_entries.specs.AccessControlList.{AccessControlList, EntryList, IsEntryList, ascend, base_entries, common, entries, entries_in, fits, has_named, is_access_list, is_entry_list}
 use Rattle.acl_entries.specs.SpecText.{is_printable, spec_of, spec_text}
-use Rattle.default_acl.specs.AclChange.{PartialList, acl_after, access_after, after_addition, all_of, as_kept, completed, default_after, default_where, first_acl_fault, given, has_base, mask_after, named_in, no_entries, put, touches, unless_fault, acl_change, with_bases_of, with_each}
-use Rattle.default_acl.specs.Laws.{IsKept, SettingToEntriesCopies, WhatIsPrintedIsSetAgain, with_entries_of}
+use Rattle.default_acl.specs.AclChange.{acl_after, access_after, after_addition, all_of, as_kept, completed, default_after, default_where, first_acl_fault, given, has_base, named_in, no_entries, put, touches, unless_fault, acl_change, with_each}
+use Rattle.default_acl.specs.Laws.{SettingToEntriesCopies, WhatIsPrintedIsSetAgain, with_entries_of}
 use Rattle.default_acl.proofs.Tests.{both, and}
 use Rattle.default_acl.proofs.NamedLists.{ascend_tail, less_through, less_is}
 use Rattle.default_acl.proofs.Completing.{Good, good, empty_is, kept_is_bases, kept_named}
@@ -44,7 +44,7 @@ put_last : (new : NamedEntry) (front others : List NamedEntry) → ascend (front
 put_last new [] others h = refl
 put_last new (e ∷ es) others h =
     let order : text_cmp new.name e.name ≡ Greater =
-        nat_list_cmp_total.antisymm new.name e.name ∙ ap ordering_reverse (less_is (text_cmp e.name new.name) (last_is_greater e es new others h)) in
+    nat_list_cmp_total.antisymm new.name e.name ∙ ap ordering_reverse (less_is (text_cmp e.name new.name) (last_is_greater e es new others h)) in
     ap (λ o. cond (is_eq o) (new ∷ es) (cond (is_lt o) (new ∷ e ∷ es) (e ∷ put new es))) order
     ∙ ap (λ list. e ∷ list) (put_last new es others (ascend_tail e (es ++ new ∷ others) h))
 
@@ -141,12 +141,12 @@ abbrev default_entries : Option EntryList → List Entry
 default_entries default = option_map_or (entries_in Default) default []
 
 -- the entries of a default list
-pub record IsBehind (default : Option EntryList) : Type 0 where
-  pub silent : IsSilent Access (default_entries default)
-  pub apart : touches Access (default_entries default) ≡ false
-  pub touched : touches Default (default_entries default) ≡ is_some default
-  pub once : has_duplicate (default_entries default) ≡ false
-  pub named_right : list_any is_named_base (default_entries default) ≡ false
+record IsBehind (default : Option EntryList) : Type 0 where
+  silent : IsSilent Access (default_entries default)
+  apart : touches Access (default_entries default) ≡ false
+  touched : touches Default (default_entries default) ≡ is_some default
+  once : has_duplicate (default_entries default) ≡ false
+  named_right : list_any is_named_base (default_entries default) ≡ false
 
 behind : (default : Option EntryList) → option_map_or is_entry_list default true ≡ true → IsBehind default
 behind None h = record { silent = record { mask = refl; users = refl; groups = refl }; apart = refl; touched = refl; once = refl; named_right = refl }
@@ -201,7 +201,7 @@ default_is access (Some list) old other h k masked =
     let own = entries_in Access access ++ entries_in Default list in
     let here : Says Default (entries_in Default list) list = says Default list [] (good list k) (record { mask = refl; users = refl; groups = refl }) in
     let says_default : Says Default own list =
-        subst (λ all. Says Default all list) (spread_is access (Some list) h k) (says_beside Default Access access (entries_in Default list) refl list here) in
+    subst (λ all. Says Default all list) (spread_is access (Some list) h k) (says_beside Default Access access (entries_in Default list) refl list here) in
     ap (λ b. default_where b (given Default Mask own) old other (after_addition Default own no_entries)) (touches_default access (Some list) h k)
     ∙ ap (λ all. Some all) (says_completed Default own list other says_default (good list k) ∙ masked_again list other masked)
 
@@ -212,8 +212,8 @@ copied acl old kept old_fits =
     let masks = both (is_access_list acl.access) (option_map_or (λ list. is_some list.mask) acl.default true) kept.masks in
     let own = entries acl in
     let after : acl_after (Set own) old ≡ with_entries_of acl old =
-        ap (λ list. record { sticky = old.sticky; access = list; default = default_after (Set own) list old.default }) (access_is acl.access acl.default kept.access kept.default old.access masks.0)
-        ∙ ap (λ list. record { sticky = old.sticky; access = acl.access; default = list }) (default_is acl.access acl.default old.default acl.access kept.access kept.default masks.1) in
+    ap (λ list. record { sticky = old.sticky; access = list; default = default_after (Set own) list old.default }) (access_is acl.access acl.default kept.access kept.default old.access masks.0)
+    ∙ ap (λ list. record { sticky = old.sticky; access = acl.access; default = list }) (default_is acl.access acl.default old.default acl.access kept.access kept.default masks.1) in
     ap (λ fault. unless_fault fault (acl_after (Set own) old)) (no_fault acl.access acl.default kept.access kept.default old)
     ∙ ap (unless_fault None) after
     ∙ ap (λ b. cond b (Ok (with_entries_of acl old)) (Err TooManyEntries))
@@ -224,7 +224,7 @@ copied acl old kept old_fits =
     either_fits (Some list) h = (good list h).list_fits
 
 -- a spec that has entries is read from its text
-abbrev pub AreRead : Type 0
+abbrev AreRead : Type 0
 AreRead = (entry : Entry) (others : List Entry) → IsSpec (entry ∷ others) → IsTrue (list_all is_printable (entry ∷ others)) → spec_of true (spec_text (entry ∷ others)) ≡ Ok (entry ∷ others)
 
 some_read : AreRead → (spec : List Entry) → touches Access spec ≡ true → IsSpec spec → IsTrue (list_all is_printable spec) → spec_of true (spec_text spec) ≡ Ok spec
@@ -237,7 +237,9 @@ same_answer answer first second h k = cc
 pub printed_and_set : AreRead → WhatIsPrintedIsSetAgain
 printed_and_set are_read acl old kept printable old_fits =
     let is_read : spec_of true (spec_text (entries acl)) ≡ Ok (entries acl) =
-        some_read are_read (entries acl) refl (is_a_spec acl.access acl.default kept.access kept.default) printable in
-    (is_read, λ own h.
-      let is : entries acl ≡ own = same_answer (spec_of true (spec_text (entries acl))) (entries acl) own is_read h in
-      subst (λ set. acl_change (Set set) Directory old ≡ Ok (with_entries_of acl old)) is (copied acl old kept old_fits))
+    some_read are_read (entries acl) refl (is_a_spec acl.access acl.default kept.access kept.default) printable in (
+      is_read,
+      λ own h.
+          let is : entries acl ≡ own = same_answer (spec_of true (spec_text (entries acl))) (entries acl) own is_read h in
+          subst (λ set. acl_change (Set set) Directory old ≡ Ok (with_entries_of acl old)) is (copied acl old kept old_fits),
+    )

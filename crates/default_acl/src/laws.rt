@@ -20,13 +20,14 @@ pub fn modify_twice_is_once()
     ensures { law.ModifyingAgainChangesNothing }
 {}
 
-/// A directory's list that is set to the entries of another list has its access entries, and its default list where it has one.
+/// A directory's list that is set to the entries of another takes over the other's access entries, and its default list where it
+/// has one. The sticky bit stays, and so does a default list where the other has none.
 pub fn setting_to_entries_copies()
     ensures { law.SettingToEntriesCopies }
 {}
 
-/// The text of a list's entries is read as those entries, and a directory's list that is set to what is read has them: its access
-/// entries, and its default list where it has one.
+/// The text of a list's entries is read as those entries, and setting a directory's list to what is read is setting it to them. So
+/// a list without a default list becomes equal to the one that was printed, but for the sticky bit, of which the text says nothing.
 pub fn what_is_printed_is_set_again()
     ensures { law.WhatIsPrintedIsSetAgain }
 {
