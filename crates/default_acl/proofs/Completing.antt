@@ -53,7 +53,7 @@ common_good a b h =
     let below : bit_and a.0 b.0 < 8 = omega (arith, and_le_l a.0 b.0) in
     grind (arith, nat_tests)
 
-empty_is : {X : Type 0} (xs : List X) → length xs ≡ 0 → xs ≡ []
+pub empty_is : {X : Type 0} (xs : List X) → length xs ≡ 0 → xs ≡ []
 empty_is [] h = refl
 empty_is (x ∷ xs) h = absurd (omega arith)
 

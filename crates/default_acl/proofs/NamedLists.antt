@@ -90,7 +90,7 @@ with_each_grows entries (o ∷ os) = omega (arith, put_grows o entries, with_eac
 
 -- ---- the names still ascend
 
-ascend_tail : (e : NamedEntry) (es : List NamedEntry) → ascend (e ∷ es) ≡ true → ascend es ≡ true
+pub ascend_tail : (e : NamedEntry) (es : List NamedEntry) → ascend (e ∷ es) ≡ true → ascend es ≡ true
 ascend_tail e [] h = refl
 ascend_tail e (f ∷ es) h = (both (is_lt (text_cmp e.name f.name)) (ascend (f ∷ es)) h).1
 
@@ -99,7 +99,7 @@ ascend_alike : (e f : NamedEntry) (es : List NamedEntry) → e.name ≡ f.name �
 ascend_alike e f [] h k = refl
 ascend_alike e f (g ∷ es) h k = subst (λ (name : List ℕ). (is_lt (text_cmp name g.name) && ascend (g ∷ es)) ≡ true) h k
 
-less_is : (o : Ordering) → is_lt o ≡ true → o ≡ Less
+pub less_is : (o : Ordering) → is_lt o ≡ true → o ≡ Less
 less_is Less h = refl
 less_is Equal h = cc
 less_is Greater h = cc
@@ -107,7 +107,7 @@ less_is Greater h = cc
 less_back : (a b : List ℕ) → text_cmp a b ≡ Greater → is_lt (text_cmp b a) ≡ true
 less_back a b h = ap is_lt (nat_list_cmp_total.antisymm b a ∙ ap ordering_reverse h)
 
-less_through : (a b c : List ℕ) → is_lt (text_cmp a b) ≡ true → is_lt (text_cmp b c) ≡ true → is_lt (text_cmp a c) ≡ true
+pub less_through : (a b c : List ℕ) → is_lt (text_cmp a b) ≡ true → is_lt (text_cmp b c) ≡ true → is_lt (text_cmp a c) ≡ true
 less_through a b c h k = ap is_lt (nat_list_cmp_total.trans a b c (less_is _ h) (less_is _ k))
 
 -- behind an entry that stands before the new one
@@ -137,7 +137,7 @@ with_each_ascends entries [] h = h
 with_each_ascends entries (o ∷ os) h = with_each_ascends (put o entries) os (put_ascends o entries h)
 
 -- without the second entry
-ascend_past : (e f : NamedEntry) (es : List NamedEntry) → ascend (e ∷ f ∷ es) ≡ true → ascend (e ∷ es) ≡ true
+pub ascend_past : (e f : NamedEntry) (es : List NamedEntry) → ascend (e ∷ f ∷ es) ≡ true → ascend (e ∷ es) ≡ true
 ascend_past e f [] h = refl
 ascend_past e f (g ∷ es) h =
     let parts = both (is_lt (text_cmp e.name f.name)) (ascend (f ∷ g ∷ es)) h in

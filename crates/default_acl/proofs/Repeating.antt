@@ -130,17 +130,17 @@ kind_is Other User h = cc
 kind_is Other Group h = cc
 kind_is Other Mask h = cc
 
-scope_self : (a : Scope) → same_scope a a ≡ true
+pub scope_self : (a : Scope) → same_scope a a ≡ true
 scope_self Access = refl
 scope_self Default = refl
 
-kind_self : (a : EntryKind) → same_kind a a ≡ true
+pub kind_self : (a : EntryKind) → same_kind a a ≡ true
 kind_self User = refl
 kind_self Group = refl
 kind_self Mask = refl
 kind_self Other = refl
 
-or_false : (a b : Bool) → (a || b) ≡ false → (a ≡ false) × (b ≡ false)
+pub or_false : (a b : Bool) → (a || b) ≡ false → (a ≡ false) × (b ≡ false)
 or_false true b h = cc
 or_false false b h = (refl, h)
 

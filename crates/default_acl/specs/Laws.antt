@@ -1,7 +1,7 @@
 -- Laws about access control lists, which follow from the definitions of changes, of inheritance and of the entry that decides.
 use Rattle.std.specs.Prelude.{◌≡◌, ℕ, Bool, true, false, ◌||◌, List, None, Ok, IsTrue}
-use Rattle.std.specs.List.{list_any}
-use Rattle.std.specs.Option.{is_some, option_map_or}
+use Rattle.std.specs.List.{list_all, list_any}
+use Rattle.std.specs.Option.{is_some, option_map_or, option_or}
 use Rattle.hdfs_types.specs.Text.{same}
 use Rattle.hdfs_types.specs.Groups.{has_group}
 use Rattle.hdfs_types.specs.Mode.{is_mode, without_sticky}
@@ -11,11 +11,12 @@ use Rattle.hdfs_types.specs.declared.rights.Rights.{Rights}
 use Rattle.hdfs_types.specs.declared.entry.Entry.{Entry}
 use Rattle.hdfs_types.specs.declared.entry.EntryKind.TheVariants.{Group, Other}
 use Rattle.hdfs_types.specs.declared.entry.Scope.TheVariants.{Access}
-use Rattle.hdfs_types.specs.declared.acl_change.AclChange.TheVariants.{Modify, Clear}
+use Rattle.hdfs_types.specs.declared.acl_change.AclChange.TheVariants.{Set, Modify, Clear}
 use Rattle.hdfs_types.specs.declared.reply.ObjectKind.{ObjectKind}
 use Rattle.hdfs_types.specs.declared.reply.ObjectKind.TheVariants.{File, Directory}
-use Rattle.acl_entries.specs.AccessControlList.{AccessControlList, base_entry, has_acl, shown_mode}
+use Rattle.acl_entries.specs.AccessControlList.{AccessControlList, IsAccessControlList, IsEntryList, base_entry, entries, fits, has_acl, is_entry_list, shown_mode}
 use Rattle.acl_entries.specs.JudgedEntry.{judged_by, judged_entry}
+use Rattle.acl_entries.specs.SpecText.{is_printable, spec_of, spec_text}
 use Rattle.default_acl.specs.AclChange.{acl_after, acl_change, with_mode}
 use Rattle.default_acl.specs.Inheritance.{inherited}
 
@@ -36,6 +37,28 @@ ClearedListsArePlain = (acl : AccessControlList) → has_acl (acl_after Clear ac
 abbrev pub ModifyingAgainChangesNothing : Type 0
 ModifyingAgainChangesNothing = (spec : List Entry) (kind : ObjectKind) (acl once : AccessControlList)
     → IsSpec spec → acl_change (Modify spec) kind acl ≡ Ok once → acl_change (Modify spec) kind once ≡ Ok once
+
+-- an access control list as its type keeps it
+pub record IsKept (acl : AccessControlList) : Type 0 where
+  pub masks : IsAccessControlList acl
+  pub access : IsEntryList acl.access
+  pub default : IsTrue (option_map_or is_entry_list acl.default true)
+
+-- one that has another's entries instead of its own; where the other has no default list, its own stays, since a spec that names
+-- nothing of a scope leaves it
+abbrev pub with_entries_of : AccessControlList → AccessControlList → AccessControlList
+with_entries_of acl old = record { sticky = old.sticky; access = acl.access; default = option_or acl.default old.default }
+
+-- a default list that stays has to fit too
+abbrev pub SettingToEntriesCopies : Type 0
+SettingToEntriesCopies = (acl old : AccessControlList) → IsKept acl → IsTrue (option_map_or fits old.default true)
+    → acl_change (Set (entries acl)) Directory old ≡ Ok (with_entries_of acl old)
+
+-- the text of a list's entries is read as a spec again, and setting a list to what is read gives the same entries
+abbrev pub WhatIsPrintedIsSetAgain : Type 0
+WhatIsPrintedIsSetAgain = (acl old : AccessControlList) → IsKept acl → IsTrue (list_all is_printable (entries acl)) → IsTrue (option_map_or fits old.default true)
+    → (spec_of true (spec_text (entries acl)) ≡ Ok (entries acl))
+    × ((spec : List Entry) → spec_of true (spec_text (entries acl)) ≡ Ok spec → acl_change (Set spec) Directory old ≡ Ok (with_entries_of acl old))
 
 -- ---- inheritance
 
