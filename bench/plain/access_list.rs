@@ -202,6 +202,7 @@ impl Acl {
     }
 
     /// Whether the entry that decides for a caller grants a right.
+    #[inline]
     pub fn grants(
         &self,
         owner: &str,

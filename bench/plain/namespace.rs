@@ -202,7 +202,10 @@ impl Node {
                 return Err(Failure::NotDirectory(path[..depth].to_vec()));
             };
             node.require(caller, TRAVERSE_RIGHT, &path[..depth])?;
-            node = children.get(name).ok_or(Failure::NotFound)?;
+            let Some(child) = children.get(name) else {
+                return Err(Failure::NotFound);
+            };
+            node = child;
         }
         Ok(node)
     }
@@ -218,7 +221,10 @@ impl Node {
             let Held::Directory(children) = &mut node.held else {
                 unreachable!("a file, which was looked for")
             };
-            node = children.get_mut(name).ok_or(Failure::NotFound)?;
+            let Some(child) = children.get_mut(name) else {
+                return Err(Failure::NotFound);
+            };
+            node = child;
         }
         if caller.is_superuser || node.owner == caller.name {
             return Ok(node);
