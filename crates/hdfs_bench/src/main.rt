@@ -27,7 +27,8 @@ use std::process::ExitCode;
 /// The exit status for a fault of the command line.
 const BAD_COMMAND_LINE: u8 = 2;
 
-const USAGE: &str = "usage: hdfs_bench NAME N, with a NAME of: check_token_uncached mkdirs stat acl_stat setfacl ls rename_dir delete_recursive script";
+const USAGE: &str =
+    "usage: hdfs_bench NAME N, with a NAME of: check_token_uncached mkdirs stat acl_stat setfacl ls rename_dir delete_recursive script";
 
 /// What a command line asks to be done, and of which size.
 fn asked(words: &[String]) -> Option<(Workload, u32)> {
