@@ -122,15 +122,26 @@ fn an_entry_and_the_mask_change(rt: HostRuntime) -> Result<(), Fail> {
     Ok(())
 }
 
-#[test]
-fn the_reader_needs_the_named_entry(rt: HostRuntime) -> Result<(), Fail> {
-    let mut namespace = extended(&rt, 1)?;
-    let looking = request(rt.alloc(), READER, Op::Stat(parsed(rt.alloc(), "/d00")?))?;
-    namespace.serve(&looking)?;
+/// Whether the reader is told what has a path.
+fn is_told(rt: &HostRuntime, namespace: &mut Namespace, path: &str) -> Result<bool, Fail> {
+    let looking = request(rt.alloc(), READER, Op::Stat(parsed(rt.alloc(), path)?))?;
+    Ok(namespace.serve(&looking).is_ok())
+}
+
+/// Takes all rights on the root from the reader's entry.
+fn shut_out(rt: &HostRuntime, namespace: &mut Namespace) -> Result<(), Fail> {
     let change = AclChange::Modify(entries(rt.alloc(), "user:bob:---")?);
     let op = Op::SetAcl(parsed(rt.alloc(), "/")?, change);
     namespace.serve(&request(rt.alloc(), SUPERUSER, op)?)?;
-    assert!(rt; namespace.serve(&looking).is_err());
+    Ok(())
+}
+
+#[test]
+fn the_reader_needs_the_named_entry(rt: HostRuntime) -> Result<(), Fail> {
+    let mut namespace = extended(&rt, 1)?;
+    assert!(rt; is_told(&rt, &mut namespace, "/d00")?);
+    shut_out(&rt, &mut namespace)?;
+    assert!(rt; !is_told(&rt, &mut namespace, "/d00")?);
     Ok(())
 }
 
