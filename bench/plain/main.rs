@@ -1,17 +1,22 @@
-//! `plain NAME N` does the workload `mkdirs` or `stat` of `hdfs_bench` on a namespace in plain Rust, and prints the same line,
-//! `NAME N OPS_PER_SECOND`: the mark that the proved namesystem is measured by. Build it with `rustc --edition 2024 -O`.
+//! `plain NAME N` does the workload `mkdirs`, `stat`, `acl_stat` or `setfacl` of `hdfs_bench` on a namespace in plain Rust, and
+//! prints the same line, `NAME N OPS_PER_SECOND`: the mark that the proved namesystem is measured by. Build it with
+//! `rustc --edition 2024 -O`.
 //!
-//! The paths, their order, the users, the modes and the bundles are those of `hdfs_bench`, and so is what is timed: each request
-//! until its reply is dropped. The caller is looked up among the users, each existing directory above the path is judged for the
-//! right to traverse it, `mkdirs` judges the last existing component for the right to write, and `stat` answers with copies of
-//! owner and group. It does less in these ways: it has two verbs; a request finds out what it needs as it goes down, once,
-//! where `hdfs_bench` makes a list of its needs and judges one after another; a denial names the path and the right that is
-//! missing, and not what decided; and it aborts for want of memory. A request is served by one match, and `mkdirs` makes its
-//! chain of directories aside, so that nothing has changed where it is denied or refused.
+//! The paths, their order, the users, the modes, the access lists and the bundles are those of `hdfs_bench`, and so is what is
+//! timed: each request until its reply is dropped. The caller is looked up among the users, each existing directory above the
+//! path is judged for the right to traverse it, `mkdirs` judges the last existing component for the right to write, `stat`
+//! answers with copies of owner and group, and `setfacl` judges who owns the directory. It does less in these ways: it has three
+//! verbs; a request finds out what it needs as it goes down, once, where `hdfs_bench` makes a list of its needs and judges one
+//! after another; a denial names the path and the right that is missing, and not what decided; there are no default lists, and
+//! two forms of `setfacl`; and it aborts for want of memory. A request is served by one match. `mkdirs` makes its chain of
+//! directories aside, so that nothing has changed where it is denied or refused; `setfacl` asks first whether the entries have
+//! room, and then changes the list in place.
 
+mod access_list;
 mod namespace;
 
-use namespace::{Failure, MAKER, Namespace, Op, Path, READER, Request};
+use access_list::{AclChange, Entry, parse_spec};
+use namespace::{Failure, MAKER, Namespace, Op, Path, READER, Request, SUPERUSER};
 use std::env;
 use std::hint::black_box;
 use std::process::ExitCode;
@@ -19,12 +24,43 @@ use std::time::{Duration, Instant};
 
 const BUNDLE: u32 = 1000;
 
+/// Eight entries, as in `hdfs_bench`.
+const ENTRIES: &str = "user::rwx,user:amy:r--,user:ben:---,user:bob:r-x,group::---,group:analysts:r-x,mask::r-x,other::---";
+
 /// Makes the directories of the indices below a count.
 fn fill(namespace: &mut Namespace, count: u32) -> Result<(), Failure> {
     for index in 0..count {
         namespace.serve(&making(index))?;
     }
     Ok(())
+}
+
+fn extend(namespace: &mut Namespace, caller: &str, path: Path) -> Result<(), Failure> {
+    let request = Request {
+        caller: caller.to_string(),
+        op: Op::SetAcl(path, AclChange::Set(entries(ENTRIES))),
+    };
+    namespace.serve(&request)?;
+    Ok(())
+}
+
+/// How many directories, from the path of an index up, no lower index has on its path.
+fn new_on_path(index: u32) -> usize {
+    let begun = |unit: &&u32| index % **unit == 0;
+    1 + [100, 10_000, 1_000_000, 100_000_000]
+        .iter()
+        .take_while(begun)
+        .count()
+}
+
+/// Gives the list of eight entries to each directory of a tree that was made of so many, the root too.
+fn extend_all(namespace: &mut Namespace, count: u32) -> Result<(), Failure> {
+    for index in 0..count {
+        for above in 0..new_on_path(index) {
+            extend(namespace, MAKER, path_of(index).front(PATH_NAMES - above))?;
+        }
+    }
+    extend(namespace, SUPERUSER, Path::parse("/").expect("a path"))
 }
 
 /// Serves so many requests; the clock stands while a bundle of them is built or dropped.
@@ -46,6 +82,9 @@ fn time_requests(
     Ok(taken)
 }
 
+/// How many names each path has.
+const PATH_NAMES: usize = 5;
+
 /// The path of an index: five names, each with two digits of the index.
 fn path_of(index: u32) -> Path {
     let digits = |unit: u32| index / unit % 100;
@@ -60,6 +99,10 @@ fn path_of(index: u32) -> Path {
     Path::parse(&text).expect("a path")
 }
 
+fn entries(text: &str) -> Vec<Entry> {
+    parse_spec(text).expect("entries")
+}
+
 fn making(index: u32) -> Request {
     Request {
         caller: MAKER.to_string(),
@@ -71,6 +114,21 @@ fn looking(turn: u32, bound: u32) -> Request {
     Request {
         caller: READER.to_string(),
         op: Op::Stat(path_of(jumping(turn, bound))),
+    }
+}
+
+fn modifying(turn: u32, bound: u32) -> Request {
+    let entry = if turn % 2 == 0 {
+        "user:bob:rwx"
+    } else {
+        "user:bob:r-x"
+    };
+    Request {
+        caller: MAKER.to_string(),
+        op: Op::SetAcl(
+            path_of(jumping(turn, bound)),
+            AclChange::Modify(entries(entry)),
+        ),
     }
 }
 
@@ -92,6 +150,20 @@ fn stat(count: u32) -> Result<Duration, Failure> {
     time_requests(&mut namespace, count, |turn| looking(turn, count))
 }
 
+fn acl_stat(count: u32) -> Result<Duration, Failure> {
+    let mut namespace = Namespace::new();
+    fill(&mut namespace, count)?;
+    extend_all(&mut namespace, count)?;
+    time_requests(&mut namespace, count, |turn| looking(turn, count))
+}
+
+fn setfacl(count: u32) -> Result<Duration, Failure> {
+    let mut namespace = Namespace::new();
+    fill(&mut namespace, count)?;
+    extend_all(&mut namespace, count)?;
+    time_requests(&mut namespace, count, |turn| modifying(turn, count))
+}
+
 fn main() -> ExitCode {
     let words: Vec<String> = env::args().collect();
     let asked = match words.as_slice() {
@@ -101,8 +173,10 @@ fn main() -> ExitCode {
     let timed = match asked {
         Some(("mkdirs", count)) => mkdirs(count),
         Some(("stat", count)) => stat(count),
+        Some(("acl_stat", count)) => acl_stat(count),
+        Some(("setfacl", count)) => setfacl(count),
         _ => {
-            eprintln!("usage: plain NAME N, with a NAME of: mkdirs stat");
+            eprintln!("usage: plain NAME N, with a NAME of: mkdirs stat acl_stat setfacl");
             return ExitCode::from(2);
         }
     };

@@ -1,10 +1,11 @@
-//! A namespace of directories in plain Rust, with users and rights.
+//! A namespace of directories in plain Rust, with users and access control lists.
 
+use crate::access_list::{Acl, AclChange, AclFault};
 use std::collections::BTreeMap;
 
 pub const MAKER: &str = "alice";
 pub const READER: &str = "bob";
-const SUPERUSER: &str = "hdfs";
+pub const SUPERUSER: &str = "hdfs";
 const SUPERGROUP: &str = "supergroup";
 
 const WRITE_RIGHT: u16 = 0o2;
@@ -20,6 +21,13 @@ pub struct Path {
 }
 
 impl Path {
+    /// The path of the first names.
+    pub fn front(&self, depth: usize) -> Path {
+        Path {
+            names: self.names[..depth].to_vec(),
+        }
+    }
+
     pub fn parse(text: &str) -> Option<Path> {
         let rest = text.strip_prefix('/')?;
         if rest.is_empty() {
@@ -46,6 +54,7 @@ fn is_name(text: &str) -> bool {
 pub enum Op {
     Mkdirs(Path, u16),
     Stat(Path),
+    SetAcl(Path, AclChange),
 }
 
 pub struct Request {
@@ -64,6 +73,7 @@ pub enum Kind {
 pub struct FileStatus {
     pub kind: Kind,
     pub mode: u16,
+    pub has_acl: bool,
     pub owner: String,
     pub group: String,
 }
@@ -79,9 +89,17 @@ pub enum Reply {
 #[allow(dead_code)]
 pub enum Failure {
     Denied { path: Vec<String>, right: u16 },
+    NotOwner(Vec<String>),
     NotFound,
     NotDirectory(Vec<String>),
     Exists,
+    BadAcl(AclFault),
+}
+
+impl From<AclFault> for Failure {
+    fn from(fault: AclFault) -> Failure {
+        Failure::BadAcl(fault)
+    }
 }
 
 /// Who asks, as looked up among the users.
@@ -94,7 +112,7 @@ struct Caller<'a> {
 struct Node {
     owner: String,
     group: String,
-    mode: u16,
+    acl: Acl,
     held: Held,
 }
 
@@ -109,7 +127,7 @@ impl Node {
         Node {
             owner: owner.to_string(),
             group: group.to_string(),
-            mode,
+            acl: Acl::from_mode(mode),
             held: Held::Directory(BTreeMap::new()),
         }
     }
@@ -130,14 +148,9 @@ impl Node {
         if caller.is_superuser {
             return true;
         }
-        let rights = if self.owner == caller.name {
-            self.mode >> 6
-        } else if caller.groups.contains(&self.group) {
-            self.mode >> 3
-        } else {
-            self.mode
-        };
-        rights & right == right
+        let (name, groups) = (caller.name, caller.groups);
+        self.acl
+            .grants(&self.owner, &self.group, name, groups, right)
     }
 
     fn require(&self, caller: &Caller, right: u16, path: &[String]) -> Result<(), Failure> {
@@ -189,9 +202,34 @@ impl Node {
                 return Err(Failure::NotDirectory(path[..depth].to_vec()));
             };
             node.require(caller, TRAVERSE_RIGHT, &path[..depth])?;
-            node = children.get(name).ok_or(Failure::NotFound)?;
+            let Some(child) = children.get(name) else {
+                return Err(Failure::NotFound);
+            };
+            node = child;
         }
         Ok(node)
+    }
+
+    /// What has a path beneath the node, to be changed by its owner.
+    fn find_owned(&mut self, caller: &Caller, path: &[String]) -> Result<&mut Node, Failure> {
+        let mut node = self;
+        for (depth, name) in path.iter().enumerate() {
+            if let Held::File = node.held {
+                return Err(Failure::NotDirectory(path[..depth].to_vec()));
+            }
+            node.require(caller, TRAVERSE_RIGHT, &path[..depth])?;
+            let Held::Directory(children) = &mut node.held else {
+                unreachable!("a file, which was looked for")
+            };
+            let Some(child) = children.get_mut(name) else {
+                return Err(Failure::NotFound);
+            };
+            node = child;
+        }
+        if caller.is_superuser || node.owner == caller.name {
+            return Ok(node);
+        }
+        Err(Failure::NotOwner(path.to_vec()))
     }
 
     fn status(&self) -> FileStatus {
@@ -200,7 +238,8 @@ impl Node {
                 Held::File => Kind::File,
                 Held::Directory(_) => Kind::Directory,
             },
-            mode: self.mode,
+            mode: self.acl.mode(),
+            has_acl: self.acl.is_extended(),
             owner: self.owner.clone(),
             group: self.group.clone(),
         }
@@ -243,6 +282,11 @@ impl Namespace {
             Op::Stat(path) => {
                 let node = self.root.find(&caller, &path.names)?;
                 Ok(Reply::Status(node.status()))
+            }
+            Op::SetAcl(path, change) => {
+                let node = self.root.find_owned(&caller, &path.names)?;
+                node.acl.change(change)?;
+                Ok(Reply::Empty)
             }
         }
     }

@@ -2,6 +2,8 @@
 //! `NAME N OPS_PER_SECOND`.
 #![tactic(auto)]
 
+mod access_lists;
+mod acl_stat;
 mod delete_recursive;
 mod ls;
 mod mkdirs;
@@ -9,6 +11,7 @@ mod namespace;
 mod paths;
 mod rename_dir;
 mod script;
+mod setfacl;
 mod stat;
 #[cfg(test)]
 mod tests;
@@ -25,7 +28,7 @@ use std::process::ExitCode;
 const BAD_COMMAND_LINE: u8 = 2;
 
 const USAGE: &str =
-    "usage: hdfs_bench NAME N, with a NAME of: check_token_uncached mkdirs stat ls rename_dir delete_recursive script";
+    "usage: hdfs_bench NAME N, with a NAME of: check_token_uncached mkdirs stat acl_stat setfacl ls rename_dir delete_recursive script";
 
 /// What a command line asks to be done, and of which size.
 fn asked(words: &[String]) -> Option<(Workload, u32)> {

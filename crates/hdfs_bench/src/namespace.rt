@@ -86,6 +86,10 @@ impl Namespace {
         Ok(namespace)
     }
 
+    pub fn alloc(&self) -> Global {
+        self.alloc
+    }
+
     fn add_user(&mut self, user: &str, group: &str) -> Result<()> {
         let alloc = self.alloc;
         let groups = vec![in alloc; who(alloc, group)?, who(alloc, "staff")?]?;

@@ -8,8 +8,8 @@ use std::time::Clock;
 
 /// Paths of a tree that was made of so many, which jump about in it.
 #[derive(Clone, Copy, Debug)]
-struct Stat {
-    count: u32,
+pub struct Stat {
+    pub count: u32,
 }
 
 impl Requests for Stat {

@@ -1,7 +1,14 @@
+use crate::access_lists::entries;
+use crate::namespace::{Namespace, READER, Requests, SUPERUSER, request};
+use crate::paths::parsed;
 use crate::script;
+use crate::setfacl::SetAcl;
 use crate::timed::Timed;
 use crate::workload::Workload;
 use hdfs_cli::script::run_script;
+use hdfs_types::acl_change::AclChange;
+use hdfs_types::op::Op;
+use hdfs_types::reply::Reply;
 use std::test::Fail;
 use std::time::Duration;
 
@@ -11,6 +18,8 @@ fn workloads_run(rt: HostRuntime) -> Result<(), Fail> {
         ("check_token_uncached", 3),
         ("mkdirs", 3),
         ("stat", 3),
+        ("acl_stat", 3),
+        ("setfacl", 3),
         ("ls", 3),
         ("rename_dir", 20_000),
         // The three, the four above them and the directory itself.
@@ -56,6 +65,83 @@ fn script_lines_are_granted(rt: HostRuntime) -> Result<(), Fail> {
     for line in &lines {
         assert!(rt; line.contains(" ok"), "{line}");
     }
+    Ok(())
+}
+
+/// A tree that was made of so many, with an access list of eight entries on each directory.
+fn extended(rt: &HostRuntime, count: u32) -> Result<Namespace, Fail> {
+    let mut namespace = Namespace::new(rt.alloc())?;
+    namespace.fill("", count)?;
+    namespace.extend_all(count)?;
+    Ok(namespace)
+}
+
+/// The access list that the reader is told of a path.
+fn list_of(rt: &HostRuntime, namespace: &mut Namespace, path: &str) -> Result<String, Fail> {
+    let op = Op::GetAcl(parsed(rt.alloc(), path)?);
+    match namespace.serve(&request(rt.alloc(), READER, op)?)? {
+        Reply::Acl(status) => Ok(String::from_str(rt.alloc(), status.spec())?),
+        _ => Err("no list".into()),
+    }
+}
+
+const LIST: &str =
+    "user::rwx,user:amy:r--,user:ben:---,user:bob:r-x,group::---,group:analysts:r-x,mask::r-x,other::---";
+
+const LIST_WITH_WRITE: &str =
+    "user::rwx,user:amy:r--,user:ben:---,user:bob:rwx,group::---,group:analysts:r-x,mask::rwx,other::---";
+
+#[test]
+fn each_directory_has_eight_entries(rt: HostRuntime) -> Result<(), Fail> {
+    let mut namespace = extended(&rt, 101)?;
+    let paths = [
+        "/",
+        "/d00",
+        "/d00/d00",
+        "/d00/d00/d00",
+        "/d00/d00/d00/d00",
+        "/d00/d00/d00/d00/d00",
+        "/d00/d00/d00/d00/d99",
+        "/d00/d00/d00/d01",
+        "/d00/d00/d00/d01/d00",
+    ];
+    for path in paths {
+        assert_eq!(rt; list_of(&rt, &mut namespace, path)?.as_str(), LIST);
+    }
+    Ok(())
+}
+
+#[test]
+fn an_entry_and_the_mask_change(rt: HostRuntime) -> Result<(), Fail> {
+    let mut namespace = extended(&rt, 1)?;
+    let path = "/d00/d00/d00/d00/d00";
+    for (turn, list) in [(0, LIST_WITH_WRITE), (1, LIST)] {
+        namespace.serve(&SetAcl { count: 1 }.request(rt.alloc(), turn)?)?;
+        assert_eq!(rt; list_of(&rt, &mut namespace, path)?.as_str(), list);
+    }
+    Ok(())
+}
+
+/// Whether the reader is told what has a path.
+fn is_told(rt: &HostRuntime, namespace: &mut Namespace, path: &str) -> Result<bool, Fail> {
+    let looking = request(rt.alloc(), READER, Op::Stat(parsed(rt.alloc(), path)?))?;
+    Ok(namespace.serve(&looking).is_ok())
+}
+
+/// Takes all rights on the root from the reader's entry.
+fn shut_out(rt: &HostRuntime, namespace: &mut Namespace) -> Result<(), Fail> {
+    let change = AclChange::Modify(entries(rt.alloc(), "user:bob:---")?);
+    let op = Op::SetAcl(parsed(rt.alloc(), "/")?, change);
+    namespace.serve(&request(rt.alloc(), SUPERUSER, op)?)?;
+    Ok(())
+}
+
+#[test]
+fn the_reader_needs_the_named_entry(rt: HostRuntime) -> Result<(), Fail> {
+    let mut namespace = extended(&rt, 1)?;
+    assert!(rt; is_told(&rt, &mut namespace, "/d00")?);
+    shut_out(&rt, &mut namespace)?;
+    assert!(rt; !is_told(&rt, &mut namespace, "/d00")?);
     Ok(())
 }
 

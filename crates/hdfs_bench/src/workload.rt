@@ -1,5 +1,5 @@
 use crate::timed::Timed;
-use crate::{delete_recursive, ls, mkdirs, rename_dir, script, stat, tokens};
+use crate::{acl_stat, delete_recursive, ls, mkdirs, rename_dir, script, setfacl, stat, tokens};
 use anyhow::Result;
 use std::time::Clock;
 
@@ -12,6 +12,10 @@ pub enum Workload {
     Mkdirs,
     /// A caller asks what has a path.
     Stat,
+    /// The same where each directory has an access list with named entries.
+    AclStat,
+    /// An owner modifies an entry of access lists.
+    SetAcl,
     /// A caller lists directories.
     Ls,
     /// A directory is moved with all that is beneath it.
@@ -28,6 +32,8 @@ impl Workload {
             "check_token_uncached" => Some(Workload::CheckTokenUncached),
             "mkdirs" => Some(Workload::Mkdirs),
             "stat" => Some(Workload::Stat),
+            "acl_stat" => Some(Workload::AclStat),
+            "setfacl" => Some(Workload::SetAcl),
             "ls" => Some(Workload::Ls),
             "rename_dir" => Some(Workload::RenameDir),
             "delete_recursive" => Some(Workload::DeleteRecursive),
@@ -41,6 +47,8 @@ impl Workload {
             Workload::CheckTokenUncached => "check_token_uncached",
             Workload::Mkdirs => "mkdirs",
             Workload::Stat => "stat",
+            Workload::AclStat => "acl_stat",
+            Workload::SetAcl => "setfacl",
             Workload::Ls => "ls",
             Workload::RenameDir => "rename_dir",
             Workload::DeleteRecursive => "delete_recursive",
@@ -58,6 +66,8 @@ impl Workload {
             Workload::CheckTokenUncached => tokens::check_uncached(rt, count),
             Workload::Mkdirs => mkdirs::run(rt, count),
             Workload::Stat => stat::run(rt, count),
+            Workload::AclStat => acl_stat::run(rt, count),
+            Workload::SetAcl => setfacl::run(rt, count),
             Workload::Ls => ls::run(rt, count),
             Workload::RenameDir => rename_dir::run(rt, count),
             Workload::DeleteRecursive => delete_recursive::run(rt, count),
