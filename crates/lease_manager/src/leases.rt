@@ -93,6 +93,7 @@ impl Leases {
         ensures ok { OnOk result (self.new ≡ spec.after_renewal self.old client.now now) }
         ensures err { OnErr result (self.new ≡ self.old) }
         ensures held { IsSome (spec.renewal_of client.now self.old.renewals) → IsOk result }
+        ensures latest { OnOk result (spec.latest self.new.renewals ≡ now) }
     {
         if renew_present(&mut self.renewals, client, now) {
             return Ok(());
@@ -110,6 +111,7 @@ impl Leases {
         requires { spec.latest self.old.renewals ≤ now }
         ensures ok { OnOk result (IsSome (spec.renewal_of client.now self.old.renewals) × (self.new ≡ spec.after_renewal self.old client.now now)) }
         ensures err { OnErr result ((spec.renewal_of client.now self.old.renewals ≡ None) × (self.new ≡ self.old)) }
+        ensures latest { OnOk result (spec.latest self.new.renewals ≡ now) }
     {
         if !renew_present(&mut self.renewals, client, now) {
             return Err(NoLease);
@@ -120,7 +122,8 @@ impl Leases {
     /// Ends a client's lease; where it has none, nothing changes. Costs the clients that have leases, since the map closes the
     /// gap, and takes no memory.
     pub fn release(&mut self, client: &Who)
-        ensures { self.new ≡ spec.after_release self.old client.now }
+        ensures released { self.new ≡ spec.after_release self.old client.now }
+        ensures latest { spec.latest self.new.renewals ≤ spec.latest self.old.renewals }
     {
         self.renewals.shift_remove(client);
     }

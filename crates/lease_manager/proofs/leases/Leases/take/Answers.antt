@@ -3,7 +3,7 @@ use Rattle.hdfs_types.specs.Text.{same}
 use Rattle.indexmap.specs.IndexMap.{insert_entry}
 use Rattle.lease_manager.specs.Lease.{LeaseList, latest, renewed, after_renewal}
 use Rattle.lease_manager.specs.Shown.{renewals_of}
-use Rattle.lease_manager.proofs.Order.{renewals_kept}
+use Rattle.lease_manager.proofs.Order.{renewals_kept, renewed_latest}
 use Rattle.lease_manager.proofs.Renewals.{inserted}
 use Rattle.lease_manager.proofs.leases.Leases.take.Goals as goal
 
@@ -30,3 +30,19 @@ returns-clause-ok c =
     (ap renewals_of (c.in_ok-insert.ensures.entries ∙ (λ j. insert_entry same (c.if-renew_present.ensures.renewed j).entries (c.in_ok-clone.ensures.cases j) c.args.now))
     ∙ inserted c.args.client.now c.args.now es (sym c.if-renew_present.ensures.there))
     ∙ ap (λ (leases : LeaseList). after_renewal leases c.args.client.now c.args.now) c.self.view_is
+
+pub returns-then-renew_present-clause-latest : goal.returns-then-renew_present-clause-latest
+returns-then-renew_present-clause-latest c =
+    ap latest c.if-renew_present.ensures.renewed.0
+    ∙ renewed_latest c.args.client.now c.args.now (renewals_of c.self.inside.renewals.entries)
+      (subst (λ (leases : LeaseList). latest leases.renewals ≤ c.args.now) (sym c.self.view_is) c.requires)
+
+pub returns-clause-latest : goal.returns-clause-latest
+returns-clause-latest c =
+    let es = c.self.inside.renewals.entries in
+    let made : renewals_of c.insert.new.self.entries ≡ renewed c.args.client.now c.args.now (renewals_of es) =
+        ap renewals_of (c.in_ok-insert.ensures.entries ∙ (λ j. insert_entry same (c.if-renew_present.ensures.renewed j).entries (c.in_ok-clone.ensures.cases j) c.args.now))
+        ∙ inserted c.args.client.now c.args.now es (sym c.if-renew_present.ensures.there) in
+    ap latest made
+    ∙ renewed_latest c.args.client.now c.args.now (renewals_of es)
+      (subst (λ (leases : LeaseList). latest leases.renewals ≤ c.args.now) (sym c.self.view_is) c.requires)
