@@ -1,4 +1,5 @@
-ghost use Rattle.std.specs.Prelude.{◌≡◌, ◌≤◌, ◌^◌};
+ghost use Rattle.std.specs.Prelude.{◌≡◌, ◌≤◌, ◌^◌, IfOk};
+ghost use Rattle.lease_manager.specs.Lease.{latest};
 
 use crate::leases::{LeaseState, Leases, NoLease};
 use hdfs_types::moment::Moment;
@@ -8,7 +9,9 @@ use std::process::Abort;
 use std::test::Fail;
 
 const SOFT: u32 = 60_000;
+
 const HARD: u32 = 1_200_000;
+
 const LAST_MOMENT: u64 = 1 << 62;
 
 fn moment(milliseconds: u64) -> Moment
@@ -70,8 +73,14 @@ fn hard_limit_is_asked_first(rt: HostRuntime) -> Result<(), Fail> {
     let alice = Who::parse(rt.alloc(), "alice")?;
     leases.take(&alice, moment(0))?;
     assert_eq!(rt; leases.state(&alice, moment(100)), Some(LeaseState::Live));
-    assert_eq!(rt; leases.state(&alice, moment(101)), Some(LeaseState::PastHard));
-    assert_eq!(rt; leases.state(&alice, moment(60_001)), Some(LeaseState::PastHard));
+    assert_eq!(rt;
+        leases.state(&alice, moment(101)),
+        Some(LeaseState::PastHard)
+    );
+    assert_eq!(rt;
+        leases.state(&alice, moment(60_001)),
+        Some(LeaseState::PastHard)
+    );
     Ok(())
 }
 
@@ -92,27 +101,46 @@ fn renewals_at_the_last_moment(rt: HostRuntime) -> Result<(), Fail> {
     Ok(())
 }
 
+fn three_leases(alloc: Global) -> Result<Leases, Fail>
+    ensures { IfOk result (λ leases. latest leases.renewals ≤ 10) }
+{
+    let mut leases = Leases::new(alloc, SOFT, HARD);
+    leases.take(&Who::parse(alloc, "bob")?, moment(0))?;
+    leases.take(&Who::parse(alloc, "alice")?, moment(0))?;
+    leases.take(&Who::parse(alloc, "carl")?, moment(10))?;
+    Ok(leases)
+}
+
 #[test]
 fn oldest_renewals_come_first(rt: HostRuntime) -> Result<(), Fail> {
-    let mut leases = Leases::new(rt.alloc(), SOFT, HARD);
-    let alice = Who::parse(rt.alloc(), "alice")?;
-    let bob = Who::parse(rt.alloc(), "bob")?;
-    let carl = Who::parse(rt.alloc(), "carl")?;
-    let dora = Who::parse(rt.alloc(), "dora")?;
-    leases.take(&bob, moment(0))?;
-    leases.take(&alice, moment(0))?;
-    leases.take(&carl, moment(10))?;
+    let leases = three_leases(rt.alloc())?;
     expect_past_hard(&rt, rt.alloc(), &leases, 1_200_000, "")?;
     expect_past_hard(&rt, rt.alloc(), &leases, 1_200_001, "bob alice ")?;
     expect_past_hard(&rt, rt.alloc(), &leases, 1_200_011, "bob alice carl ")?;
+    Ok(())
+}
+
+#[test]
+fn renewed_leases_go_last(rt: HostRuntime) -> Result<(), Fail> {
+    let mut leases = three_leases(rt.alloc())?;
+    let bob = Who::parse(rt.alloc(), "bob")?;
+    let alice = Who::parse(rt.alloc(), "alice")?;
     assert_eq!(rt; leases.renew(&bob, moment(20)), Ok(()));
-    assert_eq!(rt; leases.renew(&dora, moment(20)), Err(NoLease));
-    leases.release(&dora);
     expect_past_hard(&rt, rt.alloc(), &leases, 1_200_021, "alice carl bob ")?;
     leases.take(&alice, moment(30))?;
     expect_past_hard(&rt, rt.alloc(), &leases, 1_200_030, "carl bob ")?;
-    leases.release(&bob);
-    expect_past_hard(&rt, rt.alloc(), &leases, 1_200_031, "carl alice ")?;
-    assert_eq!(rt; leases.state(&bob, moment(30)), None);
+    expect_past_hard(&rt, rt.alloc(), &leases, 1_200_031, "carl bob alice ")?;
+    Ok(())
+}
+
+#[test]
+fn released_leases_are_gone(rt: HostRuntime) -> Result<(), Fail> {
+    let mut leases = three_leases(rt.alloc())?;
+    let alice = Who::parse(rt.alloc(), "alice")?;
+    leases.release(&alice);
+    assert_eq!(rt; leases.state(&alice, moment(10)), None);
+    assert_eq!(rt; leases.renew(&alice, moment(10)), Err(NoLease));
+    leases.release(&alice);
+    expect_past_hard(&rt, rt.alloc(), &leases, 1_200_011, "bob carl ")?;
     Ok(())
 }

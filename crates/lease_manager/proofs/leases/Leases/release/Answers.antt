@@ -1,4 +1,4 @@
-use Rattle.std.proofs.Common.{◌≡◌, ◌∙◌, ◌≤◌, ap, sym, subst, arith}
+use Rattle.std.proofs.Common.{◌≡◌, ◌∙◌, ap, sym, subst, arith}
 use Rattle.lease_manager.specs.Lease.{LeaseList, AreInOrder, latest, released, after_release}
 use Rattle.lease_manager.specs.Shown.{renewals_of}
 use Rattle.lease_manager.proofs.Order.{released_in_order, released_latest}
@@ -24,6 +24,6 @@ pub returns-clause-latest : goal.returns-clause-latest
 returns-clause-latest c =
     let es = c.self.inside.renewals.entries in
     let left : renewals_of c.shift_remove.new.self.entries ≡ released c.args.client.now (renewals_of es) =
-        ap renewals_of c.shift_remove.ensures.entries ∙ removed c.args.client.now es (distinct_keys es c.self.invariant) in
+    ap renewals_of c.shift_remove.ensures.entries ∙ removed c.args.client.now es (distinct_keys es c.self.invariant) in
     let before : latest (renewals_of es) ≡ latest c.args.self.now.renewals = ap (λ (leases : LeaseList). latest leases.renewals) c.self.view_is in
     omega (arith, ap latest left, released_latest c.args.client.now (renewals_of es), before)

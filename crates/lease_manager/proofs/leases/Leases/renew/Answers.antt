@@ -14,4 +14,4 @@ pub returns-clause-latest : goal.returns-clause-latest
 returns-clause-latest c =
     ap latest c.if-not-renew_present.ensures.renewed.0
     ∙ renewed_latest c.args.client.now c.args.now (renewals_of c.self.inside.renewals.entries)
-      (subst (λ (leases : LeaseList). latest leases.renewals ≤ c.args.now) (sym c.self.view_is) c.requires)
+    (subst (λ (leases : LeaseList). latest leases.renewals ≤ c.args.now) (sym c.self.view_is) c.requires)

@@ -35,14 +35,14 @@ pub returns-then-renew_present-clause-latest : goal.returns-then-renew_present-c
 returns-then-renew_present-clause-latest c =
     ap latest c.if-renew_present.ensures.renewed.0
     ∙ renewed_latest c.args.client.now c.args.now (renewals_of c.self.inside.renewals.entries)
-      (subst (λ (leases : LeaseList). latest leases.renewals ≤ c.args.now) (sym c.self.view_is) c.requires)
+    (subst (λ (leases : LeaseList). latest leases.renewals ≤ c.args.now) (sym c.self.view_is) c.requires)
 
 pub returns-clause-latest : goal.returns-clause-latest
 returns-clause-latest c =
     let es = c.self.inside.renewals.entries in
     let made : renewals_of c.insert.new.self.entries ≡ renewed c.args.client.now c.args.now (renewals_of es) =
-        ap renewals_of (c.in_ok-insert.ensures.entries ∙ (λ j. insert_entry same (c.if-renew_present.ensures.renewed j).entries (c.in_ok-clone.ensures.cases j) c.args.now))
-        ∙ inserted c.args.client.now c.args.now es (sym c.if-renew_present.ensures.there) in
+    ap renewals_of (c.in_ok-insert.ensures.entries ∙ (λ j. insert_entry same (c.if-renew_present.ensures.renewed j).entries (c.in_ok-clone.ensures.cases j) c.args.now))
+    ∙ inserted c.args.client.now c.args.now es (sym c.if-renew_present.ensures.there) in
     ap latest made
     ∙ renewed_latest c.args.client.now c.args.now (renewals_of es)
-      (subst (λ (leases : LeaseList). latest leases.renewals ≤ c.args.now) (sym c.self.view_is) c.requires)
+    (subst (λ (leases : LeaseList). latest leases.renewals ≤ c.args.now) (sym c.self.view_is) c.requires)
