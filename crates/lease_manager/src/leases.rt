@@ -146,7 +146,8 @@ impl Leases {
         }
     }
 
-    /// How a client's lease stands; `None` where it has none. Costs a look-up by hash, and takes no memory.
+    /// How a client's lease stands by its age, which is 0 before its last renewal; `None` where it has none. Costs a look-up by
+    /// hash, and takes no memory.
     pub fn state(&self, client: &Who, now: Moment) -> Option<LeaseState>
         ensures state { result ≡ spec.state_of self.now client.now now }
         ensures renewals { spec.AreRenewals self.now.renewals }
