@@ -1,7 +1,9 @@
 ghost use Rattle.std.specs.Prelude.{◌≡◌, Some};
-ghost use Rattle.std.proofs.Common.{rules};
+ghost use Rattle.std.proofs.Common.{rules, ap, ◌∙◌};
 ghost use Rattle.std.specs.Cmp.{partial_order_from_own_ties};
+ghost use Rattle.std.specs.Cmp.Lexicographic.{bytes_decides, texts_ties};
 ghost use Rattle.std.specs.Cmp.Rules.{comparing};
+ghost use Rattle.std.specs.Hash as fed;
 ghost use Rattle.std.specs.Ordering.{as_partial_cmp};
 ghost use Rattle.std.specs.List.{list_all};
 ghost use Rattle.hdfs_types.specs.Who as spec;
@@ -13,6 +15,7 @@ use crate::fault::{IllFormed, ParseFault};
 use std::alloc::{AllocError, Global};
 use std::cmp::Ordering;
 use std::fmt;
+use std::hash::{Hash, Hasher};
 use std::marker::Model;
 
 /// The name of a user or of a group: 1 to 255 bytes from 0x21 to 0x7e without `:`, `,` and `/` (HDFS Permissions
@@ -137,5 +140,15 @@ impl PartialOrd for Who {
 
     fn partial_cmp(&self, other: &Who) -> Option<Ordering> {
         Some(self.cmp(other))
+    }
+}
+
+impl Hash for Who {
+    ghost hash_input = { fed.str };
+
+    ghost respects_eq = { λ x y one. ap fed.str ((bytes_decides x y).0 (texts_ties x y ∙ one)) };
+
+    fn hash<H: Hasher>(&self, state: &mut H) {
+        self.text.hash(state);
     }
 }

@@ -1,0 +1,3 @@
+pub mod Renewals
+pub mod Order
+pub mod Past

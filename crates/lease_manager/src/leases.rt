@@ -1,0 +1,176 @@
+ghost use Rattle.std.specs.Prelude.{◌≡◌, ◌≤◌, nat_lt, not, [], None, OnOk, OnErr, IsOk, IsSome, is_some};
+ghost use Rattle.std.specs.Bool.{MatchBool};
+ghost use Rattle.std.specs.List.{position_or_len};
+ghost use Rattle.hdfs_types.specs.Text.{same};
+ghost use Rattle.indexmap.specs.IndexMap.{IsUnique};
+ghost use Rattle.lease_manager.specs.Lease as spec;
+ghost use Rattle.lease_manager.specs.Shown.{renewals_of};
+
+use hdfs_types::moment::Moment;
+use hdfs_types::who::Who;
+use indexmap::IndexMap;
+use std::alloc::{AllocError, Global};
+use std::marker::Model;
+
+/// How a lease stands by its age, the time since its last renewal (HDFS Architecture, the single-writer model).
+#[derive(Clone, Copy, Debug, PartialEq, Eq)]
+pub enum LeaseState {
+    /// The age isn't greater than a limit.
+    Live,
+    /// The age is greater than the soft limit: another client may take over a file.
+    PastSoft,
+    /// The age is greater than the hard limit: the NameNode closes the client's files.
+    PastHard,
+}
+
+/// The client has no lease to renew.
+#[derive(Clone, Copy, Debug, PartialEq, Eq)]
+pub struct NoLease;
+
+/// The leases of clients, each by its last renewal, the oldest first, and the limits of their ages. A lease covers all files
+/// that its client has open (HDFS Architecture, the single-writer model).
+#[derive(Debug, Drop)]
+pub struct Leases {
+    // in milliseconds
+    soft: u32,
+    hard: u32,
+    renewals: IndexMap<Who, Moment>,
+}
+
+impl Model for Leases {
+    ghost use Rattle.lease_manager.specs.Lease.{LeaseList, AreRenewals};
+
+    ghost Value = { LeaseList };
+
+    ghost use Rattle.lease_manager.specs.Shown.{renewals_of, leases_of};
+
+    ghost view = { leases_of };
+
+    ghost invariant = { λ leases. AreRenewals (renewals_of leases.renewals.entries) };
+}
+
+// The milliseconds from a renewal until now.
+fn age(last: Moment, now: Moment) -> u64
+    ensures { result ≡ spec.age last now }
+{
+    now.milliseconds().saturating_sub(last.milliseconds())
+}
+
+// Puts a client's renewal last, with a new moment; answers whether the client is there.
+fn renew_present(renewals: &mut IndexMap<Who, Moment>, client: &Who, now: Moment) -> bool
+    ensures there { result ≡ is_some (spec.renewal_of client.now (renewals_of renewals.old.entries)) }
+    ensures renewed { MatchBool result (renewals_of renewals.new.entries ≡ spec.renewed client.now now (renewals_of renewals.old.entries) × IsUnique same renewals.new) (renewals.new ≡ renewals.old) }
+{
+    let Some((index, _, _)) = renewals.get_full(client) else {
+        return false;
+    };
+    let last = renewals.len() - 1;
+    renewals[index] = now;
+    renewals.move_index(index, last);
+    true
+}
+
+impl Leases {
+    /// No client has a lease. The limits are in milliseconds. Takes no memory.
+    pub fn new(alloc: Global, soft: u32, hard: u32) -> Leases
+        ensures { result ≡ record { limits = record { soft = soft; hard = hard }; renewals = [] } }
+    {
+        Leases {
+            soft,
+            hard,
+            renewals: IndexMap::new(alloc),
+        }
+    }
+
+    /// Gives a client a lease, or renews the one that it has: it comes last in the list of renewals. `now` must not be before
+    /// the last renewal. Costs the clients that have leases, since the map closes the gap, and takes memory only for a client
+    /// that has none.
+    ///
+    /// # Errors
+    /// Want of memory. Nothing has changed then.
+    pub fn take(&mut self, client: &Who, now: Moment) -> Result<(), AllocError>
+        requires { spec.latest self.old.renewals ≤ now }
+        ensures ok { OnOk result (self.new ≡ spec.after_renewal self.old client.now now) }
+        ensures err { OnErr result (self.new ≡ self.old) }
+        ensures held { IsSome (spec.renewal_of client.now self.old.renewals) → IsOk result }
+        ensures latest { OnOk result (spec.latest self.new.renewals ≡ now) }
+    {
+        if renew_present(&mut self.renewals, client, now) {
+            return Ok(());
+        }
+        self.renewals.insert(client.clone()?, now)?;
+        Ok(())
+    }
+
+    /// Renews a client's lease: it comes last in the list of renewals. `now` must not be before the last renewal. Costs the
+    /// clients that have leases, since the map closes the gap, and takes no memory.
+    ///
+    /// # Errors
+    /// The client has no lease. Nothing has changed then.
+    pub fn renew(&mut self, client: &Who, now: Moment) -> Result<(), NoLease>
+        requires { spec.latest self.old.renewals ≤ now }
+        ensures ok { OnOk result (IsSome (spec.renewal_of client.now self.old.renewals) × (self.new ≡ spec.after_renewal self.old client.now now)) }
+        ensures err { OnErr result ((spec.renewal_of client.now self.old.renewals ≡ None) × (self.new ≡ self.old)) }
+        ensures latest { OnOk result (spec.latest self.new.renewals ≡ now) }
+    {
+        if !renew_present(&mut self.renewals, client, now) {
+            return Err(NoLease);
+        }
+        Ok(())
+    }
+
+    /// Ends a client's lease; where it has none, nothing changes. Costs the clients that have leases, since the map closes the
+    /// gap, and takes no memory.
+    pub fn release(&mut self, client: &Who)
+        ensures released { self.new ≡ spec.after_release self.old client.now }
+        ensures latest { spec.latest self.new.renewals ≤ spec.latest self.old.renewals }
+    {
+        self.renewals.shift_remove(client);
+    }
+
+    fn is_past_hard(&self, last: Moment, now: Moment) -> bool
+        ensures { result ≡ nat_lt self.now.limits.hard (spec.age last now) }
+    {
+        age(last, now) > self.hard as u64
+    }
+
+    fn state_since(&self, last: Moment, now: Moment) -> LeaseState
+        ensures { result ≡ spec.lease_state self.now.limits last now }
+    {
+        if self.is_past_hard(last, now) {
+            LeaseState::PastHard
+        } else if age(last, now) > self.soft as u64 {
+            LeaseState::PastSoft
+        } else {
+            LeaseState::Live
+        }
+    }
+
+    /// How a client's lease stands by its age, which is 0 before its last renewal; `None` where it has none. Costs a look-up by
+    /// hash, and takes no memory.
+    pub fn state(&self, client: &Who, now: Moment) -> Option<LeaseState>
+        ensures state { result ≡ spec.state_of self.now client.now now }
+        ensures renewals { spec.AreRenewals self.now.renewals }
+    {
+        let last = self.renewals.get(client)?;
+        Some(self.state_since(*last, now))
+    }
+
+    // The index of the first moment whose age isn't past the hard limit, or the number of moments.
+    fn first_within_hard(&self, moments: &[Moment], now: Moment) -> usize
+        ensures { result ≡ position_or_len (λ last. not (nat_lt self.now.limits.hard (spec.age last now))) moments.now }
+    {
+        moments
+            .iter()
+            .position(|last| !self.is_past_hard(*last, now))
+            .unwrap_or(moments.len())
+    }
+
+    /// The clients whose leases are older than the hard limit, the oldest first. Costs its answer, and takes no memory.
+    pub fn past_hard(&self, now: Moment) -> &[Who]
+        ensures { result.now ≡ spec.clients (spec.past_hard self.now.limits now self.now.renewals) }
+    {
+        let count = self.first_within_hard(self.renewals.values().as_slice(), now);
+        &self.renewals.keys().as_slice()[..count]
+    }
+}

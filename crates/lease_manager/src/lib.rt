@@ -1,0 +1,6 @@
+//! Leases of clients on the files that they have open, by their last renewals.
+#![tactic(auto)]
+
+pub mod leases;
+#[cfg(test)]
+mod tests;
