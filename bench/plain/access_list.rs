@@ -138,6 +138,10 @@ impl Extension {
         }
     }
 
+    fn is_empty(&self) -> bool {
+        self.users.is_empty() && self.groups.is_empty()
+    }
+
     /// All that the entries of a class grant together.
     fn union_with(&self, group: u16) -> u16 {
         let named = self.users.iter().chain(&self.groups);
@@ -269,11 +273,5 @@ impl Acl {
         extension.mask = mask.unwrap_or(extension.union_with(self.group));
         self.extension = Some(extension);
         Ok(())
-    }
-}
-
-impl Extension {
-    fn is_empty(&self) -> bool {
-        self.users.is_empty() && self.groups.is_empty()
     }
 }
