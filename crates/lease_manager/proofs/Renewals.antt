@@ -135,9 +135,10 @@ goes_last client now (e ∷ es) none = by (same client e.0) refl (goes_last clie
         ap (λ b. cond b ((e.0, now) ∷ es) (e ∷ insert_entry same es client now)) other
         ∙ ap (λ rest. e ∷ rest) (rest (sym (ap (λ b. is_some (cond b (Some (renewal e)) (renewal_of client (renewals_of es)))) other) ∙ none))
 
-pub inserted : (client : List ℕ) (now : ℕ) (es : Entries) → is_some (renewal_of client (renewals_of es)) ≡ false → renewals_of (insert_entry same es client now) ≡ renewed client now (renewals_of es)
-inserted client now es none =
-    ap renewals_of (goes_last client now es none)
+pub inserted : (client key : List ℕ) (now : ℕ) (es before after : Entries) → after ≡ insert_entry same before key now → before ≡ es → key ≡ client
+    → is_some (renewal_of client (renewals_of es)) ≡ false → renewals_of after ≡ renewed client now (renewals_of es)
+inserted client key now es before after made unchanged copied none =
+    ap renewals_of (made ∙ (λ j. insert_entry same (unchanged j) (copied j) now) ∙ goes_last client now es none)
     ∙ map-append renewal es ((client, now) ∷ [])
     ∙ ap (λ rs. rs ++ renewal (client, now) ∷ []) (sym (absent_goes client es none))
 

@@ -1,6 +1,4 @@
 use Rattle.std.proofs.Common.{◌≡◌, ◌≤◌, ◌∙◌, ap, sym, subst}
-use Rattle.hdfs_types.specs.Text.{same}
-use Rattle.indexmap.specs.IndexMap.{insert_entry}
 use Rattle.lease_manager.specs.Lease.{LeaseList, latest, renewed, after_renewal}
 use Rattle.lease_manager.specs.Shown.{renewals_of}
 use Rattle.lease_manager.proofs.Order.{renewals_kept, renewed_latest}
@@ -17,8 +15,8 @@ pub invariant_of-self-2 : goal.invariant_of-self-2
 invariant_of-self-2 c =
     let es = c.self.inside.renewals.entries in
     let made : renewals_of c.insert.new.self.entries ≡ renewed c.args.client.now c.args.now (renewals_of es) =
-    ap renewals_of (c.in_ok-insert.ensures.entries ∙ (λ j. insert_entry same (c.if-renew_present.ensures.renewed j).entries (c.in_ok-clone.ensures.cases j) c.args.now))
-    ∙ inserted c.args.client.now c.args.now es (sym c.if-renew_present.ensures.there) in
+    inserted c.args.client.now c.in_ok-clone.field-0 c.args.now es c.renew_present.new.renewals.entries c.insert.new.self.entries c.in_ok-insert.ensures.entries
+    (λ j. (c.if-renew_present.ensures.renewed j).entries) c.in_ok-clone.ensures.cases (sym c.if-renew_present.ensures.there) in
     renewals_kept c.args.client.now c.args.now es c.insert.new.self.entries c.self.invariant
     (subst (λ (leases : LeaseList). latest leases.renewals ≤ c.args.now) (sym c.self.view_is) c.requires)
     made c.in_ok-insert.ensures.unique
@@ -27,8 +25,8 @@ pub returns-clause-ok : goal.returns-clause-ok
 returns-clause-ok c =
     let es = c.self.inside.renewals.entries in
     ap (λ rs. record { limits = record { soft = c.self.inside.soft; hard = c.self.inside.hard }; renewals = rs })
-    (ap renewals_of (c.in_ok-insert.ensures.entries ∙ (λ j. insert_entry same (c.if-renew_present.ensures.renewed j).entries (c.in_ok-clone.ensures.cases j) c.args.now))
-    ∙ inserted c.args.client.now c.args.now es (sym c.if-renew_present.ensures.there))
+    (inserted c.args.client.now c.in_ok-clone.field-0 c.args.now es c.renew_present.new.renewals.entries c.insert.new.self.entries c.in_ok-insert.ensures.entries
+    (λ j. (c.if-renew_present.ensures.renewed j).entries) c.in_ok-clone.ensures.cases (sym c.if-renew_present.ensures.there))
     ∙ ap (λ (leases : LeaseList). after_renewal leases c.args.client.now c.args.now) c.self.view_is
 
 pub returns-then-renew_present-clause-latest : goal.returns-then-renew_present-clause-latest
@@ -41,8 +39,8 @@ pub returns-clause-latest : goal.returns-clause-latest
 returns-clause-latest c =
     let es = c.self.inside.renewals.entries in
     let made : renewals_of c.insert.new.self.entries ≡ renewed c.args.client.now c.args.now (renewals_of es) =
-    ap renewals_of (c.in_ok-insert.ensures.entries ∙ (λ j. insert_entry same (c.if-renew_present.ensures.renewed j).entries (c.in_ok-clone.ensures.cases j) c.args.now))
-    ∙ inserted c.args.client.now c.args.now es (sym c.if-renew_present.ensures.there) in
+    inserted c.args.client.now c.in_ok-clone.field-0 c.args.now es c.renew_present.new.renewals.entries c.insert.new.self.entries c.in_ok-insert.ensures.entries
+    (λ j. (c.if-renew_present.ensures.renewed j).entries) c.in_ok-clone.ensures.cases (sym c.if-renew_present.ensures.there) in
     ap latest made
     ∙ renewed_latest c.args.client.now c.args.now (renewals_of es)
     (subst (λ (leases : LeaseList). latest leases.renewals ≤ c.args.now) (sym c.self.view_is) c.requires)
