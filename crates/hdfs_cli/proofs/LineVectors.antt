@@ -1,13 +1,21 @@
 -- The definitions compute a line of each verb, the faults that come first, and the answers that hold lists and numbers.
-use Rattle.std.proofs.Common.{◌≡◌, ℕ, true, false, List, [], ◌∷◌, Some, None, Result, Ok, Err, refl}
+use Rattle.std.proofs.Common.{◌≡◌, ℕ, true, false, List, [], ◌∷◌, Option, Some, None, Result, Ok, Err, refl}
 use Rattle.std.specs.Prelude.{codes}
 use Rattle.std.specs.Fmt.{digits}
 use Rattle.hdfs_types.specs.declared.fault.IllFormed.{IllFormed}
-use Rattle.hdfs_types.specs.declared.fault.IllFormed.TheVariants.{BadLine, BadPath, BadName}
+use Rattle.hdfs_types.specs.declared.fault.IllFormed.TheVariants.{BadLine, BadPath, BadName, BadAcl}
+use Rattle.hdfs_types.specs.declared.fault.AclFault.TheVariants as faults
+use Rattle.hdfs_types.specs.declared.acl_change.AclChange.TheVariants as change
+use Rattle.hdfs_types.specs.declared.entry.Scope.{Scope}
+use Rattle.hdfs_types.specs.declared.entry.Scope.TheVariants.{Access, Default}
+use Rattle.hdfs_types.specs.declared.entry.EntryKind.{EntryKind}
+use Rattle.hdfs_types.specs.declared.entry.EntryKind.TheVariants.{User, Group, Mask, Other}
+use Rattle.hdfs_types.specs.declared.entry.Entry.{Entry}
 use Rattle.hdfs_types.specs.declared.op.Op.{Op}
 use Rattle.hdfs_types.specs.declared.op.Op.TheVariants as op
 use Rattle.hdfs_types.specs.declared.op.Request.{Request}
 use Rattle.hdfs_types.specs.declared.reply.Reply.TheVariants as reply
+use Rattle.hdfs_types.specs.Rights.{rights}
 use Rattle.hdfs_cli.specs.AnswerText.{reply_text}
 use Rattle.hdfs_cli.specs.Script.{request_of}
 use Rattle.hdfs_cli.specs.Words.{words_of}
@@ -48,6 +56,51 @@ adduser = refl
 groups : said (codes "0 ann groups bob -") ≡ anns (op.SetGroups (codes "bob") [])
 groups = refl
 
+abbrev entry : Scope → EntryKind → Option (List ℕ) → ℕ → Entry
+entry scope kind name bits = record { scope = scope; kind = kind; name = name; rights = rights bits }
+
+getfacl : said (codes "0 ann getfacl /a") ≡ anns (op.GetAcl a)
+getfacl = refl
+
+setfacl_set : said (codes "0 ann setfacl /a set user::rwx,default:group:crew:r--")
+    ≡ anns (op.SetAcl a (change.Set (entry Access User None 7 ∷ entry Default Group (Some (codes "crew")) 4 ∷ [])))
+setfacl_set = refl
+
+setfacl_modify : said (codes "0 ann setfacl /a modify mask::--x,other::-w-")
+    ≡ anns (op.SetAcl a (change.Modify (entry Access Mask None 1 ∷ entry Access Other None 2 ∷ [])))
+setfacl_modify = refl
+
+setfacl_remove : said (codes "0 ann setfacl /a remove user:b:,default:mask")
+    ≡ anns (op.SetAcl a (change.Remove (entry Access User (Some (codes "b")) 0 ∷ entry Default Mask None 0 ∷ [])))
+setfacl_remove = refl
+
+setfacl_default : said (codes "0 ann setfacl /a default") ≡ anns (op.SetAcl a change.RemoveDefault)
+setfacl_default = refl
+
+setfacl_clear : said (codes "0 ann setfacl /a clear") ≡ anns (op.SetAcl a change.Clear)
+setfacl_clear = refl
+
+clear_with_entries : said (codes "0 a:b setfacl /.. clear user") ≡ Err BadLine
+clear_with_entries = refl
+
+set_without_entries : said (codes "0 a:b setfacl /.. set") ≡ Err BadLine
+set_without_entries = refl
+
+path_before_unknown_form : said (codes "0 ann setfacl /.. frob") ≡ Err BadPath
+path_before_unknown_form = refl
+
+unknown_form_before_entries : said (codes "0 ann setfacl /a frob user") ≡ Err BadLine
+unknown_form_before_entries = refl
+
+ill_formed_entries : said (codes "0 ann setfacl /a set mask:x:rwx,user") ≡ Err (BadAcl faults.Form)
+ill_formed_entries = refl
+
+doubled_entries : said (codes "0 ann setfacl /a remove mask:x,user,user:") ≡ Err (BadAcl faults.Duplicate)
+doubled_entries = refl
+
+named_mask : said (codes "0 ann setfacl /a modify mask:x:rwx") ≡ Err (BadAcl faults.NamedBase)
+named_mask = refl
+
 unknown_word : said (codes "0 ann delete /a nonsense") ≡ Err BadLine
 unknown_word = refl
 
@@ -59,6 +112,9 @@ gap_in_groups = refl
 
 count_first : said (codes "x a:b chown /.. -") ≡ Err BadLine
 count_first = refl
+
+access_control_list : reply_text (reply.Acl (record { owner = codes "ann"; group = codes "crew"; spec = codes "user::rwx" })) ≡ codes "ok ann crew user::rwx"
+access_control_list = refl
 
 empty_list : reply_text (reply.Names []) ≡ codes "ok list"
 empty_list = refl

@@ -117,3 +117,20 @@ fn tree_and_rows_deny_the_same_by_each_need(rt: HostRuntime) -> Result<(), Fail>
     assert_eq!(rt; found.as_str(), KINDS_DENIED);
     Ok(())
 }
+
+/// A denial by each class of entries of an extended list, and for the owner's need of a change of it.
+const CLASSES: &str =
+    "0 hdfs adduser ann zed,abe\n0 hdfs adduser bob crew\n0 hdfs mkdirs /n 700\n0 hdfs chown /n - crew\n\
+0 hdfs setfacl /n modify user:dan:rwx,group:zed:r--,group:abe:-w-,mask::rw-\n0 dan ls /n\n0 ann ls /n\n0 bob getfacl /n/x\n\
+0 carl setfacl /n/x clear\n0 dan setfacl /n clear";
+
+const CLASSES_DENIED: &str =
+    "/n r-x by user:dan:rwx mask::rw-\n/n r-x by group:abe:-w- mask::rw-\n/n --x by group::--- mask::rw-\n\
+/n --x by other::---\n/n owner by owner:hdfs\n";
+
+#[test]
+fn tree_and_rows_deny_the_same_by_each_class(rt: HostRuntime) -> Result<(), Fail> {
+    let found = denials(&rt, CLASSES)?;
+    assert_eq!(rt; found.as_str(), CLASSES_DENIED);
+    Ok(())
+}

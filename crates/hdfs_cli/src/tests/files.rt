@@ -16,7 +16,7 @@ fn told(rt: &HostRuntime, session: &mut Session, line: &str) -> Result<String, F
 }
 
 /// Whether the lines are answered so in turn, beside the files `/f` and `/d/g`.
-fn tell(rt: &HostRuntime, table: &[(&str, &str)]) -> Result<bool, Fail> {
+pub(crate) fn tell(rt: &HostRuntime, table: &[(&str, &str)]) -> Result<bool, Fail> {
     let mut session = Session::open(rt.alloc())?;
     told(rt, &mut session, "0 hdfs mkdirs /d 777")?;
     let is_put = put_file(rt, &mut session.tree, "/f")? && put_file(rt, &mut session.tree, "/d/g")?;

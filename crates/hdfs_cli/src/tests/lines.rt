@@ -1,7 +1,9 @@
 use crate::line::request_of;
+use hdfs_types::acl_change::AclChange;
 use hdfs_types::fault::ParseFault;
 use hdfs_types::op::{Op, Request};
 use hdfs_types::path::Path;
+use hdfs_types::spec::Spec;
 use hdfs_types::who::Who;
 use std::alloc::{AllocError, Global};
 use std::test::Fail;
@@ -34,6 +36,28 @@ fn put_path(alloc: Global, out: &mut String, path: &Path) -> Result<(), AllocErr
     out.push_str(text.as_str())
 }
 
+/// A word, and the entries in the order in which they are given, each behind a blank.
+fn with_entries(alloc: Global, word: &str, spec: &Spec) -> Result<String, AllocError> {
+    let mut out = String::from_str(alloc, word)?;
+    for entry in spec.as_slice() {
+        let text = entry.to_string(alloc)?;
+        out.push_str(" ")?;
+        out.push_str(text.as_str())?;
+    }
+    Ok(out)
+}
+
+/// A change of an access control list, by the name of its variant.
+fn change_of(alloc: Global, change: &AclChange) -> Result<String, AllocError> {
+    match change {
+        AclChange::Set(spec) => with_entries(alloc, "Set", spec),
+        AclChange::Modify(spec) => with_entries(alloc, "Modify", spec),
+        AclChange::Remove(spec) => with_entries(alloc, "Remove", spec),
+        AclChange::RemoveDefault => String::from_str(alloc, "RemoveDefault"),
+        AclChange::Clear => String::from_str(alloc, "Clear"),
+    }
+}
+
 /// The parts of an operation, behind the name of its variant.
 fn parts_of(alloc: Global, op: &Op) -> Result<String, AllocError> {
     match op {
@@ -52,6 +76,11 @@ fn parts_of(alloc: Global, op: &Op) -> Result<String, AllocError> {
             out.push_str(" ")?;
             put_name(&mut out, group)?;
             Ok(out)
+        }
+        Op::GetAcl(path) => format!(in alloc; "GetAcl {path}"),
+        Op::SetAcl(path, change) => {
+            let change = change_of(alloc, change)?;
+            format!(in alloc; "SetAcl {path} {change}")
         }
         Op::AddUser(user, groups) => {
             let mut out = format!(in alloc; "AddUser {user} ")?;

@@ -1,5 +1,5 @@
 ghost use Rattle.std.specs.Prelude.{◌≡◌, true, IsTrue};
-ghost use Rattle.flat_rows.specs.Namespace.{has_parent};
+ghost use Rattle.flat_rows.specs.Namespace.{has_parent, suits_kind};
 
 use crate::explain::rows_of;
 use crate::tests::lines::read;
@@ -75,9 +75,16 @@ fn file_at(alloc: Global, path: &str) -> Result<Row, Fail> {
     })
 }
 
-/// Puts a row without the sticky bit among the rows, and tells whether there is a directory that holds it.
+/// Whether a row has neither a sticky bit nor a default list, which only a directory has.
+fn is_plain(row: &Row) -> bool
+    ensures { result ≡ true → IsTrue (suits_kind row.now) }
+{
+    !row.acl.is_sticky() && row.acl.default_list().is_none()
+}
+
+/// Puts a plain row among the rows, and tells whether there is a directory that holds it.
 fn put_among_rows(alloc: Global, rows: &mut Rows, row: Row) -> Result<bool, AllocError> {
-    if row.acl.is_sticky() || !is_held(rows.as_slice(), &row.path) {
+    if !is_plain(&row) || !is_held(rows.as_slice(), &row.path) {
         return Ok(false);
     }
     rows.insert(alloc, vec![in alloc; row]?)?;
@@ -221,15 +228,22 @@ fn demands_tell_when_they_are_judged(rt: HostRuntime) -> Result<(), Fail> {
     Ok(())
 }
 
+/// The status or the refusal that is told.
+fn text_of(alloc: Global, verdict: &Verdict) -> Result<String, AllocError> {
+    match verdict {
+        Verdict::Done(Reply::Status(status)) => status.to_string(alloc),
+        Verdict::Refused(refusal) => refusal.to_string(alloc),
+        _ => Ok(String::new(alloc)),
+    }
+}
+
 /// What `bob` is told of a path by a look that lends the tree.
 fn status_for_bob(alloc: Global, tree: &Tree, path: &str) -> Result<String, Fail> {
     let users = users_with_bob(alloc)?;
     let op = Op::Stat(path_of(alloc, path)?);
-    match answer_look(alloc, tree, &users, &who_of(alloc, "bob")?, &op)? {
-        Verdict::Done(Reply::Status(status)) => Ok(status.to_string(alloc)?),
-        Verdict::Refused(refusal) => Ok(refusal.to_string(alloc)?),
-        _ => Ok(String::new(alloc)),
-    }
+    let bob = who_of(alloc, "bob")?;
+    let verdict = answer_look(alloc, tree, &users, &bob, &op)?;
+    Ok(text_of(alloc, &verdict)?)
 }
 
 #[test]

@@ -5,7 +5,12 @@ use crate::tests::scripts::{deep, prints};
 use std::test::Fail;
 
 /// Each line of a table is a script line and its answer, which the rules give.
-fn answers(rt: &HostRuntime, table: &[(&str, &str)]) -> Result<bool, Fail> {
+pub(crate) fn answers(rt: &HostRuntime, table: &[(&str, &str)]) -> Result<bool, Fail> {
+    ends(rt, table, Status::Clean)
+}
+
+/// The same of a table with an end.
+pub(crate) fn ends(rt: &HostRuntime, table: &[(&str, &str)], status: Status) -> Result<bool, Fail> {
     let mut script = String::new(rt.alloc());
     let mut want = String::new(rt.alloc());
     let mut number = 0u64;
@@ -16,7 +21,7 @@ fn answers(rt: &HostRuntime, table: &[(&str, &str)]) -> Result<bool, Fail> {
         let printed = format!(in rt.alloc(); "{number} {answer}\n")?;
         want.push_str(printed.as_str())?;
     }
-    prints(rt, script.as_str(), want.as_str(), Status::Clean)
+    prints(rt, script.as_str(), want.as_str(), status)
 }
 
 #[test]

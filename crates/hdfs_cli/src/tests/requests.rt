@@ -73,3 +73,26 @@ fn lines_of_groups_make_requests(rt: HostRuntime) -> Result<(), Fail> {
     assert!(rt; make(&rt, &table)?);
     Ok(())
 }
+
+#[test]
+fn lines_of_access_control_lists_make_requests(rt: HostRuntime) -> Result<(), Fail> {
+    let table = [
+        ("0 ann getfacl /a", "0 ann GetAcl /a"),
+        ("0 ann setfacl /a default", "0 ann SetAcl /a RemoveDefault"),
+        ("0 ann setfacl /a clear", "0 ann SetAcl /a Clear"),
+        (
+            "0 ann setfacl /a set user::rwx,group:-:r--",
+            "0 ann SetAcl /a Set user::rwx group:-:r--",
+        ),
+        (
+            "0 ann setfacl /a modify other::--x,default:mask::-w-",
+            "0 ann SetAcl /a Modify other::--x default:mask::-w-",
+        ),
+        (
+            "0 ann setfacl /a remove user:b,group:c:,default:other",
+            "0 ann SetAcl /a Remove user:b:--- group:c:--- default:other::---",
+        ),
+    ];
+    assert!(rt; make(&rt, &table)?);
+    Ok(())
+}
