@@ -327,7 +327,10 @@ pub fn needs_of<'a>(alloc: Global, op: &'a Op) -> Result<Needs<'a>, AllocError>
             vec![in alloc; Demand::strict_traversal(path), Demand::ownership(path)]?
         }
         Op::GetAcl(path) => vec![in alloc; Demand::traversal(path)]?,
-        Op::SetAcl(path, _) => vec![in alloc; Demand::strict_traversal(path), Demand::ownership(path)]?,
+        Op::SetAcl(path, _) => vec![in alloc;
+            Demand::strict_traversal(path),
+            Demand::ownership(path),
+        ]?,
         Op::SetOwner(path, owner, group) => needs_of_owner(alloc, path, owner, group)?,
         Op::AddUser(_, _) | Op::SetGroups(_, _) => vec![in alloc; Demand::administration()]?,
     };
