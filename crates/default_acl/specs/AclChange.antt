@@ -196,6 +196,14 @@ spec_in (Remove spec) = spec
 spec_in RemoveDefault = []
 spec_in Clear = []
 
+-- the change names entries
+abbrev pub has_spec : AclChange → Bool
+has_spec (Set spec) = true
+has_spec (Modify spec) = true
+has_spec (Remove spec) = true
+has_spec RemoveDefault = false
+has_spec Clear = false
+
 abbrev pub is_file : ObjectKind → Bool
 is_file File = true
 is_file Directory = false

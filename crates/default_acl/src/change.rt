@@ -1,4 +1,4 @@
-ghost use Rattle.std.specs.Prelude.{◌≡◌, ◌&&◌, None, OnOk, OnErr, Ok};
+ghost use Rattle.std.specs.Prelude.{◌≡◌, ◌&&◌, false, None, OnOk, OnErr, IsOk, Ok};
 ghost use Rattle.std.specs.Option.{option_copied};
 ghost use Rattle.hdfs_types.specs.declared.reply.ObjectKind.{ObjectKind};
 ghost use Rattle.hdfs_types.specs.declared.acl_change.AclChange.TheVariants.{Set, Modify, Remove, RemoveDefault, Clear};
@@ -334,7 +334,7 @@ pub fn clear(acl: &mut Acl)
 }
 
 /// Changes a list as `setfacl` does (HDFS Permissions Guide, "ACLs Shell Commands"). Costs what the call for the form costs, and
-/// changes nothing where it fails.
+/// changes nothing where it fails. A form without a spec takes no memory and doesn't fail.
 ///
 /// # Errors
 /// Those of `set`, `modify` and `remove`.
@@ -344,7 +344,8 @@ pub fn change(
     kind: ObjectKind,
     change: &AclChange,
 ) -> Result<(), AclChangeFault>
-    ensures { Changes result (definition.acl_change change.now kind acl.old) acl.old acl.new }
+    ensures changes { Changes result (definition.acl_change change.now kind acl.old) acl.old acl.new }
+    ensures bare { definition.has_spec change.now ≡ false → IsOk result }
 {
     match change {
         AclChange::Set(spec) => set(alloc, acl, kind, spec),

@@ -1,5 +1,5 @@
 -- A namespace without a sub-tree, and one with a row given anew, is a namespace; and so are their paths within the limits.
-use Rattle.std.proofs.Common.{◌≡◌, ℕ, Bool, true, false, ◌&&◌, ◌||◌, List, [], ◌∷◌, ◌++◌, map, length, drop, append_assoc, refl, sym, ap, ◌∙◌, subst, cond, Some}
+use Rattle.std.proofs.Common.{◌≡◌, ℕ, Bool, true, false, ◌&&◌, ◌||◌, List, [], ◌∷◌, ◌++◌, map, length, drop, append_assoc, refl, sym, ap, ◌∙◌, subst, cond, Option, Some, None}
 use Rattle.std.proofs.Math.Seq.{take-append_seam}
 use Rattle.std.proofs.lemmas.List.{take-append-drop}
 use Rattle.std.specs.Prelude.{filter, not}
@@ -10,12 +10,19 @@ use Rattle.hdfs_types.specs.Path.{is_path, is_prefix}
 use Rattle.hdfs_types.specs.PathOrder.{path_cmp, same_path, paths_total}
 use Rattle.hdfs_types.proofs.Fronts.{front_path}
 use Rattle.acl_entries.specs.AccessControlList.{AccessControlList}
+use Rattle.flat_rows.specs.declared.file_row.FileRow.{FileRow}
 use Rattle.flat_rows.specs.declared.row.Row.{Row}
+use Rattle.flat_rows.specs.declared.row.Change.{Change}
+use Rattle.flat_rows.specs.declared.row.Change.TheVariants as change
+use Rattle.hdfs_types.specs.declared.file.FileState.{FileState}
+use Rattle.std.specs.Option.{option_map}
+use Rattle.acl_entries.specs.AccessControlList.{suits_file}
+use Rattle.flat_rows.specs.Files.{with_state, with_replication}
 use Rattle.flat_rows.specs.First.{first}
 use Rattle.flat_rows.specs.Rows.{is_directory, row_at, ancestor, is_before, is_beyond, replaced, with_sub_tree}
-use Rattle.flat_rows.specs.Namespace.{IsNamespace, is_ascending, is_before_all, is_child, has_parent, is_root, is_rooted, have_parents, suits_kind, fits}
-use Rattle.flat_rows.specs.Outcome.{mode_of_new, new_directory, new_directories}
-use Rattle.flat_rows.specs.Changes.{without, given, rewritten, suits_list, are_paths}
+use Rattle.flat_rows.specs.Namespace.{IsNamespace, is_ascending, is_before_all, is_child, has_parent, is_root, is_rooted, have_parents, suits_parts, suits_kind, fits}
+use Rattle.flat_rows.specs.Outcome.{mode_of_new, file_of_new, new_row, new_rows}
+use Rattle.flat_rows.specs.Changes.{without, changed, rewritten, suits_row, suits_change, are_paths}
 use Rattle.flat_rows.proofs.Tests.{both, and, or_left, or_right, all_imp, all_both, all_append, all_filtered, all_kept}
 use Rattle.flat_rows.proofs.PathOrders.{less_is, child_starts, same_path_is}
 use Rattle.flat_rows.proofs.NewDirectories.{starts_self, beneath_parts, ancestor_above}
@@ -151,22 +158,56 @@ module _ (f : Row → Row) (paths : (row : Row) → (f row).path ≡ row.path) (
       let tests = namespace_tests rows h in
       namespace_of (map f rows) (record { rooted = map_rooted rows ∙ tests.rooted; ascending = map_ascending rows ∙ tests.ascending; held = map_held rows ∙ tests.held; suit = suits })
 
-module _ (path : List (List ℕ)) (owner group : List ℕ) (acl : AccessControlList) where
+-- each change leaves the path and the kind
+
+changed_path : (change : Change) (row : Row) → (changed change row).path ≡ row.path
+changed_path (change.Owner owner group) row = refl
+changed_path (change.List acl) row = refl
+changed_path (change.State state) row = refl
+changed_path (change.Replication replication) row = refl
+
+changed_kind : (change : Change) (row : Row) → is_directory (changed change row) ≡ is_directory row
+changed_kind (change.Owner owner group) row = refl
+changed_kind (change.List acl) row = refl
+changed_kind (change.State state) row = refl
+changed_kind (change.Replication replication) row = refl
+
+-- and what it suits stays suited
+
+listed_suits : (b : Bool) (old acl : AccessControlList) (file : Option FileRow) → suits_parts b old file ≡ true → (b || suits_file acl) ≡ true → suits_parts b acl file ≡ true
+listed_suits true old acl None h k = refl
+listed_suits true old acl (Some file) h k = cc
+listed_suits false old acl None h k = cc
+listed_suits false old acl (Some file) h k = k
+
+filed_suits : (f : FileRow → FileRow) (b : Bool) (acl : AccessControlList) (file : Option FileRow) → suits_parts b acl file ≡ true → suits_parts b acl (option_map f file) ≡ true
+filed_suits f true acl None h = refl
+filed_suits f true acl (Some file) h = cc
+filed_suits f false acl None h = cc
+filed_suits f false acl (Some file) h = h
+
+pub changed_suits : (change : Change) (row : Row) → suits_kind row ≡ true → suits_row change row ≡ true → suits_kind (changed change row) ≡ true
+changed_suits (change.Owner owner group) row h k = h
+changed_suits (change.List acl) row h k = listed_suits (is_directory row) row.acl acl row.file h k
+changed_suits (change.State state) row h k = filed_suits (with_state state) (is_directory row) row.acl row.file h
+changed_suits (change.Replication replication) row h k = filed_suits (with_replication replication) (is_directory row) row.acl row.file h
+
+module _ (path : List (List ℕ)) (change : Change) where
   abbrev anew : Row → Row
-  anew row = cond (same_path path row.path) (given owner group acl row) row
+  anew row = cond (same_path path row.path) (changed change row) row
 
   anew_path : (row : Row) → (anew row).path ≡ row.path
   anew_path row = by (same_path path row.path)
     where
-      by : (b : Bool) → (cond b (given owner group acl row) row).path ≡ row.path
-      by true = refl
+      by : (b : Bool) → (cond b (changed change row) row).path ≡ row.path
+      by true = changed_path change row
       by false = refl
 
   anew_kind : (row : Row) → is_directory (anew row) ≡ is_directory row
   anew_kind row = by (same_path path row.path)
     where
-      by : (b : Bool) → is_directory (cond b (given owner group acl row) row) ≡ is_directory row
-      by true = refl
+      by : (b : Bool) → is_directory (cond b (changed change row) row) ≡ is_directory row
+      by true = changed_kind change row
       by false = refl
 
   -- behind the row of the path there is none other of it
@@ -176,40 +217,74 @@ module _ (path : List (List ℕ)) (owner group : List ℕ) (acl : AccessControlL
       let lows = both (is_lt (path_cmp row.path other.path)) (is_before_all row rows) low in
       let hs = both (suits_kind other) (list_all suits_kind rows) h in
       let apart : same_path path other.path ≡ false = ap (λ p. same_path p other.path) (same_path_is path row.path at) ∙ ap is_eq (less_is _ lows.0) in
-      and _ _ (ap (λ b. suits_kind (cond b (given owner group acl other) other)) apart ∙ hs.0) (behind_suits row rows at lows.1 hs.1)
+      and _ _ (ap (λ b. suits_kind (cond b (changed change other) other)) apart ∙ hs.0) (behind_suits row rows at lows.1 hs.1)
 
-  rewritten_suits : (rows : List Row) → is_ascending rows ≡ true → list_all suits_kind rows ≡ true → suits_list acl (row_at path rows) ≡ true → list_all suits_kind (map anew rows) ≡ true
+  rewritten_suits : (rows : List Row) → is_ascending rows ≡ true → list_all suits_kind rows ≡ true → suits_change change (row_at path rows) ≡ true → list_all suits_kind (map anew rows) ≡ true
   rewritten_suits [] up h suits = refl
   rewritten_suits (row ∷ rows) up h suits =
       let ups = both (is_before_all row rows) (is_ascending rows) up in
       let hs = both (suits_kind row) (list_all suits_kind rows) h in
       by (same_path path row.path) refl suits (λ at. behind_suits row rows at ups.0 hs.1) hs.0 (rewritten_suits rows ups.1 hs.1)
     where
-      by : (b : Bool) → same_path path row.path ≡ b → suits_list acl (first (cond b (row ∷ filter (λ r. same_path path r.path) rows) (filter (λ r. same_path path r.path) rows))) ≡ true
-          → (same_path path row.path ≡ true → list_all suits_kind (map anew rows) ≡ true) → suits_kind row ≡ true → (suits_list acl (row_at path rows) ≡ true → list_all suits_kind (map anew rows) ≡ true)
-          → list_all suits_kind (cond b (given owner group acl row) row ∷ map anew rows) ≡ true
-      by true e s behind own others = and _ _ s (behind e)
+      by : (b : Bool) → same_path path row.path ≡ b → suits_change change (first (cond b (row ∷ filter (λ r. same_path path r.path) rows) (filter (λ r. same_path path r.path) rows))) ≡ true
+          → (same_path path row.path ≡ true → list_all suits_kind (map anew rows) ≡ true) → suits_kind row ≡ true → (suits_change change (row_at path rows) ≡ true → list_all suits_kind (map anew rows) ≡ true)
+          → list_all suits_kind (cond b (changed change row) row ∷ map anew rows) ≡ true
+      by true e s behind own others = and _ _ (changed_suits change row own s) (behind e)
       by false e s behind own others = and _ _ own (others s)
 
-  pub rewritten_namespace : (rows : List Row) → IsNamespace rows → suits_list acl (row_at path rows) ≡ true → IsNamespace (rewritten path owner group acl rows)
+  pub rewritten_namespace : (rows : List Row) → IsNamespace rows → suits_change change (row_at path rows) ≡ true → IsNamespace (rewritten path change rows)
   rewritten_namespace rows h suits = let tests = namespace_tests rows h in map_namespace anew anew_path anew_kind rows h (rewritten_suits rows tests.ascending tests.suit suits)
 
-  pub rewritten_paths : (rows : List Row) → are_paths rows ≡ true → are_paths (rewritten path owner group acl rows) ≡ true
+  pub rewritten_paths : (rows : List Row) → are_paths rows ≡ true → are_paths (rewritten path change rows) ≡ true
   rewritten_paths rows h = map_paths anew anew_path anew_kind rows ∙ h
+
+-- files closed
+
+module _ (test : Row → Bool) (state : FileState) where
+  abbrev closed : Row → Row
+  closed row = cond (test row) (changed (change.State state) row) row
+
+  closed_path : (row : Row) → (closed row).path ≡ row.path
+  closed_path row = by (test row)
+    where
+      by : (b : Bool) → (cond b (changed (change.State state) row) row).path ≡ row.path
+      by true = refl
+      by false = refl
+
+  closed_kind : (row : Row) → is_directory (closed row) ≡ is_directory row
+  closed_kind row = by (test row)
+    where
+      by : (b : Bool) → is_directory (cond b (changed (change.State state) row) row) ≡ is_directory row
+      by true = refl
+      by false = refl
+
+  closed_suits : (rows : List Row) → list_all suits_kind rows ≡ true → list_all suits_kind (map closed rows) ≡ true
+  closed_suits [] h = refl
+  closed_suits (row ∷ rows) h = let hs = both (suits_kind row) (list_all suits_kind rows) h in and _ _ (by (test row) hs.0) (closed_suits rows hs.1)
+    where
+      by : (b : Bool) → suits_kind row ≡ true → suits_kind (cond b (changed (change.State state) row) row) ≡ true
+      by true k = filed_suits (with_state state) (is_directory row) row.acl row.file k
+      by false k = k
+
+  pub closed_namespace : (rows : List Row) → IsNamespace rows → IsNamespace (map closed rows)
+  closed_namespace rows h = map_namespace closed closed_path closed_kind rows h (closed_suits rows (namespace_tests rows h).suit)
+
+  pub closed_paths : (rows : List Row) → are_paths rows ≡ true → are_paths (map closed rows) ≡ true
+  closed_paths rows h = map_paths closed closed_path closed_kind rows ∙ h
 
 -- the paths of new directories are fronts of the path
 
 path_front : (p q : List (List ℕ)) → is_path (p ++ q) ≡ true → is_path p ≡ true
 path_front p q h = subst (λ x. is_path x ≡ true) (take-append_seam p q) (front_path (p ++ q) (length p) h)
 
-module _ (owner : List ℕ) (mode : ℕ) where
-  new_paths : (above : Row) (names : List (List ℕ)) → is_path (above.path ++ names) ≡ true → are_paths (new_directories above owner mode names) ≡ true
+module _ (owner : List ℕ) (mode : ℕ) (file : Option FileRow) where
+  new_paths : (above : Row) (names : List (List ℕ)) → is_path (above.path ++ names) ≡ true → are_paths (new_rows above owner mode file names) ≡ true
   new_paths above [] h = refl
   new_paths above (name ∷ names) h =
       let more : is_path ((above.path ++ name ∷ []) ++ names) ≡ true = ap is_path (append_assoc above.path (name ∷ []) names) ∙ h in
-      and _ _ (path_front (above.path ++ name ∷ []) names more) (new_paths (new_directory above owner (mode_of_new mode names) name) names more)
+      and _ _ (path_front (above.path ++ name ∷ []) names more) (new_paths (new_row above owner (mode_of_new mode names) (file_of_new file names) name) names more)
 
-  pub missing_paths : (path : List (List ℕ)) (rows : List Row) (above : Row) → ancestor path rows ≡ Some above → is_path path ≡ true → are_paths (new_directories above owner mode (drop (length above.path) path)) ≡ true
+  pub missing_paths : (path : List (List ℕ)) (rows : List Row) (above : Row) → ancestor path rows ≡ Some above → is_path path ≡ true → are_paths (new_rows above owner mode file (drop (length above.path) path)) ≡ true
   missing_paths path rows above found h =
       let parts = beneath_parts path above.path (ancestor_above path rows above found) in
       let whole : above.path ++ drop (length above.path) path ≡ path = ap (λ p. p ++ drop (length above.path) path) (sym parts.front) ∙ take-append-drop (length above.path) path in

@@ -1,8 +1,12 @@
 pub mod Tests
+pub mod Lengths
 pub mod PathOrders
 pub mod Namespaces
 pub mod NewDirectories
 pub mod Changes
 pub mod Moves
 pub mod Missing
+pub mod Holders
+pub mod Making
+pub mod Keeping
 pub mod Endings

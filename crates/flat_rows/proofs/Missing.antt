@@ -17,13 +17,13 @@ use Rattle.flat_rows.proofs.Changes.{same_self}
 use Rattle.flat_rows.proofs.Moves.{parent_inside}
 
 -- a row that passes, among the rows
-record Found (p : Row → Bool) (rows : List Row) : Type 0 where
-  row : Row
-  passes : p row ≡ true
-  among : (q : Row → Bool) → q row ≡ true → list_any q rows ≡ true
-  shared : (q : Row → Bool) → list_all q rows ≡ true → q row ≡ true
+pub record Found (p : Row → Bool) (rows : List Row) : Type 0 where
+  pub row : Row
+  pub passes : p row ≡ true
+  pub among : (q : Row → Bool) → q row ≡ true → list_any q rows ≡ true
+  pub shared : (q : Row → Bool) → list_all q rows ≡ true → q row ≡ true
 
-found : (p : Row → Bool) (rows : List Row) → list_any p rows ≡ true → Found p rows
+pub found : (p : Row → Bool) (rows : List Row) → list_any p rows ≡ true → Found p rows
 found p [] h = cc
 found p (r ∷ rs) h = by (p r) refl h (found p rs)
   where
@@ -36,7 +36,7 @@ found p (r ∷ rs) h = by (p r) refl h (found p rs)
 abbrev at : List (List ℕ) → Row → Bool
 at path row = same_path path row.path
 
-missing_any : (path : List (List ℕ)) (rows : List Row) → is_missing path rows ≡ not (list_any (at path) rows)
+pub missing_any : (path : List (List ℕ)) (rows : List Row) → is_missing path rows ≡ not (list_any (at path) rows)
 missing_any path [] = refl
 missing_any path (r ∷ rs) = by (at path r) (missing_any path rs)
   where

@@ -7,11 +7,15 @@ use Rattle.hdfs_types.specs.Text.{same, text_cmp}
 use Rattle.hdfs_types.specs.Path.{is_prefix, is_beneath}
 use Rattle.hdfs_types.specs.PathOrder.{path_cmp, same_path, paths_total}
 use Rattle.hdfs_types.proofs.Texts.{same_is, same_self}
+use Rattle.hdfs_types.specs.declared.reply.ObjectKind.TheVariants.{File}
+use Rattle.acl_entries.specs.AccessControlList.{AccessControlList, EntryList, suits_file}
+use Rattle.default_acl.specs.Inheritance.{inherited, inherited_from}
+use Rattle.flat_rows.specs.declared.file_row.FileRow.{FileRow}
 use Rattle.flat_rows.specs.declared.row.Row.{Row}
 use Rattle.flat_rows.specs.First.{first}
-use Rattle.flat_rows.specs.Rows.{is_directory, file_above, ancestor}
-use Rattle.flat_rows.specs.Namespace.{is_ascending, is_before_all, is_child, has_parent, suits_kind, fits}
-use Rattle.flat_rows.specs.Outcome.{directory_at, new_directory, new_directories, mode_of_new}
+use Rattle.flat_rows.specs.Rows.{is_directory, is_directory_kind, file_above, ancestor}
+use Rattle.flat_rows.specs.Namespace.{is_ascending, is_before_all, is_child, has_parent, suits_parts, suits_kind, fits}
+use Rattle.flat_rows.specs.Outcome.{new_at, new_row, new_rows, mode_of_new, file_of_new, kind_of_new}
 use Rattle.flat_rows.proofs.Tests.{both, and, or_left, or_right, all_imp, all_filtered}
 use Rattle.flat_rows.proofs.PathOrders.{less_is}
 
@@ -74,7 +78,7 @@ beneath_parts (n ∷ ns) (m ∷ ms) h =
 
 -- the last of a list
 
-last_all : (p : Row → Bool) (row : Row) (rows : List Row) (seen : Option Row) → ((r : Row) → seen ≡ Some r → p r ≡ true) → list_all p rows ≡ true → last_or seen rows ≡ Some row → p row ≡ true
+pub last_all : (p : Row → Bool) (row : Row) (rows : List Row) (seen : Option Row) → ((r : Row) → seen ≡ Some r → p r ≡ true) → list_all p rows ≡ true → last_or seen rows ≡ Some row → p row ≡ true
 last_all p row [] seen s h e = s row e
 last_all p row (r ∷ rows) seen s h e = let hs = both (p r) (list_all p rows) h in last_all p row rows (Some r) (λ x same. subst (λ y. p y ≡ true) (one r x same) hs.0) hs.1 e
   where
@@ -116,54 +120,73 @@ pub ancestor_above : (path : List (List ℕ)) (rows : List Row) (above : Row) �
 ancestor_above path rows above found =
     last_all (λ row. is_beneath path row.path) above (filter (λ row. is_beneath path row.path) rows) None (λ r e. cc) (all_filtered (λ row. is_beneath path row.path) rows) found
 
--- the chain of new directories
+-- what is made suits its kind
 
-module _ (owner : List ℕ) (mode : ℕ) where
+new_suits : (above : AccessControlList) (mode : ℕ) (file : Option FileRow) → suits_parts (is_directory_kind (kind_of_new file)) (inherited above mode (kind_of_new file)) file ≡ true
+new_suits above mode None = refl
+new_suits above mode (Some file) = by above.default
+  where
+    by : (default : Option EntryList) → suits_file (inherited_from default mode File) ≡ true
+    by None = refl
+    by (Some list) = refl
+
+-- the chain of new directories, and the file that may end it
+
+module _ (owner : List ℕ) (mode : ℕ) (file : Option FileRow) where
   abbrev made_of : Row → List ℕ → List (List ℕ) → Row
-  made_of above name names = new_directory above owner (mode_of_new mode names) name
+  made_of above name names = new_row above owner (mode_of_new mode names) (file_of_new file names) name
 
-  chain_starts : (above : Row) (names : List (List ℕ)) → list_all (λ row. is_prefix above.path row.path) (new_directories above owner mode names) ≡ true
+  chain_starts : (above : Row) (names : List (List ℕ)) → list_all (λ row. is_prefix above.path row.path) (new_rows above owner mode file names) ≡ true
   chain_starts above [] = refl
   chain_starts above (name ∷ names) =
       let longer = starts_longer above.path name in
       and _ _ longer
       (all_imp (λ row. is_prefix (above.path ++ name ∷ []) row.path) (λ row. is_prefix above.path row.path) (λ row h. starts_onward above.path (above.path ++ name ∷ []) row.path longer h)
-      (new_directories (made_of above name names) owner mode names) (chain_starts (made_of above name names) names))
+      (new_rows (made_of above name names) owner mode file names) (chain_starts (made_of above name names) names))
 
-  chain_low : (above : Row) (names : List (List ℕ)) → is_before_all above (new_directories above owner mode names) ≡ true
+  chain_low : (above : Row) (names : List (List ℕ)) → is_before_all above (new_rows above owner mode file names) ≡ true
   chain_low above [] = refl
   chain_low above (name ∷ names) =
       let longer = longer_less above.path name in
       and _ _ (ap is_lt longer)
       (all_imp (λ row. is_lt (path_cmp (above.path ++ name ∷ []) row.path)) (λ row. is_lt (path_cmp above.path row.path))
       (λ row h. ap is_lt (paths_total.trans above.path (above.path ++ name ∷ []) row.path longer (less_is _ h)))
-      (new_directories (made_of above name names) owner mode names) (chain_low (made_of above name names) names))
+      (new_rows (made_of above name names) owner mode file names) (chain_low (made_of above name names) names))
 
-  chain_ascending : (above : Row) (names : List (List ℕ)) → is_ascending (new_directories above owner mode names) ≡ true
+  chain_ascending : (above : Row) (names : List (List ℕ)) → is_ascending (new_rows above owner mode file names) ≡ true
   chain_ascending above [] = refl
   chain_ascending above (name ∷ names) = and _ _ (chain_low (made_of above name names) names) (chain_ascending (made_of above name names) names)
 
   chain_held : (all : List Row) (above : Row) (names : List (List ℕ)) → ((p : List (List ℕ)) → is_child p above.path ≡ true → has_parent p all ≡ true)
-      → ((q : Row → Bool) → list_any q (new_directories above owner mode names) ≡ true → list_any q all ≡ true) → list_all (λ row. has_parent row.path all) (new_directories above owner mode names) ≡ true
+      → ((q : Row → Bool) → list_any q (new_rows above owner mode file names) ≡ true → list_any q all ≡ true) → list_all (λ row. has_parent row.path all) (new_rows above owner mode file names) ≡ true
   chain_held all above [] held inside = refl
-  chain_held all above (name ∷ names) held inside =
-      let made = made_of above name names in
+  chain_held all above (name ∷ []) held inside = and _ _ (held (above.path ++ name ∷ []) (child_longer above.path name)) refl
+  chain_held all above (name ∷ next ∷ names) held inside =
+      let made = made_of above name (next ∷ names) in
       and _ _ (held (above.path ++ name ∷ []) (child_longer above.path name))
-      (chain_held all made names
+      (chain_held all made (next ∷ names)
       (λ p c. inside (λ row. is_child p row.path && is_directory row) (or_left _ _ (and _ _ c refl)))
       (λ q h. inside q (or_right (q made) _ h)))
 
-  chain_suits : (above : Row) (names : List (List ℕ)) → list_all suits_kind (new_directories above owner mode names) ≡ true
+  chain_suits : (above : Row) (names : List (List ℕ)) → list_all suits_kind (new_rows above owner mode file names) ≡ true
   chain_suits above [] = refl
-  chain_suits above (name ∷ names) = and _ _ refl (chain_suits (made_of above name names) names)
+  chain_suits above (name ∷ names) = and _ _ (new_suits above.acl (mode_of_new mode names) (file_of_new file names)) (chain_suits (made_of above name names) names)
 
-  chain_fits : (rows : List Row) (above : Row) (name : List ℕ) (names : List (List ℕ)) → has_parent (above.path ++ name ∷ []) rows ≡ true → fits rows (new_directories above owner mode (name ∷ names)) ≡ true
+  -- each but the first has its parent among them
+  inner_held : (above : Row) (name : List ℕ) (names : List (List ℕ))
+      → list_all (λ row. has_parent row.path (new_rows above owner mode file (name ∷ names))) (new_rows (made_of above name names) owner mode file names) ≡ true
+  inner_held above name [] = refl
+  inner_held above name (next ∷ names) =
+      let made = made_of above name (next ∷ names) in
+      chain_held (made ∷ new_rows made owner mode file (next ∷ names)) made (next ∷ names)
+      (λ p c. or_left _ _ (and _ _ c refl)) (λ q h. or_right (q made) _ h)
+
+  chain_fits : (rows : List Row) (above : Row) (name : List ℕ) (names : List (List ℕ)) → has_parent (above.path ++ name ∷ []) rows ≡ true → fits rows (new_rows above owner mode file (name ∷ names)) ≡ true
   chain_fits rows above name names held =
       let made = made_of above name names in
-      let others = new_directories made owner mode names in
+      let others = new_rows made owner mode file names in
       let block : List Row = made ∷ others in
-      let inner : list_all (λ row. has_parent row.path block) others ≡ true = chain_held block made names
-      (λ p c. or_left _ _ (and _ _ c refl)) (λ q h. or_right (q made) _ h) in
+      let inner : list_all (λ row. has_parent row.path block) others ≡ true = inner_held above name names in
       and _ _ held
       (and _ _ (and _ _ (and _ _ (and _ _ (starts_self made.path) (chain_starts made names)) (chain_ascending above (name ∷ names)))
       (and _ _ (or_left _ _ (tied_self made.path))
@@ -172,7 +195,7 @@ module _ (owner : List ℕ) (mode : ℕ) where
 
   -- beneath the last component that exists, where no file is above
   pub missing_fit : (path : List (List ℕ)) (rows : List Row) (above : Row) → ancestor path rows ≡ Some above → file_above path rows ≡ None
-      → fits rows (new_directories above owner mode (drop (length above.path) path)) ≡ true
+      → fits rows (new_rows above owner mode file (drop (length above.path) path)) ≡ true
   missing_fit path rows above found clear =
       let beneath = ancestor_above path rows above found in
       let parts = beneath_parts path above.path beneath in
@@ -190,11 +213,11 @@ module _ (owner : List ℕ) (mode : ℕ) where
       by_kind false e beneath among = sym none ∙ among (λ row. is_beneath path row.path && not (is_directory row)) (and _ _ beneath (ap not e))
 
   -- only the path, the group and the access control list of the row above are read
-  pub same_chain : (a b : Row) (names : List (List ℕ)) → a.path ≡ b.path → a.group ≡ b.group → a.acl ≡ b.acl → new_directories a owner mode names ≡ new_directories b owner mode names
+  pub same_chain : (a b : Row) (names : List (List ℕ)) → a.path ≡ b.path → a.group ≡ b.group → a.acl ≡ b.acl → new_rows a owner mode file names ≡ new_rows b owner mode file names
   same_chain a b [] p g l = refl
   same_chain a b (name ∷ names) p g l =
       let one : made_of a name names ≡ made_of b name names =
-      ap (λ t. directory_at a.acl a.group owner (mode_of_new mode names) (t ++ name ∷ [])) p
-      ∙ ap (λ t. directory_at a.acl t owner (mode_of_new mode names) (b.path ++ name ∷ [])) g
-      ∙ ap (λ t. directory_at t b.group owner (mode_of_new mode names) (b.path ++ name ∷ [])) l in
-      ap (λ made. made ∷ new_directories made owner mode names) one
+      ap (λ t. new_at a.acl a.group owner (mode_of_new mode names) (file_of_new file names) (t ++ name ∷ [])) p
+      ∙ ap (λ t. new_at a.acl t owner (mode_of_new mode names) (file_of_new file names) (b.path ++ name ∷ [])) g
+      ∙ ap (λ t. new_at t b.group owner (mode_of_new mode names) (file_of_new file names) (b.path ++ name ∷ [])) l in
+      ap (λ made. made ∷ new_rows made owner mode file names) one

@@ -2,10 +2,15 @@
 -- (HDFS Architecture, "The File System Namespace".)
 use Rattle.std.specs.Prelude.{ℕ, Bool, true, ◌||◌, not, List, [], ◌∷◌, ◌++◌, map, filter, length, drop, if◌then◌else◌, Option, Some, None}
 use Rattle.std.specs.List.{list_all}
+use Rattle.std.specs.Option.{option_map}
 use Rattle.hdfs_types.specs.Path.{is_path, is_prefix}
 use Rattle.hdfs_types.specs.PathOrder.{same_path}
-use Rattle.acl_entries.specs.AccessControlList.{AccessControlList, suits_file}
+use Rattle.acl_entries.specs.AccessControlList.{suits_file}
 use Rattle.flat_rows.specs.declared.row.Row.{Row}
+use Rattle.flat_rows.specs.declared.row.Change.{Change}
+use Rattle.flat_rows.specs.declared.row.Change.TheVariants as change
+use Rattle.flat_rows.specs.declared.file_row.FileRow.{FileRow}
+use Rattle.flat_rows.specs.Files.{with_state, with_replication}
 use Rattle.flat_rows.specs.Rows.{is_directory, replaced}
 use Rattle.flat_rows.specs.Namespace.{is_child}
 
@@ -32,24 +37,36 @@ without path rows = filter (λ row. not (is_prefix path row.path)) rows
 
 -- a row at or beneath `from`, with `to` in the place of that front of its path
 abbrev pub moved_row : List (List ℕ) → List (List ℕ) → Row → Row
-moved_row from to row = record { path = to ++ drop (length from) row.path; kind = row.kind; owner = row.owner; group = row.group; acl = row.acl }
+moved_row from to row = record { path = to ++ drop (length from) row.path; kind = row.kind; owner = row.owner; group = row.group; acl = row.acl; file = row.file }
 
 -- the rows in which those at and beneath `from` stand at and beneath `to`
 abbrev pub moved : List (List ℕ) → List (List ℕ) → List Row → List Row
 moved from to rows = replaced to (map (moved_row from to) (rows_under from rows)) (without from rows)
 
--- a row given anew to an owner and a group, with another access list
-abbrev pub given : List ℕ → List ℕ → AccessControlList → Row → Row
-given owner group acl row = record { path = row.path; kind = row.kind; owner = owner; group = group; acl = acl }
+abbrev pub with_file : Option FileRow → Row → Row
+with_file file row = record { path = row.path; kind = row.kind; owner = row.owner; group = row.group; acl = row.acl; file = file }
 
--- the rows with the one at a path given anew
-abbrev pub rewritten : List (List ℕ) → List ℕ → List ℕ → AccessControlList → List Row → List Row
-rewritten path owner group acl rows = map (λ row. if same_path path row.path then given owner group acl row else row) rows
+-- a row with one of its parts changed; a directory has neither state nor replication
+abbrev pub changed : Change → Row → Row
+changed (change.Owner owner group) row = record { path = row.path; kind = row.kind; owner = owner; group = group; acl = row.acl; file = row.file }
+changed (change.List acl) row = record { path = row.path; kind = row.kind; owner = row.owner; group = row.group; acl = acl; file = row.file }
+changed (change.State state) row = with_file (option_map (with_state state) row.file) row
+changed (change.Replication replication) row = with_file (option_map (with_replication replication) row.file) row
 
--- the list suits what stands there
-abbrev pub suits_list : AccessControlList → Option Row → Bool
-suits_list acl None = true
-suits_list acl (Some row) = is_directory row || suits_file acl
+-- the rows with the one at a path changed
+abbrev pub rewritten : List (List ℕ) → Change → List Row → List Row
+rewritten path change rows = map (λ row. if same_path path row.path then changed change row else row) rows
+
+-- the change suits what stands there
+abbrev pub suits_row : Change → Row → Bool
+suits_row (change.Owner owner group) row = true
+suits_row (change.List acl) row = is_directory row || suits_file acl
+suits_row (change.State state) row = true
+suits_row (change.Replication replication) row = true
+
+abbrev pub suits_change : Change → Option Row → Bool
+suits_change change None = true
+suits_change change (Some row) = suits_row change row
 
 -- each path is within the limits
 abbrev pub are_paths : List Row → Bool

@@ -12,10 +12,10 @@ use Rattle.flat_rows.specs.declared.need.By.TheVariants as by
 use Rattle.flat_rows.specs.declared.demand.Role.{Role}
 use Rattle.flat_rows.specs.declared.demand.Role.TheVariants.{Traversed, Ancestor, Parent, Final, SubTree}
 use Rattle.flat_rows.specs.declared.demand.Condition.{Condition}
-use Rattle.flat_rows.specs.declared.demand.Condition.TheVariants.{Always, WhereMissing, WhereDirectory, WhereSticky, WhereOwnedByAnother}
+use Rattle.flat_rows.specs.declared.demand.Condition.TheVariants.{Always, WhereMissing, WhereDirectory, WhereFile, WhereSticky, WhereOwnedByAnother}
 use Rattle.flat_rows.specs.declared.trail.Judged.{Judged}
 use Rattle.flat_rows.specs.First.{first_answer}
-use Rattle.flat_rows.specs.Rows.{is_missing, has_directory, has_sticky_parent, has_other_owner, row_at, directories_above, directories_beneath, ancestor, directory_of, owner_above}
+use Rattle.flat_rows.specs.Rows.{is_missing, has_directory, has_file, has_sticky_parent, has_other_owner, row_at, directories_above, directories_beneath, ancestor, directory_of, owner_above}
 use Rattle.flat_rows.specs.RequiredRights.{Demand, required_rights}
 use Rattle.flat_rows.specs.Denied.{Decided, Denied, deciding, denial_at}
 
@@ -31,6 +31,7 @@ abbrev pub holds : Condition → List (List ℕ) → List Row → Bool
 holds Always path rows = true
 holds WhereMissing path rows = is_missing path rows
 holds WhereDirectory path rows = has_directory path rows
+holds WhereFile path rows = has_file path rows
 holds WhereSticky path rows = has_sticky_parent path rows
 holds (WhereOwnedByAnother user) path rows = has_other_owner user path rows
 

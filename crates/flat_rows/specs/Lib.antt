@@ -1,4 +1,5 @@
 pub mod First
+pub mod Files
 pub mod Rows
 pub mod Namespace
 pub mod Opening
@@ -9,5 +10,6 @@ pub mod DenialText
 pub mod Decision
 pub mod Laws
 pub mod Kept
-pub mod Outcome
 pub mod Changes
+pub mod FileOutcome
+pub mod Outcome

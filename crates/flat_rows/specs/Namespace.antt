@@ -1,12 +1,13 @@
--- A namespace is a list of rows in strictly ascending path order: the root first, a directory, and the parent of each other row a directory row. A file has no sticky bit.
+-- A namespace is a list of rows in strictly ascending path order: the root first, a directory, and the parent of each other row a directory row. A file has no sticky bit and no default list.
 -- (HDFS Architecture, "The File System Namespace".)
-use Rattle.std.specs.Prelude.{ℕ, Bool, true, false, ◌&&◌, ◌||◌, List, [], ◌∷◌, IsTrue}
+use Rattle.std.specs.Prelude.{ℕ, Bool, true, false, ◌&&◌, ◌||◌, List, [], ◌∷◌, IsTrue, Option, Some, None}
 use Rattle.std.specs.List.{list_all, list_any}
 use Rattle.std.specs.Ordering.{is_lt}
 use Rattle.hdfs_types.specs.Path.{is_prefix}
 use Rattle.hdfs_types.specs.Text.{same}
 use Rattle.hdfs_types.specs.PathOrder.{path_cmp, same_path}
-use Rattle.acl_entries.specs.AccessControlList.{suits_file}
+use Rattle.acl_entries.specs.AccessControlList.{AccessControlList, suits_file}
+use Rattle.flat_rows.specs.declared.file_row.FileRow.{FileRow}
 use Rattle.flat_rows.specs.declared.row.Row.{Row}
 use Rattle.flat_rows.specs.Rows.{is_directory}
 
@@ -41,9 +42,15 @@ is_rooted (row ∷ rows) = is_root row.path && is_directory row
 abbrev pub have_parents : List Row → List Row → Bool
 have_parents rows all = list_all (λ row. is_root row.path || has_parent row.path all) rows
 
--- neither a sticky bit nor a default list stands in that of a file
+-- a directory has nothing that files alone have; neither a sticky bit nor a default list stands in the list of a file
+abbrev pub suits_parts : Bool → AccessControlList → Option FileRow → Bool
+suits_parts true acl None = true
+suits_parts true acl (Some file) = false
+suits_parts false acl None = false
+suits_parts false acl (Some file) = suits_file acl
+
 abbrev pub suits_kind : Row → Bool
-suits_kind row = is_directory row || suits_file row.acl
+suits_kind row = suits_parts (is_directory row) row.acl row.file
 
 abbrev pub is_namespace : List Row → Bool
 is_namespace rows = is_rooted rows && is_ascending rows && have_parents rows rows && list_all suits_kind rows

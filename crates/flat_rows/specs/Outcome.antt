@@ -1,6 +1,7 @@
--- What an operation that no need forbids answers, and the rows and users that it leaves: the first refusal of its list that applies, else done.
+-- What an operation that no need forbids answers, and the rows and users that it leaves: the first refusal of its list that
+-- applies, else done. What it asks of leases is handed in; which leases it renews is a question over a history of answers.
 -- (HDFS Architecture, "The File System Namespace"; HDFS Permissions Guide, "Overview".)
-use Rattle.std.specs.Prelude.{ℕ, Bool, true, false, ◌&&◌, ◌||◌, not, List, [], ◌∷◌, ◌++◌, map, filter, length, drop, if◌then◌else◌, Option, Some, None, unwrap_or, Result, Ok, Err}
+use Rattle.std.specs.Prelude.{ℕ, ◌+◌, Bool, true, false, ◌&&◌, ◌||◌, not, List, [], ◌∷◌, ◌++◌, map, filter, length, drop, if◌then◌else◌, Option, Some, None, unwrap_or, Result, Ok, Err}
 use Rattle.std.specs.Option.{option_map}
 use Rattle.std.specs.Result.{result_err}
 use Rattle.hdfs_types.specs.Mode.{for_missing_parent}
@@ -8,11 +9,13 @@ use Rattle.hdfs_types.specs.Path.{is_prefix}
 use Rattle.hdfs_types.specs.declared.op.Op.{Op}
 use Rattle.hdfs_types.specs.declared.op.Op.TheVariants as op
 use Rattle.hdfs_types.specs.declared.acl_change.AclChange.{AclChange}
-use Rattle.hdfs_types.specs.declared.reply.ObjectKind.TheVariants.{Directory}
+use Rattle.hdfs_types.specs.declared.reply.ObjectKind.{ObjectKind}
+use Rattle.hdfs_types.specs.declared.reply.ObjectKind.TheVariants.{Directory, File}
+use Rattle.hdfs_types.specs.declared.file.FileState.TheVariants.{Closed}
 use Rattle.hdfs_types.specs.declared.reply.Reply.{Reply}
 use Rattle.hdfs_types.specs.declared.reply.Reply.TheVariants as reply
 use Rattle.hdfs_types.specs.declared.reply.Refusal.{Refusal}
-use Rattle.hdfs_types.specs.declared.reply.Refusal.TheVariants.{BadPath, NotFound, NotDirectory, Exists, NotEmpty, IsRoot, UnderItself}
+use Rattle.hdfs_types.specs.declared.reply.Refusal.TheVariants.{BadPath, NotFound, NotDirectory, Exists, NotEmpty, IsRoot, UnderItself, NoLease, TooFewNodes}
 use Rattle.acl_entries.specs.AccessControlList.{AccessControlList, shown_mode, has_acl, entries}
 use Rattle.acl_entries.specs.SpecText.{spec_text}
 use Rattle.default_acl.specs.AclChange.{acl_change, with_mode}
@@ -24,7 +27,11 @@ use Rattle.flat_rows.specs.declared.verdict.Verdict.TheVariants.{Done, Denied, R
 use Rattle.flat_rows.specs.First.{first_answer}
 use Rattle.flat_rows.specs.Rows.{is_directory, is_none, row_at, file_above, directory_of, ancestor, with_sub_tree}
 use Rattle.flat_rows.specs.Namespace.{is_root}
+use Rattle.flat_rows.specs.declared.file_row.FileRow.{FileRow}
+use Rattle.flat_rows.specs.declared.row.Change.TheVariants as change
 use Rattle.flat_rows.specs.Changes.{rows_under, child_names, last_name, without, moved_row, moved, rewritten, are_paths}
+use Rattle.flat_rows.specs.Files.{new_file, has_open_file}
+use Rattle.flat_rows.specs.FileOutcome.{LeaseFacts, directory_there, file_there, of_file, refused_takeover, refused_write, refused_commit, detail_of_row, bytes_of, bytes_at, appended_reply, holder_at, state_after_append, is_expired, closed_where_expired}
 use Rattle.flat_rows.specs.Denied as denied
 use Rattle.flat_rows.specs.Decision.{decision}
 
@@ -74,34 +81,49 @@ first_some refusals = first_answer (λ refusal. refusal) refusals
 abbrev pub refusal_of_missing : List (List ℕ) → List Row → Option Refusal
 refusal_of_missing path rows = first_some (beneath_file path rows ∷ nothing_at (row_at path rows) ∷ [])
 
+-- the same, and no directory may have the path
+abbrev pub refusals_of_file : List (List ℕ) → List Row → List (Option Refusal)
+refusals_of_file path rows = beneath_file path rows ∷ nothing_at (row_at path rows) ∷ directory_there (row_at path rows) ∷ []
+
 -- the rows as they would stand beneath another path
 abbrev pub rows_moved : List (List ℕ) → List (List ℕ) → List Row → List Row
 rows_moved from to rows = map (moved_row from to) (rows_under from rows)
 
 -- the first refusal that applies
-abbrev pub first_refusal : Op → List Row → Principals → Option Refusal
-first_refusal (op.Mkdirs path mode) rows users = first_some (beneath_file path rows ∷ file_at (row_at path rows) ∷ [])
-first_refusal (op.Stat path) rows users = refusal_of_missing path rows
-first_refusal (op.List path) rows users = refusal_of_missing path rows
-first_refusal (op.Summary path) rows users = refusal_of_missing path rows
-first_refusal (op.Delete path recursive) rows users = first_some (
+abbrev pub first_refusal : LeaseFacts → List ℕ → Op → List Row → Principals → Option Refusal
+first_refusal leases caller (op.Mkdirs path mode) rows users = first_some (beneath_file path rows ∷ file_at (row_at path rows) ∷ [])
+first_refusal leases caller (op.Stat path) rows users = refusal_of_missing path rows
+first_refusal leases caller (op.List path) rows users = refusal_of_missing path rows
+first_refusal leases caller (op.Summary path) rows users = refusal_of_missing path rows
+first_refusal leases caller (op.Delete path recursive) rows users = first_some (
     refused_where (is_root path) IsRoot ∷ beneath_file path rows ∷ nothing_at (row_at path rows)
     ∷ refused_where (not recursive && not (is_alone (rows_under path rows))) NotEmpty ∷ [])
-first_refusal (op.Rename from to) rows users = first_some (
+first_refusal leases caller (op.Rename from to) rows users = first_some (
     refused_where (is_root from || is_root to) IsRoot ∷ beneath_file from rows ∷ nothing_at (row_at from rows) ∷ beneath_file to rows
     ∷ refused_where (is_prefix from to) UnderItself ∷ something_at (row_at to rows) ∷ refused_where (is_none (directory_of to rows)) NotFound
     ∷ refused_where (not (are_paths (rows_moved from to rows))) BadPath ∷ [])
-first_refusal (op.SetMode path mode) rows users = refusal_of_missing path rows
-first_refusal (op.SetOwner path owner group) rows users = refusal_of_missing path rows
-first_refusal (op.GetAcl path) rows users = refusal_of_missing path rows
-first_refusal (op.SetAcl path change) rows users = first_some (beneath_file path rows ∷ nothing_at (row_at path rows) ∷ refused_change change (row_at path rows) ∷ [])
-first_refusal (op.AddUser user groups) rows users = refusal_of_new users user
-first_refusal (op.SetGroups user groups) rows users = refusal_of_known users user
+first_refusal leases caller (op.SetMode path mode) rows users = refusal_of_missing path rows
+first_refusal leases caller (op.SetOwner path owner group) rows users = refusal_of_missing path rows
+first_refusal leases caller (op.GetAcl path) rows users = refusal_of_missing path rows
+first_refusal leases caller (op.SetAcl path change) rows users = first_some (beneath_file path rows ∷ nothing_at (row_at path rows) ∷ refused_change change (row_at path rows) ∷ [])
+first_refusal leases caller (op.AddUser user groups) rows users = refusal_of_new users user
+first_refusal leases caller (op.SetGroups user groups) rows users = refusal_of_known users user
+first_refusal leases caller (op.Create path mode replication over) rows users =
+    first_some (beneath_file path rows ∷ directory_there (row_at path rows) ∷ file_there over (row_at path rows) ∷ [])
+first_refusal leases caller (op.Append path) rows users = first_some (refusals_of_file path rows ++ of_file (refused_takeover leases caller) (row_at path rows) ∷ [])
+first_refusal leases caller (op.AddBlock path last) rows users = first_some (
+    refusals_of_file path rows ++ of_file (refused_write caller) (row_at path rows) ∷ of_file (refused_commit last) (row_at path rows) ∷ Some TooFewNodes ∷ [])
+first_refusal leases caller (op.Complete path last) rows users = first_some (
+    refusals_of_file path rows ++ of_file (refused_write caller) (row_at path rows) ∷ of_file (refused_commit last) (row_at path rows) ∷ [])
+first_refusal leases caller (op.Open path) rows users = first_some (refusals_of_file path rows)
+first_refusal leases caller (op.SetReplication path replication) rows users = first_some (refusals_of_file path rows)
+first_refusal leases caller op.Renew rows users = refused_where (not (has_open_file caller rows)) NoLease
+first_refusal leases caller op.Tick rows users = None
 
 -- what `stat` tells of a row; where there is none, NotFound came first
 abbrev pub status_of : Option Row → Reply
 status_of None = reply.Empty
-status_of (Some row) = reply.Status (record { kind = row.kind; mode = shown_mode row.acl; has_acl = has_acl row.acl; owner = row.owner; group = row.group })
+status_of (Some row) = reply.Status (record { kind = row.kind; mode = shown_mode row.acl; has_acl = has_acl row.acl; owner = row.owner; group = row.group; file = detail_of_row row.file })
 
 -- what `getfacl` tells of a row
 abbrev pub acl_status_of : Option Row → Reply
@@ -118,84 +140,114 @@ abbrev pub listed : List (List ℕ) → Option Row → List Row → List (List �
 listed path None rows = []
 listed path (Some row) rows = if is_directory row then child_names path rows else own_name path
 
--- how many directories and files there are; files hold no bytes yet
+abbrev pub bytes_in : List Row → ℕ
+bytes_in [] = 0
+bytes_in (row ∷ rows) = bytes_of row.file + bytes_in rows
+
+-- how many directories and files there are, and how many bytes the files hold
 abbrev pub summary_of : List Row → Reply
-summary_of rows = reply.Summary (record { directories = length (filter is_directory rows); files = length (filter (λ row. not (is_directory row)) rows); bytes = 0 })
+summary_of rows = reply.Summary (record { directories = length (filter is_directory rows); files = length (filter (λ row. not (is_directory row)) rows); bytes = bytes_in rows })
 
-abbrev pub reply_of : Op → List Row → Reply
-reply_of (op.Stat path) rows = status_of (row_at path rows)
-reply_of (op.List path) rows = reply.Names (listed path (row_at path rows) rows)
-reply_of (op.Summary path) rows = summary_of (rows_under path rows)
-reply_of (op.Delete path recursive) rows = reply.Deleted (length (rows_under path rows))
-reply_of (op.GetAcl path) rows = acl_status_of (row_at path rows)
-reply_of (op.Mkdirs path mode) rows = reply.Empty
-reply_of (op.Rename from to) rows = reply.Empty
-reply_of (op.SetMode path mode) rows = reply.Empty
-reply_of (op.SetOwner path owner group) rows = reply.Empty
-reply_of (op.SetAcl path change) rows = reply.Empty
-reply_of (op.AddUser user groups) rows = reply.Empty
-reply_of (op.SetGroups user groups) rows = reply.Empty
+abbrev pub reply_of : LeaseFacts → Op → List Row → Reply
+reply_of leases (op.Stat path) rows = status_of (row_at path rows)
+reply_of leases (op.List path) rows = reply.Names (listed path (row_at path rows) rows)
+reply_of leases (op.Summary path) rows = summary_of (rows_under path rows)
+reply_of leases (op.Delete path recursive) rows = reply.Deleted (length (rows_under path rows))
+reply_of leases (op.GetAcl path) rows = acl_status_of (row_at path rows)
+reply_of leases (op.Mkdirs path mode) rows = reply.Empty
+reply_of leases (op.Rename from to) rows = reply.Empty
+reply_of leases (op.SetMode path mode) rows = reply.Empty
+reply_of leases (op.SetOwner path owner group) rows = reply.Empty
+reply_of leases (op.SetAcl path change) rows = reply.Empty
+reply_of leases (op.AddUser user groups) rows = reply.Empty
+reply_of leases (op.SetGroups user groups) rows = reply.Empty
+reply_of leases (op.Create path mode replication over) rows = reply.Empty
+reply_of leases (op.Append path) rows = appended_reply (holder_at (row_at path rows))
+reply_of leases (op.AddBlock path last) rows = reply.Empty  -- always refused, as yet
+reply_of leases (op.Complete path last) rows = reply.Closed (bytes_at (row_at path rows))
+reply_of leases (op.Open path) rows = reply.Opened (bytes_at (row_at path rows))
+reply_of leases (op.SetReplication path replication) rows = reply.Empty
+reply_of leases op.Renew rows = reply.Empty
+reply_of leases op.Tick rows = reply.Expired (record { closed = length (filter (is_expired leases) rows); recovering = 0 })
 
--- the mode of a new directory beneath which these names are still to be made: the last has the one that was asked for
+-- What is made beneath the names that are still to be made: the last, behind which there is none, has the mode that was asked for,
+-- and is a file where one was.
 abbrev pub mode_of_new : ℕ → List (List ℕ) → ℕ
 mode_of_new mode [] = mode
 mode_of_new mode (name ∷ names) = for_missing_parent mode
 
--- a new directory in one with this access control list inherits from it
-abbrev pub directory_at : AccessControlList → List ℕ → List ℕ → ℕ → List (List ℕ) → Row
-directory_at above group owner mode path = record { path = path; kind = Directory; owner = owner; group = group; acl = inherited above mode Directory }
+abbrev pub file_of_new : Option FileRow → List (List ℕ) → Option FileRow
+file_of_new file [] = file
+file_of_new file (name ∷ names) = None
+
+abbrev pub kind_of_new : Option FileRow → ObjectKind
+kind_of_new None = Directory
+kind_of_new (Some file) = File
+
+-- what is made in a directory with this access control list inherits from it
+abbrev pub new_at : AccessControlList → List ℕ → List ℕ → ℕ → Option FileRow → List (List ℕ) → Row
+new_at above group owner mode file path =
+    record { path = path; kind = kind_of_new file; owner = owner; group = group; acl = inherited above mode (kind_of_new file); file = file }
 
 -- a new row has its parent's group
-abbrev pub new_directory : Row → List ℕ → ℕ → List ℕ → Row
-new_directory above owner mode name = directory_at above.acl above.group owner mode (above.path ++ name ∷ [])
+abbrev pub new_row : Row → List ℕ → ℕ → Option FileRow → List ℕ → Row
+new_row above owner mode file name = new_at above.acl above.group owner mode file (above.path ++ name ∷ [])
 
--- directories of these names, each beneath the one before
-abbrev pub new_directories : Row → List ℕ → ℕ → List (List ℕ) → List Row
-new_directories above owner mode [] = []
-new_directories above owner mode (name ∷ names) =
-    let made = new_directory above owner (mode_of_new mode names) name in made ∷ new_directories made owner mode names
+-- rows of these names, each beneath the one before
+abbrev pub new_rows : Row → List ℕ → ℕ → Option FileRow → List (List ℕ) → List Row
+new_rows above owner mode file [] = []
+new_rows above owner mode file (name ∷ names) =
+    let made = new_row above owner (mode_of_new mode names) (file_of_new file names) name in made ∷ new_rows made owner mode file names
 
--- the rows with the missing directories of a path: those of its names behind the last component that exists. Nothing stands
--- at or beneath the first of them, so no row goes; and the root is above every missing path.
-abbrev pub with_directories : List (List ℕ) → ℕ → List ℕ → Option Row → List Row → List Row
-with_directories path mode owner None rows = rows
-with_directories path mode owner (Some above) rows = with_sub_tree rows (new_directories above owner mode (drop (length above.path) path))
+-- the rows with what is made at a path, a directory or a file, and with the missing directories above it: those of its names
+-- behind the last component that exists above it. Where a file had the path, it goes; the root is above every other path.
+abbrev pub with_new : List (List ℕ) → ℕ → Option FileRow → List ℕ → Option Row → List Row → List Row
+with_new path mode file owner None rows = rows
+with_new path mode file owner (Some above) rows = with_sub_tree rows (new_rows above owner mode file (drop (length above.path) path))
 
 abbrev pub made_at : List (List ℕ) → ℕ → List ℕ → Option Row → List Row → List Row
-made_at path mode owner None rows = with_directories path mode owner (ancestor path rows) rows
+made_at path mode owner None rows = with_new path mode None owner (ancestor path rows) rows
 made_at path mode owner (Some row) rows = rows
 
 -- the rows with what stands at a path given another mode, or another owner and group
 abbrev pub with_mode_at : List (List ℕ) → ℕ → Option Row → List Row → List Row
 with_mode_at path mode None rows = rows
-with_mode_at path mode (Some row) rows = rewritten path row.owner row.group (with_mode mode row.kind row.acl) rows
+with_mode_at path mode (Some row) rows = rewritten path (change.List (with_mode mode row.kind row.acl)) rows
 
 abbrev pub with_owner_at : List (List ℕ) → Option (List ℕ) → Option (List ℕ) → Option Row → List Row → List Row
 with_owner_at path owner group None rows = rows
-with_owner_at path owner group (Some row) rows = rewritten path (unwrap_or owner row.owner) (unwrap_or group row.group) row.acl rows
+with_owner_at path owner group (Some row) rows = rewritten path (change.Owner (unwrap_or owner row.owner) (unwrap_or group row.group)) rows
 
 -- the rows with the access control list of what stands at a path changed
-abbrev pub with_list_at : List (List ℕ) → Row → Result AccessControlList Refusal → List Row → List Row
-with_list_at path row (Ok acl) rows = rewritten path row.owner row.group acl rows
-with_list_at path row (Err refusal) rows = rows
+abbrev pub with_list_at : List (List ℕ) → Result AccessControlList Refusal → List Row → List Row
+with_list_at path (Ok acl) rows = rewritten path (change.List acl) rows
+with_list_at path (Err refusal) rows = rows
 
 abbrev pub with_acl_at : List (List ℕ) → AclChange → Option Row → List Row → List Row
-with_acl_at path change None rows = rows
-with_acl_at path change (Some row) rows = with_list_at path row (acl_change change row.kind row.acl) rows
+with_acl_at path form None rows = rows
+with_acl_at path form (Some row) rows = with_list_at path (acl_change form row.kind row.acl) rows
 
-abbrev pub rows_after : Op → List ℕ → List Row → List Row
-rows_after (op.Mkdirs path mode) caller rows = made_at path mode caller (row_at path rows) rows
-rows_after (op.Delete path recursive) caller rows = without path rows
-rows_after (op.Rename from to) caller rows = moved from to rows
-rows_after (op.SetMode path mode) caller rows = with_mode_at path mode (row_at path rows) rows
-rows_after (op.SetOwner path owner group) caller rows = with_owner_at path owner group (row_at path rows) rows
-rows_after (op.SetAcl path change) caller rows = with_acl_at path change (row_at path rows) rows
-rows_after (op.GetAcl path) caller rows = rows
-rows_after (op.Stat path) caller rows = rows
-rows_after (op.List path) caller rows = rows
-rows_after (op.Summary path) caller rows = rows
-rows_after (op.AddUser user groups) caller rows = rows
-rows_after (op.SetGroups user groups) caller rows = rows
+abbrev pub rows_after : LeaseFacts → Op → List ℕ → List Row → List Row
+rows_after leases (op.Mkdirs path mode) caller rows = made_at path mode caller (row_at path rows) rows
+rows_after leases (op.Delete path recursive) caller rows = without path rows
+rows_after leases (op.Rename from to) caller rows = moved from to rows
+rows_after leases (op.SetMode path mode) caller rows = with_mode_at path mode (row_at path rows) rows
+rows_after leases (op.SetOwner path owner group) caller rows = with_owner_at path owner group (row_at path rows) rows
+rows_after leases (op.SetAcl path change) caller rows = with_acl_at path change (row_at path rows) rows
+rows_after leases (op.GetAcl path) caller rows = rows
+rows_after leases (op.Stat path) caller rows = rows
+rows_after leases (op.List path) caller rows = rows
+rows_after leases (op.Summary path) caller rows = rows
+rows_after leases (op.AddUser user groups) caller rows = rows
+rows_after leases (op.SetGroups user groups) caller rows = rows
+rows_after leases (op.Create path mode replication over) caller rows = with_new path mode (Some (new_file replication caller)) caller (ancestor path rows) rows
+rows_after leases (op.Append path) caller rows = rewritten path (change.State (state_after_append caller (holder_at (row_at path rows)))) rows
+rows_after leases (op.AddBlock path last) caller rows = rows
+rows_after leases (op.Complete path last) caller rows = rewritten path (change.State Closed) rows
+rows_after leases (op.Open path) caller rows = rows
+rows_after leases (op.SetReplication path replication) caller rows = rewritten path (change.Replication replication) rows
+rows_after leases op.Renew caller rows = rows
+rows_after leases op.Tick caller rows = map (closed_where_expired leases) rows
 
 abbrev pub users_after : Op → Principals → Principals
 users_after (op.AddUser user groups) users = with_user users user groups
@@ -210,19 +262,27 @@ users_after (op.GetAcl path) users = users
 users_after (op.Stat path) users = users
 users_after (op.List path) users = users
 users_after (op.Summary path) users = users
+users_after (op.Create path mode replication over) users = users
+users_after (op.Append path) users = users
+users_after (op.AddBlock path last) users = users
+users_after (op.Complete path last) users = users
+users_after (op.Open path) users = users
+users_after (op.SetReplication path replication) users = users
+users_after op.Renew users = users
+users_after op.Tick users = users
 
-abbrev pub refused_or_done : List Row → Principals → List ℕ → Op → Option Refusal → Step
-refused_or_done rows users caller op None = record { verdict = Done (reply_of op rows); rows = rows_after op caller rows; users = users_after op users }
-refused_or_done rows users caller op (Some refusal) = record { verdict = Refused refusal; rows = rows; users = users }
+abbrev pub refused_or_done : LeaseFacts → List Row → Principals → List ℕ → Op → Option Refusal → Step
+refused_or_done leases rows users caller op None = record { verdict = Done (reply_of leases op rows); rows = rows_after leases op caller rows; users = users_after op users }
+refused_or_done leases rows users caller op (Some refusal) = record { verdict = Refused refusal; rows = rows; users = users }
 
 -- a refusal leaves rows and users as they are
-abbrev pub outcome : List Row → Principals → List ℕ → Op → Step
-outcome rows users caller op = refused_or_done rows users caller op (first_refusal op rows users)
+abbrev pub outcome : LeaseFacts → List Row → Principals → List ℕ → Op → Step
+outcome leases rows users caller op = refused_or_done leases rows users caller op (first_refusal leases caller op rows users)
 
-abbrev pub denied_or_outcome : List Row → Principals → List ℕ → Op → Option denied.Denied → Step
-denied_or_outcome rows users caller op None = outcome rows users caller op
-denied_or_outcome rows users caller op (Some denial) = record { verdict = Denied denial; rows = rows; users = users }
+abbrev pub denied_or_outcome : LeaseFacts → List Row → Principals → List ℕ → Op → Option denied.Denied → Step
+denied_or_outcome leases rows users caller op None = outcome leases rows users caller op
+denied_or_outcome leases rows users caller op (Some denial) = record { verdict = Denied denial; rows = rows; users = users }
 
 -- the decision first, and then the outcome
-abbrev pub step : List Row → Principals → List ℕ → Op → Step
-step rows users caller op = denied_or_outcome rows users caller op (decision rows users caller op)
+abbrev pub step : LeaseFacts → List Row → Principals → List ℕ → Op → Step
+step leases rows users caller op = denied_or_outcome leases rows users caller op (decision rows users caller op)

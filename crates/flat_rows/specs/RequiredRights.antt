@@ -1,6 +1,6 @@
 -- The needs of each operation, in the order in which they are judged.
 -- (HDFS Permissions Guide, "Permission Checks".)
-use Rattle.std.specs.Prelude.{ℕ, List, [], ◌∷◌, ◌++◌, Option, Some, None}
+use Rattle.std.specs.Prelude.{ℕ, Bool, true, false, List, [], ◌∷◌, ◌++◌, Option, Some, None}
 use Rattle.hdfs_types.specs.Rights.{rights}
 use Rattle.hdfs_types.specs.declared.rights.Rights as bits
 use Rattle.hdfs_types.specs.declared.op.Op.{Op}
@@ -10,7 +10,7 @@ use Rattle.flat_rows.specs.declared.need.Need.TheVariants.{Rights, Sticky, Owner
 use Rattle.flat_rows.specs.declared.demand.Role.{Role}
 use Rattle.flat_rows.specs.declared.demand.Role.TheVariants.{Traversed, Ancestor, Parent, Final, SubTree}
 use Rattle.flat_rows.specs.declared.demand.Condition.{Condition}
-use Rattle.flat_rows.specs.declared.demand.Condition.TheVariants.{Always, WhereMissing, WhereDirectory, WhereSticky, WhereOwnedByAnother}
+use Rattle.flat_rows.specs.declared.demand.Condition.TheVariants.{Always, WhereMissing, WhereDirectory, WhereFile, WhereSticky, WhereOwnedByAnother}
 use Rattle.flat_rows.specs.declared.demand.Enforcement.{Enforcement}
 use Rattle.flat_rows.specs.declared.demand.Enforcement.TheVariants as enforced
 
@@ -53,6 +53,18 @@ write_above path = rights_demand Ancestor path Always (rights 2)
 -- to write in the directory that holds the path
 abbrev pub removal : List (List ℕ) → Demand
 removal path = rights_demand Parent path Always (rights 2)
+
+-- rights on what has the path
+abbrev pub access : bits.Rights → List (List ℕ) → Demand
+access asked path = rights_demand Final path Always asked
+
+-- to write the file that is to be replaced
+abbrev pub overwriting : List (List ℕ) → Demand
+overwriting path = rights_demand Final path WhereFile (rights 2)
+
+abbrev pub over_demands : List (List ℕ) → Bool → List Demand
+over_demands path true = overwriting path ∷ []
+over_demands path false = []
 
 -- to read and to traverse the directory itself
 abbrev pub listing : List (List ℕ) → Demand
@@ -101,3 +113,11 @@ required_rights (op.GetAcl path) = traversal path ∷ []
 required_rights (op.SetAcl path change) = strict_traversal path ∷ ownership path ∷ []
 required_rights (op.AddUser user groups) = administration ∷ []
 required_rights (op.SetGroups user groups) = administration ∷ []
+required_rights (op.Create path mode replication over) = traversal path ∷ write_above path ∷ over_demands path over
+required_rights (op.Append path) = traversal path ∷ access (rights 2) path ∷ []
+required_rights (op.AddBlock path last) = traversal path ∷ []
+required_rights (op.Complete path last) = traversal path ∷ []
+required_rights (op.Open path) = traversal path ∷ access (rights 4) path ∷ []
+required_rights (op.SetReplication path replication) = traversal path ∷ access (rights 2) path ∷ []
+required_rights op.Renew = []
+required_rights op.Tick = administration ∷ []

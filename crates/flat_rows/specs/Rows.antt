@@ -67,6 +67,10 @@ is_some_where test (Some row) = test row
 abbrev pub has_directory : List (List ℕ) → List Row → Bool
 has_directory path rows = is_some_where is_directory (row_at path rows)
 
+-- a file has that path
+abbrev pub has_file : List (List ℕ) → List Row → Bool
+has_file path rows = is_some_where (λ row. not (is_directory row)) (row_at path rows)
+
 -- the directory that holds the path has the sticky bit
 abbrev pub has_sticky_parent : List (List ℕ) → List Row → Bool
 has_sticky_parent path rows = is_some_where (λ row. row.acl.sticky) (directory_of path rows)

@@ -125,6 +125,10 @@ fn holds(condition: &Condition, path: &[Name], rows: &[Row]) -> bool
             Some(row) => row.is_directory(),
             None => false,
         },
+        Condition::WhereFile => match row_at(rows, path) {
+            Some(row) => !row.is_directory(),
+            None => false,
+        },
         Condition::WhereSticky => match directory_of(rows, path) {
             Some(row) => row.acl.is_sticky(),
             None => false,

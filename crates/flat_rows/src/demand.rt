@@ -34,6 +34,8 @@ pub enum Condition {
     WhereMissing,
     /// Where a directory has the path.
     WhereDirectory,
+    /// Where a file has the path.
+    WhereFile,
     /// Where the directory that holds the path has the sticky bit.
     WhereSticky,
     /// Where another than this user owns what has the path.
@@ -151,6 +153,20 @@ impl<'a> Demand<'a> {
         ensures { result ≡ spec.removal path.now }
     {
         Demand::rights(Role::Parent, path, Condition::Always, Rights::WRITE)
+    }
+
+    /// Rights on what has the path.
+    pub fn access(rights: Rights, path: &'a Path) -> Demand<'a>
+        ensures { result ≡ spec.access rights path.now }
+    {
+        Demand::rights(Role::Final, path, Condition::Always, rights)
+    }
+
+    /// To write the file that is to be replaced.
+    pub fn overwriting(path: &'a Path) -> Demand<'a>
+        ensures { result ≡ spec.overwriting path.now }
+    {
+        Demand::rights(Role::Final, path, Condition::WhereFile, Rights::WRITE)
     }
 
     /// To read and to traverse the directory itself.
@@ -292,6 +308,21 @@ fn needs_of_owner<'a>(
     Ok(demands)
 }
 
+/// What making a file needs, and also replacing one where that is asked.
+fn needs_of_file<'a>(
+    alloc: Global,
+    path: &'a Path,
+    over: bool,
+) -> Result<Vec<Demand<'a>>, AllocError>
+    ensures { IfOk result (λ demands. demands.items ≡ spec.traversal path.now ∷ spec.write_above path.now ∷ spec.over_demands path.now over) }
+{
+    let mut demands = vec![in alloc; Demand::traversal(path), Demand::write_above(path)]?;
+    if over {
+        demands.push(Demand::overwriting(path))?;
+    }
+    Ok(demands)
+}
+
 /// The needs of an operation, with its paths borrowed: the one table of required rights.
 pub fn needs_of<'a>(alloc: Global, op: &'a Op) -> Result<Needs<'a>, AllocError>
     ensures { IfOk result (λ needs. needs ≡ spec.required_rights op.now) }
@@ -332,7 +363,20 @@ pub fn needs_of<'a>(alloc: Global, op: &'a Op) -> Result<Needs<'a>, AllocError>
             Demand::ownership(path),
         ]?,
         Op::SetOwner(path, owner, group) => needs_of_owner(alloc, path, owner, group)?,
-        Op::AddUser(_, _) | Op::SetGroups(_, _) => vec![in alloc; Demand::administration()]?,
+        Op::Create(path, _, _, over) => needs_of_file(alloc, path, *over)?,
+        Op::Append(path) | Op::SetReplication(path, _) => vec![in alloc;
+            Demand::traversal(path),
+            Demand::access(Rights::WRITE, path),
+        ]?,
+        Op::Open(path) => vec![in alloc;
+            Demand::traversal(path),
+            Demand::access(Rights::READ, path),
+        ]?,
+        Op::AddBlock(path, _) | Op::Complete(path, _) => vec![in alloc; Demand::traversal(path)]?,
+        Op::Renew => Vec::new(alloc),
+        Op::AddUser(_, _) | Op::SetGroups(_, _) | Op::Tick => {
+            vec![in alloc; Demand::administration()]?
+        }
     };
     Ok(Needs { demands })
 }

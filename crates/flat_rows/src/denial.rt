@@ -154,6 +154,20 @@ pub fn granted(denial: &Denial) -> bool
     )
 }
 
+impl Clone for Denial {
+    ghost is_clone = { λ denial copy. copy ≡ denial };
+
+    fn clone(&self) -> Result<Denial, AllocError> {
+        Ok(Denial {
+            need: self.need.clone()?,
+            by: self.by.clone()?,
+            row: self.row.clone()?,
+            caller: self.caller.clone()?,
+            groups: self.groups.clone()?,
+        })
+    }
+}
+
 /// Prints path, need and what decided, as `/a/b --x by other::---`.
 impl fmt::Display for Denial {
     ghost use Rattle.flat_rows.specs.DenialText.{denial_text};

@@ -6,6 +6,7 @@ pub mod ask;
 pub mod decision;
 pub mod demand;
 pub mod denial;
+pub mod file_row;
 pub mod need;
 pub mod row;
 pub mod rows;

@@ -66,6 +66,20 @@ pub enum By {
     Superuser,
 }
 
+impl Clone for By {
+    ghost is_clone = { λ by copy. copy ≡ by };
+
+    fn clone(&self) -> Result<By, AllocError> {
+        match self {
+            By::Entry(entry, mask) => Ok(By::Entry(entry.clone()?, *mask)),
+            By::Owner(owner) => Ok(By::Owner(owner.clone()?)),
+            By::Owners(owner, above) => Ok(By::Owners(owner.clone()?, above.clone()?)),
+            By::Group(group) => Ok(By::Group(group.clone()?)),
+            By::Superuser => Ok(By::Superuser),
+        }
+    }
+}
+
 /// Prints the entry, and behind it the mask where one filters it; owners and groups by what they are.
 impl fmt::Display for By {
     ghost use Rattle.flat_rows.specs.NeedText.{by_text};

@@ -1,11 +1,14 @@
-ghost use Rattle.std.specs.Prelude.{◌≡◌};
+ghost use Rattle.std.specs.Prelude.{◌≡◌, IfOk};
 ghost use Rattle.flat_rows.specs.Rows as spec;
 ghost use Rattle.flat_rows.specs.Denied.{judgement};
 
+use crate::file_row::FileRow;
 use acl_entries::access_check::chosen;
 use acl_entries::acl::Acl;
 use acl_entries::deciding_entry::Chosen;
+use hdfs_types::file::FileState;
 use hdfs_types::path::Path;
+use hdfs_types::replication::Repl;
 use hdfs_types::reply::ObjectKind;
 use hdfs_types::rights::Rights;
 use hdfs_types::who::Who;
@@ -19,6 +22,8 @@ pub struct Row {
     pub owner: Who,
     pub group: Who,
     pub acl: Acl,
+    /// What a file has beside what a directory has; `None` for a directory.
+    pub file: Option<FileRow>,
 }
 
 impl Row {
@@ -36,6 +41,16 @@ impl Row {
     }
 }
 
+/// A copy of what a file has; a directory has none.
+fn copied(file: &Option<FileRow>) -> Result<Option<FileRow>, AllocError>
+    ensures { IfOk result (λ copy. copy ≡ file.now) }
+{
+    match file {
+        Some(file) => Ok(Some(file.clone()?)),
+        None => Ok(None),
+    }
+}
+
 impl Clone for Row {
     ghost is_clone = { λ row copy. copy ≡ row };
 
@@ -46,6 +61,20 @@ impl Clone for Row {
             owner: self.owner.clone()?,
             group: self.group.clone()?,
             acl: self.acl.clone()?,
+            file: copied(&self.file)?,
         })
     }
+}
+
+/// What is given to a file or a directory, in the place of what it has.
+#[derive(Debug, Drop)]
+pub enum Change {
+    /// This owner and this group.
+    Owner(Who, Who),
+    /// This access control list.
+    List(Acl),
+    /// Where it is a file, this state.
+    State(FileState),
+    /// Where it is a file, this replication.
+    Replication(Repl),
 }

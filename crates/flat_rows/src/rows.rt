@@ -44,6 +44,7 @@ impl Rows {
             owner: superuser.clone()?,
             group: supergroup.clone()?,
             acl: Acl::from_mode(Mode::root(), ObjectKind::Directory),
+            file: None,
         };
         Ok(Rows {
             list: vec![in alloc; root]?,

@@ -1,5 +1,8 @@
+ghost use Rattle.std.specs.Prelude.{◌≡◌};
+
 use crate::denial::Denial;
 use hdfs_types::reply::{Refusal, Reply};
+use std::alloc::AllocError;
 
 /// The answer of the NameNode to a request.
 #[derive(Debug, Drop)]
@@ -7,4 +10,16 @@ pub enum Verdict {
     Done(Reply),
     Denied(Denial),
     Refused(Refusal),
+}
+
+impl Clone for Verdict {
+    ghost is_clone = { λ verdict copy. copy ≡ verdict };
+
+    fn clone(&self) -> Result<Verdict, AllocError> {
+        match self {
+            Verdict::Done(reply) => Ok(Verdict::Done(reply.clone()?)),
+            Verdict::Denied(denial) => Ok(Verdict::Denied(denial.clone()?)),
+            Verdict::Refused(refusal) => Ok(Verdict::Refused(refusal.clone()?)),
+        }
+    }
 }

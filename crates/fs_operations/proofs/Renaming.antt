@@ -8,21 +8,19 @@ use Rattle.hdfs_types.specs.PathOrder.{same_path}
 use Rattle.hdfs_types.proofs.Texts.{same_self}
 use Rattle.hdfs_types.specs.declared.op.Op.TheVariants.{Rename}
 use Rattle.hdfs_types.specs.declared.reply.Refusal.{Refusal}
-use Rattle.acl_entries.specs.AccessControlList.{AccessControlList}
 use Rattle.principals.specs.Principals.{Principals}
 use Rattle.flat_rows.specs.declared.row.Row.{Row}
 use Rattle.flat_rows.specs.First.{first}
 use Rattle.flat_rows.specs.Rows.{is_directory, is_none, is_missing, row_at, if_directory, directory_of}
-use Rattle.flat_rows.specs.Namespace.{is_child, has_parent, suits_kind}
-use Rattle.flat_rows.specs.Changes.{are_paths, suits_list}
+use Rattle.flat_rows.specs.Namespace.{is_child, has_parent}
+use Rattle.flat_rows.specs.Changes.{are_paths}
+use Rattle.flat_rows.specs.FileOutcome.{LeaseFacts}
 use Rattle.flat_rows.specs.Outcome.{refused_where, nothing_at, something_at, beneath_file, first_refusal, rows_moved}
 use Rattle.flat_rows.proofs.Tests.{both, or_right}
 use Rattle.flat_rows.proofs.PathOrders.{same_path_is}
-use Rattle.flat_rows.proofs.Namespaces.{namespace_tests}
-use Rattle.inode_tree.specs.Tree.{IsTree}
 
 -- none of two is none of either
-neither : {X : Type 0} (a b : Option X) → option_or a b ≡ None → (a ≡ None) × (b ≡ None)
+pub neither : {X : Type 0} (a b : Option X) → option_or a b ≡ None → (a ≡ None) × (b ≡ None)
 neither (Some x) b h = absurd (no h)
   where
     no : Some x ≡ None → ⊥
@@ -55,8 +53,8 @@ pub record Free (from to : List (List ℕ)) (rows : List Row) : Type 0 where
   pub beside : not (is_prefix from to) ≡ true
   pub within : are_paths (rows_moved from to rows) ≡ true
 
-pub unrefused_rename : (from to : List (List ℕ)) (rows : List Row) (users : Principals) → first_refusal (Rename from to) rows users ≡ None → Free from to rows
-unrefused_rename from to rows users h =
+pub unrefused_rename : (leases : LeaseFacts) (caller : List ℕ) (from to : List (List ℕ)) (rows : List Row) (users : Principals) → first_refusal leases caller (Rename from to) rows users ≡ None → Free from to rows
+unrefused_rename leases caller from to rows users h =
     let a = neither _ _ h in
     let b = neither (beneath_file from rows) _ a.1 in
     let c = neither (nothing_at (row_at from rows)) _ b.1 in
@@ -96,22 +94,26 @@ pub parent_there : (path : List (List ℕ)) (rows : List Row) → is_none (direc
 parent_there [] rows h = cc
 parent_there (name ∷ names) rows h = held_by (name ∷ names) (take (length names) (name ∷ names)) (child_of_parent name names) rows h
 
--- what has a path in a namespace suits its own list
-abbrev is_suited : Option Row → Bool
-is_suited None = true
-is_suited (Some row) = suits_kind row
+-- the first that a test finds passes it, and any that all pass
+abbrev passes : (Row → Bool) → Option Row → Bool
+passes q None = true
+passes q (Some row) = q row
 
-pub first_suits : (p : Row → Bool) (rows : List Row) (row : Row) → list_all suits_kind rows ≡ true → first (filter p rows) ≡ Some row → suits_kind row ≡ true
-first_suits p [] row h is = cc
-first_suits p (other ∷ rows) row h is = by (p other) is (first_suits p rows row)
+pub first_passes : (p q : Row → Bool) (rows : List Row) (row : Row) → list_all q rows ≡ true → first (filter p rows) ≡ Some row → q row ≡ true
+first_passes p q [] row h is = cc
+first_passes p q (other ∷ rows) row h is = by (p other) is (first_passes p q rows row)
   where
-    parts : (suits_kind other ≡ true) × (list_all suits_kind rows ≡ true)
-    parts = both (suits_kind other) (list_all suits_kind rows) h
+    parts : (q other ≡ true) × (list_all q rows ≡ true)
+    parts = both (q other) (list_all q rows) h
 
-    by : (b : Bool) → first (cond b (other ∷ filter p rows) (filter p rows)) ≡ Some row → (list_all suits_kind rows ≡ true → first (filter p rows) ≡ Some row → suits_kind row ≡ true) → suits_kind row ≡ true
-    by true k others = subst (λ o. is_suited o ≡ true) k parts.0
+    by : (b : Bool) → first (cond b (other ∷ filter p rows) (filter p rows)) ≡ Some row → (list_all q rows ≡ true → first (filter p rows) ≡ Some row → q row ≡ true) → q row ≡ true
+    by true k others = subst (λ o. passes q o ≡ true) k parts.0
     by false k others = others parts.1 k
 
-pub own_list_suits : (path : List (List ℕ)) (rows : List Row) (row : Row) (acl : AccessControlList) → IsTree rows → row_at path rows ≡ Some row → acl ≡ row.acl → suits_list acl (row_at path rows) ≡ true
-own_list_suits path rows row acl tree is own =
-    ap (suits_list acl) is ∙ ap (λ a. suits_list a (Some row)) own ∙ first_suits (λ other. same_path path other.path) rows row (namespace_tests rows tree.namespace).suit is
+pub first_found : (p : Row → Bool) (rows : List Row) (row : Row) → first (filter p rows) ≡ Some row → p row ≡ true
+first_found p [] row is = cc
+first_found p (other ∷ rows) row is = by (p other) refl is (first_found p rows row)
+  where
+    by : (b : Bool) → p other ≡ b → first (cond b (other ∷ filter p rows) (filter p rows)) ≡ Some row → (first (filter p rows) ≡ Some row → p row ≡ true) → p row ≡ true
+    by true e k others = subst (λ o. passes p o ≡ true) k e
+    by false e k others = others k

@@ -1,5 +1,5 @@
 -- What stands at a path keeps a list that suits it when its list is changed.
-use Rattle.std.proofs.Common.{◌≡◌, ℕ, Bool, true, false, ◌&&◌, not, List, cond, Option, Some, None, Result, Ok, Err, refl, sym, ap, ◌∙◌, subst}
+use Rattle.std.proofs.Common.{◌≡◌, ℕ, Bool, true, false, ◌||◌, not, List, cond, Option, Some, None, Ok, Err, refl, ap, ◌∙◌, subst}
 use Rattle.std.specs.Prelude.{if◌then◌else◌}
 use Rattle.std.specs.Option.{is_none}
 use Rattle.hdfs_types.specs.PathOrder.{same_path}
@@ -10,18 +10,19 @@ use Rattle.hdfs_types.specs.declared.fault.AclFault.{AclFault}
 use Rattle.hdfs_types.specs.declared.fault.AclFault.TheVariants.{DefaultOnFile, NoBase, BaseRemoved, MaskRemoved}
 use Rattle.hdfs_types.specs.declared.reply.ObjectKind.{ObjectKind}
 use Rattle.hdfs_types.specs.declared.reply.ObjectKind.TheVariants.{File, Directory}
-use Rattle.hdfs_types.specs.declared.reply.Refusal.{Refusal}
 use Rattle.hdfs_types.specs.declared.reply.Refusal.TheVariants.{TooManyEntries}
 use Rattle.acl_entries.specs.AccessControlList.{AccessControlList, EntryList, suits_file}
-use Rattle.default_acl.specs.AclChange.{acl_change, acl_after, unless_fault, if_it_fits, first_acl_fault, lacks_base, removes_base, removes_mask, touches, spec_in, default_after, access_after, with_mode}
+use Rattle.default_acl.specs.AclChange.{acl_change, acl_after, unless_fault, first_acl_fault, lacks_base, removes_base, removes_mask, touches, spec_in, default_after, access_after, with_mode}
 use Rattle.flat_rows.specs.declared.row.Row.{Row}
-use Rattle.flat_rows.specs.Rows.{row_at}
-use Rattle.flat_rows.specs.Namespace.{suits_kind}
-use Rattle.flat_rows.specs.Changes.{suits_list}
+use Rattle.flat_rows.specs.declared.file_row.FileRow.{FileRow}
+use Rattle.flat_rows.specs.declared.row.Change.TheVariants as given
+use Rattle.flat_rows.specs.Rows.{is_directory, is_directory_kind, row_at}
+use Rattle.flat_rows.specs.Namespace.{suits_kind, suits_parts}
+use Rattle.flat_rows.specs.Changes.{suits_change}
 use Rattle.flat_rows.proofs.Tests.{both, and}
 use Rattle.flat_rows.proofs.Namespaces.{namespace_tests}
 use Rattle.inode_tree.specs.Tree.{IsTree}
-use Rattle.fs_operations.proofs.Renaming.{first_suits}
+use Rattle.fs_operations.proofs.Renaming.{first_passes}
 
 -- a list suits a file or a directory
 abbrev suits : ObjectKind → AccessControlList → Bool
@@ -29,18 +30,36 @@ suits File acl = suits_file acl
 suits Directory acl = true
 
 own_suits : (row : Row) → suits_kind row ≡ true → suits row.kind row.acl ≡ true
-own_suits row h = by row.kind refl
+own_suits row h = by row.kind row.file h
   where
-    by : (kind : ObjectKind) → row.kind ≡ kind → suits kind row.acl ≡ true
-    by File e = subst (λ k. suits_kind (record { path = row.path; kind = k; owner = row.owner; group = row.group; acl = row.acl }) ≡ true) e h
-    by Directory e = refl
+    by : (kind : ObjectKind) (file : Option FileRow) → suits_parts (is_directory_kind kind) row.acl file ≡ true → suits kind row.acl ≡ true
+    by File None h = cc
+    by File (Some file) h = h
+    by Directory file h = refl
 
-suited_list : (row : Row) (acl : AccessControlList) → suits row.kind acl ≡ true → suits_list acl (Some row) ≡ true
-suited_list row acl h = by row.kind refl
+suited_list : (row : Row) (acl : AccessControlList) → suits row.kind acl ≡ true → suits_change (given.List acl) (Some row) ≡ true
+suited_list row acl h = by row.kind h
   where
-    by : (kind : ObjectKind) → row.kind ≡ kind → suits_list acl (Some row) ≡ true
-    by File e = subst (λ k. suits_list acl (Some (record { path = row.path; kind = k; owner = row.owner; group = row.group; acl = row.acl })) ≡ true) (sym e) (subst (λ k. suits k acl ≡ true) e h)
-    by Directory e = subst (λ k. suits_list acl (Some (record { path = row.path; kind = k; owner = row.owner; group = row.group; acl = row.acl })) ≡ true) (sym e) refl
+    by : (kind : ObjectKind) → suits kind acl ≡ true → (is_directory_kind kind || suits_file acl) ≡ true
+    by File h = h
+    by Directory h = refl
+
+-- a file and no directory has what files alone have
+pub no_directory : (row : Row) (file : FileRow) → suits_kind row ≡ true → row.file ≡ Some file → is_directory row ≡ false
+no_directory row file h is = by row.kind row.file is h
+  where
+    by : (kind : ObjectKind) (held : Option FileRow) → held ≡ Some file → suits_parts (is_directory_kind kind) row.acl held ≡ true → is_directory_kind kind ≡ false
+    by File held is h = refl
+    by Directory None is h = cc
+    by Directory (Some other) is h = cc
+
+pub is_directory_without : (row : Row) → suits_kind row ≡ true → row.file ≡ None → is_directory row ≡ true
+is_directory_without row h is = by row.kind row.file is h
+  where
+    by : (kind : ObjectKind) (held : Option FileRow) → held ≡ None → suits_parts (is_directory_kind kind) row.acl held ≡ true → is_directory_kind kind ≡ true
+    by Directory held is h = refl
+    by File None is h = cc
+    by File (Some other) is h = cc
 
 mode_suits : (mode : ℕ) (kind : ObjectKind) (acl : AccessControlList) → suits kind acl ≡ true → suits kind (with_mode mode kind acl) ≡ true
 mode_suits mode File acl h = (both (not acl.sticky) (is_none acl.default) h).1
@@ -82,16 +101,16 @@ change_suits change File acl new h is = by (touches Default (spec_in change)) re
     by false e = subst (λ a. suits_file a ≡ true) (accepted (first_acl_fault change File acl) (acl_after change acl) new is)
         (and _ _ parts.0 (untouched change (access_after change acl.access) acl.default e parts.1))
 
-row_suits : (path : List (List ℕ)) (rows : List Row) (row : Row) → IsTree rows → row_at path rows ≡ Some row → suits_kind row ≡ true
-row_suits path rows row tree is = first_suits (λ other. same_path path other.path) rows row (namespace_tests rows tree.namespace).suit is
+pub row_suits : (path : List (List ℕ)) (rows : List Row) (row : Row) → IsTree rows → row_at path rows ≡ Some row → suits_kind row ≡ true
+row_suits path rows row tree is = first_passes (λ other. same_path path other.path) suits_kind rows row (namespace_tests rows tree.namespace).suit is
 
 pub list_of_mode_suits : (mode : ℕ) (path : List (List ℕ)) (rows : List Row) (row : Row) (acl : AccessControlList) → IsTree rows → row_at path rows ≡ Some row → acl ≡ with_mode mode row.kind row.acl
-    → suits_list acl (row_at path rows) ≡ true
+    → suits_change (given.List acl) (row_at path rows) ≡ true
 list_of_mode_suits mode path rows row acl tree is made =
-    ap (suits_list acl) is ∙ ap (λ a. suits_list a (Some row)) made
+    ap (suits_change (given.List acl)) is ∙ ap (λ a. suits_change (given.List a) (Some row)) made
     ∙ suited_list row (with_mode mode row.kind row.acl) (mode_suits mode row.kind row.acl (own_suits row (row_suits path rows row tree is)))
 
 pub changed_list_suits : (change : AclChange) (path : List (List ℕ)) (rows : List Row) (row : Row) (acl : AccessControlList) → IsTree rows → row_at path rows ≡ Some row → acl_change change row.kind row.acl ≡ Ok acl
-    → suits_list acl (row_at path rows) ≡ true
+    → suits_change (given.List acl) (row_at path rows) ≡ true
 changed_list_suits change path rows row acl tree is made =
-    ap (suits_list acl) is ∙ suited_list row acl (change_suits change row.kind row.acl acl (own_suits row (row_suits path rows row tree is)) made)
+    ap (suits_change (given.List acl)) is ∙ suited_list row acl (change_suits change row.kind row.acl acl (own_suits row (row_suits path rows row tree is)) made)

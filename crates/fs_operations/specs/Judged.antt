@@ -1,11 +1,50 @@
--- An operation with its needs: the first of them that fails, or else the outcome.
-use Rattle.std.specs.Prelude.{List}
+-- An operation with its needs: the first of them that fails, or else the outcome. And the verdict on a verb that writes files,
+-- which may hang on the lease of another client.
+use Rattle.std.specs.Prelude.{◌≡◌, ℕ, Bool, true, false, List, if◌then◌else◌, Option, Some, None}
 use Rattle.hdfs_types.specs.declared.op.Op.{Op}
+use Rattle.hdfs_types.specs.declared.op.Op.TheVariants as op
+use Rattle.hdfs_types.specs.declared.reply.Refusal.{Refusal}
+use Rattle.hdfs_types.specs.declared.reply.Refusal.TheVariants.{LeaseHeld}
+use Rattle.hdfs_types.specs.declared.reply.Reply.{Reply}
+use Rattle.hdfs_types.specs.declared.reply.Reply.TheVariants.{Released}
 use Rattle.principals.specs.Principals.{Principals, Asking}
 use Rattle.flat_rows.specs.declared.row.Row.{Row}
+use Rattle.flat_rows.specs.declared.verdict.Verdict as answer
+use Rattle.flat_rows.specs.declared.verdict.Verdict.TheVariants.{Done, Refused}
 use Rattle.flat_rows.specs.RequiredRights.{Demand}
 use Rattle.flat_rows.specs.Decision.{denial_among}
-use Rattle.flat_rows.specs.Outcome.{Step, denied_or_outcome}
+use Rattle.flat_rows.specs.FileOutcome.{LeaseFacts, refused_recovery}
+use Rattle.flat_rows.specs.Outcome.{Step, denied_or_outcome, step}
+use Rattle.fs_operations.specs.declared.write.Judged.{Judged}
+use Rattle.fs_operations.specs.declared.write.Judged.TheVariants.{Verdict, Held}
 
-abbrev pub judged_step : List Row → Principals → Asking → List Demand → Op → Step
-judged_step rows users caller needs op = denied_or_outcome rows users caller.name op (denial_among rows caller needs)
+abbrev pub judged_step : LeaseFacts → List Row → Principals → Asking → List Demand → Op → Step
+judged_step leases rows users caller needs op = denied_or_outcome leases rows users caller.name op (denial_among rows caller needs)
+
+abbrev pub refused_or : Reply → Option Refusal → answer.Verdict
+refused_or reply None = Done reply
+refused_or reply (Some refusal) = Refused refusal
+
+-- an append to a file that another client has open is refused while his lease is live; else he is released, but where its last
+-- block would have to be recovered
+abbrev pub takeover : LeaseFacts → List ℕ → Bool → answer.Verdict
+takeover leases holder ends_uncommitted =
+    refused_or Released (if leases.is_live holder then Some (LeaseHeld holder) else refused_recovery ends_uncommitted)
+
+-- the verdict as leases stand
+abbrev pub verdict_under : LeaseFacts → Judged → answer.Verdict
+verdict_under leases (Verdict verdict) = verdict
+verdict_under leases (Held holder ends_uncommitted) = takeover leases holder.now ends_uncommitted
+
+-- the verdict as leases stand is that of the step
+abbrev pub IsJudged : LeaseFacts → List Row → Principals → List ℕ → Op → Judged → Type 0
+IsJudged leases rows users caller op judged = verdict_under leases judged ≡ (step leases rows users caller op).verdict
+
+-- the verbs that write files, and the deletion
+abbrev pub writes_or_deletes : Op → Bool
+writes_or_deletes (op.Create path mode replication over) = true
+writes_or_deletes (op.Append path) = true
+writes_or_deletes (op.AddBlock path last) = true
+writes_or_deletes (op.Complete path last) = true
+writes_or_deletes (op.Delete path recursive) = true
+writes_or_deletes _ = false

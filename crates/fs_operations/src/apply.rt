@@ -1,10 +1,13 @@
 ghost use Rattle.std.specs.Prelude.{◌≡◌, true, IfOk, OnErr};
-ghost use Rattle.hdfs_types.specs.Request.{is_look};
+ghost use Rattle.hdfs_types.specs.Request.{is_look, keeps_leases};
+ghost use Rattle.flat_rows.specs.FileOutcome.{LeaseFacts};
 ghost use Rattle.flat_rows.specs.RequiredRights.{required_rights};
 ghost use Rattle.flat_rows.specs.Outcome as spec;
 
-use crate::change::{add_user, delete, mkdirs, rename, set_acl, set_groups, set_mode, set_owner};
-use crate::look::{get_acl, list, stat, summary};
+use crate::change::{
+    add_user, mkdirs, rename, set_acl, set_groups, set_mode, set_owner, set_replication,
+};
+use crate::look::{get_acl, list, open, stat, summary};
 use flat_rows::demand::{Needs, needs_of};
 use flat_rows::verdict::Verdict;
 use hdfs_types::op::{Op, Request};
@@ -29,14 +32,14 @@ fn perform(
     needs: &Needs,
     op: &Op,
 ) -> Result<Verdict, AllocError>
-    requires { needs.now ≡ required_rights op.now }
-    ensures ok { IfOk result (λ verdict. record { verdict = verdict; rows = tree.new; users = users.new } ≡ spec.step tree.old users.old caller.now op.now) }
+    requires kept { keeps_leases op.now ≡ true }
+    requires needs { needs.now ≡ required_rights op.now }
+    ensures ok { (leases : LeaseFacts) → IfOk result (λ verdict. record { verdict = verdict; rows = tree.new; users = users.new } ≡ spec.step leases tree.old users.old caller.now op.now) }
     ensures err { OnErr result ((tree.new ≡ tree.old) × (users.new ≡ users.old)) }
 {
     let asking = users.caller(caller);
     match op {
         Op::Mkdirs(path, mode) => mkdirs(alloc, tree, &asking, needs, path, *mode),
-        Op::Delete(path, recursive) => delete(alloc, tree, &asking, needs, path, *recursive),
         Op::Rename(from, to) => rename(alloc, tree, &asking, needs, from, to),
         Op::SetMode(path, mode) => set_mode(alloc, tree, &asking, needs, path, *mode),
         Op::SetOwner(path, owner, group) => {
@@ -49,14 +52,19 @@ fn perform(
         Op::GetAcl(path) => get_acl(alloc, tree, &asking, needs, path),
         Op::List(path) => list(alloc, tree, &asking, needs, path),
         Op::Summary(path) => summary(alloc, tree, &asking, needs, path),
+        Op::Open(path) => open(alloc, tree, &asking, needs, path),
+        Op::SetReplication(path, replication) => {
+            set_replication(alloc, tree, &asking, needs, path, *replication)
+        }
+        _ => unreachable!(),
     }
 }
 
-/// Decides a request, and does it where no need fails and nothing stands against it: first the first need that fails, then
-/// the first refusal of the operation's list, then done. A denied or refused request changes nothing. Costs the paths that it
-/// names, one look-up in a map for each name; `ls` also what is listed, `du` and `delete` also the sub-tree, and `rename` the
-/// sub-tree only where the new path is deeper or longer (HDFS Architecture, "The File System Namespace"; HDFS Permissions
-/// Guide, "Permission Checks").
+/// Decides a request that leaves leases as they are, and does it where no need fails and nothing stands against it: first the
+/// first need that fails, then the first refusal of the operation's list, then done. A denied or refused request changes nothing.
+/// Costs the paths that it names, one look-up in a map for each name; `stat` and `open` also the blocks of the file, `ls` what is
+/// listed, `du` the sub-tree with its blocks, and `rename` the sub-tree only where the new path is deeper or longer (HDFS
+/// Architecture, "The File System Namespace"; HDFS Permissions Guide, "Permission Checks").
 ///
 /// # Errors
 /// Want of memory, and nothing has changed.
@@ -66,7 +74,8 @@ pub fn apply(
     users: &mut Users,
     request: &Request,
 ) -> Result<Verdict, AllocError>
-    ensures ok { IfOk result (λ verdict. record { verdict = verdict; rows = tree.new; users = users.new } ≡ spec.step tree.old users.old request.now.caller request.now.op) }
+    requires { keeps_leases request.now.op ≡ true }
+    ensures ok { (leases : LeaseFacts) → IfOk result (λ verdict. record { verdict = verdict; rows = tree.new; users = users.new } ≡ spec.step leases tree.old users.old request.now.caller request.now.op) }
     ensures err { OnErr result ((tree.new ≡ tree.old) × (users.new ≡ users.old)) }
 {
     let needs = needs(alloc, &request.op)?;
@@ -84,7 +93,7 @@ fn tell(
 ) -> Result<Verdict, AllocError>
     requires look { is_look op.now ≡ true }
     requires needs { needs.now ≡ required_rights op.now }
-    ensures { IfOk result (λ verdict. verdict ≡ (spec.step tree.now users.now caller.now op.now).verdict) }
+    ensures { (leases : LeaseFacts) → IfOk result (λ verdict. verdict ≡ (spec.step leases tree.now users.now caller.now op.now).verdict) }
 {
     let asking = users.caller(caller);
     match op {
@@ -108,7 +117,7 @@ pub fn answer_look(
     op: &Op,
 ) -> Result<Verdict, AllocError>
     requires { is_look op.now ≡ true }
-    ensures { IfOk result (λ verdict. verdict ≡ (spec.step tree.now users.now caller.now op.now).verdict) }
+    ensures { (leases : LeaseFacts) → IfOk result (λ verdict. verdict ≡ (spec.step leases tree.now users.now caller.now op.now).verdict) }
 {
     let needs = needs(alloc, op)?;
     tell(alloc, tree, users, caller, &needs, op)

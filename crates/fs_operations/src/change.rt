@@ -1,28 +1,26 @@
-ghost use Rattle.std.specs.Prelude.{◌≡◌, ℕ, List, true, false, length, IfOk, OnErr, unwrap_or};
+ghost use Rattle.std.specs.Prelude.{◌≡◌, ℕ, List, IfOk, OnErr, unwrap_or};
 ghost use Rattle.principals.specs.Principals.{Principals, caller_of};
 ghost use Rattle.default_acl.specs.AclChange.{acl_change};
-ghost use Rattle.flat_rows.specs.declared.row.Row.{Row};
+ghost use Rattle.flat_rows.specs.FileOutcome.{LeaseFacts};
 ghost use Rattle.flat_rows.specs.Outcome as spec;
-ghost use Rattle.flat_rows.specs.Outcome.{is_alone};
-ghost use Rattle.flat_rows.specs.Changes.{rows_under};
-ghost use Rattle.flat_rows.specs.Rows.{is_missing};
 ghost use Rattle.perm_walk.specs.Reached.{IsReach};
 ghost use Rattle.perm_walk.specs.Walked.{AreOn};
 ghost use Rattle.fs_operations.specs.Judged.{judged_step};
 
-use crate::found::{Found, standing};
-use crate::look::counts_at;
+use crate::found::{Found, FoundFile, standing, standing_file};
 use acl_entries::acl::Acl;
 use default_acl::change::change as change_list;
 use default_acl::chmod::chmod;
 use default_acl::fault::AclChangeFault;
 use flat_rows::demand::Needs;
+use flat_rows::row::Change;
 use flat_rows::verdict::Verdict;
 use hdfs_types::acl_change::AclChange;
 use hdfs_types::groups::Groups;
 use hdfs_types::mode::Mode;
 use hdfs_types::op::Op;
 use hdfs_types::path::Path;
+use hdfs_types::replication::Repl;
 use hdfs_types::reply::{ObjectKind, Refusal, Reply};
 use hdfs_types::who::Who;
 use inode_tree::tree::Tree;
@@ -42,7 +40,7 @@ pub(crate) fn mkdirs(
     mode: Mode,
 ) -> Result<Verdict, AllocError>
     requires { AreOn path.now needs.now }
-    ensures ok { (users : Principals) → IfOk result (λ verdict. record { verdict = verdict; rows = tree.new; users = users } ≡ judged_step tree.old users caller.now needs.now (Op.Mkdirs path.now mode)) }
+    ensures ok { (leases : LeaseFacts) (users : Principals) → IfOk result (λ verdict. record { verdict = verdict; rows = tree.new; users = users } ≡ judged_step leases tree.old users caller.now needs.now (Op.Mkdirs path.now mode)) }
     ensures err { OnErr result (tree.new ≡ tree.old) }
 {
     let reach = match walk_along(alloc, tree, caller, needs, path)? {
@@ -58,56 +56,8 @@ pub(crate) fn mkdirs(
             ObjectKind::File => Ok(Verdict::Refused(Refusal::Exists)),
         };
     }
-    tree.make_directories(path, mode, caller.name())?;
+    tree.make(path, mode, None, caller.name())?;
     Ok(Verdict::Done(Reply::Empty))
-}
-
-/// How many files and directories a deletion takes away: one where it isn't recursive, since nothing is beneath then. A number
-/// that can't be told counts as want of memory.
-fn deleted_at(tree: &Tree, path: &Path, recursive: bool) -> Result<u64, AllocError>
-    requires there { is_missing path.now tree.now ≡ false }
-    requires alone { recursive ≡ false → is_alone (rows_under path.now tree.now) ≡ true }
-    ensures { IfOk result (λ deleted. deleted ≡ length (rows_under path.now tree.now)) }
-{
-    if !recursive {
-        return Ok(1);
-    }
-    let counts = counts_at(tree, path)?;
-    match counts.directories.checked_add(counts.files) {
-        Some(deleted) => Ok(deleted),
-        None => Err(AllocError),
-    }
-}
-
-/// Deletes what has a path, with all that is beneath it. Costs also what is deleted.
-pub(crate) fn delete(
-    alloc: Global,
-    tree: &mut Tree,
-    caller: &Caller,
-    needs: &Needs,
-    path: &Path,
-    recursive: bool,
-) -> Result<Verdict, AllocError>
-    requires { AreOn path.now needs.now }
-    ensures ok { (users : Principals) → IfOk result (λ verdict. record { verdict = verdict; rows = tree.new; users = users } ≡ judged_step tree.old users caller.now needs.now (Op.Delete path.now recursive)) }
-    ensures err { OnErr result (tree.new ≡ tree.old) }
-{
-    let reach = match walk_along(alloc, tree, caller, needs, path)? {
-        Walked::Denied(denial) => return Ok(Verdict::Denied(denial)),
-        Walked::Reached(reach) => reach,
-    };
-    if path.depth() == 0 {
-        return Ok(Verdict::Refused(Refusal::IsRoot));
-    }
-    if let Found::Refused(refusal) = standing(alloc, reach)? {
-        return Ok(Verdict::Refused(refusal));
-    }
-    if !recursive && !tree.is_alone(path) {
-        return Ok(Verdict::Refused(Refusal::NotEmpty));
-    }
-    let deleted = deleted_at(tree, path, recursive)?;
-    tree.remove(path);
-    Ok(Verdict::Done(Reply::Deleted(deleted)))
 }
 
 /// Gives what has a path another mode.
@@ -120,7 +70,7 @@ pub(crate) fn set_mode(
     mode: Mode,
 ) -> Result<Verdict, AllocError>
     requires { AreOn path.now needs.now }
-    ensures ok { (users : Principals) → IfOk result (λ verdict. record { verdict = verdict; rows = tree.new; users = users } ≡ judged_step tree.old users caller.now needs.now (Op.SetMode path.now mode)) }
+    ensures ok { (leases : LeaseFacts) (users : Principals) → IfOk result (λ verdict. record { verdict = verdict; rows = tree.new; users = users } ≡ judged_step leases tree.old users caller.now needs.now (Op.SetMode path.now mode)) }
     ensures err { OnErr result (tree.new ≡ tree.old) }
 {
     let reach = match walk_along(alloc, tree, caller, needs, path)? {
@@ -133,8 +83,7 @@ pub(crate) fn set_mode(
     };
     let mut acl = inode.acl().clone()?;
     chmod(&mut acl, mode, inode.kind());
-    let (owner, group) = (inode.owner().clone()?, inode.group().clone()?);
-    tree.rewrite(path, owner, group, acl);
+    tree.rewrite(path, Change::List(acl));
     Ok(Verdict::Done(Reply::Empty))
 }
 
@@ -165,7 +114,7 @@ pub(crate) fn set_acl(
     change: &AclChange,
 ) -> Result<Verdict, AllocError>
     requires { AreOn path.now needs.now }
-    ensures ok { (users : Principals) → IfOk result (λ verdict. record { verdict = verdict; rows = tree.new; users = users } ≡ judged_step tree.old users caller.now needs.now (Op.SetAcl path.now change.now)) }
+    ensures ok { (leases : LeaseFacts) (users : Principals) → IfOk result (λ verdict. record { verdict = verdict; rows = tree.new; users = users } ≡ judged_step leases tree.old users caller.now needs.now (Op.SetAcl path.now change.now)) }
     ensures err { OnErr result (tree.new ≡ tree.old) }
 {
     let reach = match walk_along(alloc, tree, caller, needs, path)? {
@@ -180,8 +129,7 @@ pub(crate) fn set_acl(
         Ok(acl) => acl,
         Err(refusal) => return Ok(Verdict::Refused(refusal)),
     };
-    let (owner, group) = (inode.owner().clone()?, inode.group().clone()?);
-    tree.rewrite(path, owner, group, acl);
+    tree.rewrite(path, Change::List(acl));
     Ok(Verdict::Done(Reply::Empty))
 }
 
@@ -206,7 +154,7 @@ pub(crate) fn set_owner(
     group: &Option<Who>,
 ) -> Result<Verdict, AllocError>
     requires { AreOn path.now needs.now }
-    ensures ok { (users : Principals) → IfOk result (λ verdict. record { verdict = verdict; rows = tree.new; users = users } ≡ judged_step tree.old users caller.now needs.now (Op.SetOwner path.now owner.now group.now)) }
+    ensures ok { (leases : LeaseFacts) (users : Principals) → IfOk result (λ verdict. record { verdict = verdict; rows = tree.new; users = users } ≡ judged_step leases tree.old users caller.now needs.now (Op.SetOwner path.now owner.now group.now)) }
     ensures err { OnErr result (tree.new ≡ tree.old) }
 {
     let reach = match walk_along(alloc, tree, caller, needs, path)? {
@@ -217,12 +165,35 @@ pub(crate) fn set_owner(
         Found::There(component) => component.inode(),
         Found::Refused(refusal) => return Ok(Verdict::Refused(refusal)),
     };
-    let acl = inode.acl().clone()?;
     let (owner, group) = (
         given_or(owner, inode.owner())?,
         given_or(group, inode.group())?,
     );
-    tree.rewrite(path, owner, group, acl);
+    tree.rewrite(path, Change::Owner(owner, group));
+    Ok(Verdict::Done(Reply::Empty))
+}
+
+/// Gives a file another replication.
+pub(crate) fn set_replication(
+    alloc: Global,
+    tree: &mut Tree,
+    caller: &Caller,
+    needs: &Needs,
+    path: &Path,
+    replication: Repl,
+) -> Result<Verdict, AllocError>
+    requires { AreOn path.now needs.now }
+    ensures ok { (leases : LeaseFacts) (users : Principals) → IfOk result (λ verdict. record { verdict = verdict; rows = tree.new; users = users } ≡ judged_step leases tree.old users caller.now needs.now (Op.SetReplication path.now replication)) }
+    ensures err { OnErr result (tree.new ≡ tree.old) }
+{
+    let reach = match walk_along(alloc, tree, caller, needs, path)? {
+        Walked::Denied(denial) => return Ok(Verdict::Denied(denial)),
+        Walked::Reached(reach) => reach,
+    };
+    if let FoundFile::Refused(refusal) = standing_file(alloc, reach)? {
+        return Ok(Verdict::Refused(refusal));
+    }
+    tree.rewrite(path, Change::Replication(replication));
     Ok(Verdict::Done(Reply::Empty))
 }
 
@@ -237,7 +208,7 @@ fn refusal_of_rename(
 ) -> Result<Option<Refusal>, AllocError>
     requires from { IsReach from.now tree.now from_reach }
     requires to { IsReach to.now tree.now to_reach }
-    ensures { (users : Principals) → IfOk result (λ refusal. refusal ≡ spec.first_refusal (Op.Rename from.now to.now) tree.now users) }
+    ensures { (leases : LeaseFacts) (user : List ℕ) (users : Principals) → IfOk result (λ refusal. refusal ≡ spec.first_refusal leases user (Op.Rename from.now to.now) tree.now users) }
 {
     if from.depth() == 0 || to.depth() == 0 {
         return Ok(Some(Refusal::IsRoot));
@@ -273,7 +244,7 @@ pub(crate) fn rename(
     from: &Path,
     to: &Path,
 ) -> Result<Verdict, AllocError>
-    ensures ok { (users : Principals) → IfOk result (λ verdict. record { verdict = verdict; rows = tree.new; users = users } ≡ judged_step tree.old users caller.now needs.now (Op.Rename from.now to.now)) }
+    ensures ok { (leases : LeaseFacts) (users : Principals) → IfOk result (λ verdict. record { verdict = verdict; rows = tree.new; users = users } ≡ judged_step leases tree.old users caller.now needs.now (Op.Rename from.now to.now)) }
     ensures err { OnErr result (tree.new ≡ tree.old) }
 {
     let (from_reach, to_reach) = match walk_along_both(alloc, tree, caller, needs, from, to)? {
@@ -297,7 +268,7 @@ pub(crate) fn add_user(
     user: &Who,
     groups: &Groups,
 ) -> Result<Verdict, AllocError>
-    ensures ok { IfOk result (λ verdict. record { verdict = verdict; rows = tree.now; users = users.new } ≡ judged_step tree.now users.old (caller_of users.old caller.now) needs.now (Op.AddUser user.now groups.now)) }
+    ensures ok { (leases : LeaseFacts) → IfOk result (λ verdict. record { verdict = verdict; rows = tree.now; users = users.new } ≡ judged_step leases tree.now users.old (caller_of users.old caller.now) needs.now (Op.AddUser user.now groups.now)) }
     ensures err { OnErr result (users.new ≡ users.old) }
 {
     if let Some(denial) = walk(alloc, tree, users, caller, needs)? {
@@ -320,7 +291,7 @@ pub(crate) fn set_groups(
     user: &Who,
     groups: &Groups,
 ) -> Result<Verdict, AllocError>
-    ensures ok { IfOk result (λ verdict. record { verdict = verdict; rows = tree.now; users = users.new } ≡ judged_step tree.now users.old (caller_of users.old caller.now) needs.now (Op.SetGroups user.now groups.now)) }
+    ensures ok { (leases : LeaseFacts) → IfOk result (λ verdict. record { verdict = verdict; rows = tree.now; users = users.new } ≡ judged_step leases tree.now users.old (caller_of users.old caller.now) needs.now (Op.SetGroups user.now groups.now)) }
     ensures err { OnErr result (users.new ≡ users.old) }
 {
     if let Some(denial) = walk(alloc, tree, users, caller, needs)? {

@@ -1,8 +1,9 @@
 ghost use Rattle.std.specs.Prelude.{ℕ, List, IfOk};
 ghost use Rattle.flat_rows.specs.declared.row.Row.{Row};
 ghost use Rattle.perm_walk.specs.Reached.{IsReach};
-ghost use Rattle.fs_operations.specs.Found.{IsFound};
+ghost use Rattle.fs_operations.specs.Found.{IsFound, IsFoundFile};
 
+use flat_rows::file_row::FileRow;
 use hdfs_types::reply::Refusal;
 use perm_walk::component::Component;
 use perm_walk::reach::Reach;
@@ -25,5 +26,29 @@ pub(crate) fn standing<'a>(alloc: Global, reach: Reach<'a>) -> Result<Found<'a>,
     match reach.at {
         Some(component) => Ok(Found::There(component)),
         None => Ok(Found::Refused(Refusal::NotFound)),
+    }
+}
+
+/// The file that has a path, or why none has.
+#[derive(Drop)]
+pub(crate) enum FoundFile<'a> {
+    There(&'a FileRow),
+    Refused(Refusal),
+}
+
+/// The file that has a path that leads so far.
+pub(crate) fn standing_file<'a>(
+    alloc: Global,
+    reach: Reach<'a>,
+) -> Result<FoundFile<'a>, AllocError>
+    ensures { (path : List (List ℕ)) → (rows : List Row) → IsReach path rows reach.entry → IfOk result (IsFoundFile path rows) }
+{
+    let component = match standing(alloc, reach)? {
+        Found::There(component) => component,
+        Found::Refused(refusal) => return Ok(FoundFile::Refused(refusal)),
+    };
+    match component.inode().file() {
+        Some(file) => Ok(FoundFile::There(file)),
+        None => Ok(FoundFile::Refused(Refusal::IsDirectory)),
     }
 }

@@ -1,8 +1,10 @@
 //! The operations on the namespace: each is decided by the walk of the tree, and done where no need fails and nothing stands
-//! against it (HDFS Architecture, "The File System Namespace"; HDFS Permissions Guide).
+//! against it (HDFS Architecture, "The File System Namespace"; HDFS Permissions Guide). What hangs on leases is judged here, and
+//! done by who keeps them.
 #![tactic(auto)]
 
 pub mod apply;
 mod change;
 mod found;
 mod look;
+pub mod write;

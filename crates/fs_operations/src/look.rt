@@ -1,16 +1,20 @@
 ghost use Rattle.std.specs.Prelude.{◌≡◌, ◌<◌, ◌^◌, ◌-◌, ℕ, List, Some, None, IfOk, map, length, filter, not};
 ghost use Rattle.std.specs.Option.{option_copied};
 ghost use Rattle.principals.specs.Principals.{Principals};
+ghost use Rattle.flat_rows.specs.FileOutcome.{LeaseFacts, detail_of_row};
+ghost use Rattle.flat_rows.specs.Files.{length_of, told_length};
 ghost use Rattle.flat_rows.specs.Rows as rows_spec;
 ghost use Rattle.flat_rows.specs.Changes as changes;
 ghost use Rattle.flat_rows.specs.Outcome as spec;
 ghost use Rattle.perm_walk.specs.Walked.{AreOn};
 ghost use Rattle.fs_operations.specs.Judged.{judged_step};
 
-use crate::found::{Found, standing};
+use crate::found::{Found, FoundFile, standing, standing_file};
 use acl_entries::print::print;
 use flat_rows::demand::Needs;
+use flat_rows::file_row::FileRow;
 use flat_rows::verdict::Verdict;
+use hdfs_types::file::FileDetail;
 use hdfs_types::name::Name;
 use hdfs_types::op::Op;
 use hdfs_types::path::Path;
@@ -22,6 +26,30 @@ use perm_walk::walk::{Walked, walk_along};
 use principals::caller::Caller;
 use std::alloc::{AllocError, Global};
 
+/// The bytes of a file; a number that can't be told counts as want of memory. Costs its blocks.
+pub(crate) fn length_told(file: &FileRow) -> Result<u64, AllocError>
+    ensures { IfOk result (λ length. length ≡ length_of file.now.blocks) }
+{
+    match file.blocks.length() {
+        Some(length) => Ok(length),
+        None => Err(AllocError),
+    }
+}
+
+/// What is told of a file alone.
+fn detail_of(file: Option<&FileRow>) -> Result<Option<FileDetail>, AllocError>
+    ensures { IfOk result (λ detail. detail ≡ detail_of_row (option_copied file.entry)) }
+{
+    let Some(file) = file else {
+        return Ok(None);
+    };
+    Ok(Some(FileDetail {
+        replication: file.replication,
+        length: length_told(file)?,
+        state: file.state.clone()?,
+    }))
+}
+
 fn status_of(component: &Component) -> Result<Reply, AllocError>
     ensures { IfOk result (λ reply. reply ≡ spec.status_of (Some component.now)) }
 {
@@ -32,10 +60,11 @@ fn status_of(component: &Component) -> Result<Reply, AllocError>
         has_acl: inode.acl().has_acl(),
         owner: inode.owner().clone()?,
         group: inode.group().clone()?,
+        file: detail_of(inode.file())?,
     }))
 }
 
-/// Tells what has a path.
+/// Tells what has a path. Costs also the blocks of a file.
 pub(crate) fn stat(
     alloc: Global,
     tree: &Tree,
@@ -44,7 +73,7 @@ pub(crate) fn stat(
     path: &Path,
 ) -> Result<Verdict, AllocError>
     requires { AreOn path.now needs.now }
-    ensures { (users : Principals) → IfOk result (λ verdict. record { verdict = verdict; rows = tree.now; users = users } ≡ judged_step tree.now users caller.now needs.now (Op.Stat path.now)) }
+    ensures { (leases : LeaseFacts) (users : Principals) → IfOk result (λ verdict. record { verdict = verdict; rows = tree.now; users = users } ≡ judged_step leases tree.now users caller.now needs.now (Op.Stat path.now)) }
 {
     let reach = match walk_along(alloc, tree, caller, needs, path)? {
         Walked::Denied(denial) => return Ok(Verdict::Denied(denial)),
@@ -75,7 +104,7 @@ pub(crate) fn get_acl(
     path: &Path,
 ) -> Result<Verdict, AllocError>
     requires { AreOn path.now needs.now }
-    ensures { (users : Principals) → IfOk result (λ verdict. record { verdict = verdict; rows = tree.now; users = users } ≡ judged_step tree.now users caller.now needs.now (Op.GetAcl path.now)) }
+    ensures { (leases : LeaseFacts) (users : Principals) → IfOk result (λ verdict. record { verdict = verdict; rows = tree.now; users = users } ≡ judged_step leases tree.now users caller.now needs.now (Op.GetAcl path.now)) }
 {
     let reach = match walk_along(alloc, tree, caller, needs, path)? {
         Walked::Denied(denial) => return Ok(Verdict::Denied(denial)),
@@ -131,7 +160,7 @@ pub(crate) fn list(
     path: &Path,
 ) -> Result<Verdict, AllocError>
     requires { AreOn path.now needs.now }
-    ensures { (users : Principals) → IfOk result (λ verdict. record { verdict = verdict; rows = tree.now; users = users } ≡ judged_step tree.now users caller.now needs.now (Op.List path.now)) }
+    ensures { (leases : LeaseFacts) (users : Principals) → IfOk result (λ verdict. record { verdict = verdict; rows = tree.now; users = users } ≡ judged_step leases tree.now users caller.now needs.now (Op.List path.now)) }
 {
     let reach = match walk_along(alloc, tree, caller, needs, path)? {
         Walked::Denied(denial) => return Ok(Verdict::Denied(denial)),
@@ -150,12 +179,28 @@ pub(crate) fn list(
 pub(crate) fn counts_at(tree: &Tree, path: &Path) -> Result<Counts, AllocError>
     ensures directories { IfOk result (λ counts. counts.directories ≡ length (filter rows_spec.is_directory (changes.rows_under path.now tree.now))) }
     ensures files { IfOk result (λ counts. counts.files ≡ length (filter (λ row. not (rows_spec.is_directory row)) (changes.rows_under path.now tree.now))) }
+    ensures bytes { IfOk result (λ counts. counts.bytes ≡ told_length (spec.bytes_in (changes.rows_under path.now tree.now))) }
 {
     let counts = tree.count(path);
     if counts.directories == u64::MAX || counts.files == u64::MAX {
         return Err(AllocError);
     }
     Ok(counts)
+}
+
+/// What there is at a path and beneath it; a number that can't be told counts as want of memory.
+fn content_at(tree: &Tree, path: &Path) -> Result<ContentSummary, AllocError>
+    ensures { IfOk result (λ content. Reply.Summary content ≡ spec.summary_of (changes.rows_under path.now tree.now)) }
+{
+    let counts = counts_at(tree, path)?;
+    let Some(bytes) = counts.bytes else {
+        return Err(AllocError);
+    };
+    Ok(ContentSummary {
+        directories: counts.directories,
+        files: counts.files,
+        bytes,
+    })
 }
 
 /// Counts what stands at a path and beneath it. Costs also what stands there.
@@ -167,7 +212,7 @@ pub(crate) fn summary(
     path: &Path,
 ) -> Result<Verdict, AllocError>
     requires { AreOn path.now needs.now }
-    ensures { (users : Principals) → IfOk result (λ verdict. record { verdict = verdict; rows = tree.now; users = users } ≡ judged_step tree.now users caller.now needs.now (Op.Summary path.now)) }
+    ensures { (leases : LeaseFacts) (users : Principals) → IfOk result (λ verdict. record { verdict = verdict; rows = tree.now; users = users } ≡ judged_step leases tree.now users caller.now needs.now (Op.Summary path.now)) }
 {
     let reach = match walk_along(alloc, tree, caller, needs, path)? {
         Walked::Denied(denial) => return Ok(Verdict::Denied(denial)),
@@ -176,10 +221,26 @@ pub(crate) fn summary(
     if let Found::Refused(refusal) = standing(alloc, reach)? {
         return Ok(Verdict::Refused(refusal));
     }
-    let counts = counts_at(tree, path)?;
-    Ok(Verdict::Done(Reply::Summary(ContentSummary {
-        directories: counts.directories,
-        files: counts.files,
-        bytes: 0,
-    })))
+    Ok(Verdict::Done(Reply::Summary(content_at(tree, path)?)))
+}
+
+/// Opens a file to read it. Costs also its blocks.
+pub(crate) fn open(
+    alloc: Global,
+    tree: &Tree,
+    caller: &Caller,
+    needs: &Needs,
+    path: &Path,
+) -> Result<Verdict, AllocError>
+    requires { AreOn path.now needs.now }
+    ensures { (leases : LeaseFacts) (users : Principals) → IfOk result (λ verdict. record { verdict = verdict; rows = tree.now; users = users } ≡ judged_step leases tree.now users caller.now needs.now (Op.Open path.now)) }
+{
+    let reach = match walk_along(alloc, tree, caller, needs, path)? {
+        Walked::Denied(denial) => return Ok(Verdict::Denied(denial)),
+        Walked::Reached(reach) => reach,
+    };
+    match standing_file(alloc, reach)? {
+        FoundFile::There(file) => Ok(Verdict::Done(Reply::Opened(length_told(file)?))),
+        FoundFile::Refused(refusal) => Ok(Verdict::Refused(refusal)),
+    }
 }

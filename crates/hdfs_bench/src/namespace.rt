@@ -2,15 +2,14 @@ use crate::paths::{parsed, path_of};
 use crate::timed::Timed;
 use anyhow::{Context, Result, bail};
 use flat_rows::verdict::Verdict;
-use fs_operations::apply::apply;
 use hdfs_types::groups::Groups;
 use hdfs_types::mode::Mode;
 use hdfs_types::moment::Moment;
 use hdfs_types::op::{Op, Request};
 use hdfs_types::reply::Reply;
 use hdfs_types::who::Who;
-use inode_tree::tree::Tree;
-use principals::users::Users;
+use history::config::Config;
+use name_core::namenode::NameCore;
 use std::alloc::Global;
 use std::time::{Clock, Duration, Instant};
 
@@ -22,8 +21,6 @@ pub const READER: &str = "bob";
 
 /// Who may do all.
 pub const SUPERUSER: &str = "hdfs";
-
-const SUPERGROUP: &str = "supergroup";
 
 /// How many requests are built at a time, before the clock starts for them.
 const BUNDLE: u32 = 1000;
@@ -64,20 +61,18 @@ fn bundle<W: Requests>(alloc: Global, workload: &W, first: u32, end: u32) -> Res
     Ok(requests)
 }
 
-/// A namespace that all may write to, with a maker and a reader who are no superusers and have two groups each.
+/// A NameNode with a namespace that all may write to, with a maker and a reader who are no superusers and have two groups each.
 #[derive(Drop)]
 pub struct Namespace {
     alloc: Global,
-    tree: Tree,
-    users: Users,
+    core: NameCore,
 }
 
 impl Namespace {
     pub fn new(alloc: Global) -> Result<Namespace> {
         let mut namespace = Namespace {
             alloc,
-            tree: Tree::new(alloc, who(alloc, SUPERUSER)?, who(alloc, SUPERGROUP)?),
-            users: Users::new(alloc, who(alloc, SUPERUSER)?, who(alloc, SUPERGROUP)?),
+            core: NameCore::open(alloc, Config::standard())?,
         };
         namespace.add_user(MAKER, "analysts")?;
         namespace.add_user(READER, "auditors")?;
@@ -113,9 +108,10 @@ impl Namespace {
         Ok(())
     }
 
-    /// The reply to a request that nothing forbids.
+    /// The reply to a request that nothing forbids, which makes one entry more of the history.
     pub fn serve(&mut self, request: &Request) -> Result<Reply> {
-        match apply(self.alloc, &mut self.tree, &mut self.users, request)? {
+        let index = self.core.place();
+        match self.core.step(0, index, request)?.verdict {
             Verdict::Done(reply) => Ok(reply),
             Verdict::Denied(_) => bail!("a request is denied"),
             Verdict::Refused(_) => bail!("a request is refused"),

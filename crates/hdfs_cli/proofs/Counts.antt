@@ -6,16 +6,13 @@ use Rattle.hdfs_cli.specs.Script.{op_of, request_of}
 abbrev now : Bor (List ℕ) → List ℕ
 now word = word.now
 
-pub too_few : (verb : List ℕ) (words : List (Bor (List ℕ))) → length words < 1 → op_of verb (map now words) ≡ None
-too_few verb [] few = refl
-too_few verb (a ∷ words) few = absurd (omega arith)
-
-pub too_many : (verb : List ℕ) (words : List (Bor (List ℕ))) → 3 < length words → op_of verb (map now words) ≡ None
+pub too_many : (verb : List ℕ) (words : List (Bor (List ℕ))) → 4 < length words → op_of verb (map now words) ≡ None
 too_many verb [] many = absurd (omega arith)
 too_many verb (a ∷ []) many = absurd (omega arith)
 too_many verb (a ∷ b ∷ []) many = absurd (omega arith)
 too_many verb (a ∷ b ∷ c ∷ []) many = absurd (omega arith)
-too_many verb (a ∷ b ∷ c ∷ d ∷ words) many = refl
+too_many verb (a ∷ b ∷ c ∷ d ∷ []) many = absurd (omega arith)
+too_many verb (a ∷ b ∷ c ∷ d ∷ e ∷ words) many = refl
 
 pub no_verb : (words : List (Bor (List ℕ))) → length words < 3 → request_of (map now words) ≡ Err BadLine
 no_verb [] few = refl

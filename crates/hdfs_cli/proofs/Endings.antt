@@ -7,6 +7,7 @@ use Rattle.std.proofs.lemmas.List.Splits.{length-slice_split}
 use Rattle.std.proofs.lemmas.List.Concat.{flat_map-append}
 use Rattle.hdfs_types.specs.declared.fault.IllFormed.{IllFormed}
 use Rattle.hdfs_types.specs.declared.op.Request.{Request}
+use Rattle.history.specs.Config.{standard}
 use Rattle.hdfs_cli.specs.Words.{lines_of, is_skipped, words_of, without_return}
 use Rattle.hdfs_cli.specs.Script.{request_of}
 use Rattle.hdfs_cli.specs.AnswerText.{answer_line}
@@ -40,9 +41,9 @@ goes_on a b c p q = record { more = p.more ++ q.more; is = q.is ∙ ap (λ l. l 
 goes_line : (state : State) (line : List ℕ) → Goes state (after_line state line)
 goes_line state line = by_test (is_skipped (without_return line))
   where
-    by_test : (b : Bool) → Goes state (if b then record { number = state.number + 1; rows = state.rows; users = state.users; answers = state.answers } else after_answer state (answered state.rows state.users (request_of (words_of (without_return line)))))
+    by_test : (b : Bool) → Goes state (if b then record { number = state.number + 1; entries = state.entries; answers = state.answers } else after_answer state (answered standard state.entries (request_of (words_of (without_return line)))))
     by_test true = record { more = []; is = sym (append-nil state.answers) }
-    by_test false = record { more = record { number = state.number + 1; answer = (answered state.rows state.users (request_of (words_of (without_return line)))).answer } ∷ []; is = refl }
+    by_test false = record { more = record { number = state.number + 1; answer = (answered standard state.entries (request_of (words_of (without_return line)))).answer } ∷ []; is = refl }
 
 goes_lines : (state : State) (lines : List (List ℕ)) → Goes state (fold after_line state lines)
 goes_lines state [] = goes_self state

@@ -3,7 +3,7 @@ use Rattle.std.proofs.Common.{◌≡◌, ℕ, true, false, List, [], ◌∷◌, 
 use Rattle.std.specs.Prelude.{codes}
 use Rattle.std.specs.Fmt.{digits}
 use Rattle.hdfs_types.specs.declared.fault.IllFormed.{IllFormed}
-use Rattle.hdfs_types.specs.declared.fault.IllFormed.TheVariants.{BadLine, BadPath, BadName, BadAcl}
+use Rattle.hdfs_types.specs.declared.fault.IllFormed.TheVariants.{BadLine, BadPath, BadName, BadMode, BadAcl}
 use Rattle.hdfs_types.specs.declared.fault.AclFault.TheVariants as faults
 use Rattle.hdfs_types.specs.declared.acl_change.AclChange.TheVariants as change
 use Rattle.hdfs_types.specs.declared.entry.Scope.{Scope}
@@ -80,6 +80,57 @@ setfacl_default = refl
 setfacl_clear : said (codes "0 ann setfacl /a clear") ≡ anns (op.SetAcl a change.Clear)
 setfacl_clear = refl
 
+create : said (codes "0 ann create /a 644 016") ≡ anns (op.Create a 420 16 false)
+create = refl
+
+create_over : said (codes "0 ann create /a 1777 1 over") ≡ anns (op.Create a 1023 1 true)
+create_over = refl
+
+append : said (codes "0 ann append /a") ≡ anns (op.Append a)
+append = refl
+
+addblock : said (codes "0 ann addblock /a") ≡ anns (op.AddBlock a None)
+addblock = refl
+
+addblock_behind : said (codes "0 ann addblock /a 7 09") ≡ anns (op.AddBlock a (Some (record { block = 7; length = 9 })))
+addblock_behind = refl
+
+complete : said (codes "0 ann complete /a") ≡ anns (op.Complete a None)
+complete = refl
+
+complete_behind : said (codes "0 ann complete /a 7 0") ≡ anns (op.Complete a (Some (record { block = 7; length = 0 })))
+complete_behind = refl
+
+open_to_read : said (codes "0 ann open /a") ≡ anns (op.Open a)
+open_to_read = refl
+
+setrep : said (codes "0 ann setrep /a 3") ≡ anns (op.SetReplication a 3)
+setrep = refl
+
+renew : said (codes "0 ann renew") ≡ anns op.Renew
+renew = refl
+
+tick : said (codes "0 ann tick") ≡ anns op.Tick
+tick = refl
+
+mode_before_replication : said (codes "0 ann create /a 999 77") ≡ Err BadMode
+mode_before_replication = refl
+
+replication_too_great : said (codes "0 ann create /a 644 17") ≡ Err BadLine
+replication_too_great = refl
+
+path_before_over : said (codes "0 ann create /.. 999 77 under") ≡ Err BadPath
+path_before_over = refl
+
+block_without_bytes : said (codes "0 a:b complete /.. 7") ≡ Err BadLine
+block_without_bytes = refl
+
+number_too_great : said (codes "0 ann addblock /a 7 18446744073709551616") ≡ Err BadLine
+number_too_great = refl
+
+renew_with_a_word : said (codes "0 a:b renew /..") ≡ Err BadLine
+renew_with_a_word = refl
+
 clear_with_entries : said (codes "0 a:b setfacl /.. clear user") ≡ Err BadLine
 clear_with_entries = refl
 
@@ -129,3 +180,18 @@ summary = refl
 deleted : reply_text (reply.Deleted 10) ≡ codes "ok deleted 10"
 unfolding digits
 deleted = refl
+
+released : reply_text reply.Released ≡ codes "ok released"
+released = refl
+
+closed : reply_text (reply.Closed 10) ≡ codes "ok closed 10"
+unfolding digits
+closed = refl
+
+opened : reply_text (reply.Opened 0) ≡ codes "ok open 0"
+unfolding digits
+opened = refl
+
+expired : reply_text (reply.Expired (record { closed = 12; recovering = 3 })) ≡ codes "ok closed 12 recovering 3"
+unfolding digits
+expired = refl

@@ -3,13 +3,18 @@ use Rattle.std.specs.Prelude.{ℕ, List, [], ◌∷◌, ◌++◌, codes}
 use Rattle.std.specs.Fmt.{decimal}
 use Rattle.hdfs_types.specs.Faults.{ill_formed_text}
 use Rattle.hdfs_types.specs.Reply.{status_text, acl_status_text, names_text, summary_text, refusal_text}
+use Rattle.hdfs_types.specs.declared.reply.Expired.{Expired as ExpiredFiles}
 use Rattle.hdfs_types.specs.declared.reply.Reply.{Reply}
-use Rattle.hdfs_types.specs.declared.reply.Reply.TheVariants.{Empty, Status, Acl, Names, Summary, Deleted}
+use Rattle.hdfs_types.specs.declared.reply.Reply.TheVariants.{Empty, Status, Acl, Names, Summary, Deleted, Released, Closed, Opened, Expired}
 use Rattle.flat_rows.specs.DenialText.{denial_text}
 use Rattle.flat_rows.specs.declared.verdict.Verdict.{Verdict}
 use Rattle.flat_rows.specs.declared.verdict.Verdict.TheVariants.{Done, Denied, Refused}
 use Rattle.hdfs_cli.specs.declared.answer.Answer.{Answer}
 use Rattle.hdfs_cli.specs.declared.answer.Answer.TheVariants.{Bad, Given}
+
+-- how many files were closed, and of how many the last block is recovered
+abbrev pub expired_text : ExpiredFiles → List ℕ
+expired_text files = codes "closed " ++ (decimal files.closed ++ (codes " recovering " ++ decimal files.recovering))
 
 abbrev pub reply_text : Reply → List ℕ
 reply_text Empty = codes "ok"
@@ -18,6 +23,10 @@ reply_text (Acl status) = codes "ok " ++ acl_status_text status
 reply_text (Names names) = codes "ok list" ++ names_text names
 reply_text (Summary summary) = codes "ok summary" ++ summary_text summary
 reply_text (Deleted count) = codes "ok deleted " ++ decimal count
+reply_text Released = codes "ok released"
+reply_text (Closed bytes) = codes "ok closed " ++ decimal bytes
+reply_text (Opened bytes) = codes "ok open " ++ decimal bytes
+reply_text (Expired files) = codes "ok " ++ expired_text files
 
 abbrev pub verdict_text : Verdict → List ℕ
 verdict_text (Done reply) = reply_text reply

@@ -1,12 +1,12 @@
--- What a script prints: the answer to each line that is neither empty nor a comment, behind the line's number.
-use Rattle.std.specs.Prelude.{ℕ, ◌+◌, Bool, true, false, List, [], ◌∷◌, ◌++◌, take, if◌then◌else◌, Result, Ok, Err, codes, fold}
+-- What a script prints: the answer to each line that is neither empty nor a comment, behind the line's number. The requests of the
+-- lines make one history, and what is answered is the verdict that the entries before give.
+use Rattle.std.specs.Prelude.{ℕ, ◌+◌, Bool, true, false, List, [], ◌∷◌, ◌++◌, length, take, if◌then◌else◌, Result, Ok, Err, fold}
 use Rattle.std.specs.List.{flat_map, list_any}
 use Rattle.hdfs_types.specs.declared.fault.IllFormed.{IllFormed}
 use Rattle.hdfs_types.specs.declared.op.Request.{Request}
-use Rattle.principals.specs.Principals.{Principals}
-use Rattle.flat_rows.specs.declared.row.Row.{Row}
-use Rattle.flat_rows.specs.Opening.{root_row}
-use Rattle.flat_rows.specs.Outcome.{step}
+use Rattle.history.specs.declared.entry.HistoryEntry.{HistoryEntry}
+use Rattle.history.specs.Config.{Settings, standard}
+use Rattle.history.specs.LegalHistory.{verdict_of}
 use Rattle.hdfs_cli.specs.declared.answer.Answer.{Answer}
 use Rattle.hdfs_cli.specs.declared.answer.Answer.TheVariants.{Bad, Given}
 use Rattle.hdfs_cli.specs.declared.script.Status.{Status}
@@ -20,45 +20,44 @@ pub record Numbered : Type 0 where
   pub number : ℕ
   pub answer : Answer
 
--- the lines so far: how many, the rows and users that they leave, and their answers
+-- the lines so far: how many, the entries that their requests make, the newest first, and their answers
 pub record State : Type 0 where
   pub number : ℕ
-  pub rows : List Row
-  pub users : Principals
+  pub entries : List HistoryEntry
   pub answers : List Numbered
 
--- the answer to a line, and the rows and users after it
+-- the answer to a line, and the entries after it
 pub record Answered : Type 0 where
   pub answer : Answer
-  pub rows : List Row
-  pub users : Principals
+  pub entries : List HistoryEntry
 
-abbrev pub answered : List Row → Principals → Result Request IllFormed → Answered
-answered rows users (Err fault) = record { answer = Bad fault; rows = rows; users = users }
-answered rows users (Ok request) = let after = step rows users request.caller request.op in record { answer = Given after.verdict; rows = after.rows; users = after.users }
+-- the entry that a request makes behind these. A script is one pass, so the index is the number of entries before it.
+abbrev pub entry_behind : Settings → List HistoryEntry → Request → HistoryEntry
+entry_behind config earlier request =
+    record { place = length earlier + 1; pass = 0; index = length earlier; request = request; verdict = verdict_of config earlier request }
+
+-- an ill-formed line makes none
+abbrev pub answered : Settings → List HistoryEntry → Result Request IllFormed → Answered
+answered config entries (Err fault) = record { answer = Bad fault; entries = entries }
+answered config entries (Ok request) = record { answer = Given (verdict_of config entries request); entries = entry_behind config entries request ∷ entries }
 
 abbrev pub after_answer : State → Answered → State
 after_answer state a = record {
   number = state.number + 1;
-  rows = a.rows;
-  users = a.users;
+  entries = a.entries;
   answers = state.answers ++ record { number = state.number + 1; answer = a.answer } ∷ [];
 }
 
 abbrev pub after_trimmed : State → List ℕ → State
 after_trimmed state line =
-    if is_skipped line then record { number = state.number + 1; rows = state.rows; users = state.users; answers = state.answers }
-    else after_answer state (answered state.rows state.users (request_of (words_of line)))
+    if is_skipped line then record { number = state.number + 1; entries = state.entries; answers = state.answers }
+    else after_answer state (answered standard state.entries (request_of (words_of line)))
 
 abbrev pub after_line : State → List ℕ → State
 after_line state line = after_trimmed state (without_return line)
 
--- who is there at first: the superuser `hdfs` and the supergroup `supergroup`
-abbrev pub opening_users : Principals
-opening_users = record { known = []; superuser = codes "hdfs"; supergroup = codes "supergroup" }
-
 abbrev pub opening : State
-opening = record { number = 0; rows = root_row opening_users.superuser opening_users.supergroup ∷ []; users = opening_users; answers = [] }
+opening = record { number = 0; entries = []; answers = [] }
 
 abbrev pub after_lines : List (List ℕ) → State
 after_lines lines = fold after_line opening lines

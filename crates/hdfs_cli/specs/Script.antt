@@ -9,11 +9,13 @@ use Rattle.hdfs_types.specs.Moment.{moment_of}
 use Rattle.hdfs_types.specs.Who.{is_who, who_of}
 use Rattle.hdfs_types.specs.Path.{path_of}
 use Rattle.hdfs_types.specs.Mode.{mode_of}
+use Rattle.hdfs_types.specs.Replication.{is_replication}
 use Rattle.hdfs_types.specs.declared.fault.IllFormed.{IllFormed}
 use Rattle.hdfs_types.specs.declared.fault.IllFormed.TheVariants.{BadLine, BadPath, BadName, BadMode, BadAcl}
 use Rattle.hdfs_types.specs.declared.op.Op.{Op}
 use Rattle.hdfs_types.specs.declared.op.Op.TheVariants as op
 use Rattle.hdfs_types.specs.declared.op.Request.{Request}
+use Rattle.hdfs_types.specs.declared.file.LastBlock.{LastBlock}
 use Rattle.hdfs_types.specs.declared.entry.Entry.{Entry}
 use Rattle.hdfs_types.specs.declared.fault.AclFault.{AclFault}
 use Rattle.hdfs_types.specs.declared.acl_change.AclChange.{AclChange}
@@ -40,9 +42,31 @@ path_word word = ok_or (path_of word) BadPath
 abbrev pub mode_word : List ℕ → Result ℕ IllFormed
 mode_word word = ok_or (mode_of word) BadMode
 
+abbrev pub replication_of : ℕ → Option ℕ
+replication_of replicas = if is_replication replicas then Some replicas else None
+
+-- how many replicas, in decimal digits
+abbrev pub replication_word : List ℕ → Result ℕ IllFormed
+replication_word word = ok_or (option_and_then replication_of (number_of word)) BadLine
+
+-- a number below 2^64, as of a block or of bytes
+abbrev pub number_word : List ℕ → Result ℕ IllFormed
+number_word word = ok_or (number_of word) BadLine
+
 -- whether a deletion is recursive, as the word behind its path says
 abbrev pub recursive_word : List ℕ → Result Bool IllFormed
 recursive_word word = if same word (codes "recursive") then Ok true else Err BadLine
+
+-- that what is made takes the place of a file, as the word behind the replication says
+abbrev pub over_word : List ℕ → Result Bool IllFormed
+over_word word = if same word (codes "over") then Ok true else Err BadLine
+
+-- which block the last one is, and how many bytes were written of it
+abbrev pub last_words : List ℕ → List ℕ → Result LastBlock IllFormed
+last_words block bytes = do
+  b ← number_word block
+  n ← number_word bytes
+  Ok (record { block = b; length = n })
 
 abbrev pub new_who_word : List ℕ → Result (Option (List ℕ)) IllFormed
 new_who_word word = do
@@ -187,6 +211,65 @@ set_groups_of user groups = do
   g ← groups_word groups
   Ok (op.SetGroups u g)
 
+abbrev pub create_of : List ℕ → List ℕ → List ℕ → Result Op IllFormed
+create_of path mode replication = do
+  p ← path_word path
+  m ← mode_word mode
+  r ← replication_word replication
+  Ok (op.Create p m r false)
+
+abbrev pub create_with : List ℕ → List ℕ → List ℕ → List ℕ → Result Op IllFormed
+create_with path mode replication over = do
+  p ← path_word path
+  m ← mode_word mode
+  r ← replication_word replication
+  o ← over_word over
+  Ok (op.Create p m r o)
+
+abbrev pub append_of : List ℕ → Result Op IllFormed
+append_of path = do
+  p ← path_word path
+  Ok (op.Append p)
+
+abbrev pub addblock_of : List ℕ → Result Op IllFormed
+addblock_of path = do
+  p ← path_word path
+  Ok (op.AddBlock p None)
+
+abbrev pub addblock_with : List ℕ → List ℕ → List ℕ → Result Op IllFormed
+addblock_with path block bytes = do
+  p ← path_word path
+  l ← last_words block bytes
+  Ok (op.AddBlock p (Some l))
+
+abbrev pub complete_of : List ℕ → Result Op IllFormed
+complete_of path = do
+  p ← path_word path
+  Ok (op.Complete p None)
+
+abbrev pub complete_with : List ℕ → List ℕ → List ℕ → Result Op IllFormed
+complete_with path block bytes = do
+  p ← path_word path
+  l ← last_words block bytes
+  Ok (op.Complete p (Some l))
+
+abbrev pub open_of : List ℕ → Result Op IllFormed
+open_of path = do
+  p ← path_word path
+  Ok (op.Open p)
+
+abbrev pub setrep_of : List ℕ → List ℕ → Result Op IllFormed
+setrep_of path replication = do
+  p ← path_word path
+  r ← replication_word replication
+  Ok (op.SetReplication p r)
+
+-- the operation that a verb alone says
+abbrev pub op_of_none : List ℕ → Option (Result Op IllFormed)
+op_of_none verb =
+    if same verb (codes "renew") then Some (Ok op.Renew) else
+    if same verb (codes "tick") then Some (Ok op.Tick) else None
+
 -- the operation that a verb and its one word say
 abbrev pub op_of_one : List ℕ → List ℕ → Option (Result Op IllFormed)
 op_of_one verb path =
@@ -194,7 +277,11 @@ op_of_one verb path =
     if same verb (codes "ls") then Some (ls_of path) else
     if same verb (codes "du") then Some (du_of path) else
     if same verb (codes "delete") then Some (delete_of path) else
-    if same verb (codes "getfacl") then Some (getfacl_of path) else None
+    if same verb (codes "getfacl") then Some (getfacl_of path) else
+    if same verb (codes "append") then Some (append_of path) else
+    if same verb (codes "addblock") then Some (addblock_of path) else
+    if same verb (codes "complete") then Some (complete_of path) else
+    if same verb (codes "open") then Some (open_of path) else None
 
 abbrev pub op_of_two : List ℕ → List ℕ → List ℕ → Option (Result Op IllFormed)
 op_of_two verb first second =
@@ -204,18 +291,28 @@ op_of_two verb first second =
     if same verb (codes "chmod") then Some (chmod_of first second) else
     if same verb (codes "adduser") then Some (adduser_of first second) else
     if same verb (codes "groups") then Some (set_groups_of first second) else
+    if same verb (codes "setrep") then Some (setrep_of first second) else
     if same verb (codes "setfacl") && not (wants_spec second) then Some (setfacl_of first second) else None
 
 abbrev pub op_of_three : List ℕ → List ℕ → List ℕ → List ℕ → Option (Result Op IllFormed)
 op_of_three verb first second third =
     if same verb (codes "chown") then Some (chown_of first second third) else
+    if same verb (codes "create") then Some (create_of first second third) else
+    if same verb (codes "addblock") then Some (addblock_with first second third) else
+    if same verb (codes "complete") then Some (complete_with first second third) else
     if same verb (codes "setfacl") && not (wants_none second) then Some (setfacl_with first second third) else None
+
+abbrev pub op_of_four : List ℕ → List ℕ → List ℕ → List ℕ → List ℕ → Option (Result Op IllFormed)
+op_of_four verb first second third fourth =
+    if same verb (codes "create") then Some (create_with first second third fourth) else None
 
 -- the operation that a verb and its words say; nothing where the verb is unknown or wants another number of words
 abbrev pub op_of : List ℕ → List (List ℕ) → Option (Result Op IllFormed)
+op_of verb [] = op_of_none verb
 op_of verb (word ∷ []) = op_of_one verb word
 op_of verb (first ∷ second ∷ []) = op_of_two verb first second
 op_of verb (first ∷ second ∷ third ∷ []) = op_of_three verb first second third
+op_of verb (first ∷ second ∷ third ∷ fourth ∷ []) = op_of_four verb first second third fourth
 op_of verb _ = None
 
 abbrev pub request_with : List ℕ → List ℕ → Option (Result Op IllFormed) → Result Request IllFormed

@@ -44,6 +44,14 @@ impl fmt::Display for Answer {
                 write!(f, "ok summary{summary}")
             }
             Answer::Given(Verdict::Done(Reply::Deleted(count))) => write!(f, "ok deleted {count}"),
+            Answer::Given(Verdict::Done(Reply::Released)) => write!(f, "ok released"),
+            Answer::Given(Verdict::Done(Reply::Closed(bytes))) => write!(f, "ok closed {bytes}"),
+            Answer::Given(Verdict::Done(Reply::Opened(bytes))) => write!(f, "ok open {bytes}"),
+            Answer::Given(Verdict::Done(Reply::Expired(files))) => {
+                let closed = files.closed;
+                let recovering = files.recovering;
+                write!(f, "ok closed {closed} recovering {recovering}")
+            }
             Answer::Given(Verdict::Denied(denial)) => write!(f, "denied {denial}"),
             Answer::Given(Verdict::Refused(refusal)) => write!(f, "refused {refusal}"),
         }

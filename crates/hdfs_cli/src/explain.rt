@@ -19,6 +19,7 @@ use flat_rows::trail::{Judged, trail};
 use hdfs_types::op::Request;
 use hdfs_types::path::Path;
 use inode_tree::tree::Tree;
+use name_core::namenode::NameCore;
 use std::alloc::{AllocError, Global};
 use std::io::{Read, Write};
 
@@ -81,6 +82,14 @@ pub(crate) fn rows_of(alloc: Global, tree: &Tree) -> Result<Rows, AllocError>
     Ok(Rows::from_vec(rows))
 }
 
+/// The needs of a request that are judged on what the core holds. Costs the whole namespace.
+fn trail_on(alloc: Global, core: &NameCore, request: &Request) -> Result<Vec<Judged>, AllocError>
+    ensures { IfOk result (λ needs. needs.items ≡ spec.trail_on core.now.config core.now.entries request.now) }
+{
+    let rows = rows_of(alloc, core.tree())?;
+    trail(alloc, &rows, core.users(), &request.caller, &request.op)
+}
+
 /// Runs the lines before a request, and prints its needs.
 fn explain_request(
     alloc: Global,
@@ -92,8 +101,7 @@ fn explain_request(
 {
     let mut session = Session::open(alloc)?;
     run_lines(alloc, &mut session, before)?;
-    let rows = rows_of(alloc, &session.tree)?;
-    let needs = trail(alloc, &rows, &session.users, &request.caller, &request.op)?;
+    let needs = trail_on(alloc, &session.core, request)?;
     Ok(Explanation {
         found: Explained::Trail(Status::by(session.has_bad)),
         text: text_of(alloc, &needs)?,

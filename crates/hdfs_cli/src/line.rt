@@ -7,11 +7,14 @@ use crate::acl_words::{bare_change, change_by, wants_none, wants_spec};
 use crate::groups_word::groups_word;
 use crate::words::{is_word, words_in};
 use hdfs_types::fault::{IllFormed, ParseFault};
+use hdfs_types::file::LastBlock;
+use hdfs_types::ids::BlockId;
 use hdfs_types::mode::Mode;
 use hdfs_types::moment::Moment;
 use hdfs_types::number::number_of;
 use hdfs_types::op::{Op, Request};
 use hdfs_types::path::Path;
+use hdfs_types::replication::Repl;
 use hdfs_types::who::Who;
 use std::alloc::{AllocError, Global};
 
@@ -45,6 +48,34 @@ fn mode_word(word: &str) -> Result<Mode, ParseFault>
     }
 }
 
+/// How many replicas a number says; `None` for 0 and above 16.
+fn replication_of(replicas: u64) -> Option<Repl>
+    ensures { result ≡ spec.replication_of replicas }
+{
+    if replicas > 16 {
+        return None;
+    }
+    Repl::new(replicas as u8)
+}
+
+fn replication_word(word: &str) -> Result<Repl, ParseFault>
+    ensures { Forms result (spec.replication_word word.now) }
+{
+    match number_of(word).and_then(replication_of) {
+        Some(replication) => Ok(replication),
+        None => Err(ParseFault::IllFormed(IllFormed::BadLine)),
+    }
+}
+
+fn number_word(word: &str) -> Result<u64, ParseFault>
+    ensures { Forms result (spec.number_word word.now) }
+{
+    match number_of(word) {
+        Some(number) => Ok(number),
+        None => Err(ParseFault::IllFormed(IllFormed::BadLine)),
+    }
+}
+
 /// Whether a deletion is recursive, as the word behind its path says.
 fn recursive_word(word: &str) -> Result<bool, ParseFault>
     ensures { Forms result (spec.recursive_word word.now) }
@@ -54,6 +85,26 @@ fn recursive_word(word: &str) -> Result<bool, ParseFault>
     } else {
         Err(ParseFault::IllFormed(IllFormed::BadLine))
     }
+}
+
+/// That what is made takes the place of a file, as the word behind the replication says.
+fn over_word(word: &str) -> Result<bool, ParseFault>
+    ensures { Forms result (spec.over_word word.now) }
+{
+    if is_word(word, "over") {
+        Ok(true)
+    } else {
+        Err(ParseFault::IllFormed(IllFormed::BadLine))
+    }
+}
+
+/// Which block the last one is, and how many bytes were written of it.
+fn last_words(block: &str, bytes: &str) -> Result<LastBlock, ParseFault>
+    ensures { Forms result (spec.last_words block.now bytes.now) }
+{
+    let block = BlockId::new(number_word(block)?);
+    let length = number_word(bytes)?;
+    Ok(LastBlock { block, length })
 }
 
 /// A new owner or group; `None` for the `-` that keeps the one that there is.
@@ -175,6 +226,95 @@ fn set_groups_of(alloc: Global, user: &str, groups: &str) -> Result<Op, ParseFau
     Ok(Op::SetGroups(user, groups))
 }
 
+fn create_of(alloc: Global, path: &str, mode: &str, replication: &str) -> Result<Op, ParseFault>
+    ensures { Forms result (spec.create_of path.now mode.now replication.now) }
+{
+    let path = path_word(alloc, path)?;
+    let mode = mode_word(mode)?;
+    let replication = replication_word(replication)?;
+    Ok(Op::Create(path, mode, replication, false))
+}
+
+fn create_with(
+    alloc: Global,
+    path: &str,
+    mode: &str,
+    replication: &str,
+    over: &str,
+) -> Result<Op, ParseFault>
+    ensures { Forms result (spec.create_with path.now mode.now replication.now over.now) }
+{
+    let path = path_word(alloc, path)?;
+    let mode = mode_word(mode)?;
+    let replication = replication_word(replication)?;
+    let over = over_word(over)?;
+    Ok(Op::Create(path, mode, replication, over))
+}
+
+fn append_of(alloc: Global, path: &str) -> Result<Op, ParseFault>
+    ensures { Forms result (spec.append_of path.now) }
+{
+    let path = path_word(alloc, path)?;
+    Ok(Op::Append(path))
+}
+
+fn addblock_of(alloc: Global, path: &str) -> Result<Op, ParseFault>
+    ensures { Forms result (spec.addblock_of path.now) }
+{
+    let path = path_word(alloc, path)?;
+    Ok(Op::AddBlock(path, None))
+}
+
+fn addblock_with(alloc: Global, path: &str, block: &str, bytes: &str) -> Result<Op, ParseFault>
+    ensures { Forms result (spec.addblock_with path.now block.now bytes.now) }
+{
+    let path = path_word(alloc, path)?;
+    let last = last_words(block, bytes)?;
+    Ok(Op::AddBlock(path, Some(last)))
+}
+
+fn complete_of(alloc: Global, path: &str) -> Result<Op, ParseFault>
+    ensures { Forms result (spec.complete_of path.now) }
+{
+    let path = path_word(alloc, path)?;
+    Ok(Op::Complete(path, None))
+}
+
+fn complete_with(alloc: Global, path: &str, block: &str, bytes: &str) -> Result<Op, ParseFault>
+    ensures { Forms result (spec.complete_with path.now block.now bytes.now) }
+{
+    let path = path_word(alloc, path)?;
+    let last = last_words(block, bytes)?;
+    Ok(Op::Complete(path, Some(last)))
+}
+
+fn open_of(alloc: Global, path: &str) -> Result<Op, ParseFault>
+    ensures { Forms result (spec.open_of path.now) }
+{
+    let path = path_word(alloc, path)?;
+    Ok(Op::Open(path))
+}
+
+fn setrep_of(alloc: Global, path: &str, replication: &str) -> Result<Op, ParseFault>
+    ensures { Forms result (spec.setrep_of path.now replication.now) }
+{
+    let path = path_word(alloc, path)?;
+    let replication = replication_word(replication)?;
+    Ok(Op::SetReplication(path, replication))
+}
+
+fn op_of_none(verb: &str) -> Option<Result<Op, ParseFault>>
+    ensures { FormsOption result (spec.op_of_none verb.now) }
+{
+    if is_word(verb, "renew") {
+        Some(Ok(Op::Renew))
+    } else if is_word(verb, "tick") {
+        Some(Ok(Op::Tick))
+    } else {
+        None
+    }
+}
+
 fn op_of_one(alloc: Global, verb: &str, path: &str) -> Option<Result<Op, ParseFault>>
     ensures { FormsOption result (spec.op_of_one verb.now path.now) }
 {
@@ -188,6 +328,14 @@ fn op_of_one(alloc: Global, verb: &str, path: &str) -> Option<Result<Op, ParseFa
         Some(delete_of(alloc, path))
     } else if is_word(verb, "getfacl") {
         Some(getfacl_of(alloc, path))
+    } else if is_word(verb, "append") {
+        Some(append_of(alloc, path))
+    } else if is_word(verb, "addblock") {
+        Some(addblock_of(alloc, path))
+    } else if is_word(verb, "complete") {
+        Some(complete_of(alloc, path))
+    } else if is_word(verb, "open") {
+        Some(open_of(alloc, path))
     } else {
         None
     }
@@ -208,6 +356,8 @@ fn op_of_two(alloc: Global, verb: &str, first: &str, second: &str) -> Option<Res
         Some(adduser_of(alloc, first, second))
     } else if is_word(verb, "groups") {
         Some(set_groups_of(alloc, first, second))
+    } else if is_word(verb, "setrep") {
+        Some(setrep_of(alloc, first, second))
     } else if is_word(verb, "setfacl") && !wants_spec(second) {
         Some(setfacl_of(alloc, first, second))
     } else {
@@ -226,8 +376,31 @@ fn op_of_three(
 {
     if is_word(verb, "chown") {
         Some(chown_of(alloc, first, second, third))
+    } else if is_word(verb, "create") {
+        Some(create_of(alloc, first, second, third))
+    } else if is_word(verb, "addblock") {
+        Some(addblock_with(alloc, first, second, third))
+    } else if is_word(verb, "complete") {
+        Some(complete_with(alloc, first, second, third))
     } else if is_word(verb, "setfacl") && !wants_none(second) {
         Some(setfacl_with(alloc, first, second, third))
+    } else {
+        None
+    }
+}
+
+fn op_of_four(
+    alloc: Global,
+    verb: &str,
+    first: &str,
+    second: &str,
+    third: &str,
+    fourth: &str,
+) -> Option<Result<Op, ParseFault>>
+    ensures { FormsOption result (spec.op_of_four verb.now first.now second.now third.now fourth.now) }
+{
+    if is_word(verb, "create") {
+        Some(create_with(alloc, first, second, third, fourth))
     } else {
         None
     }
@@ -238,9 +411,11 @@ fn op_of(alloc: Global, verb: &str, words: &[&str]) -> Option<Result<Op, ParseFa
     ensures { FormsOption result (spec.op_of verb.now (map (λ word. word.now) words.now)) }
 {
     match words {
+        [] => op_of_none(verb),
         [word] => op_of_one(alloc, verb, word),
         [first, second] => op_of_two(alloc, verb, first, second),
         [first, second, third] => op_of_three(alloc, verb, first, second, third),
+        [first, second, third, fourth] => op_of_four(alloc, verb, first, second, third, fourth),
         _ => None,
     }
 }

@@ -2,7 +2,6 @@ ghost use Rattle.std.specs.Prelude.{◌≡◌, ◌≢◌, ◌+◌, ◌<◌, ◌^
 ghost use Rattle.std.specs.Io.KnownBytes.{Appends, Keeps};
 ghost use Rattle.std.specs.String.{string_bytes};
 ghost use Rattle.std.specs.Str.{IsUtf8};
-ghost use Rattle.hdfs_types.specs.Who.{IsWho};
 ghost use Rattle.hdfs_cli.specs.AnswerText.{answer_line};
 ghost use Rattle.hdfs_cli.specs.Channel.{AppendsFront};
 ghost use Rattle.hdfs_cli.specs.Output as spec;
@@ -15,11 +14,11 @@ use crate::answer::Answer;
 use crate::channel::{ReadFault, read_all, write_text};
 use crate::line::read_line;
 use crate::words::{is_skipped, pieces_between, without_return};
-use fs_operations::apply::apply;
-use hdfs_types::fault::ParseFault;
-use hdfs_types::who::Who;
-use inode_tree::tree::Tree;
-use principals::users::Users;
+use flat_rows::verdict::Verdict;
+use hdfs_types::op::Request;
+use history::config::Config;
+use history::entry;
+use name_core::namenode::NameCore;
 use std::alloc::{AllocError, Global};
 use std::io::{Read, Write};
 
@@ -53,18 +52,30 @@ pub enum ScriptFault {
     CannotWrite,
 }
 
-/// The answer to a line. Where memory runs out the namespace and the users stay as they were.
-fn answer_to(
-    alloc: Global,
-    tree: &mut Tree,
-    users: &mut Users,
-    line: &str,
-) -> Result<Answer, AllocError>
-    ensures ok { IfOk result (λ answer. record { answer = answer; rows = tree.new; users = users.new } ≡ spec.answered tree.old users.old (request_said (words.words_of line.now))) }
-    ensures err { OnErr result ((tree.new ≡ tree.old) × (users.new ≡ users.old)) }
+fn verdict_in(answer: entry::Answer) -> Verdict
+    ensures { result ≡ answer.verdict }
+{
+    answer.verdict
+}
+
+/// The verdict on a request, which makes one entry more. Where memory runs out the core stays as it was.
+pub(crate) fn step(core: &mut NameCore, request: &Request) -> Result<Verdict, AllocError>
+    ensures ok { IfOk result (λ verdict. record { answer = Answer.Given verdict; entries = core.new.entries } ≡ spec.answered core.old.config core.old.entries (Ok request.now)) }
+    ensures config { core.new.config ≡ core.old.config }
+    ensures err { OnErr result (core.new ≡ core.old) }
+{
+    let index = core.place();
+    Ok(verdict_in(core.step(0, index, request)?))
+}
+
+/// The answer to a line. Where memory runs out the core stays as it was.
+fn answer_to(alloc: Global, core: &mut NameCore, line: &str) -> Result<Answer, AllocError>
+    ensures ok { IfOk result (λ answer. record { answer = answer; entries = core.new.entries } ≡ spec.answered core.old.config core.old.entries (request_said (words.words_of line.now))) }
+    ensures config { core.new.config ≡ core.old.config }
+    ensures err { OnErr result (core.new ≡ core.old) }
 {
     match read_line(alloc, line)? {
-        Ok(request) => Ok(Answer::Given(apply(alloc, tree, users, &request)?)),
+        Ok(request) => Ok(Answer::Given(step(core, &request)?)),
         Err(fault) => Ok(Answer::Bad(fault)),
     }
 }
@@ -73,11 +84,11 @@ fn answer_to(
 /// no contract says what a failed `write!` leaves of the text that it was to go on with.
 fn print_answer(
     number: usize,
-    answer: &Answer,
+    answer: Answer,
     line: &mut String,
     out: &mut String,
 ) -> Result<(), AllocError>
-    ensures ok { OnOk result (string_bytes out.new ≡ string_bytes out.old ++ answer_line number answer.now) }
+    ensures ok { OnOk result (string_bytes out.new ≡ string_bytes out.old ++ answer_line number answer) }
     ensures err { OnErr result (string_bytes out.new ≡ string_bytes out.old) }
 {
     line.clear();
@@ -85,11 +96,10 @@ fn print_answer(
     out.push_str(line.as_str())
 }
 
-/// A script that is being run: the namespace, the lines so far, and what they print.
+/// A script that is being run: the NameNode, the lines so far, and what they print.
 #[derive(Drop)]
 pub(crate) struct Session {
-    pub(crate) tree: Tree,
-    pub(crate) users: Users,
+    pub(crate) core: NameCore,
     /// How many lines were run.
     number: usize,
     /// Whether one of them was ill-formed.
@@ -100,16 +110,12 @@ pub(crate) struct Session {
 }
 
 impl Session {
-    /// The root alone, of the superuser `hdfs` and the supergroup `supergroup`.
+    /// A NameNode that has answered nothing.
     pub(crate) fn open(alloc: Global) -> Result<Session, AllocError>
         ensures { IfOk result (Shows spec.opening) }
     {
-        let superuser = known_who(alloc, "hdfs")?;
-        let supergroup = known_who(alloc, "supergroup")?;
-        let tree = Tree::new(alloc, superuser.clone()?, supergroup.clone()?);
         Ok(Session {
-            tree,
-            users: Users::new(alloc, superuser, supergroup),
+            core: NameCore::open(alloc, Config::standard())?,
             number: 0,
             has_bad: false,
             out: String::new(alloc),
@@ -129,22 +135,11 @@ impl Session {
         if is_skipped(line) {
             return Ok(());
         }
-        let answer = answer_to(alloc, &mut self.tree, &mut self.users, line)?;
-        print_answer(self.number, &answer, &mut self.line, &mut self.out)?;
-        self.has_bad = self.has_bad || answer.is_bad();
+        let answer = answer_to(alloc, &mut self.core, line)?;
+        let is_bad = answer.is_bad();
+        print_answer(self.number, answer, &mut self.line, &mut self.out)?;
+        self.has_bad = self.has_bad || is_bad;
         Ok(())
-    }
-}
-
-/// A name that is known to be well-formed.
-fn known_who(alloc: Global, text: &str) -> Result<Who, AllocError>
-    requires { IsWho text.now }
-    ensures { IfOk result (λ who. who ≡ text.now) }
-{
-    match Who::parse(alloc, text) {
-        Ok(who) => Ok(who),
-        Err(ParseFault::IllFormed(_)) => unreachable!(),
-        Err(ParseFault::OutOfMemory) => Err(AllocError),
     }
 }
 
@@ -164,7 +159,7 @@ pub(crate) fn run_lines(
     Ok(())
 }
 
-/// Runs a script from the opening of a namespace. An `Err` leaves what its lines before the one that failed print.
+/// Runs a script on a NameNode that has answered nothing. An `Err` leaves what its lines before the one that failed print.
 fn run_text(alloc: Global, session: &mut Session, script: &str) -> Result<Status, AllocError>
     requires { Shows spec.opening session.old }
     ensures ok { OnOk result (string_bytes session.new.out ≡ spec.output_of script.now) }

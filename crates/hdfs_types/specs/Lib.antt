@@ -3,6 +3,8 @@ pub mod Faults
 pub mod Parsed
 pub mod Entry
 pub mod Request
+pub mod Replication
+pub mod File
 pub mod Reply
 pub mod AclStatus
 pub mod Name

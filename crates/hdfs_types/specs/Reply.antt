@@ -1,5 +1,5 @@
 -- The codes and the texts of replies and refusals.
-use Rattle.std.specs.Prelude.{ℕ, Bool, true, false, List, [], ◌∷◌, ◌++◌, codes}
+use Rattle.std.specs.Prelude.{ℕ, Bool, true, false, List, [], ◌∷◌, ◌++◌, Option, Some, None, codes}
 use Rattle.std.specs.Fmt.{decimal}
 use Rattle.std.specs.List.{flat_map}
 use Rattle.hdfs_types.specs.Mode.{mode_text}
@@ -8,10 +8,12 @@ use Rattle.hdfs_types.specs.AclStatus.{AclStatusParts}
 use Rattle.hdfs_types.specs.Faults.{acl_fault_text}
 use Rattle.hdfs_types.specs.declared.reply.ObjectKind.{ObjectKind}
 use Rattle.hdfs_types.specs.declared.reply.ObjectKind.TheVariants.{File, Directory}
+use Rattle.hdfs_types.specs.File.{detail_text}
+use Rattle.hdfs_types.specs.declared.file.FileDetail.{FileDetail}
 use Rattle.hdfs_types.specs.declared.reply.FileStatus.{FileStatus}
 use Rattle.hdfs_types.specs.declared.reply.ContentSummary.{ContentSummary}
 use Rattle.hdfs_types.specs.declared.reply.Refusal.{Refusal}
-use Rattle.hdfs_types.specs.declared.reply.Refusal.TheVariants.{BadPath, NotFound, NotDirectory, Exists, NotEmpty, IsRoot, UnderItself, BadAcl, TooManyEntries, BadName}
+use Rattle.hdfs_types.specs.declared.reply.Refusal.TheVariants.{BadPath, NotFound, NotDirectory, IsDirectory, Exists, NotEmpty, IsRoot, UnderItself, BadAcl, TooManyEntries, LeaseHeld, RecoveryRunning, NoLease, NotOpen, NotYetReplicated, TooFewNodes, BadName}
 
 abbrev pub object_kind_text : ObjectKind → List ℕ
 object_kind_text File = codes "file"
@@ -22,9 +24,13 @@ abbrev pub acl_mark : Bool → List ℕ
 acl_mark true = codes "+"
 acl_mark false = []
 
+abbrev pub file_text : Option FileDetail → List ℕ
+file_text (Some detail) = detail_text detail
+file_text None = []
+
 abbrev pub status_text : FileStatus → List ℕ
 status_text status =
-    object_kind_text status.kind ++ (32 ∷ (mode_text status.mode ++ (acl_mark status.has_acl ++ (32 ∷ (status.owner ++ (32 ∷ status.group))))))
+    object_kind_text status.kind ++ (32 ∷ (mode_text status.mode ++ (acl_mark status.has_acl ++ (32 ∷ (status.owner ++ (32 ∷ (status.group ++ file_text status.file)))))))
 
 abbrev pub acl_status_text : AclStatusParts → List ℕ
 acl_status_text status = status.owner ++ (32 ∷ (status.group ++ (32 ∷ status.spec)))
@@ -40,22 +46,36 @@ abbrev pub refusal_code : Refusal → ℕ
 refusal_code BadPath = 1
 refusal_code NotFound = 2
 refusal_code (NotDirectory file) = 3
+refusal_code IsDirectory = 4
 refusal_code Exists = 5
 refusal_code NotEmpty = 6
 refusal_code IsRoot = 7
 refusal_code UnderItself = 8
 refusal_code (BadAcl fault) = 9
 refusal_code TooManyEntries = 10
+refusal_code (LeaseHeld client) = 11
+refusal_code RecoveryRunning = 12
+refusal_code NoLease = 13
+refusal_code NotOpen = 14
+refusal_code NotYetReplicated = 15
+refusal_code TooFewNodes = 16
 refusal_code BadName = 19
 
 abbrev pub refusal_text : Refusal → List ℕ
 refusal_text BadPath = codes "1 BadPath"
 refusal_text NotFound = codes "2 NotFound"
 refusal_text (NotDirectory file) = codes "3 NotDirectory " ++ path_text file
+refusal_text IsDirectory = codes "4 IsDirectory"
 refusal_text Exists = codes "5 Exists"
 refusal_text NotEmpty = codes "6 NotEmpty"
 refusal_text IsRoot = codes "7 IsRoot"
 refusal_text UnderItself = codes "8 UnderItself"
 refusal_text (BadAcl fault) = codes "9 BadAcl " ++ acl_fault_text fault
 refusal_text TooManyEntries = codes "10 TooManyEntries"
+refusal_text (LeaseHeld client) = codes "11 LeaseHeld " ++ client
+refusal_text RecoveryRunning = codes "12 RecoveryRunning"
+refusal_text NoLease = codes "13 NoLease"
+refusal_text NotOpen = codes "14 NotOpen"
+refusal_text NotYetReplicated = codes "15 NotYetReplicated"
+refusal_text TooFewNodes = codes "16 TooFewNodes"
 refusal_text BadName = codes "19 BadName"

@@ -32,6 +32,37 @@ impl BlockId {
     }
 }
 
+/// The generation stamp of a block: the newest is that of the last time that the block was begun or recovered (HDFS
+/// Architecture, "Data Blocks").
+#[derive(Clone, Copy, Debug, PartialEq, Eq, PartialOrd, Ord)]
+pub struct Stamp {
+    number: u64,
+}
+
+impl Model for Stamp {
+    ghost use Rattle.std.specs.Prelude.{ℕ};
+
+    ghost Value = { ℕ };
+
+    ghost view = { λ stamp. stamp.number };
+
+    ghost inverse = { λ number. record { number = number } };
+}
+
+impl Stamp {
+    pub fn new(number: u64) -> Stamp
+        ensures { result ≡ number }
+    {
+        Stamp { number }
+    }
+
+    pub fn get(self) -> u64
+        ensures { result ≡ self }
+    {
+        self.number
+    }
+}
+
 /// The serial number of a key under which tokens are issued.
 #[derive(Clone, Copy, Debug, PartialEq, Eq, PartialOrd, Ord)]
 pub struct Serial {

@@ -5,6 +5,7 @@
 pub mod acl_change;
 pub mod entry;
 pub mod fault;
+pub mod file;
 pub mod groups;
 pub mod ids;
 pub mod mode;
@@ -15,6 +16,7 @@ pub mod node_id;
 pub mod number;
 pub mod op;
 pub mod path;
+pub mod replication;
 pub mod reply;
 pub mod rights;
 pub mod spec;

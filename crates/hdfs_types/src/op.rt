@@ -2,10 +2,12 @@ ghost use Rattle.std.specs.Prelude.{◌≡◌, IfOk};
 ghost use Rattle.hdfs_types.specs.Request as spec;
 
 use crate::acl_change::AclChange;
+use crate::file::LastBlock;
 use crate::groups::Groups;
 use crate::mode::Mode;
 use crate::moment::Moment;
 use crate::path::Path;
+use crate::replication::Repl;
 use crate::who::Who;
 use std::alloc::AllocError;
 
@@ -36,6 +38,23 @@ pub enum Op {
     AddUser(Who, Groups),
     /// Gives a known user these groups, instead of those that it had.
     SetGroups(Who, Groups),
+    /// Makes a file of this mode and replication, and the missing directories above it, and opens it for the caller to write;
+    /// whether a file that has the path is deleted first.
+    Create(Path, Mode, Repl, bool),
+    /// Opens a file for the caller to write behind its end.
+    Append(Path),
+    /// Asks for a new block at the end of a file that the caller writes, with what was written of the last one.
+    AddBlock(Path, Option<LastBlock>),
+    /// Closes a file that the caller writes, with what was written of its last block.
+    Complete(Path, Option<LastBlock>),
+    /// Asks for the blocks of a file, to read them.
+    Open(Path),
+    /// Gives a file another replication.
+    SetReplication(Path, Repl),
+    /// Renews the caller's lease.
+    Renew,
+    /// Closes the files of all clients whose leases are past the hard limit.
+    Tick,
 }
 
 /// A copy of a name that may be left out.
@@ -69,6 +88,18 @@ impl Clone for Op {
             Op::SetAcl(path, change) => Ok(Op::SetAcl(path.clone()?, change.clone()?)),
             Op::AddUser(user, groups) => Ok(Op::AddUser(user.clone()?, groups.clone()?)),
             Op::SetGroups(user, groups) => Ok(Op::SetGroups(user.clone()?, groups.clone()?)),
+            Op::Create(path, mode, replication, over) => {
+                Ok(Op::Create(path.clone()?, *mode, *replication, *over))
+            }
+            Op::Append(path) => Ok(Op::Append(path.clone()?)),
+            Op::AddBlock(path, last) => Ok(Op::AddBlock(path.clone()?, *last)),
+            Op::Complete(path, last) => Ok(Op::Complete(path.clone()?, *last)),
+            Op::Open(path) => Ok(Op::Open(path.clone()?)),
+            Op::SetReplication(path, replication) => {
+                Ok(Op::SetReplication(path.clone()?, *replication))
+            }
+            Op::Renew => Ok(Op::Renew),
+            Op::Tick => Ok(Op::Tick),
         }
     }
 }
@@ -107,6 +138,42 @@ pub fn is_look(op: &Op) -> bool
         | Op::SetOwner(_, _, _)
         | Op::SetAcl(_, _)
         | Op::AddUser(_, _)
-        | Op::SetGroups(_, _) => false,
+        | Op::SetGroups(_, _)
+        | Op::Create(_, _, _, _)
+        | Op::Append(_)
+        | Op::AddBlock(_, _)
+        | Op::Complete(_, _)
+        | Op::Open(_)
+        | Op::SetReplication(_, _)
+        | Op::Renew
+        | Op::Tick => false,
+    }
+}
+
+/// Whether the operation neither asks who has which file open to write, nor changes it. Takes no memory.
+pub fn keeps_leases(op: &Op) -> bool
+    ensures { result ≡ spec.keeps_leases op.now }
+{
+    match op {
+        Op::Create(_, _, _, _)
+        | Op::Append(_)
+        | Op::AddBlock(_, _)
+        | Op::Complete(_, _)
+        | Op::Delete(_, _)
+        | Op::Renew
+        | Op::Tick => false,
+        Op::SetAcl(_, _)
+        | Op::Stat(_)
+        | Op::List(_)
+        | Op::Summary(_)
+        | Op::GetAcl(_)
+        | Op::Mkdirs(_, _)
+        | Op::Rename(_, _)
+        | Op::SetMode(_, _)
+        | Op::SetOwner(_, _, _)
+        | Op::AddUser(_, _)
+        | Op::SetGroups(_, _)
+        | Op::Open(_)
+        | Op::SetReplication(_, _) => true,
     }
 }

@@ -1,11 +1,13 @@
-ghost use Rattle.std.specs.Prelude.{◌≡◌, Some};
+ghost use Rattle.std.specs.Prelude.{◌≡◌, Some, IfOk};
 ghost use Rattle.std.specs.String.{string_bytes};
 
 use crate::fault::AclFault;
+use crate::file::FileDetail;
 use crate::mode::Mode;
 use crate::name::Name;
 use crate::path::Path;
 use crate::who::Who;
+use std::alloc::AllocError;
 use std::fmt;
 use std::marker::Model;
 
@@ -24,10 +26,37 @@ pub struct FileStatus {
     pub has_acl: bool,
     pub owner: Who,
     pub group: Who,
+    /// What is told of a file alone; `None` for a directory.
+    pub file: Option<FileDetail>,
+}
+
+/// A copy of what is told of a file; of a directory nothing is.
+fn copied(detail: &Option<FileDetail>) -> Result<Option<FileDetail>, AllocError>
+    ensures { IfOk result (λ copy. copy ≡ detail.now) }
+{
+    match detail {
+        Some(detail) => Ok(Some(detail.clone()?)),
+        None => Ok(None),
+    }
+}
+
+impl Clone for FileStatus {
+    ghost is_clone = { λ status copy. copy ≡ status };
+
+    fn clone(&self) -> Result<FileStatus, AllocError> {
+        Ok(FileStatus {
+            kind: self.kind,
+            mode: self.mode,
+            has_acl: self.has_acl,
+            owner: self.owner.clone()?,
+            group: self.group.clone()?,
+            file: copied(&self.file)?,
+        })
+    }
 }
 
 /// Prints `dir` or `file`, and then mode, owner and group, each behind a blank; and right behind the mode a `+` where an access
-/// list stands behind it, as `ls` does (HDFS Permissions Guide, "ACLs (Access Control Lists)").
+/// list stands behind it, as `ls` does; behind those of a file its replication, length and state (HDFS Permissions Guide, "ACLs (Access Control Lists)").
 impl fmt::Display for FileStatus {
     ghost use Rattle.hdfs_types.specs.Reply.{status_text};
 
@@ -38,9 +67,13 @@ impl fmt::Display for FileStatus {
         let owner = &self.owner;
         let group = &self.group;
         let mark = if self.has_acl { "+" } else { "" };
-        match self.kind {
-            ObjectKind::File => write!(f, "file {mode}{mark} {owner} {group}"),
-            ObjectKind::Directory => write!(f, "dir {mode}{mark} {owner} {group}"),
+        let kind = match self.kind {
+            ObjectKind::File => "file",
+            ObjectKind::Directory => "dir",
+        };
+        match &self.file {
+            Some(detail) => write!(f, "{kind} {mode}{mark} {owner} {group}{detail}"),
+            None => write!(f, "{kind} {mode}{mark} {owner} {group}"),
         }
     }
 }
@@ -71,6 +104,16 @@ impl Names {
         ensures { result.now ≡ self.now }
     {
         &self.list
+    }
+}
+
+impl Clone for Names {
+    ghost is_clone = { λ names copy. copy ≡ names };
+
+    fn clone(&self) -> Result<Names, AllocError> {
+        Ok(Names {
+            list: self.list.clone()?,
+        })
     }
 }
 
@@ -156,6 +199,18 @@ impl AclStatus {
     }
 }
 
+impl Clone for AclStatus {
+    ghost is_clone = { λ status copy. copy ≡ status };
+
+    fn clone(&self) -> Result<AclStatus, AllocError> {
+        Ok(AclStatus {
+            owner: self.owner.clone()?,
+            group: self.group.clone()?,
+            spec: self.spec.clone()?,
+        })
+    }
+}
+
 /// Prints owner, group and entries, with a blank between each two.
 impl fmt::Display for AclStatus {
     ghost use Rattle.hdfs_types.specs.Reply.{acl_status_text};
@@ -170,6 +225,13 @@ impl fmt::Display for AclStatus {
     }
 }
 
+/// How many files `tick` has closed, and of how many it has begun to recover the last block.
+#[derive(Clone, Copy, Debug, PartialEq, Eq)]
+pub struct Expired {
+    pub closed: u64,
+    pub recovering: u64,
+}
+
 /// What the NameNode answers to a request that it has done.
 #[derive(Debug, Drop)]
 pub enum Reply {
@@ -182,6 +244,32 @@ pub enum Reply {
     Summary(ContentSummary),
     /// How many files and directories were deleted.
     Deleted(u64),
+    /// The file was taken from a client whose lease is past a limit, and closed; to write it the caller asks again.
+    Released,
+    /// The file is closed and holds so many bytes.
+    Closed(u64),
+    /// The file holds so many bytes.
+    Opened(u64),
+    Expired(Expired),
+}
+
+impl Clone for Reply {
+    ghost is_clone = { λ reply copy. copy ≡ reply };
+
+    fn clone(&self) -> Result<Reply, AllocError> {
+        match self {
+            Reply::Empty => Ok(Reply::Empty),
+            Reply::Status(status) => Ok(Reply::Status(status.clone()?)),
+            Reply::Acl(status) => Ok(Reply::Acl(status.clone()?)),
+            Reply::Names(names) => Ok(Reply::Names(names.clone()?)),
+            Reply::Summary(summary) => Ok(Reply::Summary(*summary)),
+            Reply::Deleted(count) => Ok(Reply::Deleted(*count)),
+            Reply::Released => Ok(Reply::Released),
+            Reply::Closed(bytes) => Ok(Reply::Closed(*bytes)),
+            Reply::Opened(bytes) => Ok(Reply::Opened(*bytes)),
+            Reply::Expired(expired) => Ok(Reply::Expired(*expired)),
+        }
+    }
 }
 
 /// Why the NameNode doesn't do what no missing right forbids: the state of the namespace stands against it.
@@ -193,6 +281,8 @@ pub enum Refusal {
     NotFound,
     /// This file stands above the path: code 3.
     NotDirectory(Path),
+    /// A directory has that path: code 4.
+    IsDirectory,
     /// Something has that path, or a user that name: code 5.
     Exists,
     /// The directory holds something: code 6.
@@ -205,8 +295,46 @@ pub enum Refusal {
     BadAcl(AclFault),
     /// More entries would stand in a scope of an access control list than may: code 10.
     TooManyEntries,
+    /// This client has the file open: code 11.
+    LeaseHeld(Who),
+    /// The last block of the file is recovered: code 12.
+    RecoveryRunning,
+    /// The caller has no lease, or another client has the file open: code 13.
+    NoLease,
+    /// No client has the file open: code 14.
+    NotOpen,
+    /// The last block isn't the one that is stated, or no DataNode has reported it so: code 15.
+    NotYetReplicated,
+    /// No DataNode is live that could hold the block: code 16.
+    TooFewNodes,
     /// That name is a DataNode's: code 19.
     BadName,
+}
+
+impl Clone for Refusal {
+    ghost is_clone = { λ refusal copy. copy ≡ refusal };
+
+    fn clone(&self) -> Result<Refusal, AllocError> {
+        match self {
+            Refusal::BadPath => Ok(Refusal::BadPath),
+            Refusal::NotFound => Ok(Refusal::NotFound),
+            Refusal::NotDirectory(file) => Ok(Refusal::NotDirectory(file.clone()?)),
+            Refusal::IsDirectory => Ok(Refusal::IsDirectory),
+            Refusal::Exists => Ok(Refusal::Exists),
+            Refusal::NotEmpty => Ok(Refusal::NotEmpty),
+            Refusal::IsRoot => Ok(Refusal::IsRoot),
+            Refusal::UnderItself => Ok(Refusal::UnderItself),
+            Refusal::BadAcl(fault) => Ok(Refusal::BadAcl(*fault)),
+            Refusal::TooManyEntries => Ok(Refusal::TooManyEntries),
+            Refusal::LeaseHeld(client) => Ok(Refusal::LeaseHeld(client.clone()?)),
+            Refusal::RecoveryRunning => Ok(Refusal::RecoveryRunning),
+            Refusal::NoLease => Ok(Refusal::NoLease),
+            Refusal::NotOpen => Ok(Refusal::NotOpen),
+            Refusal::NotYetReplicated => Ok(Refusal::NotYetReplicated),
+            Refusal::TooFewNodes => Ok(Refusal::TooFewNodes),
+            Refusal::BadName => Ok(Refusal::BadName),
+        }
+    }
 }
 
 impl Refusal {
@@ -220,12 +348,19 @@ impl Refusal {
             Refusal::BadPath => 1,
             Refusal::NotFound => 2,
             Refusal::NotDirectory(_) => 3,
+            Refusal::IsDirectory => 4,
             Refusal::Exists => 5,
             Refusal::NotEmpty => 6,
             Refusal::IsRoot => 7,
             Refusal::UnderItself => 8,
             Refusal::BadAcl(_) => 9,
             Refusal::TooManyEntries => 10,
+            Refusal::LeaseHeld(_) => 11,
+            Refusal::RecoveryRunning => 12,
+            Refusal::NoLease => 13,
+            Refusal::NotOpen => 14,
+            Refusal::NotYetReplicated => 15,
+            Refusal::TooFewNodes => 16,
             Refusal::BadName => 19,
         }
     }
@@ -242,12 +377,19 @@ impl fmt::Display for Refusal {
             Refusal::BadPath => write!(f, "1 BadPath"),
             Refusal::NotFound => write!(f, "2 NotFound"),
             Refusal::NotDirectory(file) => write!(f, "3 NotDirectory {file}"),
+            Refusal::IsDirectory => write!(f, "4 IsDirectory"),
             Refusal::Exists => write!(f, "5 Exists"),
             Refusal::NotEmpty => write!(f, "6 NotEmpty"),
             Refusal::IsRoot => write!(f, "7 IsRoot"),
             Refusal::UnderItself => write!(f, "8 UnderItself"),
             Refusal::BadAcl(fault) => write!(f, "9 BadAcl {fault}"),
             Refusal::TooManyEntries => write!(f, "10 TooManyEntries"),
+            Refusal::LeaseHeld(client) => write!(f, "11 LeaseHeld {client}"),
+            Refusal::RecoveryRunning => write!(f, "12 RecoveryRunning"),
+            Refusal::NoLease => write!(f, "13 NoLease"),
+            Refusal::NotOpen => write!(f, "14 NotOpen"),
+            Refusal::NotYetReplicated => write!(f, "15 NotYetReplicated"),
+            Refusal::TooFewNodes => write!(f, "16 TooFewNodes"),
             Refusal::BadName => write!(f, "19 BadName"),
         }
     }

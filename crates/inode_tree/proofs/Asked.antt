@@ -5,6 +5,8 @@ use Rattle.std.specs.List.{filter, list_all}
 use Rattle.std.specs.Option.{option_map}
 use Rattle.hdfs_types.specs.Path.{is_path, IsPath}
 use Rattle.flat_rows.specs.declared.row.Row.{Row}
+use Rattle.flat_rows.specs.Files.{told_length, holders}
+use Rattle.flat_rows.specs.Outcome.{bytes_in}
 use Rattle.flat_rows.specs.First.{first}
 use Rattle.flat_rows.specs.Rows.{is_directory}
 use Rattle.flat_rows.specs.Namespace.{is_ascending}
@@ -17,10 +19,11 @@ use Rattle.inode_tree.specs.Tree.{IsTree}
 use Rattle.inode_tree.specs.Visits.{told, counts_of}
 use Rattle.inode_tree.specs.declared.visit.Counts.{Counts}
 use Rattle.inode_tree.proofs.Filters.{filter-map, inside}
+use Rattle.inode_tree.proofs.Visits.{bytes_map, holders_map}
 use Rattle.inode_tree.proofs.Children.{part_ascending, child_names_whole}
 
-abbrev made : ℕ → ℕ → Counts
-made directories files = record { directories = told directories; files = told files }
+abbrev made : ℕ → ℕ → ℕ → Counts
+made directories files bytes = record { directories = told directories; files = told files; bytes = told_length bytes }
 
 first_placed : (path : List (List ℕ)) (rs : List Row) → first (map (placed path) rs) ≡ option_map (placed path) (first rs)
 first_placed path [] = refl
@@ -53,8 +56,12 @@ module _ (names path : List (List ℕ)) (is : names ≡ path) (root : Branch) (a
 
   pub counts_there : counts_of (rows_or o) ≡ counts_of (rows_under path all)
   counts_there =
-      ap (λ n. made n (length (filter (λ row. not (is_directory row)) (rows_or o)))) (number is_directory (λ row. refl))
-      ∙ ap (made (length (filter is_directory (rows_under path all)))) (number (λ row. not (is_directory row)) (λ row. refl))
+      ap (λ n. made n (length (filter (λ row. not (is_directory row)) (rows_or o))) (bytes_in (rows_or o))) (number is_directory (λ row. refl))
+      ∙ ap (λ n. made (length (filter is_directory (rows_under path all))) n (bytes_in (rows_or o))) (number (λ row. not (is_directory row)) (λ row. refl))
+      ∙ ap (made (length (filter is_directory (rows_under path all))) (length (filter (λ row. not (is_directory row)) (rows_under path all)))) (sym (ap bytes_in under ∙ bytes_map (placed path) (λ row. refl) (rows_or o)))
+
+  pub holders_there : holders (rows_or o) ≡ holders (rows_under path all)
+  holders_there = sym (ap holders under ∙ holders_map (placed path) (λ row. refl) (rows_or o))
 
   paths_there : are_paths (map (placed path) (rows_or o)) ≡ true
   paths_there = sym (ap are_paths under) ∙ all_kept (inside path) (λ row. is_path row.path) all (ap are_paths (sym seen) ∙ tree.paths)

@@ -7,21 +7,22 @@ use Rattle.std.specs.Map.{keys_of, lookup, set_value, remove_entry}
 use Rattle.std.specs.BTreeMap.{insert_entry}
 use Rattle.std.specs.Ordering.{is_eq, is_gt, is_lt}
 use Rattle.hdfs_types.specs.PathOrder.{path_cmp, same_path}
-use Rattle.acl_entries.specs.AccessControlList.{AccessControlList}
+use Rattle.flat_rows.specs.declared.row.Change.{Change}
+use Rattle.flat_rows.specs.declared.row.Change.TheVariants as change
 use Rattle.flat_rows.specs.declared.row.Row.{Row}
 use Rattle.flat_rows.specs.Rows.{is_before, is_beyond, replaced}
-use Rattle.flat_rows.specs.Changes.{without, given, rewritten}
+use Rattle.flat_rows.specs.Changes.{without, changed, rewritten}
 use Rattle.inode_tree.specs.Branch.{Branch, Top, flatten, rows, row_of, under, placed}
 use Rattle.inode_tree.specs.Change.{grafted}
 use Rattle.inode_tree.proofs.Split.{R, Side, split, at, entry}
 use Rattle.inode_tree.proofs.Filters.{Entries, flatten-append, append_rows, self, filter-flatten, filter-missing, before-splits, beyond-splits, outside-splits, outside}
 use Rattle.inode_tree.proofs.Parts.{placed_under, placed_top}
 
-abbrev pub Change : Type 0
-Change = List Row → List Row
+abbrev pub OnRows : Type 0
+OnRows = List Row → List Row
 
 -- f changes the rows at the name as g changes those of the branch, and leaves the top of the directory
-pub record IsLevel (n : List ℕ) (f g : Change) : Type 0 where
+pub record IsLevel (n : List ℕ) (f g : OnRows) : Type 0 where
   pub level : (es fs : Entries) (b c : Branch) → Side Greater n es → Side Less n fs → rows c ≡ g (rows b) → f (flatten (es ++ ((n, b) ∷ fs))) ≡ flatten (es ++ ((n, c) ∷ fs))
   pub top : (t : Top) (rs : List Row) → f (row_of [] t ∷ rs) ≡ row_of [] t ∷ f rs
 
@@ -32,7 +33,7 @@ some_entry : (n : List ℕ) (found : Option Branch) (b : Branch) (fs : Entries) 
 some_entry n found b fs h = ap (λ f. entry n f ++ fs) h
 
 -- the map after a child was changed through `get_mut`
-pub set_entry : (f g : Change) (n : List ℕ) → IsLevel n f g → (es : Entries) (b c : Branch) → Sorted es → lookup (at n) es ≡ Some b → rows c ≡ g (rows b) → flatten (set_value (at n) es c) ≡ f (flatten es)
+pub set_entry : (f g : OnRows) (n : List ℕ) → IsLevel n f g → (es : Entries) (b c : Branch) → Sorted es → lookup (at n) es ≡ Some b → rows c ≡ g (rows b) → flatten (set_value (at n) es c) ≡ f (flatten es)
 set_entry f g n d es b c sorted there is =
     let s = split n es sorted in
     let found : s.found ≡ Some b = sym s.found_is ∙ there in
@@ -40,10 +41,10 @@ set_entry f g n d es b c sorted there is =
     ap flatten (s.written c (subst IsSome (sym found) refl)) ∙ sym (ap (λ x. f (flatten x)) whole ∙ d.level s.before s.after b c s.low s.high is)
 
 -- a map without the name
-pub record IsKept (n : List ℕ) (f : Change) : Type 0 where
+pub record IsKept (n : List ℕ) (f : OnRows) : Type 0 where
   pub kept : (es fs : Entries) → Side Greater n es → Side Less n fs → f (flatten (es ++ fs)) ≡ flatten (es ++ fs)
 
-pub missing_entry : (f : Change) (n : List ℕ) → IsKept n f → (es : Entries) → Sorted es → lookup (at n) es ≡ None → flatten es ≡ f (flatten es)
+pub missing_entry : (f : OnRows) (n : List ℕ) → IsKept n f → (es : Entries) → Sorted es → lookup (at n) es ≡ None → flatten es ≡ f (flatten es)
 missing_entry f n d es sorted missing =
     let s = split n es sorted in
     let whole : es ≡ s.before ++ s.after = s.whole ∙ ap (λ o. s.before ++ (entry n o ++ s.after)) (sym s.found_is ∙ missing) in
@@ -135,9 +136,15 @@ cut_entry n es sorted =
 
 -- rewriting
 
-module _ (owner group : List ℕ) (acl : AccessControlList) where
+pub changed_under : (c : Change) (n : List ℕ) (row : Row) → changed c (under n row) ≡ under n (changed c row)
+changed_under (change.Owner owner group) n row = refl
+changed_under (change.List acl) n row = refl
+changed_under (change.State state) n row = refl
+changed_under (change.Replication replication) n row = refl
+
+module _ (c : Change) where
   abbrev one : List (List ℕ) → Row → Row
-  one path row = cond (same_path path row.path) (given owner group acl row) row
+  one path row = cond (same_path path row.path) (changed c row) row
 
   other_row : (n : List ℕ) (ns : List (List ℕ)) (m : List ℕ) (o : Ordering) → R n m ≡ o → is_eq o ≡ false → (rs : List Row) → map (one (n ∷ ns)) (map (under m) rs) ≡ map (under m) rs
   other_row n ns m o h k [] = refl
@@ -155,21 +162,21 @@ module _ (owner group : List ℕ) (acl : AccessControlList) where
   same_row n ns (r ∷ rs) = rw (self n) (by_test (same_path ns r.path) (same_row n ns rs))
     where
       by_test : (t : Bool) → map (one (n ∷ ns)) (map (under n) rs) ≡ map (under n) (map (one ns) rs)
-          → cond t (given owner group acl (under n r)) (under n r) ∷ map (one (n ∷ ns)) (map (under n) rs) ≡ under n (cond t (given owner group acl r) r) ∷ map (under n) (map (one ns) rs)
-      by_test true e = ap (λ t. under n (given owner group acl r) ∷ t) e
+          → cond t (changed c (under n r)) (under n r) ∷ map (one (n ∷ ns)) (map (under n) rs) ≡ under n (cond t (changed c r) r) ∷ map (under n) (map (one ns) rs)
+      by_test true e = ap (λ t. t ∷ map (one (n ∷ ns)) (map (under n) rs)) (changed_under c n r) ∙ ap (λ t. under n (changed c r) ∷ t) e
       by_test false e = ap (λ t. under n r ∷ t) e
 
-  pub rewritten-level : (n : List ℕ) (ns : List (List ℕ)) → IsLevel n (rewritten (n ∷ ns) owner group acl) (rewritten ns owner group acl)
+  pub rewritten-level : (n : List ℕ) (ns : List (List ℕ)) → IsLevel n (rewritten (n ∷ ns) c) (rewritten ns c)
   rewritten-level n ns = record {
-    level = λ es fs b c s t is.
+    level = λ es fs b d s t is.
         ap (map (one (n ∷ ns))) (flatten-append es ((n, b) ∷ fs)) ∙ map-append (one (n ∷ ns)) (flatten es) (map (under n) (rows b) ++ flatten fs)
         ∙ ap (λ l. l ++ map (one (n ∷ ns)) (map (under n) (rows b) ++ flatten fs)) (other_side Greater n ns refl es s)
-        ∙ ap (λ l. flatten es ++ l) (map-append (one (n ∷ ns)) (map (under n) (rows b)) (flatten fs) ∙ ap (λ l. l ++ map (one (n ∷ ns)) (flatten fs)) (same_row n ns (rows b) ∙ ap (map (under n)) (sym is)) ∙ ap (λ l. map (under n) (rows c) ++ l) (other_side Less n ns refl fs t))
-        ∙ sym (flatten-append es ((n, c) ∷ fs));
+        ∙ ap (λ l. flatten es ++ l) (map-append (one (n ∷ ns)) (map (under n) (rows b)) (flatten fs) ∙ ap (λ l. l ++ map (one (n ∷ ns)) (flatten fs)) (same_row n ns (rows b) ∙ ap (map (under n)) (sym is)) ∙ ap (λ l. map (under n) (rows d) ++ l) (other_side Less n ns refl fs t))
+        ∙ sym (flatten-append es ((n, d) ∷ fs));
     top = λ t rs. refl;
   }
 
-  pub rewritten-kept : (n : List ℕ) (ns : List (List ℕ)) → IsKept n (rewritten (n ∷ ns) owner group acl)
+  pub rewritten-kept : (n : List ℕ) (ns : List (List ℕ)) → IsKept n (rewritten (n ∷ ns) c)
   rewritten-kept n ns = record {
     kept = λ es fs s t.
         ap (map (one (n ∷ ns))) (flatten-append es fs) ∙ map-append (one (n ∷ ns)) (flatten es) (flatten fs) ∙ ap (λ l. l ++ map (one (n ∷ ns)) (flatten fs)) (other_side Greater n ns refl es s)

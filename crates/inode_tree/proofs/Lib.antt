@@ -8,6 +8,7 @@ pub mod Makes
 pub mod Trees
 pub mod Moves
 pub mod Visits
+pub mod Closings
 pub mod Children
 pub mod Asked
 pub mod Limits

@@ -1,4 +1,4 @@
--- The missing directories of a path, made in the directory that holds the first of its names.
+-- What is missing of a path, made in the directory that holds the first of its names.
 use Rattle.std.proofs.Common.{◌≡◌, ℕ, Bool, true, false, ◌&&◌, not, length, drop, List, [], ◌∷◌, ◌++◌, map, Option, Some, None, refl, sym, ap, ◌∙◌, subst}
 use Rattle.std.proofs.lemmas.Bool.{false≢true}
 use Rattle.std.proofs.lemmas.List.{append-nil}
@@ -11,10 +11,11 @@ use Rattle.hdfs_types.specs.Path.{is_beneath}
 use Rattle.hdfs_types.specs.declared.reply.ObjectKind.TheVariants.{Directory}
 use Rattle.acl_entries.specs.AccessControlList.{AccessControlList}
 use Rattle.default_acl.specs.Inheritance.{inherited}
+use Rattle.flat_rows.specs.declared.file_row.FileRow.{FileRow}
 use Rattle.flat_rows.specs.declared.row.Row.{Row}
 use Rattle.flat_rows.specs.First.{first}
 use Rattle.flat_rows.specs.Rows.{is_directory, is_missing, file_above, ancestor, with_sub_tree, replaced}
-use Rattle.flat_rows.specs.Outcome.{directory_at, mode_of_new, new_directory, new_directories, with_directories}
+use Rattle.flat_rows.specs.Outcome.{mode_of_new, file_of_new, new_at, new_row, new_rows, with_new}
 use Rattle.inode_tree.specs.Branch.{Branch, Top, flatten, rows, row_of, under}
 use Rattle.inode_tree.specs.Part.{Splits, IsPart}
 use Rattle.inode_tree.specs.Change.{chain}
@@ -79,47 +80,47 @@ sub_tree-level : (n : List ℕ) (block : List Row) → IsLevel n (λ rs. with_su
 sub_tree-level n [] = same-level n
 sub_tree-level n (t ∷ ts) = replaced-level n t.path (t ∷ ts)
 
-module _ (owner : List ℕ) (mode : ℕ) where
-  under_new : (n : List ℕ) (a : Row) (names : List (List ℕ)) → map (under n) (new_directories a owner mode names) ≡ new_directories (under n a) owner mode names
-  under_new n a [] = refl
-  under_new n a (m ∷ ms) = ap (λ t. new_directory (under n a) owner (mode_of_new mode ms) m ∷ t) (under_new n (new_directory a owner (mode_of_new mode ms) m) ms)
+-- a directory that holds one branch
+pub held_one : (t : Top) (n : List ℕ) (inner : Branch) (es : Entries) → es ≡ (n, inner) ∷ [] → row_of [] t ∷ flatten es ≡ row_of [] t ∷ map (under n) (rows inner)
+held_one t n inner es is = ap (λ (x : Entries). row_of [] t ∷ flatten x) is ∙ ap (λ l. row_of [] t ∷ l) (append-nil (map (under n) (rows inner)))
 
-  chain_under : (n : List ℕ) (ns : List (List ℕ)) (t : Top) → map (under n) (chain t.acl t.group owner mode ns) ≡ new_directories (row_of [] t) owner mode (n ∷ ns)
-  chain_under n ns t = ap (λ x. new_directory (row_of [] t) owner (mode_of_new mode ns) n ∷ x) (under_new n (directory_at t.acl t.group owner (mode_of_new mode ns) []) ns)
+module _ (owner : List ℕ) (mode : ℕ) (file : Option FileRow) where
+  under_new : (n : List ℕ) (a : Row) (names : List (List ℕ)) → map (under n) (new_rows a owner mode file names) ≡ new_rows (under n a) owner mode file names
+  under_new n a [] = refl
+  under_new n a (m ∷ ms) = ap (λ t. new_row (under n a) owner (mode_of_new mode ms) (file_of_new file ms) m ∷ t) (under_new n (new_row a owner (mode_of_new mode ms) (file_of_new file ms) m) ms)
+
+  chain_under : (n : List ℕ) (ns : List (List ℕ)) (t : Top) → map (under n) (chain t.acl t.group owner mode file ns) ≡ new_rows (row_of [] t) owner mode file (n ∷ ns)
+  chain_under n ns t = ap (λ x. new_row (row_of [] t) owner (mode_of_new mode ns) (file_of_new file ns) n ∷ x) (under_new n (new_at t.acl t.group owner (mode_of_new mode ns) (file_of_new file ns) []) ns)
 
   -- a directory of this list, as it is made
   abbrev made_with : AccessControlList → List ℕ → Row
-  made_with acl group = row_of [] (record { kind = Directory; owner = owner; group = group; acl = acl })
+  made_with acl group = row_of [] (record { kind = Directory; owner = owner; group = group; acl = acl; file = None })
 
-  pub chain_on : (parent acl : AccessControlList) (group : List ℕ) (n : List ℕ) (ns names : List (List ℕ)) (inner : Branch) (es : Entries) → acl ≡ inherited parent (for_missing_parent mode) Directory
-      → names ≡ n ∷ ns → es ≡ (n, inner) ∷ [] → rows inner ≡ chain acl group owner mode ns → made_with acl group ∷ flatten es ≡ chain parent group owner mode names
-  chain_on parent acl group n ns names inner es list is one within =
-      ap (λ x. made_with acl group ∷ flatten x) one ∙ ap (λ x. made_with acl group ∷ x) (append-nil (map (under n) (rows inner)) ∙ ap (map (under n)) within ∙ chain_under n ns (record { kind = Directory; owner = owner; group = group; acl = acl }))
-      ∙ ap (λ l. made_with l group ∷ new_directories (made_with l group) owner mode (n ∷ ns)) list ∙ ap (chain parent group owner mode) (sym is)
+  pub chain_on : (parent acl : AccessControlList) (group : List ℕ) (n : List ℕ) (ns names : List (List ℕ)) (inner : Branch) → acl ≡ inherited parent (for_missing_parent mode) Directory
+      → names ≡ n ∷ ns → rows inner ≡ chain acl group owner mode file ns → made_with acl group ∷ map (under n) (rows inner) ≡ chain parent group owner mode file names
+  chain_on parent acl group n ns names inner list is within =
+      ap (λ x. made_with acl group ∷ x) (ap (map (under n)) within ∙ chain_under n ns (record { kind = Directory; owner = owner; group = group; acl = acl; file = None }))
+      ∙ ap (λ l. made_with l group ∷ new_rows (made_with l group) owner mode file (n ∷ ns)) list ∙ ap (chain parent group owner mode file) (sym is)
 
-  pub chain_end : (parent acl : AccessControlList) (group : List ℕ) (names : List (List ℕ)) (es : Entries) → acl ≡ inherited parent mode Directory → names ≡ [] → es ≡ []
-      → made_with acl group ∷ flatten es ≡ chain parent group owner mode names
-  chain_end parent acl group names es list is none = ap (λ x. made_with acl group ∷ flatten x) none ∙ ap (λ l. made_with l group ∷ []) list ∙ ap (chain parent group owner mode) (sym is)
-
-  -- the rows with the directories that are missing
+  -- the rows with what is missing
   abbrev pub made : List (List ℕ) → List Row → List Row
-  made path all = with_directories path mode owner (ancestor path all) all
+  made path all = with_new path mode file owner (ancestor path all) all
 
-  pub make_here : (n : List ℕ) (ns : List (List ℕ)) (t : Top) (c : Branch) (es fs : Entries) → Sorted es → lookup (at n) es ≡ None → rows c ≡ chain t.acl t.group owner mode ns → fs ≡ insert_entry R es n c
+  pub make_here : (n : List ℕ) (ns : List (List ℕ)) (t : Top) (c : Branch) (es fs : Entries) → Sorted es → lookup (at n) es ≡ None → rows c ≡ chain t.acl t.group owner mode file ns → fs ≡ insert_entry R es n c
       → row_of [] t ∷ flatten fs ≡ made (n ∷ ns) (row_of [] t ∷ flatten es)
   make_here n ns t c es fs sorted found is inserted =
       ap (λ x. row_of [] t ∷ flatten x) inserted ∙ ap (λ x. row_of [] t ∷ x) (put_entry n es c sorted ∙ ap (λ block. replaced (n ∷ []) block (flatten es)) (ap (map (under n)) is ∙ chain_under n ns t))
-      ∙ ap (λ o. with_directories (n ∷ ns) mode owner o (row_of [] t ∷ flatten es)) (sym (ancestor_here n ns t es sorted found))
+      ∙ ap (λ o. with_new (n ∷ ns) mode file owner o (row_of [] t ∷ flatten es)) (sym (ancestor_here n ns t es sorted found))
 
   make_beneath : (n k : List ℕ) (ks : List (List ℕ)) (t : Top) (b c : Branch) (es fs : Entries) → Sorted es → lookup (at n) es ≡ Some b → rows c ≡ made (k ∷ ks) (rows b) → fs ≡ set_value (at n) es c
       → row_of [] t ∷ flatten fs ≡ made (n ∷ k ∷ ks) (row_of [] t ∷ flatten es)
   make_beneath n k ks t b c es fs sorted found is written =
-      by (ancestor (k ∷ ks) (rows b)) is ∙ ap (λ o. with_directories (n ∷ k ∷ ks) mode owner o (row_of [] t ∷ flatten es)) (sym (ancestor_beneath n k ks t es b sorted found))
+      by (ancestor (k ∷ ks) (rows b)) is ∙ ap (λ o. with_new (n ∷ k ∷ ks) mode file owner o (row_of [] t ∷ flatten es)) (sym (ancestor_beneath n k ks t es b sorted found))
     where
-      by : (o : Option Row) → rows c ≡ with_directories (k ∷ ks) mode owner o (rows b) → row_of [] t ∷ flatten fs ≡ with_directories (n ∷ k ∷ ks) mode owner (option_map (under n) o) (row_of [] t ∷ flatten es)
+      by : (o : Option Row) → rows c ≡ with_new (k ∷ ks) mode file owner o (rows b) → row_of [] t ∷ flatten fs ≡ with_new (n ∷ k ∷ ks) mode file owner (option_map (under n) o) (row_of [] t ∷ flatten es)
       by None e = ap (λ x. row_of [] t ∷ flatten x) written ∙ ap (λ x. row_of [] t ∷ x) (set_entry (λ rs. rs) (λ rs. rs) n (same-level n) es b c sorted found e)
       by (Some a) e =
-          let block : List Row = new_directories a owner mode (drop (length a.path) (k ∷ ks)) in
+          let block : List Row = new_rows a owner mode file (drop (length a.path) (k ∷ ks)) in
           ap (λ x. row_of [] t ∷ flatten x) written
           ∙ ap (λ x. row_of [] t ∷ x) (set_entry (λ rs. with_sub_tree rs (map (under n) block)) (λ rs. with_sub_tree rs block) n (sub_tree-level n block) es b c sorted found e)
           ∙ sym ((sub_tree-level n block).top t (flatten es)) ∙ ap (with_sub_tree (row_of [] t ∷ flatten es)) (under_new n a (drop (length a.path) (k ∷ ks)))

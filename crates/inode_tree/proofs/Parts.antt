@@ -5,6 +5,7 @@ use Rattle.std.specs.List.{filter}
 use Rattle.std.specs.BTreeMap.{BTreeMap}
 use Rattle.std.specs.List.Sorted.{IsStrictlySortedBy}
 use Rattle.std.specs.Map.{keys_of, lookup}
+use Rattle.flat_rows.specs.declared.file_row.FileRow.{FileRow}
 use Rattle.flat_rows.specs.declared.row.Row.{Row}
 use Rattle.flat_rows.specs.Changes.{rows_under}
 use Rattle.inode_tree.specs.Kept.{branch_of, rows_in, IsSorted}
@@ -28,8 +29,8 @@ pub held_parts : (n : List ℕ) (i : Inside) (m : BTreeMap (List ℕ) Branch) (b
 held_parts n i m b o seen is sorted found =
     subst (λ x. IsPart n x.beneath o) seen (subst (λ h. IsPart n (rows_in h) o) (sym is) (subst (IsPart n (flatten m.entries)) found (part-lookup n m.entries (subst IsSorted is sorted))))
 
-pub file_parts : (n : List ℕ) (i : Inside) (b : Branch) → branch_of i ≡ b → i.held ≡ File → IsPart n b.beneath None
-file_parts n i b seen is = subst (λ x. IsPart n x.beneath None) seen (subst (λ h. IsPart n (rows_in h) None) (sym is) (record { seen = λ p q h. refl }))
+pub file_parts : (n : List ℕ) (i : Inside) (file : FileRow) (b : Branch) → branch_of i ≡ b → i.held ≡ File file → IsPart n b.beneath None
+file_parts n i file b seen is = subst (λ x. IsPart n x.beneath None) seen (subst (λ h. IsPart n (rows_in h) None) (sym is) (record { seen = λ p q h. refl }))
 
 -- wholes
 

@@ -6,22 +6,24 @@ use Rattle.std.proofs.lemmas.Bool.{false≢true}
 use Rattle.std.specs.BTreeMap.{BTreeMap, insert_entry}
 use Rattle.std.proofs.lemmas.List.{map-append}
 use Rattle.hdfs_types.specs.PathOrder.{same_path}
-use Rattle.acl_entries.specs.AccessControlList.{AccessControlList}
 use Rattle.std.proofs.lemmas.Map.Steps.{set_value_same}
 use Rattle.std.specs.Option.{option_copied_mut}
 use Rattle.std.specs.Borrow.{MutBor}
+use Rattle.flat_rows.specs.declared.file_row.FileRow.{FileRow}
+use Rattle.flat_rows.specs.declared.row.Change.{Change}
+use Rattle.flat_rows.specs.declared.row.Change.TheVariants as change
 use Rattle.flat_rows.specs.declared.row.Row.{Row}
 use Rattle.flat_rows.specs.First.{first}
 use Rattle.flat_rows.specs.Rows.{is_directory, is_none, is_missing}
 use Rattle.flat_rows.specs.Namespace.{is_child, has_parent}
-use Rattle.flat_rows.specs.Changes.{without, given, rewritten}
+use Rattle.flat_rows.specs.Changes.{without, changed, rewritten}
 use Rattle.inode_tree.specs.Kept.{branch_of, rows_in, IsSorted}
 use Rattle.inode_tree.specs.declared.node.Held.{Held}
 use Rattle.inode_tree.specs.declared.node.Held.TheVariants.{File, Directory}
 use Rattle.inode_tree.specs.declared.node.Node.TheInside.{Inside}
 use Rattle.inode_tree.specs.Branch.{Branch, Top, flatten, rows, rows_or, row_of, under, with_rows}
 use Rattle.inode_tree.specs.Part.{Splits, IsPart, IsWhole}
-use Rattle.inode_tree.specs.Change.{grafted, holds_parent}
+use Rattle.inode_tree.specs.Change.{grafted, holds_parent, changed_top}
 use Rattle.inode_tree.proofs.Split.{R, at}
 use Rattle.inode_tree.proofs.Filters.{Entries, self, standing, standing-splits}
 use Rattle.inode_tree.proofs.Parts.{part-lookup, whole_at, whole_itself}
@@ -102,10 +104,10 @@ pub held_parent : (above : List (List ℕ)) (name : List ℕ) (i : Inside) (m : 
 held_parent above name i m b seen is h =
     subst (λ x. IsTrue (holds_parent above name (rows_in x))) is (subst (λ x. IsTrue (holds_parent above name x.beneath)) (sym seen) (parent_held above name b h))
 
-pub file_holds_none : (above : List (List ℕ)) (name : List ℕ) (i : Inside) (b : Branch) → branch_of i ≡ b → i.held ≡ File → IsTrue (has_parent (above ++ name ∷ []) (rows b)) → ⊥
-file_holds_none above name i b seen is h = go above (subst (λ x. IsTrue (has_parent (above ++ name ∷ []) (rows (branch_of (record { owner = i.owner; group = i.group; acl = i.acl; held = x }))))) is (subst (λ x. IsTrue (has_parent (above ++ name ∷ []) (rows x))) (sym seen) h))
+pub file_holds_none : (above : List (List ℕ)) (name : List ℕ) (i : Inside) (file : FileRow) (b : Branch) → branch_of i ≡ b → i.held ≡ File file → IsTrue (has_parent (above ++ name ∷ []) (rows b)) → ⊥
+file_holds_none above name i file b seen is h = go above (subst (λ x. IsTrue (has_parent (above ++ name ∷ []) (rows (branch_of (record { owner = i.owner; group = i.group; acl = i.acl; held = x }))))) is (subst (λ x. IsTrue (has_parent (above ++ name ∷ []) (rows x))) (sym seen) h))
   where
-    go : (above : List (List ℕ)) → IsTrue (has_parent (above ++ name ∷ []) (rows (branch_of (record { owner = i.owner; group = i.group; acl = i.acl; held = File })))) → ⊥
+    go : (above : List (List ℕ)) → IsTrue (has_parent (above ++ name ∷ []) (rows (branch_of (record { owner = i.owner; group = i.group; acl = i.acl; held = File file })))) → ⊥
     go [] k = false≢true k
     go (n ∷ []) k = false≢true k
     go (n ∷ m ∷ ms) k = false≢true k
@@ -187,29 +189,37 @@ taken_through n m ms names es b p sorted is found whole =
 
 -- rewriting
 
-module _ (owner group : List ℕ) (acl : AccessControlList) where
-  untouched_row : (m : List ℕ) (rs : List Row) → rewritten [] owner group acl (map (under m) rs) ≡ map (under m) rs
+top_given : (c : Change) (t : Top) → row_of [] (changed_top c t) ≡ changed c (row_of [] t)
+top_given (change.Owner owner group) t = refl
+top_given (change.List acl) t = refl
+top_given (change.State state) t = refl
+top_given (change.Replication replication) t = refl
+
+module _ (c : Change) where
+  untouched_row : (m : List ℕ) (rs : List Row) → rewritten [] c (map (under m) rs) ≡ map (under m) rs
   untouched_row m [] = refl
   untouched_row m (r ∷ rs) = ap (λ t. under m r ∷ t) (untouched_row m rs)
 
-  untouched : (es : Entries) → rewritten [] owner group acl (flatten es) ≡ flatten es
+  untouched : (es : Entries) → rewritten [] c (flatten es) ≡ flatten es
   untouched [] = refl
   untouched (e ∷ es) =
-      map-append (λ row. cond (same_path [] row.path) (given owner group acl row) row) (map (under e.0) (rows e.1)) (flatten es)
-      ∙ ap (λ l. l ++ rewritten [] owner group acl (flatten es)) (untouched_row e.0 (rows e.1)) ∙ ap (λ l. map (under e.0) (rows e.1) ++ l) (untouched es)
+      map-append (λ row. cond (same_path [] row.path) (changed c row) row) (map (under e.0) (rows e.1)) (flatten es)
+      ∙ ap (λ l. l ++ rewritten [] c (flatten es)) (untouched_row e.0 (rows e.1)) ∙ ap (λ l. map (under e.0) (rows e.1) ++ l) (untouched es)
 
-  untouched_in : (h : Held) → rewritten [] owner group acl (rows_in h) ≡ rows_in h
-  untouched_in File = refl
+  untouched_in : (h : Held) → rewritten [] c (rows_in h) ≡ rows_in h
+  untouched_in (File file) = refl
   untouched_in (Directory m) = untouched m.entries
 
-  pub rewrite_top : (names : List (List ℕ)) (i : Inside) (b : Branch) → names ≡ [] → branch_of i ≡ b → rows (branch_of (record { owner = owner; group = group; acl = acl; held = i.held })) ≡ rewritten names owner group acl (rows b)
-  rewrite_top names i b none seen =
-      ap (λ l. row_of [] (branch_of (record { owner = owner; group = group; acl = acl; held = i.held })).top ∷ l) (sym (untouched_in i.held))
-      ∙ ap (λ x. rewritten [] owner group acl (rows x)) seen ∙ ap (λ xs. rewritten xs owner group acl (rows b)) (sym none)
+  pub untouched_beneath : (i : Inside) (b : Branch) → branch_of i ≡ b → rewritten [] c b.beneath ≡ b.beneath
+  untouched_beneath i b seen = subst (λ x. rewritten [] c x.beneath ≡ x.beneath) seen (untouched_in i.held)
 
-  pub rewrite_through : (n : List ℕ) (ns : List (List ℕ)) (b c : Branch) (es fs : Entries) → Sorted es → lookup (at n) es ≡ Some b → rows c ≡ rewritten ns owner group acl (rows b) → fs ≡ set_value (at n) es c → flatten fs ≡ rewritten (n ∷ ns) owner group acl (flatten es)
-  rewrite_through n ns b c es fs sorted found same written =
-      ap flatten written ∙ set_entry (rewritten (n ∷ ns) owner group acl) (rewritten ns owner group acl) n (rewritten-level owner group acl n ns) es b c sorted found same
+  pub rewrite_top : (names : List (List ℕ)) (b d : Branch) → names ≡ [] → rewritten [] c b.beneath ≡ b.beneath → d ≡ record { top = changed_top c b.top; beneath = b.beneath } → rows d ≡ rewritten names c (rows b)
+  rewrite_top names b d none beneath given =
+      ap rows given ∙ ap (λ l. row_of [] (changed_top c b.top) ∷ l) (sym beneath) ∙ ap (λ r. r ∷ rewritten [] c b.beneath) (top_given c b.top) ∙ ap (λ xs. rewritten xs c (rows b)) (sym none)
 
-  pub rewrite_none : (n : List ℕ) (ns : List (List ℕ)) (es : Entries) → Sorted es → lookup (at n) es ≡ None → flatten es ≡ rewritten (n ∷ ns) owner group acl (flatten es)
-  rewrite_none n ns es sorted missing = missing_entry (rewritten (n ∷ ns) owner group acl) n (rewritten-kept owner group acl n ns) es sorted missing
+  pub rewrite_through : (n : List ℕ) (ns : List (List ℕ)) (b d : Branch) (es fs : Entries) → Sorted es → lookup (at n) es ≡ Some b → rows d ≡ rewritten ns c (rows b) → fs ≡ set_value (at n) es d → flatten fs ≡ rewritten (n ∷ ns) c (flatten es)
+  rewrite_through n ns b d es fs sorted found same written =
+      ap flatten written ∙ set_entry (rewritten (n ∷ ns) c) (rewritten ns c) n (rewritten-level c n ns) es b d sorted found same
+
+  pub rewrite_none : (n : List ℕ) (ns : List (List ℕ)) (es : Entries) → Sorted es → lookup (at n) es ≡ None → flatten es ≡ rewritten (n ∷ ns) c (flatten es)
+  rewrite_none n ns es sorted missing = missing_entry (rewritten (n ∷ ns) c) n (rewritten-kept c n ns) es sorted missing

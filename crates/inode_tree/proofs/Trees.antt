@@ -1,23 +1,28 @@
 -- Each change leaves a tree a tree.
-use Rattle.std.proofs.Common.{◌≡◌, ℕ, Bool, true, false, not, List, [], ◌∷◌, ◌++◌, map, length, arith, Option, Some, None, Result, Ok, Err, OnOk, OnErr, refl, sym, ap, ◌∙◌, subst}
+use Rattle.std.proofs.Common.{◌≡◌, ℕ, Bool, true, false, ◌||◌, not, List, [], ◌∷◌, ◌++◌, map, length, arith, Option, Some, None, Result, Ok, Err, OnOk, OnErr, refl, sym, ap, ◌∙◌, subst}
 use Rattle.std.proofs.lemmas.Bool.{false≢true}
 use Rattle.std.proofs.lemmas.List.{append-nil}
 use Rattle.std.specs.declared.alloc.AllocError.{AllocError}
 use Rattle.hdfs_types.specs.Path.{IsPath, is_prefix}
-use Rattle.acl_entries.specs.AccessControlList.{AccessControlList}
+use Rattle.hdfs_types.specs.declared.file.FileState.TheVariants.{Closed}
+use Rattle.acl_entries.specs.AccessControlList.{AccessControlList, suits_file}
+use Rattle.flat_rows.specs.declared.file_row.FileRow.{FileRow}
+use Rattle.flat_rows.specs.declared.row.Change.{Change}
 use Rattle.flat_rows.specs.declared.row.Row.{Row}
-use Rattle.flat_rows.specs.Rows.{is_missing, row_at, file_above, ancestor, replaced, with_sub_tree}
-use Rattle.flat_rows.specs.Namespace.{has_parent, is_root, suits_kind, fits}
-use Rattle.flat_rows.specs.Outcome.{with_directories}
-use Rattle.flat_rows.specs.Changes.{are_paths, rows_under, without, moved_row, moved, rewritten, suits_list}
+use Rattle.flat_rows.specs.Rows.{is_directory_kind, is_missing, row_at, file_above, ancestor, replaced, with_sub_tree}
+use Rattle.flat_rows.specs.Namespace.{has_parent, is_root, suits_parts, suits_kind, fits}
+use Rattle.flat_rows.specs.FileOutcome.{is_expired, closed_where_expired}
+use Rattle.flat_rows.specs.Outcome.{kind_of_new, with_new}
+use Rattle.flat_rows.specs.Changes.{are_paths, rows_under, without, moved_row, moved, rewritten, suits_change}
 use Rattle.flat_rows.proofs.Tests.{and}
 use Rattle.flat_rows.proofs.Namespaces.{with_sub_tree_namespace}
 use Rattle.flat_rows.proofs.NewDirectories.{missing_fit}
 use Rattle.flat_rows.proofs.Moves.{moved_namespace}
 use Rattle.flat_rows.proofs.Missing.{missing_above}
-use Rattle.flat_rows.proofs.Changes.{without_namespace, without_paths, replaced_paths, with_sub_tree_paths, row_fits, missing_paths, rewritten_namespace, rewritten_paths}
+use Rattle.flat_rows.proofs.Changes.{without_namespace, without_paths, replaced_paths, with_sub_tree_paths, row_fits, missing_paths, rewritten_namespace, rewritten_paths, closed_namespace, closed_paths}
 use Rattle.inode_tree.specs.Branch.{Branch, rows, row_of, placed, with_rows}
 use Rattle.inode_tree.specs.Change.{grafted}
+use Rattle.inode_tree.specs.Expired.{past_hard}
 use Rattle.inode_tree.specs.Tree.{IsTree}
 use Rattle.inode_tree.proofs.Through.{put_top, on_ok, on_err}
 
@@ -27,18 +32,26 @@ sub_tree_tree block all fit paths tree = record { namespace = with_sub_tree_name
 pub row_tree : (row : Row) (all : List Row) → has_parent row.path all ≡ true → suits_kind row ≡ true → IsPath row.path → IsTree all → IsTree (with_sub_tree all (row ∷ []))
 row_tree row all held suits path tree = sub_tree_tree (row ∷ []) all (row_fits row all held suits) (and _ _ path refl) tree
 
-pub made_tree : (owner : List ℕ) (mode : ℕ) (path : List (List ℕ)) (all : List Row) → file_above path all ≡ None → IsPath path → IsTree all → IsTree (with_directories path mode owner (ancestor path all) all)
-made_tree owner mode path all clear is tree = by (ancestor path all) refl
+pub made_tree : (owner : List ℕ) (mode : ℕ) (file : Option FileRow) (path : List (List ℕ)) (all : List Row) → file_above path all ≡ None → IsPath path → IsTree all → IsTree (with_new path mode file owner (ancestor path all) all)
+made_tree owner mode file path all clear is tree = by (ancestor path all) refl
   where
-    by : (o : Option Row) → ancestor path all ≡ o → IsTree (with_directories path mode owner o all)
+    by : (o : Option Row) → ancestor path all ≡ o → IsTree (with_new path mode file owner o all)
     by None e = tree
-    by (Some above) e = sub_tree_tree _ all (missing_fit owner mode path all above e clear) (missing_paths owner mode path all above e is) tree
+    by (Some above) e = sub_tree_tree _ all (missing_fit owner mode file path all above e clear) (missing_paths owner mode file path all above e is) tree
 
 pub without_tree : (path : List (List ℕ)) (all : List Row) → is_root path ≡ false → IsTree all → IsTree (without path all)
 without_tree path all below tree = record { namespace = without_namespace path all below tree.namespace; paths = without_paths path all tree.paths }
 
-pub rewritten_tree : (path : List (List ℕ)) (owner group : List ℕ) (acl : AccessControlList) (all : List Row) → suits_list acl (row_at path all) ≡ true → IsTree all → IsTree (rewritten path owner group acl all)
-rewritten_tree path owner group acl all suits tree = record { namespace = rewritten_namespace path owner group acl all tree.namespace suits; paths = rewritten_paths path owner group acl all tree.paths }
+pub rewritten_tree : (path : List (List ℕ)) (change : Change) (all : List Row) → suits_change change (row_at path all) ≡ true → IsTree all → IsTree (rewritten path change all)
+rewritten_tree path change all suits tree = record { namespace = rewritten_namespace path change all tree.namespace suits; paths = rewritten_paths path change all tree.paths }
+
+pub closed_tree : (past : List (List ℕ)) (b new : Branch) → rows new ≡ map (closed_where_expired (past_hard past)) (rows b) → IsTree (rows b) → IsTree (rows new)
+closed_tree past b new done tree =
+    subst IsTree (sym done) (record { namespace = closed_namespace (is_expired (past_hard past)) Closed (rows b) tree.namespace; paths = closed_paths (is_expired (past_hard past)) Closed (rows b) tree.paths })
+
+pub new_suits : (file : Option FileRow) (acl : AccessControlList) → (is_directory_kind (kind_of_new file) || suits_file acl) ≡ true → suits_parts (is_directory_kind (kind_of_new file)) acl file ≡ true
+new_suits None acl h = refl
+new_suits (Some file) acl h = h
 
 -- after a call that may fail
 pub either_tree : {T E : Type 0} (r : Result T E) (old new wanted : List Row) → OnOk r (new ≡ wanted) → OnErr r (new ≡ old) → IsTree wanted → IsTree old → IsTree new
@@ -68,14 +81,14 @@ module _ (path names : List (List ℕ)) (is : names ≡ path) (b : Branch) (all 
       either_tree r (rows b) (rows new) (with_sub_tree (rows b) (row_of path leaf.top ∷ [])) (on_ok r (λ e. ap rows e ∙ inserted_rows path above name b leaf (sym is ∙ parted) none) ok) (on_err r (ap rows) err)
       (row_tree (row_of path leaf.top) (rows b) (ap (has_parent path) seen ∙ held) suits within tree) tree
 
-  pub make_keeps : (r : Result (Unit {0}) AllocError) (owner : List ℕ) (mode : ℕ) (new : Branch) → file_above path all ≡ None → IsPath path → OnOk r (rows new ≡ with_directories names mode owner (ancestor names (rows b)) (rows b)) → OnErr r (new ≡ b) → IsTree (rows new)
-  make_keeps r owner mode new clear within ok err =
-      either_tree r (rows b) (rows new) (with_directories names mode owner (ancestor names (rows b)) (rows b)) ok (on_err r (ap rows) err)
-      (made_tree owner mode names (rows b) (ap (λ p. file_above p (rows b)) is ∙ ap (file_above path) seen ∙ clear) (subst IsPath (sym is) within) tree) tree
+  pub make_keeps : (r : Result (Unit {0}) AllocError) (owner : List ℕ) (mode : ℕ) (file : Option FileRow) (new : Branch) → file_above path all ≡ None → IsPath path → OnOk r (rows new ≡ with_new names mode file owner (ancestor names (rows b)) (rows b)) → OnErr r (new ≡ b) → IsTree (rows new)
+  make_keeps r owner mode file new clear within ok err =
+      either_tree r (rows b) (rows new) (with_new names mode file owner (ancestor names (rows b)) (rows b)) ok (on_err r (ap rows) err)
+      (made_tree owner mode file names (rows b) (ap (λ p. file_above p (rows b)) is ∙ ap (file_above path) seen ∙ clear) (subst IsPath (sym is) within) tree) tree
 
-  pub rewrite_keeps : (owner group : List ℕ) (acl : AccessControlList) (new : Branch) → suits_list acl (row_at path all) ≡ true → rows new ≡ rewritten names owner group acl (rows b) → IsTree (rows new)
-  rewrite_keeps owner group acl new suits done =
-      subst IsTree (sym done) (rewritten_tree names owner group acl (rows b) (ap (λ p. suits_list acl (row_at p (rows b))) is ∙ ap (λ l. suits_list acl (row_at path l)) seen ∙ suits) tree)
+  pub rewrite_keeps : (change : Change) (new : Branch) → suits_change change (row_at path all) ≡ true → rows new ≡ rewritten names change (rows b) → IsTree (rows new)
+  rewrite_keeps change new suits done =
+      subst IsTree (sym done) (rewritten_tree names change (rows b) (ap (λ p. suits_change change (row_at p (rows b))) is ∙ ap (λ l. suits_change change (row_at path l)) seen ∙ suits) tree)
 
 pub remove_keeps : (first : List ℕ) (rest : List (List ℕ)) (b new : Branch) → new ≡ with_rows b (without (first ∷ rest) b.beneath) → IsTree (rows b) → IsTree (rows new)
 remove_keeps first rest b new done tree = subst (λ x. IsTree (rows x)) (sym done) (without_tree (first ∷ rest) (rows b) refl tree)

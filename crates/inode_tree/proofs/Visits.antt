@@ -1,18 +1,22 @@
 -- A visit of a directory, entry by entry.
-use Rattle.std.proofs.Common.{◌≡◌, ℕ, ◌+◌, ◌≤◌, ◌<◌, ◌^◌, Bool, true, not, List, [], ◌∷◌, ◌++◌, map, length, length-append, append_assoc, Option, Some, None, refl, sym, ap, ◌∙◌, arith}
+use Rattle.std.proofs.Common.{◌≡◌, ℕ, ◌+◌, ◌≤◌, ◌<◌, ◌^◌, nat_lt, Bool, true, false, not, List, [], ◌∷◌, ◌++◌, map, length, length-append, append_assoc, Option, Some, None, refl, sym, ap, ◌∙◌, arith}
+use Rattle.std.proofs.lemmas.Bool.{le-ltb, ltb-false}
 use Rattle.std.proofs.lemmas.List.{length-map, map-append}
 use Rattle.std.proofs.lemmas.List.Elements.{filter-append}
 use Rattle.std.proofs.lemmas.List.Folds.{list_all-append}
 use Rattle.std.specs.List.{filter}
-use Rattle.std.specs.Option.{option_map}
+use Rattle.std.specs.Option.{option_map, option_to_list}
 use Rattle.hdfs_types.specs.Path.{is_path}
 use Rattle.flat_rows.specs.declared.row.Row.{Row}
+use Rattle.flat_rows.specs.Files.{told_length, holders, holder_of_file}
+use Rattle.flat_rows.specs.FileOutcome.{bytes_of}
+use Rattle.flat_rows.specs.Outcome.{bytes_in}
 use Rattle.flat_rows.specs.First.{first}
 use Rattle.flat_rows.specs.Rows.{is_directory}
 use Rattle.flat_rows.specs.Changes.{are_paths}
 use Rattle.flat_rows.proofs.Tests.{both}
 use Rattle.inode_tree.specs.Branch.{Branch, flatten, rows, row_of, top_of, under, placed}
-use Rattle.inode_tree.specs.Visits.{told, directories, files, row_found}
+use Rattle.inode_tree.specs.Visits.{told, directories, files, sum_told, row_found}
 use Rattle.inode_tree.specs.declared.visit.Found.{Found}
 use Rattle.inode_tree.proofs.Filters.{Entries, filter-map, append_rows}
 
@@ -74,6 +78,86 @@ module _ (it new : Entries) (n : List ℕ) (b : Branch) (is : it ≡ (n, b) ∷ 
   files_step before here after all h a k =
       ap (λ x. told (x + files (flatten new))) (a ∙ ap (λ x. told (before + x)) h) ∙ told_sum before (files (rows b)) (files (flatten new))
       ∙ ap (λ x. told (before + x)) (sym (count_entry (λ row. not (is_directory row)) (λ m row. refl) it new n b is)) ∙ k
+
+-- the bytes of files
+
+module _ (f : Row → Row) (same : (row : Row) → (f row).file ≡ row.file) where
+  pub bytes_map : (rs : List Row) → bytes_in (map f rs) ≡ bytes_in rs
+  bytes_map [] = refl
+  bytes_map (r ∷ rs) = ap (λ file. bytes_of file + bytes_in (map f rs)) (same r) ∙ ap (λ k. bytes_of r.file + k) (bytes_map rs)
+
+bytes_append : (xs ys : List Row) → bytes_in (xs ++ ys) ≡ bytes_in xs + bytes_in ys
+bytes_append [] ys = omega arith
+bytes_append (x ∷ xs) ys = omega (arith, bytes_append xs ys)
+
+bytes_entry : (it new : Entries) (n : List ℕ) (b : Branch) → it ≡ (n, b) ∷ new → bytes_in (flatten it) ≡ bytes_in (rows b) + bytes_in (flatten new)
+bytes_entry it new n b is =
+    ap (λ (x : Entries). bytes_in (flatten x)) is ∙ bytes_append (map (under n) (rows b)) (flatten new) ∙ ap (λ k. k + bytes_in (flatten new)) (bytes_map (under n) (λ row. refl) (rows b))
+
+more : (m n k : ℕ) → k ≤ n → k ≤ m + n
+more m n k h = omega (arith, h)
+
+less : (m n k : ℕ) → k ≤ m → k ≤ m + n
+less m n k h = omega (arith, h)
+
+none_beyond : (n : ℕ) → 2 ^ 64 ≤ n → told_length n ≡ None
+none_beyond n h = rw (le-ltb n (2 ^ 64) h) refl
+
+-- lengths that are told are added
+pub sum_is : (m n : ℕ) → sum_told (told_length m) (told_length n) ≡ told_length (m + n)
+sum_is m n = by (nat_lt m (2 ^ 64)) (nat_lt n (2 ^ 64)) refl refl
+  where
+    by : (a b : Bool) → nat_lt m (2 ^ 64) ≡ a → nat_lt n (2 ^ 64) ≡ b → sum_told (told_length m) (told_length n) ≡ told_length (m + n)
+    by true true e f = rw (e, f) refl
+    by true false e f = rw (e, f, none_beyond (m + n) (more m n (2 ^ 64) (ltb-false n (2 ^ 64) f))) refl
+    by false b e f = rw (e, none_beyond (m + n) (less m n (2 ^ 64) (ltb-false m (2 ^ 64) e))) refl
+
+-- the files of some rows have so many bytes together, behind those of the rows before
+pub record Counted (all : List Row) (left : List Row) (bytes : Option ℕ) : Type 0 where
+  pub before : ℕ
+  pub told : bytes ≡ told_length before
+  pub whole : before + bytes_in left ≡ bytes_in all
+
+pub counted_none : (all : List Row) → Counted all all (Some 0)
+counted_none all = record { before = 0; told = refl; whole = omega arith }
+
+pub counted_next : (all : List Row) (it new : Entries) (n : List ℕ) (b : Branch) (bytes here after : Option ℕ) → it ≡ (n, b) ∷ new → here ≡ told_length (bytes_in (rows b)) → after ≡ sum_told bytes here → Counted all (flatten it) bytes → Counted all (flatten new) after
+counted_next all it new n b bytes here after is h a counted = record {
+  before = counted.before + bytes_in (rows b);
+  told = a ∙ ap (sum_told bytes) h ∙ ap (λ x. sum_told x (told_length (bytes_in (rows b)))) counted.told ∙ sum_is counted.before (bytes_in (rows b));
+  whole = omega (arith, counted.whole, bytes_entry it new n b is);
+}
+
+pub counted_all : (all left : List Row) (bytes : Option ℕ) → left ≡ [] → Counted all left bytes → bytes ≡ told_length (bytes_in all)
+counted_all all left bytes none counted = counted.told ∙ ap told_length (sum_none (ap bytes_in none) counted.whole)
+  where
+    sum_none : {k m n : ℕ} → m ≡ 0 → k + m ≡ n → k ≡ n
+    sum_none e h = omega (arith, e, h)
+
+-- the holders of files
+
+module _ (f : Row → Row) (same : (row : Row) → (f row).file ≡ row.file) where
+  pub holders_map : (rs : List Row) → holders (map f rs) ≡ holders rs
+  holders_map [] = refl
+  holders_map (r ∷ rs) = ap (λ file. option_to_list (holder_of_file file) ++ holders (map f rs)) (same r) ∙ ap (λ l. option_to_list (holder_of_file r.file) ++ l) (holders_map rs)
+
+holders_append : (xs ys : List Row) → holders (xs ++ ys) ≡ holders xs ++ holders ys
+holders_append [] ys = refl
+holders_append (x ∷ xs) ys = ap (λ l. option_to_list (holder_of_file x.file) ++ l) (holders_append xs ys) ∙ sym (append_assoc (option_to_list (holder_of_file x.file)) (holders xs) (holders ys))
+
+-- those of one entry are added, and those of the entries behind it are left
+pub held_next : (it new : Entries) (n : List ℕ) (b : Branch) (before after all : List (List ℕ)) → it ≡ (n, b) ∷ new → after ≡ before ++ holders (rows b) → before ++ holders (flatten it) ≡ all → after ++ holders (flatten new) ≡ all
+held_next it new n b before after all is a h =
+    ap (λ l. l ++ holders (flatten new)) a ∙ append_assoc before (holders (rows b)) (holders (flatten new))
+    ∙ ap (λ l. before ++ l) (sym (ap (λ (x : Entries). holders (flatten x)) is ∙ holders_append (map (under n) (rows b)) (flatten new) ∙ ap (λ l. l ++ holders (flatten new)) (holders_map (under n) (λ row. refl) (rows b)))) ∙ h
+
+-- the same of the files that pass a test which reads no path
+module _ (p : Row → Bool) (same : (n : List ℕ) (row : Row) → p (under n row) ≡ p row) where
+  pub passing_next : (it new : Entries) (n : List ℕ) (b : Branch) (before after all : List (List ℕ)) → it ≡ (n, b) ∷ new → after ≡ before ++ holders (filter p (rows b)) → before ++ holders (filter p (flatten it)) ≡ all
+      → after ++ holders (filter p (flatten new)) ≡ all
+  passing_next it new n b before after all is a h =
+      ap (λ l. l ++ holders (filter p (flatten new))) a ∙ append_assoc before (holders (filter p (rows b))) (holders (filter p (flatten new)))
+      ∙ ap (λ l. before ++ l) (sym (ap holders (filter_entry p same it new n b is) ∙ holders_append (map (under n) (filter p (rows b))) (filter p (flatten new)) ∙ ap (λ l. l ++ holders (filter p (flatten new))) (holders_map (under n) (λ row. refl) (filter p (rows b))))) ∙ h
 
 -- nothing was found
 pub none_found : (found : Option Found) (o : Option Row) → option_map row_found found ≡ o → found ≡ None → o ≡ None

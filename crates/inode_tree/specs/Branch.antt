@@ -2,6 +2,7 @@
 use Rattle.std.specs.Prelude.{ℕ, List, [], ◌∷◌, ◌++◌, map, Option, Some, None}
 use Rattle.hdfs_types.specs.declared.reply.ObjectKind.{ObjectKind}
 use Rattle.acl_entries.specs.AccessControlList.{AccessControlList}
+use Rattle.flat_rows.specs.declared.file_row.FileRow.{FileRow}
 use Rattle.flat_rows.specs.declared.row.Row.{Row}
 
 -- a row without its path
@@ -10,16 +11,17 @@ pub record Top : Type 0 where
   pub owner : List ℕ
   pub group : List ℕ
   pub acl : AccessControlList
+  pub file : Option FileRow
 
 pub record Branch : Type 0 where
   pub top : Top
   pub beneath : List Row
 
 abbrev pub row_of : List (List ℕ) → Top → Row
-row_of path top = record { path = path; kind = top.kind; owner = top.owner; group = top.group; acl = top.acl }
+row_of path top = record { path = path; kind = top.kind; owner = top.owner; group = top.group; acl = top.acl; file = top.file }
 
 abbrev pub top_of : Row → Top
-top_of row = record { kind = row.kind; owner = row.owner; group = row.group; acl = row.acl }
+top_of row = record { kind = row.kind; owner = row.owner; group = row.group; acl = row.acl; file = row.file }
 
 -- the rows of a branch, with its top first
 abbrev pub rows : Branch → List Row

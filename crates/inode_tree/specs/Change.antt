@@ -1,11 +1,14 @@
 -- What a change of one branch leaves of the rows that it is a part of.
-use Rattle.std.specs.Prelude.{ℕ, Bool, true, List, [], ◌∷◌, ◌++◌, map}
+use Rattle.std.specs.Prelude.{ℕ, Bool, true, List, [], ◌∷◌, ◌++◌, map, Option}
 use Rattle.acl_entries.specs.AccessControlList.{AccessControlList}
+use Rattle.flat_rows.specs.declared.file_row.FileRow.{FileRow}
+use Rattle.flat_rows.specs.declared.row.Change.{Change}
 use Rattle.flat_rows.specs.declared.row.Row.{Row}
 use Rattle.flat_rows.specs.Rows.{replaced}
 use Rattle.flat_rows.specs.Namespace.{has_parent}
-use Rattle.flat_rows.specs.Outcome.{directory_at, mode_of_new, new_directories}
-use Rattle.inode_tree.specs.Branch.{Branch, rows, placed}
+use Rattle.flat_rows.specs.Changes.{changed}
+use Rattle.flat_rows.specs.Outcome.{mode_of_new, file_of_new, new_at, new_rows}
+use Rattle.inode_tree.specs.Branch.{Top, Branch, rows, row_of, top_of, placed}
 
 -- the rows with the branch at the path, and nothing else there
 abbrev pub grafted : List (List ℕ) → Branch → List Row → List Row
@@ -16,6 +19,10 @@ abbrev pub holds_parent : List (List ℕ) → List ℕ → List Row → Bool
 holds_parent [] name beneath = true
 holds_parent (first ∷ names) name beneath = has_parent (first ∷ (names ++ name ∷ [])) beneath
 
--- a new directory with the missing ones of these names beneath it
-abbrev pub chain : AccessControlList → List ℕ → List ℕ → ℕ → List (List ℕ) → List Row
-chain above group owner mode names = let top = directory_at above group owner (mode_of_new mode names) [] in top ∷ new_directories top owner mode names
+-- what is made, with what is made at these names beneath it
+abbrev pub chain : AccessControlList → List ℕ → List ℕ → ℕ → Option FileRow → List (List ℕ) → List Row
+chain above group owner mode file names = let top = new_at above group owner (mode_of_new mode names) (file_of_new file names) [] in top ∷ new_rows top owner mode file names
+
+-- a top with one of its parts changed
+abbrev pub changed_top : Change → Top → Top
+changed_top change top = top_of (changed change (row_of [] top))

@@ -3,6 +3,7 @@ pub mod Part
 pub mod Kept
 pub mod Falls
 pub mod Change
+pub mod Expired
 pub mod Visits
 pub mod Limits
 pub mod Tree

@@ -1,21 +1,30 @@
-ghost use Rattle.std.specs.Prelude.{◌≡◌, ◌∷◌, [], ◌++◌, true, false, None, IfOk, OnOk, OnErr, IsTrue};
+ghost use Rattle.std.specs.Prelude.{◌≡◌, ◌∷◌, [], ◌++◌, true, false, None, Some, option_map, map, if◌then◌else◌, IfOk, OnOk, OnErr, IsTrue};
 ghost use Rattle.std.specs.List.Sorted.{IsStrictlySortedBy};
 ghost use Rattle.std.specs.Map.{keys_of};
 ghost use Rattle.hdfs_types.specs.Path.{is_prefix};
 ghost use Rattle.hdfs_types.specs.Text.{text_cmp};
 ghost use Rattle.flat_rows.specs.Rows.{is_missing, file_above, ancestor};
 ghost use Rattle.flat_rows.specs.Namespace.{has_parent};
-ghost use Rattle.flat_rows.specs.Outcome.{directory_at, with_directories};
+ghost use Rattle.flat_rows.specs.Files.{with_state, with_replication};
+ghost use Rattle.flat_rows.specs.FileOutcome.{is_expired_file, closed_where_expired};
+ghost use Rattle.flat_rows.specs.Outcome.{kind_of_new, with_new};
 ghost use Rattle.flat_rows.specs.Changes.{without, moved, rewritten};
-ghost use Rattle.inode_tree.specs.Branch.{Top, rows, row_of, flatten, with_rows};
+ghost use Rattle.inode_tree.specs.Branch.{Top, rows, row_of, under, flatten, with_rows};
 ghost use Rattle.inode_tree.specs.Part.{IsWhole};
-ghost use Rattle.inode_tree.specs.Change.{grafted, holds_parent, chain};
+ghost use Rattle.inode_tree.specs.Change.{grafted, holds_parent, chain, changed_top};
+ghost use Rattle.inode_tree.specs.Expired.{past_hard, closed_branch};
+ghost use Rattle.inode_tree.specs.Kept.{kind_of as kind_of_held, file_of, rows_in, IsSorted};
 
+use crate::expired;
 use crate::node::{Held, Node};
 use acl_entries::acl::Acl;
 use default_acl::inherit::inherit;
+use flat_rows::file_row::FileRow;
+use flat_rows::row::Change;
+use hdfs_types::file::FileState;
 use hdfs_types::mode::Mode;
 use hdfs_types::name::Name;
+use hdfs_types::replication::Repl;
 use hdfs_types::reply::ObjectKind;
 use hdfs_types::who::Who;
 use std::alloc::{AllocError, Global};
@@ -31,7 +40,7 @@ impl Node {
     {
         match &mut self.held {
             Held::Directory(map) => put_in(map, above, name, new),
-            Held::File => unreachable!(),
+            Held::File(_) => unreachable!(),
         }
     }
 
@@ -43,7 +52,7 @@ impl Node {
     {
         match &mut self.held {
             Held::Directory(map) => fill_in(map, above, name, new),
-            Held::File => unreachable!(),
+            Held::File(_) => unreachable!(),
         }
     }
 
@@ -55,18 +64,18 @@ impl Node {
     {
         match &mut self.held {
             Held::Directory(map) => take_in(map, first, rest),
-            Held::File => None,
+            Held::File(_) => None,
         }
     }
 
-    /// A file that stands for another node while that is on its way.
+    /// An empty directory that stands for another node while that is on its way.
     fn stand_in(&self, alloc: Global) -> Result<Node, AllocError>
         ensures { IfOk result (λ node. node.beneath ≡ []) }
     {
-        let acl = Acl::from_mode(Mode::root(), ObjectKind::File);
+        let acl = Acl::from_mode(Mode::root(), ObjectKind::Directory);
         let owner = self.owner().clone()?;
         let group = self.group().clone()?;
-        Ok(Node::new(alloc, ObjectKind::File, owner, group, acl))
+        Ok(Node::new(alloc, owner, group, acl, None))
     }
 
     /// Moves what stands at the path of these names, to stand by a name in the directory at another path. A stand-in is put
@@ -95,39 +104,66 @@ impl Node {
         Ok(())
     }
 
-    /// Gives what stands at the path another owner, group and access list.
-    #[cycle(rewrite)]
-    pub(crate) fn rewrite(&mut self, path: &[Name], owner: Who, group: Who, acl: Acl)
-        ensures { rows self.new ≡ rewritten path.now owner group acl (rows self.old) }
+    /// Gives the node what the change says.
+    #[tactic(auto, using(crate::proofs::Through::untouched_beneath))]
+    fn give(&mut self, change: Change)
+        ensures given { self.new ≡ record { top = changed_top change self.old.top; beneath = self.old.beneath } }
+        ensures beneath { rewritten [] change self.old.beneath ≡ self.old.beneath }
     {
-        match path.split_first() {
-            None => {
+        match change {
+            Change::Owner(owner, group) => {
                 self.owner = owner;
                 self.group = group;
-                replace_list(&mut self.acl, acl);
             }
+            Change::List(acl) => replace_list(&mut self.acl, acl),
+            Change::State(state) => self.held.give_state(state),
+            Change::Replication(replication) => self.held.give_replication(replication),
+        }
+    }
+
+    /// Gives what stands at the path what the change says.
+    #[cycle(rewrite)]
+    pub(crate) fn rewrite(&mut self, path: &[Name], change: Change)
+        ensures { rows self.new ≡ rewritten path.now change (rows self.old) }
+    {
+        match path.split_first() {
+            None => self.give(change),
             Some((first, rest)) => match &mut self.held {
-                Held::Directory(map) => rewrite_in(map, first, rest, owner, group, acl),
-                Held::File => (),
+                Held::Directory(map) => rewrite_in(map, first, rest, change),
+                Held::File(_) => (),
             },
         }
     }
 
-    /// A new directory, and beneath it one directory for each name, built aside.
-    pub(crate) fn chain(
+    /// A new file, or a directory that holds nothing, which inherits from a directory's list.
+    fn made(
         alloc: Global,
-        names: &[Name],
         mode: Mode,
+        file: Option<FileRow>,
         owner: &Who,
         group: &Who,
         above: &Acl,
     ) -> Result<Node, AllocError>
-        ensures { IfOk result (λ node. rows node ≡ chain above.now group.now owner.now mode names.now) }
+        ensures { IfOk result (λ node. rows node ≡ chain above.now group.now owner.now mode file []) }
     {
-        let mut map = BTreeMap::new(alloc);
+        let acl = inherit(alloc, above, mode, kind_of(&file))?;
+        Ok(Node::new(alloc, owner.clone()?, group.clone()?, acl, file))
+    }
+
+    /// A new directory, and beneath it one for each name, built aside; the last is a file where one is given.
+    pub(crate) fn chain(
+        alloc: Global,
+        names: &[Name],
+        mode: Mode,
+        file: Option<FileRow>,
+        owner: &Who,
+        group: &Who,
+        above: &Acl,
+    ) -> Result<Node, AllocError>
+        ensures { IfOk result (λ node. rows node ≡ chain above.now group.now owner.now mode file names.now) }
+    {
         let Some((first, rest)) = names.split_first() else {
-            let acl = inherit(alloc, above, mode, ObjectKind::Directory)?;
-            return new_directory(map, acl, owner, group);
+            return Node::made(alloc, mode, file, owner, group, above);
         };
         let acl = inherit(
             alloc,
@@ -135,23 +171,39 @@ impl Node {
             mode.for_missing_parent(),
             ObjectKind::Directory,
         )?;
-        let inner = Node::chain(alloc, rest, mode, owner, group, &acl)?;
-        map.insert(first.clone()?, inner)?;
+        let inner = Node::chain(alloc, rest, mode, file, owner, group, &acl)?;
+        Node::holding(alloc, first, inner, owner, group, acl)
+    }
+
+    /// A new directory that holds a node by a name. It stands apart from `chain`, which keeps what that takes of the stack small.
+    fn holding(
+        alloc: Global,
+        name: &Name,
+        inner: Node,
+        owner: &Who,
+        group: &Who,
+        acl: Acl,
+    ) -> Result<Node, AllocError>
+        ensures { IfOk result (λ node. rows node ≡ row_of [] (record { kind = ObjectKind.Directory; owner = owner.now; group = group.now; acl = acl; file = None }) ∷ map (under name.now) (rows inner)) }
+    {
+        let mut map = BTreeMap::new(alloc);
+        map.insert(name.clone()?, inner)?;
         new_directory(map, acl, owner, group)
     }
 
-    /// Makes the directories of the path that are missing, or none of them.
+    /// Makes what is missing of the path, all directories but a file that is given for the last, or nothing.
     #[cycle(make)]
     pub(crate) fn make(
         &mut self,
         alloc: Global,
         path: &[Name],
         mode: Mode,
+        file: Option<FileRow>,
         owner: &Who,
     ) -> Result<(), AllocError>
         requires missing { is_missing path.now (rows self.old) ≡ true }
         requires clear { file_above path.now (rows self.old) ≡ None }
-        ensures ok { OnOk result (rows self.new ≡ with_directories path.now mode owner.now (ancestor path.now (rows self.old)) (rows self.old)) }
+        ensures ok { OnOk result (rows self.new ≡ with_new path.now mode file owner.now (ancestor path.now (rows self.old)) (rows self.old)) }
         ensures err { OnErr result (self.new ≡ self.old) }
     {
         let Some((first, rest)) = path.split_first() else {
@@ -164,12 +216,73 @@ impl Node {
                 first,
                 rest,
                 mode,
+                file,
                 owner,
                 &self.group,
                 &self.acl,
             ),
-            Held::File => unreachable!(),
+            Held::File(_) => unreachable!(),
         }
+    }
+
+    /// Closes the files whose holders are among these clients, but where the length of the last block isn't committed.
+    #[cycle(close)]
+    pub(crate) fn close_expired(&mut self, past: &[Who])
+        ensures { self.new ≡ closed_branch past.now self.old }
+    {
+        match &mut self.held {
+            Held::Directory(map) => close_in(map, past),
+            Held::File(file) => close_file(file, past),
+        }
+    }
+}
+
+impl Held {
+    /// Gives a file another state.
+    fn give_state(&mut self, state: FileState)
+        requires { IsSorted self.old }
+        ensures sorted { IsSorted self.new }
+        ensures kind { kind_of_held self.new ≡ kind_of_held self.old }
+        ensures file { file_of self.new ≡ option_map (with_state state) (file_of self.old) }
+        ensures rows { rows_in self.new ≡ rows_in self.old }
+    {
+        match self {
+            Held::File(file) => file.state = state,
+            Held::Directory(_) => (),
+        }
+    }
+
+    /// Gives a file another replication.
+    fn give_replication(&mut self, replication: Repl)
+        requires { IsSorted self.old }
+        ensures sorted { IsSorted self.new }
+        ensures kind { kind_of_held self.new ≡ kind_of_held self.old }
+        ensures file { file_of self.new ≡ option_map (with_replication replication) (file_of self.old) }
+        ensures rows { rows_in self.new ≡ rows_in self.old }
+    {
+        match self {
+            Held::File(file) => file.replication = replication,
+            Held::Directory(_) => (),
+        }
+    }
+}
+
+/// A file where what it has is given, else a directory.
+fn kind_of(file: &Option<FileRow>) -> ObjectKind
+    ensures { result ≡ kind_of_new file.now }
+{
+    match file {
+        Some(_) => ObjectKind::File,
+        None => ObjectKind::Directory,
+    }
+}
+
+/// Closes the file where its holder is among these clients and the length of its last block is committed.
+fn close_file(file: &mut FileRow, past: &[Who])
+    ensures { file.new ≡ (if is_expired_file (past_hard past.now) (Some file.old) then with_state FileState.Closed file.old else file.old) }
+{
+    if expired::is_expired(file, past) {
+        file.state = FileState::Closed;
     }
 }
 
@@ -188,7 +301,7 @@ fn new_directory(
     group: &Who,
 ) -> Result<Node, AllocError>
     requires { IsStrictlySortedBy text_cmp (keys_of map.entries) }
-    ensures { IfOk result (λ node. rows node ≡ row_of [] (record { kind = ObjectKind.Directory; owner = owner.now; group = group.now; acl = acl }) ∷ flatten map.entries) }
+    ensures { IfOk result (λ node. rows node ≡ row_of [] (record { kind = ObjectKind.Directory; owner = owner.now; group = group.now; acl = acl; file = None }) ∷ flatten map.entries) }
 {
     Ok(Node {
         owner: owner.clone()?,
@@ -259,20 +372,13 @@ fn take_in(map: &mut BTreeMap<Name, Node>, first: &Name, rest: &[Name]) -> Optio
 }
 
 #[cycle(rewrite)]
-fn rewrite_in(
-    map: &mut BTreeMap<Name, Node>,
-    first: &Name,
-    rest: &[Name],
-    owner: Who,
-    group: Who,
-    acl: Acl,
-)
+fn rewrite_in(map: &mut BTreeMap<Name, Node>, first: &Name, rest: &[Name], change: Change)
     requires { IsStrictlySortedBy text_cmp (keys_of map.old.entries) }
     ensures sorted { IsStrictlySortedBy text_cmp (keys_of map.new.entries) }
-    ensures rows { flatten map.new.entries ≡ rewritten (first.now ∷ rest.now) owner group acl (flatten map.old.entries) }
+    ensures rows { flatten map.new.entries ≡ rewritten (first.now ∷ rest.now) change (flatten map.old.entries) }
 {
     match map.get_mut(first) {
-        Some(child) => child.rewrite(rest, owner, group, acl),
+        Some(child) => child.rewrite(rest, change),
         None => (),
     }
 }
@@ -284,6 +390,7 @@ fn make_in(
     first: &Name,
     rest: &[Name],
     mode: Mode,
+    file: Option<FileRow>,
     owner: &Who,
     group: &Who,
     above: &Acl,
@@ -292,15 +399,33 @@ fn make_in(
     requires missing { is_missing (first.now ∷ rest.now) (flatten map.old.entries) ≡ true }
     requires clear { file_above (first.now ∷ rest.now) (flatten map.old.entries) ≡ None }
     ensures sorted { IsStrictlySortedBy text_cmp (keys_of map.new.entries) }
-    ensures ok { OnOk result ((top : Top) → top.group ≡ group.now → top.acl ≡ above.now → row_of [] top ∷ flatten map.new.entries ≡ with_directories (first.now ∷ rest.now) mode owner.now (ancestor (first.now ∷ rest.now) (row_of [] top ∷ flatten map.old.entries)) (row_of [] top ∷ flatten map.old.entries)) }
+    ensures ok { OnOk result ((top : Top) → top.group ≡ group.now → top.acl ≡ above.now → row_of [] top ∷ flatten map.new.entries ≡ with_new (first.now ∷ rest.now) mode file owner.now (ancestor (first.now ∷ rest.now) (row_of [] top ∷ flatten map.old.entries)) (row_of [] top ∷ flatten map.old.entries)) }
     ensures err { OnErr result (flatten map.new.entries ≡ flatten map.old.entries) }
 {
     match map.get_mut(first) {
-        Some(child) => child.make(alloc, rest, mode, owner),
+        Some(child) => child.make(alloc, rest, mode, file, owner),
         None => {
-            let chain = Node::chain(alloc, rest, mode, owner, group, above)?;
+            let chain = Node::chain(alloc, rest, mode, file, owner, group, above)?;
             map.insert(first.clone()?, chain)?;
             Ok(())
         }
     }
+}
+
+#[cycle(close)]
+fn close_in(nodes: &mut BTreeMap<Name, Node>, past: &[Who])
+    requires { IsStrictlySortedBy text_cmp (keys_of nodes.old.entries) }
+    ensures sorted { IsStrictlySortedBy text_cmp (keys_of nodes.new.entries) }
+    ensures rows { flatten nodes.new.entries ≡ map (closed_where_expired (past_hard past.now)) (flatten nodes.old.entries) }
+{
+    nodes.retain(
+        |_name, child|
+            ensures kept { result ≡ true }
+            ensures closed { child.new ≡ closed_branch past.entry.now child.old }
+            ensures past { past.exit ≡ past.entry }
+        {
+            child.close_expired(past);
+            true
+        },
+    );
 }

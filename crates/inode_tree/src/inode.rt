@@ -1,16 +1,19 @@
-ghost use Rattle.std.specs.Prelude.{◌≡◌, IfSome};
-ghost use Rattle.std.specs.Option.{option_map};
+ghost use Rattle.std.specs.Prelude.{◌≡◌, IfOk, IfSome};
+ghost use Rattle.std.specs.Option.{option_copied, option_map};
 ghost use Rattle.acl_entries.specs.JudgedEntry.{judged_entry};
+ghost use Rattle.flat_rows.specs.Files.{holder_of_file};
 ghost use Rattle.inode_tree.specs.Part.{IsPart};
 ghost use Rattle.inode_tree.specs.Tree.{branch_at};
 
 use crate::node::Node;
 use acl_entries::acl::Acl;
 use acl_entries::deciding_entry::Chosen;
+use flat_rows::file_row::FileRow;
 use hdfs_types::name::Name;
 use hdfs_types::reply::ObjectKind;
 use hdfs_types::rights::Rights;
 use hdfs_types::who::Who;
+use std::alloc::AllocError;
 
 /// A file or a directory of a tree, lent with all that is beneath it (HDFS Architecture, "The File System Namespace").
 #[derive(Clone, Copy)]
@@ -47,6 +50,30 @@ impl<'a> Inode<'a> {
         ensures { result.now ≡ (branch_at self.now).top.acl }
     {
         self.node.acl()
+    }
+
+    /// What a file has beside what a directory has.
+    pub fn file(&self) -> Option<&'a FileRow>
+        ensures { option_copied result ≡ (branch_at self.now).top.file }
+    {
+        self.node.file()
+    }
+
+    /// A copy of it. Costs the blocks of the file.
+    ///
+    /// # Errors
+    /// Want of memory.
+    pub fn file_copy(&self) -> Result<Option<FileRow>, AllocError>
+        ensures { IfOk result (λ file. file ≡ (branch_at self.now).top.file) }
+    {
+        self.node.file_copy()
+    }
+
+    /// The client who has the file open.
+    pub fn holder(&self) -> Option<&'a Who>
+        ensures { option_copied result ≡ holder_of_file (branch_at self.now).top.file }
+    {
+        self.node.holder()
     }
 
     /// The entry that decides for a caller with these groups. Costs the caller's groups, and takes no memory.

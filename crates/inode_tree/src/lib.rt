@@ -3,6 +3,7 @@
 #![tactic(auto)]
 
 mod change;
+mod expired;
 pub mod inode;
 mod limit;
 mod node;

@@ -30,7 +30,7 @@ pub(crate) fn fits(node: &Node, depth: usize, bytes: usize) -> bool
         return false;
     }
     match &node.held {
-        Held::File => true,
+        Held::File(_) => true,
         Held::Directory(map) => fits_in(map, depth, bytes),
     }
 }

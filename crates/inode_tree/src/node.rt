@@ -1,18 +1,21 @@
-ghost use Rattle.std.specs.Prelude.{◌≡◌, [], IfSome};
+ghost use Rattle.std.specs.Prelude.{◌≡◌, [], IfOk, IfSome};
 ghost use Rattle.std.specs.Option.{option_copied};
 ghost use Rattle.acl_entries.specs.JudgedEntry.{judged_entry};
-ghost use Rattle.flat_rows.specs.Outcome.{is_alone};
+ghost use Rattle.flat_rows.specs.Files.{holder_of_file};
+ghost use Rattle.flat_rows.specs.Outcome.{is_alone, kind_of_new};
 ghost use Rattle.inode_tree.specs.Branch.{rows};
 ghost use Rattle.inode_tree.specs.Part.{IsPart, IsWhole};
 
 use acl_entries::access_check::chosen;
 use acl_entries::acl::Acl;
 use acl_entries::deciding_entry::Chosen;
+use flat_rows::file_row::FileRow;
+use hdfs_types::file::FileState;
 use hdfs_types::name::Name;
 use hdfs_types::reply::ObjectKind;
 use hdfs_types::rights::Rights;
 use hdfs_types::who::Who;
-use std::alloc::Global;
+use std::alloc::{AllocError, Global};
 use std::collections::BTreeMap;
 use std::marker::Model;
 
@@ -29,7 +32,7 @@ pub struct Node {
 #[cycle(node)]
 #[derive(Drop)]
 pub(crate) enum Held {
-    File,
+    File(FileRow),
     Directory(BTreeMap<Name, Node>),
 }
 
@@ -54,12 +57,18 @@ impl Model for Node {
 
 impl Node {
     /// A file, or a directory that holds nothing.
-    pub(crate) fn new(alloc: Global, kind: ObjectKind, owner: Who, group: Who, acl: Acl) -> Node
-        ensures { result ≡ record { top = record { kind = kind; owner = owner; group = group; acl = acl }; beneath = [] } }
+    pub(crate) fn new(
+        alloc: Global,
+        owner: Who,
+        group: Who,
+        acl: Acl,
+        file: Option<FileRow>,
+    ) -> Node
+        ensures { result ≡ record { top = record { kind = kind_of_new file; owner = owner; group = group; acl = acl; file = file }; beneath = [] } }
     {
-        let held = match kind {
-            ObjectKind::File => Held::File,
-            ObjectKind::Directory => Held::Directory(BTreeMap::new(alloc)),
+        let held = match file {
+            Some(file) => Held::File(file),
+            None => Held::Directory(BTreeMap::new(alloc)),
         };
         Node {
             owner,
@@ -73,7 +82,7 @@ impl Node {
         ensures { result ≡ self.now.top.kind }
     {
         match &self.held {
-            Held::File => ObjectKind::File,
+            Held::File(_) => ObjectKind::File,
             Held::Directory(_) => ObjectKind::Directory,
         }
     }
@@ -96,6 +105,37 @@ impl Node {
         &self.acl
     }
 
+    /// What a file has beside what a directory has.
+    pub(crate) fn file(&self) -> Option<&FileRow>
+        ensures { option_copied result ≡ self.now.top.file }
+    {
+        match &self.held {
+            Held::File(file) => Some(file),
+            Held::Directory(_) => None,
+        }
+    }
+
+    /// A copy of it.
+    pub(crate) fn file_copy(&self) -> Result<Option<FileRow>, AllocError>
+        ensures { IfOk result (λ file. file ≡ self.now.top.file) }
+    {
+        match self.file() {
+            Some(file) => Ok(Some(file.clone()?)),
+            None => Ok(None),
+        }
+    }
+
+    /// The client who has the file open.
+    pub(crate) fn holder(&self) -> Option<&Who>
+        ensures { option_copied result ≡ holder_of_file self.now.top.file }
+    {
+        match &self.file()?.state {
+            FileState::Open(client) => Some(client),
+            FileState::Closed => None,
+            FileState::Recovering(_, _, _) => None,
+        }
+    }
+
     /// The entry that decides for a caller with these groups.
     pub(crate) fn judged<'a>(&'a self, caller: &Who, groups: &[Who], need: Rights) -> Chosen<'a>
         ensures { result ≡ judged_entry self.now.top.owner self.now.top.group self.now.top.acl caller.now groups.now need }
@@ -109,7 +149,7 @@ impl Node {
         ensures directory { IfSome result (λ _. self.now.top.kind ≡ ObjectKind.Directory) }
     {
         match &self.held {
-            Held::File => None,
+            Held::File(_) => None,
             Held::Directory(map) => map.get(name),
         }
     }
@@ -119,7 +159,7 @@ impl Node {
         ensures { result ≡ is_alone (rows self.now) }
     {
         match &self.held {
-            Held::File => true,
+            Held::File(_) => true,
             Held::Directory(map) => map.is_empty(),
         }
     }

@@ -5,20 +5,24 @@ ghost use Rattle.acl_entries.specs.AccessControlList.{suits_file};
 ghost use Rattle.flat_rows.specs.Opening.{root_row};
 ghost use Rattle.flat_rows.specs.Rows.{row_at, is_directory_kind, is_missing, file_above, ancestor, with_sub_tree};
 ghost use Rattle.flat_rows.specs.Namespace.{has_parent, is_root};
-ghost use Rattle.flat_rows.specs.Outcome.{is_alone, with_directories};
-ghost use Rattle.flat_rows.specs.Changes.{rows_under, without, moved_row, moved, rewritten, suits_list, are_paths, child_names};
+ghost use Rattle.flat_rows.specs.Files.{holders};
+ghost use Rattle.flat_rows.specs.FileOutcome.{is_expired, closed_where_expired};
+ghost use Rattle.flat_rows.specs.Outcome.{is_alone, kind_of_new, with_new};
+ghost use Rattle.flat_rows.specs.Changes.{rows_under, without, moved_row, moved, rewritten, suits_change, are_paths, child_names};
 ghost use Rattle.flat_rows.specs.First.{first};
 ghost use Rattle.inode_tree.specs.Visits.{counts_of, is_closed};
 ghost use Rattle.inode_tree.specs.Branch.{rows, row_of};
+ghost use Rattle.inode_tree.specs.Expired.{past_hard};
 ghost use Rattle.inode_tree.specs.Part.{IsWhole};
 ghost use Rattle.inode_tree.specs.Tree.{branch_at, IsTree};
 
 use crate::inode::Inode;
-use crate::limit;
 use crate::node::Node;
 use crate::visit::{self, Counts};
+use crate::{expired, limit};
 use acl_entries::acl::Acl;
-use flat_rows::row::Row;
+use flat_rows::file_row::FileRow;
+use flat_rows::row::{Change, Row};
 use hdfs_types::mode::Mode;
 use hdfs_types::name::Name;
 use hdfs_types::path::Path;
@@ -57,7 +61,7 @@ impl Tree {
     {
         let acl = Acl::from_mode(Mode::root(), ObjectKind::Directory);
         Tree {
-            root: Node::new(alloc, ObjectKind::Directory, superuser, supergroup, acl),
+            root: Node::new(alloc, superuser, supergroup, acl, None),
             alloc,
         }
     }
@@ -79,8 +83,8 @@ impl Tree {
         Some(Inode::new(node))
     }
 
-    /// How many directories and how many files stand at a path and beneath it. Costs also what stands there, and takes no
-    /// memory.
+    /// How many directories and how many files stand at a path and beneath it, and how many bytes the files hold. Costs also what
+    /// stands there with the blocks of its files, and takes no memory.
     pub fn count(&self, path: &Path) -> Counts
         ensures { result ≡ counts_of (rows_under path.now self.now) }
     {
@@ -89,6 +93,7 @@ impl Tree {
             None => Counts {
                 directories: 0,
                 files: 0,
+                bytes: Some(0),
             },
         }
     }
@@ -153,6 +158,33 @@ impl Tree {
         }
     }
 
+    /// The clients who have open the files at a path and beneath it, in path order, one for each open file. Costs also what stands
+    /// there.
+    ///
+    /// # Errors
+    /// Want of memory.
+    pub fn holders_under(&self, path: &Path) -> Result<Vec<&Who>, AllocError>
+        ensures { IfOk result (λ found. map (λ who. who.now) found.items ≡ holders (rows_under path.now self.now)) }
+    {
+        match self.root.find(path.names()) {
+            Some(node) => visit::holders(self.alloc, node),
+            None => Ok(Vec::new(self.alloc)),
+        }
+    }
+
+    /// The holders of the files that `close_expired` closes, in path order, one for each file. Costs the whole tree, and for each
+    /// open file these clients.
+    ///
+    /// # Errors
+    /// Want of memory.
+    pub fn holders_expired(&self, past: &[Who]) -> Result<Vec<&Who>, AllocError>
+        ensures { IfOk result (λ found. map (λ who. who.now) found.items ≡ holders (filter (is_expired (past_hard past.now)) self.now)) }
+    {
+        let mut holders = Vec::new(self.alloc);
+        expired::push_expired(&self.root, past, &mut holders)?;
+        Ok(holders)
+    }
+
     /// Whether each path stays within the limits where what stands at a path is moved to another. Where the other path is
     /// deeper or longer, costs also what stands there, up to the first that doesn't fit. Takes no memory.
     pub fn can_move(&self, from: &Path, to: &Path) -> bool
@@ -169,48 +201,50 @@ impl Tree {
         limit::fits(node, depth, bytes)
     }
 
-    /// Puts a file, or a directory that holds nothing, at a path, instead of what stood there.
+    /// Puts a file, where what it has is given, or else a directory that holds nothing, at a path, instead of what stood there.
     ///
     /// # Errors
     /// Want of memory, and nothing has changed.
     pub fn insert(
         &mut self,
         path: &Path,
-        kind: ObjectKind,
         owner: Who,
         group: Who,
         acl: Acl,
+        file: Option<FileRow>,
     ) -> Result<(), AllocError>
         requires parent { IsTrue (has_parent path.now self.old) }
-        requires suits { IsTrue (is_directory_kind kind || suits_file acl) }
-        ensures ok { OnOk result (self.new ≡ with_sub_tree self.old (record { path = path.now; kind = kind; owner = owner; group = group; acl = acl } ∷ [])) }
+        requires suits { IsTrue (is_directory_kind (kind_of_new file) || suits_file acl) }
+        ensures ok { OnOk result (self.new ≡ with_sub_tree self.old (record { path = path.now; kind = kind_of_new file; owner = owner; group = group; acl = acl; file = file } ∷ [])) }
         ensures err { OnErr result (self.new ≡ self.old) }
     {
         let Some((name, above)) = path.names().split_last() else {
             unreachable!()
         };
         let name = name.clone()?;
-        let new = Node::new(self.alloc, kind, owner, group, acl);
+        let new = Node::new(self.alloc, owner, group, acl, file);
         self.root.put(above, name, new)
     }
 
-    /// Makes the directories of a path that are missing: the last of this mode, the others without its sticky bit and open to
-    /// their owner, all of this owner and of their parent's group (HDFS Permissions Guide, "Overview").
+    /// Makes what is missing of a path: the last a file, where what it has is given, else a directory, of this mode; the others
+    /// directories without its sticky bit and open to their owner; all of this owner and of their parent's group (HDFS
+    /// Permissions Guide, "Overview").
     ///
     /// # Errors
     /// Want of memory, and nothing has changed.
-    pub fn make_directories(
+    pub fn make(
         &mut self,
         path: &Path,
         mode: Mode,
+        file: Option<FileRow>,
         owner: &Who,
     ) -> Result<(), AllocError>
         requires missing { IsTrue (is_missing path.now self.old) }
         requires clear { file_above path.now self.old ≡ None }
-        ensures ok { OnOk result (self.new ≡ with_directories path.now mode owner.now (ancestor path.now self.old) self.old) }
+        ensures ok { OnOk result (self.new ≡ with_new path.now mode file owner.now (ancestor path.now self.old) self.old) }
         ensures err { OnErr result (self.new ≡ self.old) }
     {
-        self.root.make(self.alloc, path.names(), mode, owner)
+        self.root.make(self.alloc, path.names(), mode, file, owner)
     }
 
     /// Removes what stands at a path that isn't the root, with all that is beneath it. Costs also what is removed, and takes
@@ -247,11 +281,19 @@ impl Tree {
         self.root.move_to(self.alloc, first, rest, above, name)
     }
 
-    /// Gives what stands at a path to an owner and a group, with another access list. Takes no memory.
-    pub fn rewrite(&mut self, path: &Path, owner: Who, group: Who, acl: Acl)
-        requires { IsTrue (suits_list acl (row_at path.now self.old)) }
-        ensures { self.new ≡ rewritten path.now owner group acl self.old }
+    /// Gives what stands at a path another part: an owner and a group, an access list, or what a file has. Takes no memory.
+    pub fn rewrite(&mut self, path: &Path, change: Change)
+        requires { IsTrue (suits_change change (row_at path.now self.old)) }
+        ensures { self.new ≡ rewritten path.now change self.old }
     {
-        self.root.rewrite(path.names(), owner, group, acl);
+        self.root.rewrite(path.names(), change);
+    }
+
+    /// Closes the files whose holders are among these clients, but where the length of the last block isn't committed. Costs
+    /// the whole tree, and for each open file these clients; takes no memory (this project's profile of leases).
+    pub fn close_expired(&mut self, past: &[Who])
+        ensures { self.new ≡ map (closed_where_expired (past_hard past.now)) self.old }
+    {
+        self.root.close_expired(past);
     }
 }

@@ -1,12 +1,13 @@
 ghost use Rattle.std.specs.Prelude.{◌≡◌, ◌++◌, ◌∷◌, [], map, filter, reverse, true, IsTrue, IfOk, OnOk};
-ghost use Rattle.std.specs.Option.{option_map};
+ghost use Rattle.std.specs.Option.{option_map, option_to_list};
 ghost use Rattle.std.specs.Map.{keys_of};
 ghost use Rattle.hdfs_types.specs.Path.{IsPath};
+ghost use Rattle.flat_rows.specs.Files as spec;
 ghost use Rattle.flat_rows.specs.First.{first};
 ghost use Rattle.flat_rows.specs.Namespace.{is_ascending};
 ghost use Rattle.flat_rows.specs.Changes.{are_paths, child_names};
 ghost use Rattle.inode_tree.specs.Branch.{rows, row_of, flatten, under, placed};
-ghost use Rattle.inode_tree.specs.Visits.{counts_of, is_closed, row_found};
+ghost use Rattle.inode_tree.specs.Visits.{counts_of, sum_told, is_closed, row_found};
 
 use crate::node::{Held, Node};
 use acl_entries::acl::Acl;
@@ -19,11 +20,15 @@ use hdfs_types::who::Who;
 use std::alloc::{AllocError, Global};
 use std::collections::BTreeMap;
 
-/// How many directories and files there are. Each number stops at the greatest that it can tell.
+/// How many directories and files there are, and how many bytes the files hold.
 #[derive(Clone, Copy, Debug, PartialEq, Eq)]
 pub struct Counts {
+    /// At most the greatest number, which stands for all above it.
     pub directories: u64,
+    /// At most the greatest number, which stands for all above it.
     pub files: u64,
+    /// The committed bytes of the files; `None` where they are more than a number tells.
+    pub bytes: Option<u64>,
 }
 
 /// The counts of what stands at the node and beneath it.
@@ -32,15 +37,17 @@ pub(crate) fn count(node: &Node) -> Counts
     ensures { result ≡ counts_of (rows node.now) }
 {
     match &node.held {
-        Held::File => Counts {
+        Held::File(file) => Counts {
             directories: 0,
             files: 1,
+            bytes: file.blocks.length(),
         },
         Held::Directory(map) => {
             let beneath = count_in(map);
             Counts {
                 directories: beneath.directories.saturating_add(1),
                 files: beneath.files,
+                bytes: beneath.bytes,
             }
         }
     }
@@ -52,12 +59,25 @@ fn count_in(map: &BTreeMap<Name, Node>) -> Counts
 {
     let mut directories = 0u64;
     let mut files = 0u64;
+    let mut bytes = Some(0u64);
     for (_name, child) in map {
         let counts = count(child);
         directories = directories.saturating_add(counts.directories);
         files = files.saturating_add(counts.files);
+        bytes = sum(bytes, counts.bytes);
     }
-    Counts { directories, files }
+    Counts {
+        directories,
+        files,
+        bytes,
+    }
+}
+
+/// The sum of two lengths, where a number tells it.
+fn sum(one: Option<u64>, other: Option<u64>) -> Option<u64>
+    ensures { result ≡ sum_told one other }
+{
+    one?.checked_add(other?)
 }
 
 /// A directory that was found, with the names that lead to it from where the search began. They stand from the last up, since
@@ -82,7 +102,7 @@ pub(crate) fn first_closed(
     ensures { IfOk result (λ found. option_map row_found found ≡ first (filter (is_closed caller.now groups.now need) (rows node.now))) }
 {
     match &node.held {
-        Held::File => Ok(None),
+        Held::File(_) => Ok(None),
         Held::Directory(map) => {
             if node.judged(caller, groups, need).is_granted() {
                 return first_closed_in(alloc, map, caller, groups, need);
@@ -135,7 +155,7 @@ pub(crate) fn push_rows(
     ensures { OnOk result (found.new.items ≡ found.old.items ++ map (placed path) (rows node.now)) }
 {
     match &node.held {
-        Held::File => {
+        Held::File(_) => {
             found.push(row_at(node, path)?)?;
             Ok(())
         }
@@ -173,6 +193,7 @@ fn row_at(node: &Node, path: Path) -> Result<Row, AllocError>
         owner: node.owner().clone()?,
         group: node.group().clone()?,
         acl: node.acl().clone()?,
+        file: node.file_copy()?,
     })
 }
 
@@ -211,6 +232,7 @@ impl Found {
             owner: self.owner,
             group: self.group,
             acl: self.acl,
+            file: None,
         })
     }
 }
@@ -225,13 +247,59 @@ fn push_reversed(names: &mut Vec<Name>, mut last_first: Vec<Name>) -> Result<(),
     Ok(())
 }
 
+/// Adds the client who has the node open, where it is a file that one has open.
+pub(crate) fn push_holder<'a>(node: &'a Node, found: &mut Vec<&'a Who>) -> Result<(), AllocError>
+    ensures { OnOk result (map (λ who. who.now) found.new.items ≡ map (λ who. who.now) found.old.items ++ option_to_list (spec.holder_of_file node.now.top.file)) }
+{
+    match node.holder() {
+        Some(holder) => {
+            found.push(holder)?;
+            Ok(())
+        }
+        None => Ok(()),
+    }
+}
+
+/// The clients who have open the files of the node and of all beneath it, one for each open file.
+pub(crate) fn holders<'a>(alloc: Global, node: &'a Node) -> Result<Vec<&'a Who>, AllocError>
+    ensures { IfOk result (λ found. map (λ who. who.now) found.items ≡ spec.holders (rows node.now)) }
+{
+    let mut found = Vec::new(alloc);
+    push_holders(node, &mut found)?;
+    Ok(found)
+}
+
+/// Adds the clients who have open the files of the node and of all beneath it, one for each open file.
+#[cycle(holders)]
+fn push_holders<'a>(node: &'a Node, found: &mut Vec<&'a Who>) -> Result<(), AllocError>
+    ensures { OnOk result (map (λ who. who.now) found.new.items ≡ map (λ who. who.now) found.old.items ++ spec.holders (rows node.now)) }
+{
+    match &node.held {
+        Held::File(_) => push_holder(node, found),
+        Held::Directory(nodes) => push_holders_in(nodes, found),
+    }
+}
+
+#[cycle(holders)]
+fn push_holders_in<'a>(
+    nodes: &'a BTreeMap<Name, Node>,
+    found: &mut Vec<&'a Who>,
+) -> Result<(), AllocError>
+    ensures { OnOk result (map (λ who. who.now) found.new.items ≡ map (λ who. who.now) found.old.items ++ spec.holders (flatten nodes.now.entries)) }
+{
+    for (_name, child) in nodes {
+        push_holders(child, found)?;
+    }
+    Ok(())
+}
+
 /// The names of what a directory holds.
 pub(crate) fn names_of<'a>(alloc: Global, node: &'a Node) -> Result<Vec<&'a Name>, AllocError>
     requires { is_ascending (rows node.now) ≡ true }
     ensures { IfOk result (λ names. map (λ name. name.now) names.items ≡ child_names [] (rows node.now)) }
 {
     match &node.held {
-        Held::File => Ok(Vec::new(alloc)),
+        Held::File(_) => Ok(Vec::new(alloc)),
         Held::Directory(nodes) => keys(alloc, nodes),
     }
 }

@@ -1,12 +1,14 @@
-ghost use Rattle.std.specs.Prelude.{◌≡◌, ◌≤◌, nat_lt, not, [], None, OnOk, OnErr, IsOk, IsSome, is_some};
+ghost use Rattle.std.specs.Prelude.{◌≡◌, ◌≤◌, nat_lt, not, [], None, OnOk, OnErr, IfErr, IsOk, IsSome, is_some};
 ghost use Rattle.std.specs.Bool.{MatchBool};
 ghost use Rattle.std.specs.List.{position_or_len};
 ghost use Rattle.hdfs_types.specs.Text.{same};
+ghost use Rattle.hdfs_types.specs.declared.reply.Refusal.TheVariants.{NoLease};
 ghost use Rattle.indexmap.specs.IndexMap.{IsUnique};
 ghost use Rattle.lease_manager.specs.Lease as spec;
 ghost use Rattle.lease_manager.specs.Shown.{renewals_of};
 
 use hdfs_types::moment::Moment;
+use hdfs_types::reply::Refusal;
 use hdfs_types::who::Who;
 use indexmap::IndexMap;
 use std::alloc::{AllocError, Global};
@@ -22,10 +24,6 @@ pub enum LeaseState {
     /// The age is greater than the hard limit: the NameNode closes the client's files.
     PastHard,
 }
-
-/// The client has no lease to renew.
-#[derive(Clone, Copy, Debug, PartialEq, Eq)]
-pub struct NoLease;
 
 /// The leases of clients, each by its last renewal, the oldest first, and the limits of their ages. A lease covers all files
 /// that its client has open (HDFS Architecture, the single-writer model).
@@ -106,15 +104,16 @@ impl Leases {
     /// clients that have leases, since the map closes the gap, and takes no memory.
     ///
     /// # Errors
-    /// The client has no lease. Nothing has changed then.
-    pub fn renew(&mut self, client: &Who, now: Moment) -> Result<(), NoLease>
+    /// `NoLease`, where the client has no lease. Nothing has changed then.
+    pub fn renew(&mut self, client: &Who, now: Moment) -> Result<(), Refusal>
         requires { spec.latest self.old.renewals ≤ now }
         ensures ok { OnOk result (IsSome (spec.renewal_of client.now self.old.renewals) × (self.new ≡ spec.after_renewal self.old client.now now)) }
         ensures err { OnErr result ((spec.renewal_of client.now self.old.renewals ≡ None) × (self.new ≡ self.old)) }
         ensures latest { OnOk result (spec.latest self.new.renewals ≡ now) }
+        ensures refusal { IfErr result (λ refusal. refusal ≡ NoLease) }
     {
         if !renew_present(&mut self.renewals, client, now) {
-            return Err(NoLease);
+            return Err(Refusal::NoLease);
         }
         Ok(())
     }

@@ -1,8 +1,9 @@
 ghost use Rattle.std.specs.Prelude.{◌≡◌, ◌≤◌, ◌^◌, IfOk};
 ghost use Rattle.lease_manager.specs.Lease.{latest};
 
-use crate::leases::{LeaseState, Leases, NoLease};
+use crate::leases::{LeaseState, Leases};
 use hdfs_types::moment::Moment;
+use hdfs_types::reply::Refusal;
 use hdfs_types::who::Who;
 use std::alloc::Global;
 use std::process::Abort;
@@ -84,6 +85,14 @@ fn hard_limit_is_asked_first(rt: HostRuntime) -> Result<(), Fail> {
     Ok(())
 }
 
+/// The code of the refusal, 0 where there is none.
+fn code_of(renewed: Result<(), Refusal>) -> u8 {
+    match renewed {
+        Ok(()) => 0,
+        Err(refusal) => refusal.code(),
+    }
+}
+
 #[test]
 fn renewals_at_the_last_moment(rt: HostRuntime) -> Result<(), Fail> {
     let mut leases = Leases::new(rt.alloc(), SOFT, HARD);
@@ -95,7 +104,7 @@ fn renewals_at_the_last_moment(rt: HostRuntime) -> Result<(), Fail> {
     assert_eq!(rt; leases.state(&alice, now), Some(LeaseState::PastHard));
     assert_eq!(rt; leases.state(&bob, now), Some(LeaseState::Live));
     expect_past_hard(&rt, rt.alloc(), &leases, LAST_MOMENT, "alice ")?;
-    assert_eq!(rt; leases.renew(&alice, now), Ok(()));
+    assert_eq!(rt; code_of(leases.renew(&alice, now)), 0);
     assert_eq!(rt; leases.state(&alice, now), Some(LeaseState::Live));
     expect_past_hard(&rt, rt.alloc(), &leases, LAST_MOMENT, "")?;
     Ok(())
@@ -125,7 +134,7 @@ fn renewed_leases_go_last(rt: HostRuntime) -> Result<(), Fail> {
     let mut leases = three_leases(rt.alloc())?;
     let bob = Who::parse(rt.alloc(), "bob")?;
     let alice = Who::parse(rt.alloc(), "alice")?;
-    assert_eq!(rt; leases.renew(&bob, moment(20)), Ok(()));
+    assert_eq!(rt; code_of(leases.renew(&bob, moment(20))), 0);
     expect_past_hard(&rt, rt.alloc(), &leases, 1_200_021, "alice carl bob ")?;
     leases.take(&alice, moment(30))?;
     expect_past_hard(&rt, rt.alloc(), &leases, 1_200_030, "carl bob ")?;
@@ -139,7 +148,7 @@ fn released_leases_are_gone(rt: HostRuntime) -> Result<(), Fail> {
     let alice = Who::parse(rt.alloc(), "alice")?;
     leases.release(&alice);
     assert_eq!(rt; leases.state(&alice, moment(10)), None);
-    assert_eq!(rt; leases.renew(&alice, moment(10)), Err(NoLease));
+    assert_eq!(rt; code_of(leases.renew(&alice, moment(10))), 13);
     leases.release(&alice);
     expect_past_hard(&rt, rt.alloc(), &leases, 1_200_011, "bob carl ")?;
     Ok(())

@@ -67,7 +67,7 @@ impl<'a> Component<'a> {
         Path::copied(alloc, self.path)
     }
 
-    /// A copy, as a row of the namespace. Costs the path.
+    /// A copy, as a row of the namespace. Costs the path, and the blocks of a file.
     pub fn to_row(&self, alloc: Global) -> Result<Row, AllocError>
         ensures { IfOk result (λ row. row ≡ self.now) }
     {
@@ -77,6 +77,7 @@ impl<'a> Component<'a> {
             owner: self.inode.owner().clone()?,
             group: self.inode.group().clone()?,
             acl: self.inode.acl().clone()?,
+            file: self.inode.file_copy()?,
         })
     }
 }

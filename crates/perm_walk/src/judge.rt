@@ -104,6 +104,10 @@ fn holds(condition: &Condition, reach: &Reach<'_>) -> bool
             Some(component) => component.inode().kind() == ObjectKind::Directory,
             None => false,
         },
+        Condition::WhereFile => match &reach.at {
+            Some(component) => component.inode().kind() == ObjectKind::File,
+            None => false,
+        },
         Condition::WhereSticky => match &reach.parent {
             Some(above) => above.inode().acl().is_sticky(),
             None => false,

@@ -151,7 +151,7 @@ fn files_have_no_default_list(rt: HostRuntime) -> Result<(), Fail> {
         ),
         ("0 ann setfacl /f default", "ok"),
         ("0 ann setfacl /f clear", "ok"),
-        ("0 bob stat /f", "ok file 0755 ann crew"),
+        ("0 bob stat /f", "ok file 0755 ann crew 1 0 closed"),
     ];
     assert!(rt; tell(&rt, &table)?);
     Ok(())
@@ -193,9 +193,9 @@ fn files_have_extended_lists(rt: HostRuntime) -> Result<(), Fail> {
             "0 ann setfacl /f set user::rw-,user:bruce:rwx,group::r-x,group:sales:rwx,mask::r--,other::r--",
             "ok",
         ),
-        ("0 bob stat /f", "ok file 0644+ ann crew"),
+        ("0 bob stat /f", "ok file 0644+ ann crew 1 0 closed"),
         ("0 ann setfacl /f modify user:bruce:rwx", "ok"),
-        ("0 bob stat /f", "ok file 0674+ ann crew"),
+        ("0 bob stat /f", "ok file 0674+ ann crew 1 0 closed"),
         ("0 ann chmod /f 1640", "ok"),
         (
             "0 bob getfacl /f",
@@ -210,7 +210,7 @@ fn files_have_extended_lists(rt: HostRuntime) -> Result<(), Fail> {
             "0 bob getfacl /f",
             "ok ann crew user::rw-,group::r-x,other::---",
         ),
-        ("0 bob stat /f", "ok file 0650 ann crew"),
+        ("0 bob stat /f", "ok file 0650 ann crew 1 0 closed"),
     ];
     assert!(rt; tell(&rt, &table)?);
     Ok(())

@@ -1,41 +1,42 @@
 use crate::explain::rows_of;
-use crate::script::Session;
+use crate::script::{Session, step};
 use crate::tests::lines::read;
 use flat_rows::decision::verdict;
 use flat_rows::verdict::Verdict;
-use fs_operations::apply::apply;
 use hdfs_types::op::Request;
-use inode_tree::tree::Tree;
-use principals::users::Users;
+use name_core::namenode::NameCore;
+use std::alloc::{AllocError, Global};
 use std::test::Fail;
 
 /// What the plain program over the rows denies a request by.
 fn denied_by_rows(
     rt: &HostRuntime,
-    tree: &Tree,
-    users: &Users,
+    core: &NameCore,
     request: &Request,
 ) -> Result<Option<String>, Fail> {
     let alloc = rt.alloc();
-    let rows = rows_of(alloc, tree)?;
-    match verdict(alloc, &rows, users, &request.caller, &request.op)? {
+    let rows = rows_of(alloc, core.tree())?;
+    match verdict(alloc, &rows, core.users(), &request.caller, &request.op)? {
         Some(denial) => Ok(Some(denial.to_string(alloc)?)),
         None => Ok(None),
     }
 }
 
-/// Does a request on the tree, and tells what it is denied by.
-fn denied_by_tree(
-    rt: &HostRuntime,
-    tree: &mut Tree,
-    users: &mut Users,
-    request: &Request,
-) -> Result<Option<String>, Fail> {
-    let alloc = rt.alloc();
-    match apply(alloc, tree, users, request)? {
+fn denial_in(alloc: Global, verdict: &Verdict) -> Result<Option<String>, AllocError> {
+    match verdict {
         Verdict::Denied(denial) => Ok(Some(denial.to_string(alloc)?)),
         _ => Ok(None),
     }
+}
+
+/// Steps the core by a request, and tells what it is denied by.
+fn denied_by_core(
+    rt: &HostRuntime,
+    core: &mut NameCore,
+    request: &Request,
+) -> Result<Option<String>, Fail> {
+    let verdict = step(core, request)?;
+    Ok(denial_in(rt.alloc(), &verdict)?)
 }
 
 /// What both deny a line's request by; where they differ, that they do.
@@ -45,12 +46,12 @@ fn denied_by_both(
     line: &str,
 ) -> Result<Option<String>, Fail> {
     let request = read(rt.alloc(), line)?;
-    let by_rows = denied_by_rows(rt, &session.tree, &session.users, &request)?;
-    let by_tree = denied_by_tree(rt, &mut session.tree, &mut session.users, &request)?;
-    if by_rows != by_tree {
+    let by_rows = denied_by_rows(rt, &session.core, &request)?;
+    let by_core = denied_by_core(rt, &mut session.core, &request)?;
+    if by_rows != by_core {
         return Ok(Some(format!(in rt.alloc(); "they differ: {line}")?));
     }
-    Ok(by_tree)
+    Ok(by_core)
 }
 
 /// What is denied of a script's requests, a line each.
@@ -70,7 +71,7 @@ const FIRST_PATH: &str = "0 hdfs mkdirs /a 1777\n0 alice mkdirs /a/b/c 700\n0 bo
 0 bob stat /a/b\n0 bob stat /a/x/y\n0 bob stat /a/b/x/y\n0 bob mkdirs /z 755\n0 alice mkdirs /a/b/c 755\n0 hdfs stat /";
 
 #[test]
-fn tree_and_rows_deny_the_same_on_the_first_path(rt: HostRuntime) -> Result<(), Fail> {
+fn core_and_rows_deny_the_same_on_the_first_path(rt: HostRuntime) -> Result<(), Fail> {
     let found = denials(&rt, FIRST_PATH)?;
     let want = "/a/b --x by other::---\n/a/b --x by other::---\n/ -w- by other::r-x\n";
     assert_eq!(rt; found.as_str(), want);
@@ -83,7 +84,7 @@ const RENAME: &str =
 0 hdfs ls /r/c/a/b";
 
 #[test]
-fn tree_and_rows_deny_nothing_of_the_renames(rt: HostRuntime) -> Result<(), Fail> {
+fn core_and_rows_deny_nothing_of_the_renames(rt: HostRuntime) -> Result<(), Fail> {
     assert_eq!(rt; denials(&rt, RENAME)?.as_str(), "");
     Ok(())
 }
@@ -94,7 +95,7 @@ const SUBTREE_RIGHTS: &str =
 0 hdfs delete /p/x\n0 hdfs delete /p/x recursive\n0 hdfs delete / recursive";
 
 #[test]
-fn tree_and_rows_deny_the_same_of_sub_trees(rt: HostRuntime) -> Result<(), Fail> {
+fn core_and_rows_deny_the_same_of_sub_trees(rt: HostRuntime) -> Result<(), Fail> {
     let found = denials(&rt, SUBTREE_RIGHTS)?;
     assert_eq!(rt; found.as_str(), "/p/x/b rwx by other::r-x\n");
     Ok(())
@@ -112,7 +113,7 @@ const KINDS_DENIED: &str = "/s/x sticky by owner:ann dir:hdfs\n/s/x sticky by ow
 /s/x member:g2 by group:g2\n/ superuser by superuser\n/s/x r-x by other::---\n/s/x r-x by user::---\n/s/x --x by group::---\n";
 
 #[test]
-fn tree_and_rows_deny_the_same_by_each_need(rt: HostRuntime) -> Result<(), Fail> {
+fn core_and_rows_deny_the_same_by_each_need(rt: HostRuntime) -> Result<(), Fail> {
     let found = denials(&rt, KINDS)?;
     assert_eq!(rt; found.as_str(), KINDS_DENIED);
     Ok(())
@@ -129,8 +130,25 @@ const CLASSES_DENIED: &str =
 /n --x by other::---\n/n owner by owner:hdfs\n";
 
 #[test]
-fn tree_and_rows_deny_the_same_by_each_class(rt: HostRuntime) -> Result<(), Fail> {
+fn core_and_rows_deny_the_same_by_each_class(rt: HostRuntime) -> Result<(), Fail> {
     let found = denials(&rt, CLASSES)?;
     assert_eq!(rt; found.as_str(), CLASSES_DENIED);
+    Ok(())
+}
+
+/// What files need: to write the directory above, and to write or read the file.
+const FILES: &str =
+    "0 hdfs mkdirs /d 755\n0 ann create /d/f 640 1\n0 hdfs create /d/f 640 1\n0 ann create /d/f 640 1 over\n\
+0 ann append /d/f\n0 ann open /d/f\n0 ann setrep /d/f 2\n0 ann addblock /d/f\n0 ann complete /d/f\n0 ann renew\n0 ann tick\n\
+0 ann create /d/f/x 640 1\n0 hdfs tick";
+
+const FILES_DENIED: &str =
+    "/d -w- by other::r-x\n/d -w- by other::r-x\n/d/f -w- by other::---\n/d/f r-- by other::---\n\
+/d/f -w- by other::---\n/ superuser by superuser\n/d/f -w- by other::---\n";
+
+#[test]
+fn core_and_rows_deny_the_same_of_files(rt: HostRuntime) -> Result<(), Fail> {
+    let found = denials(&rt, FILES)?;
+    assert_eq!(rt; found.as_str(), FILES_DENIED);
     Ok(())
 }

@@ -1,31 +1,51 @@
-use crate::answer::Answer;
-use crate::script::Session;
-use crate::tests::lines::read;
-use crate::tests::namespaces::put_file;
-use fs_operations::apply::apply;
+use crate::script::Status;
+use crate::tests::scripts::prints;
+use std::alloc::{AllocError, Global};
 use std::test::Fail;
 
-// No verb makes files yet, so these are put into the tree beside the script.
+/// The files `/f` and `/d/g` of mode 0755, both closed, of `ann` and the group `crew`.
+const FILES: [(&str, &str); 7] = [
+    ("0 hdfs mkdirs /d 777", "ok"),
+    ("0 hdfs create /f 755 1", "ok"),
+    ("0 hdfs create /d/g 755 1", "ok"),
+    ("0 hdfs complete /f", "ok closed 0"),
+    ("0 hdfs complete /d/g", "ok closed 0"),
+    ("0 hdfs chown /f ann crew", "ok"),
+    ("0 hdfs chown /d/g ann crew", "ok"),
+];
 
-/// The answer to a line.
-fn told(rt: &HostRuntime, session: &mut Session, line: &str) -> Result<String, Fail> {
-    let alloc = rt.alloc();
-    let request = read(alloc, line)?;
-    let verdict = apply(alloc, &mut session.tree, &mut session.users, &request)?;
-    Ok(Answer::Given(verdict).to_string(alloc)?)
+/// Adds the lines of a table to a script, and their answers to what it prints, and tells how many lines there are then.
+fn add(
+    alloc: Global,
+    script: &mut String,
+    want: &mut String,
+    before: u64,
+    table: &[(&str, &str)],
+) -> Result<u64, AllocError> {
+    let mut number = before;
+    for (line, answer) in table {
+        number = number.wrapping_add(1);
+        let said = format!(in alloc; "{line}\n")?;
+        script.push_str(said.as_str())?;
+        let printed = format!(in alloc; "{number} {answer}\n")?;
+        want.push_str(printed.as_str())?;
+    }
+    Ok(number)
 }
 
-/// Whether the lines are answered so in turn, beside the files `/f` and `/d/g`.
+/// Whether the lines, each with its moment, are answered so in turn.
+pub(crate) fn answers_in_turn(rt: &HostRuntime, table: &[(&str, &str)]) -> Result<bool, Fail> {
+    let (mut script, mut want) = (String::new(rt.alloc()), String::new(rt.alloc()));
+    add(rt.alloc(), &mut script, &mut want, 0, table)?;
+    prints(rt, script.as_str(), want.as_str(), Status::Clean)
+}
+
+/// The same beside the files `/f` and `/d/g`.
 pub(crate) fn tell(rt: &HostRuntime, table: &[(&str, &str)]) -> Result<bool, Fail> {
-    let mut session = Session::open(rt.alloc())?;
-    told(rt, &mut session, "0 hdfs mkdirs /d 777")?;
-    let is_put = put_file(rt, &mut session.tree, "/f")? && put_file(rt, &mut session.tree, "/d/g")?;
-    for (line, want) in table {
-        if told(rt, &mut session, line)?.as_str() != *want {
-            return Ok(false);
-        }
-    }
-    Ok(is_put)
+    let (mut script, mut want) = (String::new(rt.alloc()), String::new(rt.alloc()));
+    let made = add(rt.alloc(), &mut script, &mut want, 0, &FILES)?;
+    add(rt.alloc(), &mut script, &mut want, made, table)?;
+    prints(rt, script.as_str(), want.as_str(), Status::Clean)
 }
 
 #[test]
@@ -60,7 +80,7 @@ fn files_change_owners_and_modes(rt: HostRuntime) -> Result<(), Fail> {
         ("0 bob chmod /f 777", "denied /f owner by owner:ann"),
         ("0 ann chmod /f 1640", "ok"),
         ("0 hdfs chown /f bob -", "ok"),
-        ("0 bob stat /f", "ok file 0640 bob crew"),
+        ("0 bob stat /f", "ok file 0640 bob crew 1 0 closed"),
     ];
     assert!(rt; tell(&rt, &table)?);
     Ok(())

@@ -1,6 +1,7 @@
 use crate::line::request_of;
 use hdfs_types::acl_change::AclChange;
 use hdfs_types::fault::ParseFault;
+use hdfs_types::file::LastBlock;
 use hdfs_types::op::{Op, Request};
 use hdfs_types::path::Path;
 use hdfs_types::spec::Spec;
@@ -58,6 +59,17 @@ fn change_of(alloc: Global, change: &AclChange) -> Result<String, AllocError> {
     }
 }
 
+/// What is stated of the last block: which one it is and its bytes, or `(none)`.
+fn last_of(alloc: Global, last: &Option<LastBlock>) -> Result<String, AllocError> {
+    match last {
+        Some(last) => {
+            let (block, bytes) = (last.block.get(), last.length);
+            format!(in alloc; "{block} {bytes}")
+        }
+        None => String::from_str(alloc, "(none)"),
+    }
+}
+
 /// The parts of an operation, behind the name of its variant.
 fn parts_of(alloc: Global, op: &Op) -> Result<String, AllocError> {
     match op {
@@ -92,6 +104,24 @@ fn parts_of(alloc: Global, op: &Op) -> Result<String, AllocError> {
             put_all(&mut out, groups.as_slice())?;
             Ok(out)
         }
+        Op::Create(path, mode, replication, over) => {
+            format!(in alloc; "Create {path} {mode} {replication} {over}")
+        }
+        Op::Append(path) => format!(in alloc; "Append {path}"),
+        Op::AddBlock(path, last) => {
+            let last = last_of(alloc, last)?;
+            format!(in alloc; "AddBlock {path} {last}")
+        }
+        Op::Complete(path, last) => {
+            let last = last_of(alloc, last)?;
+            format!(in alloc; "Complete {path} {last}")
+        }
+        Op::Open(path) => format!(in alloc; "Open {path}"),
+        Op::SetReplication(path, replication) => {
+            format!(in alloc; "SetReplication {path} {replication}")
+        }
+        Op::Renew => String::from_str(alloc, "Renew"),
+        Op::Tick => String::from_str(alloc, "Tick"),
     }
 }
 

@@ -7,6 +7,7 @@ use acl_entries::acl::Acl;
 use flat_rows::decision::verdict;
 use flat_rows::demand::{Demand, Enforcement};
 use flat_rows::denial::{Denial, granted};
+use flat_rows::file_row::FileRow;
 use flat_rows::row::Row;
 use flat_rows::rows::{Rows, directory_of, file_above};
 use flat_rows::verdict::Verdict;
@@ -15,6 +16,7 @@ use hdfs_types::groups::Groups;
 use hdfs_types::mode::Mode;
 use hdfs_types::op::Op;
 use hdfs_types::path::Path;
+use hdfs_types::replication::Repl;
 use hdfs_types::reply::{ObjectKind, Reply};
 use hdfs_types::who::Who;
 use inode_tree::tree::Tree;
@@ -32,6 +34,12 @@ fn who_of(alloc: Global, text: &str) -> Result<Who, Fail> {
     Ok(Who::parse(alloc, text)?)
 }
 
+/// A file of one replica, that `ann` has open.
+fn opened(alloc: Global) -> Result<FileRow, Fail> {
+    let replication = Repl::new(1).ok_or("replication")?;
+    Ok(FileRow::opened(alloc, replication, who_of(alloc, "ann")?))
+}
+
 /// Whether there is a directory that holds the path.
 fn is_held(rows: &[Row], path: &Path) -> bool
     ensures { result ≡ true → IsTrue (has_parent path.now rows.now) }
@@ -46,22 +54,24 @@ fn put_into_tree(
     path: &Path,
     owner: Who,
     group: Who,
+    file: FileRow,
 ) -> Result<bool, AllocError> {
     let rows = rows_of(alloc, tree)?;
     if !is_held(rows.as_slice(), path) {
         return Ok(false);
     }
     let acl = Acl::from_mode(Mode::root(), ObjectKind::File);
-    tree.insert(path, ObjectKind::File, owner, group, acl)?;
+    tree.insert(path, owner, group, acl, Some(file))?;
     Ok(true)
 }
 
 /// Puts a file of `ann` and the group `crew` into a tree, and tells whether there is a directory that holds it.
-pub(crate) fn put_file(rt: &HostRuntime, tree: &mut Tree, path: &str) -> Result<bool, Fail> {
+fn put_file(rt: &HostRuntime, tree: &mut Tree, path: &str) -> Result<bool, Fail> {
     let alloc = rt.alloc();
     let path = path_of(alloc, path)?;
     let (owner, group) = (who_of(alloc, "ann")?, who_of(alloc, "crew")?);
-    Ok(put_into_tree(alloc, tree, &path, owner, group)?)
+    let file = opened(alloc)?;
+    Ok(put_into_tree(alloc, tree, &path, owner, group, file)?)
 }
 
 /// A file of mode 0755 that `ann` and the group `crew` own.
@@ -72,14 +82,18 @@ fn file_at(alloc: Global, path: &str) -> Result<Row, Fail> {
         owner: who_of(alloc, "ann")?,
         group: who_of(alloc, "crew")?,
         acl: Acl::from_mode(Mode::root(), ObjectKind::File),
+        file: Some(opened(alloc)?),
     })
 }
 
-/// Whether a row has neither a sticky bit nor a default list, which only a directory has.
+/// Whether a row is a file's, with neither a sticky bit nor a default list, which only a directory has.
 fn is_plain(row: &Row) -> bool
     ensures { result ≡ true → IsTrue (suits_kind row.now) }
 {
-    !row.acl.is_sticky() && row.acl.default_list().is_none()
+    !row.is_directory()
+        && row.file.is_some()
+        && !row.acl.is_sticky()
+        && row.acl.default_list().is_none()
 }
 
 /// Puts a plain row among the rows, and tells whether there is a directory that holds it.

@@ -23,7 +23,7 @@ pub change::make_in-returns-in-Some-clause-ok : goal.change::make_in-returns-in-
 change::make_in-returns-in-Some-clause-ok t c =
     let found = found_mut c.get_mut.result c.in-Some.child _ c.in-Some.is c.get_mut.ensures.value in
     on_ok c.make.result
-    (λ is top group list. make_through c.args.owner.now c.args.mode c.args.first.now c.args.rest.now top _ c.make.new.self c.args.map.now.entries _ c.requires.sorted c.requires.missing found is (c.get_mut.follows.holds c.make.new.self).0) c.make.ensures.ok
+    (λ is top group list. make_through c.args.owner.now c.args.mode c.args.file c.args.first.now c.args.rest.now top _ c.make.new.self c.args.map.now.entries _ c.requires.sorted c.requires.missing found is (c.get_mut.follows.holds c.make.new.self).0) c.make.ensures.ok
 
 pub change::make_in-returns-in_ok-insert-in-None-clause-ok :
     goal.change::make_in-returns-in_ok-insert-in-None-clause-ok
@@ -31,6 +31,6 @@ change::make_in-returns-in_ok-insert-in-None-clause-ok t c =
     let missed = missed_mut c.get_mut.result _ c.in-None.is c.get_mut.ensures.value in
     let node = c.in_ok-chain-in-None.chain in
     let key = c.in_ok-clone-in-None.field-0 in
-    λ top group list. make_here c.args.owner.now c.args.mode c.args.first.now c.args.rest.now top node c.args.map.now.entries _ c.requires.sorted missed
-    (c.in_ok-chain-in-None.ensures ∙ ap (λ g. chain c.args.above.now g c.args.owner.now c.args.mode c.args.rest.now) (sym group) ∙ ap (λ l. chain l top.group c.args.owner.now c.args.mode c.args.rest.now) (sym list))
+    λ top group list. make_here c.args.owner.now c.args.mode c.args.file c.args.first.now c.args.rest.now top node c.args.map.now.entries _ c.requires.sorted missed
+    (c.in_ok-chain-in-None.ensures ∙ ap (λ g. chain c.args.above.now g c.args.owner.now c.args.mode c.args.file c.args.rest.now) (sym group) ∙ ap (λ l. chain l top.group c.args.owner.now c.args.mode c.args.file c.args.rest.now) (sym list))
     (c.in_ok-insert-in-None.ensures.entries ∙ ap (λ (m : BTreeMap (List ℕ) Branch). insert_entry R m.entries key node) c.get_mut.follows.holds-at-none ∙ ap (λ k. insert_entry R c.args.map.now.entries k node) c.in_ok-clone-in-None.ensures.cases)

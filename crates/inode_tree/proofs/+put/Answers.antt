@@ -12,7 +12,7 @@ node::Node::put-put_in-requires t c = (
 )
 
 pub node::Node::put-unreachable-requires : goal.node::Node::put-unreachable-requires
-node::Node::put-unreachable-requires t c = file_holds_none c.args.above.now c.args.name c.self.inside c.args.self.now c.self.view_is c.in-File.is c.requires
+node::Node::put-unreachable-requires t c = file_holds_none c.args.above.now c.args.name c.self.inside _ c.args.self.now c.self.view_is c.in-File.is c.requires
 
 pub change::put_in-put-requires : goal.change::put_in-put-requires
 change::put_in-put-requires t c =

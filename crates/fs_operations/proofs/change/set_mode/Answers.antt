@@ -1,4 +1,4 @@
-use Rattle.std.proofs.Common.{◌≡◌, ◌∙◌, sym, ap, subst}
+use Rattle.std.proofs.Common.{◌∙◌, ap, subst}
 use Rattle.default_acl.specs.AclChange.{with_mode}
 use Rattle.perm_walk.specs.Walked.{IsWalked}
 use Rattle.fs_operations.specs.Found.{IsFound}

@@ -1,6 +1,7 @@
 use Rattle.std.proofs.Common.{◌≡◌, ◌+◌, ◌*◌, ◌≤◌, ◌<◌, ◌^◌, length}
 use Rattle.inode_tree.specs.Branch.{flatten}
 use Rattle.inode_tree.specs.Visits.{told, directories, files}
+use Rattle.inode_tree.proofs.Visits.{Counted}
 use Rattle.inode_tree.proofs.visit.+count.Given as goal
 
 abbrev pub decreases-count : goal.decreases-count
@@ -17,5 +18,6 @@ invariant-count_in-loop-name l = record {
   files : told (l.files + files (flatten l._name-iterator)) ≡ told (files (flatten l.map.entries));
   few_directories : l.directories < 2 ^ 64;
   few_files : l.files < 2 ^ 64;
+  bytes : Counted (flatten l.map.entries) (flatten l._name-iterator) l.bytes;
   left : length (flatten l._name-iterator) ≤ length (flatten l.map.entries);
 }

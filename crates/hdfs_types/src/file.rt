@@ -1,0 +1,90 @@
+ghost use Rattle.std.specs.Prelude.{◌≡◌, Some};
+
+use crate::ids::{BlockId, Stamp};
+use crate::moment::Moment;
+use crate::replication::Repl;
+use crate::who::Who;
+use std::alloc::AllocError;
+use std::fmt;
+
+/// Who may write a file: one client at a time, and none while its last block is recovered (HDFS Architecture, "The File System
+/// Namespace": files are write-once and have strictly one writer at any time).
+#[derive(Debug, Drop)]
+pub enum FileState {
+    Closed,
+    /// Open for writing by this client.
+    Open(Who),
+    /// The last block is recovered: which one, under which stamp, and since when.
+    Recovering(BlockId, Stamp, Moment),
+}
+
+impl Clone for FileState {
+    ghost is_clone = { λ state copy. copy ≡ state };
+
+    fn clone(&self) -> Result<FileState, AllocError> {
+        match self {
+            FileState::Closed => Ok(FileState::Closed),
+            FileState::Open(client) => Ok(FileState::Open(client.clone()?)),
+            FileState::Recovering(block, stamp, begun) => {
+                Ok(FileState::Recovering(*block, *stamp, *begun))
+            }
+        }
+    }
+}
+
+/// Prints `closed`, `open:` and the client, or `recovering`.
+impl fmt::Display for FileState {
+    ghost use Rattle.hdfs_types.specs.File.{state_text};
+
+    ghost output = { λ state. Some (state_text state) };
+
+    fn fmt<W: fmt::Write>(&self, f: &mut fmt::Formatter<W>) -> fmt::Result {
+        match self {
+            FileState::Closed => write!(f, "closed"),
+            FileState::Open(client) => write!(f, "open:{client}"),
+            FileState::Recovering(_, _, _) => write!(f, "recovering"),
+        }
+    }
+}
+
+/// What `stat` tells of a file beside what it tells of a directory.
+#[derive(Debug, Drop)]
+pub struct FileDetail {
+    pub replication: Repl,
+    /// The bytes of the blocks whose length is committed.
+    pub length: u64,
+    pub state: FileState,
+}
+
+impl Clone for FileDetail {
+    ghost is_clone = { λ detail copy. copy ≡ detail };
+
+    fn clone(&self) -> Result<FileDetail, AllocError> {
+        Ok(FileDetail {
+            replication: self.replication,
+            length: self.length,
+            state: self.state.clone()?,
+        })
+    }
+}
+
+/// Prints replication, length and state, each behind a blank.
+impl fmt::Display for FileDetail {
+    ghost use Rattle.hdfs_types.specs.File.{detail_text};
+
+    ghost output = { λ detail. Some (detail_text detail) };
+
+    fn fmt<W: fmt::Write>(&self, f: &mut fmt::Formatter<W>) -> fmt::Result {
+        let replication = self.replication;
+        let length = self.length;
+        let state = &self.state;
+        write!(f, " {replication} {length} {state}")
+    }
+}
+
+/// What a writer states of the last block of a file: which one it is, and the bytes that it has written there.
+#[derive(Clone, Copy, Debug, PartialEq, Eq)]
+pub struct LastBlock {
+    pub block: BlockId,
+    pub length: u64,
+}

@@ -1,0 +1,5 @@
+pub mod Writers
+pub mod Unchanged
+pub mod Counting
+pub mod Apart
+pub mod OpenFiles

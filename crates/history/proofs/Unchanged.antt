@@ -1,0 +1,65 @@
+-- Entries that change nothing but the clock.
+use Rattle.std.proofs.Common.{◌≡◌, ℕ, true, false, ◌&&◌, List, ◌∷◌, Some, refl, ap, cond}
+use Rattle.hdfs_types.specs.Text.{same}
+use Rattle.hdfs_types.specs.Request.{is_look}
+use Rattle.hdfs_types.specs.declared.op.Op.{Op}
+use Rattle.hdfs_types.specs.declared.op.Op.TheVariants.{Mkdirs, Stat, List as Lists, Summary, GetAcl, Delete, Rename, SetMode, SetOwner, SetAcl, AddUser, SetGroups, Create, Append, AddBlock, Complete, Open, SetReplication, Renew, Tick}
+use Rattle.hdfs_types.specs.declared.reply.Reply.{Reply}
+use Rattle.principals.specs.Principals.{Principals}
+use Rattle.flat_rows.specs.declared.row.Row.{Row}
+use Rattle.flat_rows.specs.declared.verdict.Verdict.{Verdict}
+use Rattle.flat_rows.specs.declared.verdict.Verdict.TheVariants.{Done, Denied, Refused}
+use Rattle.flat_rows.specs.FileOutcome.{LeaseFacts}
+use Rattle.history.specs.declared.entry.HistoryEntry.{HistoryEntry}
+use Rattle.history.specs.Config.{Settings, limits_of}
+use Rattle.history.specs.ClockAndLease.{renews, last_renewal, clock_of, lease_in, facts_at}
+use Rattle.history.specs.State.{users_by, users_of, rows_by, rows_of}
+use Rattle.history.specs.Laws.{is_done, IsSame}
+
+-- what an operation with a verdict does
+pub record Rests (op : Op) (verdict : Verdict) : Type 0 where
+  pub users : (users : Principals) → users_by op verdict users ≡ users
+  pub rows : (leases : LeaseFacts) (caller : List ℕ) (rows : List Row) → rows_by leases op caller verdict rows ≡ rows
+  pub renewals : renews op verdict ≡ false
+
+pub same_where_rests : (config : Settings) (entry : HistoryEntry) (earlier : List HistoryEntry) → Rests entry.request.op entry.verdict → IsSame config entry earlier
+same_where_rests config entry earlier rests =
+    record {
+      users = rests.users (users_of earlier);
+      rows = rests.rows (facts_at (limits_of config) (clock_of (entry ∷ earlier)) (lease_in (last_renewal earlier) (rows_of config earlier))) entry.request.caller (rows_of config earlier);
+      renewals = λ client. ap (λ b. cond (b && same entry.request.caller client) (Some (clock_of (entry ∷ earlier))) (last_renewal earlier client)) rests.renewals;
+    }
+
+pub not_done_rests : (op : Op) (verdict : Verdict) → is_done verdict ≡ false → Rests op verdict
+not_done_rests op (Done reply) h = cc
+not_done_rests op (Denied denial) h = record { users = λ users. refl; rows = λ leases caller rows. refl; renewals = refl }
+not_done_rests op (Refused refusal) h = record { users = λ users. refl; rows = λ leases caller rows. refl; renewals = refl }
+
+-- a reply changes nothing, and what isn't done neither
+rests : (op : Op) → ((users : Principals) (told : Reply) → users_by op (Done told) users ≡ users) → ((leases : LeaseFacts) (caller : List ℕ) (told : Reply) (rows : List Row) → rows_by leases op caller (Done told) rows ≡ rows)
+    → ((told : Reply) → renews op (Done told) ≡ false) → (verdict : Verdict) → Rests op verdict
+rests op users rows renewals (Done told) = record { users = λ some. users some told; rows = λ leases caller some. rows leases caller told some; renewals = renewals told }
+rests op users rows renewals (Denied denial) = not_done_rests op (Denied denial) refl
+rests op users rows renewals (Refused refusal) = not_done_rests op (Refused refusal) refl
+
+pub look_rests : (op : Op) (verdict : Verdict) → is_look op ≡ true → Rests op verdict
+look_rests (Mkdirs path mode) verdict h = cc
+look_rests (Stat path) verdict h = rests (Stat path) (λ users told. refl) (λ leases caller told rows. refl) (λ told. refl) verdict
+look_rests (Lists path) verdict h = rests (Lists path) (λ users told. refl) (λ leases caller told rows. refl) (λ told. refl) verdict
+look_rests (Summary path) verdict h = rests (Summary path) (λ users told. refl) (λ leases caller told rows. refl) (λ told. refl) verdict
+look_rests (GetAcl path) verdict h = rests (GetAcl path) (λ users told. refl) (λ leases caller told rows. refl) (λ told. refl) verdict
+look_rests (Delete path recursive) verdict h = cc
+look_rests (Rename from to) verdict h = cc
+look_rests (SetMode path mode) verdict h = cc
+look_rests (SetOwner path owner group) verdict h = cc
+look_rests (SetAcl path change) verdict h = cc
+look_rests (AddUser user groups) verdict h = cc
+look_rests (SetGroups user groups) verdict h = cc
+look_rests (Create path mode replication over) verdict h = cc
+look_rests (Append path) verdict h = cc
+look_rests (AddBlock path last) verdict h = cc
+look_rests (Complete path last) verdict h = cc
+look_rests (Open path) verdict h = cc
+look_rests (SetReplication path replication) verdict h = cc
+look_rests Renew verdict h = cc
+look_rests Tick verdict h = cc

@@ -1,0 +1,64 @@
+-- Laws about histories, which follow from their definitions.
+use Rattle.std.specs.Prelude.{◌≡◌, ℕ, Bool, true, false, ◌&&◌, List, ◌∷◌, Some, None}
+use Rattle.std.specs.List.{list_any}
+use Rattle.hdfs_types.specs.PathOrder.{same_path}
+use Rattle.hdfs_types.specs.Request.{is_look}
+use Rattle.hdfs_types.specs.declared.op.Op.TheVariants as op
+use Rattle.hdfs_types.specs.declared.op.Request.{Request}
+use Rattle.hdfs_types.specs.declared.reply.Refusal.TheVariants.{LeaseHeld}
+use Rattle.flat_rows.specs.declared.row.Row.{Row}
+use Rattle.flat_rows.specs.declared.verdict.Verdict.{Verdict}
+use Rattle.flat_rows.specs.declared.verdict.Verdict.TheVariants.{Done, Denied, Refused}
+use Rattle.flat_rows.specs.Rows.{row_at, file_above, is_directory}
+use Rattle.flat_rows.specs.Namespace.{IsNamespace}
+use Rattle.flat_rows.specs.Files.{is_open_by}
+use Rattle.flat_rows.specs.FileOutcome.{holder_at}
+use Rattle.flat_rows.specs.Decision.{decision}
+use Rattle.history.specs.declared.entry.HistoryEntry.{HistoryEntry}
+use Rattle.history.specs.Config.{Settings}
+use Rattle.history.specs.ClockAndLease.{last_renewal}
+use Rattle.history.specs.State.{users_of, rows_of, lease_facts}
+use Rattle.history.specs.LegalHistory.{now_at, verdict_of}
+
+abbrev pub is_done : Verdict → Bool
+is_done (Done reply) = true
+is_done (Denied denial) = false
+is_done (Refused refusal) = false
+
+-- ---- one writer at a time
+
+-- the client has open a file that has the path
+abbrev pub writes : List (List ℕ) → List ℕ → List Row → Bool
+writes path client rows = list_any (λ row. same_path path row.path && is_open_by client row) rows
+
+-- of two clients who have a file open, each is the other
+abbrev pub FilesHaveOneWriter : Type 0
+FilesHaveOneWriter = (rows : List Row) (path : List (List ℕ)) (client other : List ℕ)
+    → IsNamespace rows → writes path client rows ≡ true → writes path other rows ≡ true → client ≡ other
+
+-- an append to a file that a client has open whose lease is live isn't done, whoever asks for it
+abbrev pub LiveWritersStay : Type 0
+LiveWritersStay = (config : Settings) (earlier : List HistoryEntry) (request : Request) (path : List (List ℕ)) (writer : List ℕ)
+    → request.op ≡ op.Append path → holder_at (row_at path (rows_of config earlier)) ≡ Some writer
+    → (lease_facts config earlier (now_at earlier request)).is_live writer ≡ true → is_done (verdict_of config earlier request) ≡ false
+
+-- and it names that client, where no need fails and the path is that of a file
+abbrev pub LiveWritersAreNamed : Type 0
+LiveWritersAreNamed = (config : Settings) (earlier : List HistoryEntry) (request : Request) (path : List (List ℕ)) (row : Row) (writer : List ℕ)
+    → request.op ≡ op.Append path → row_at path (rows_of config earlier) ≡ Some row → is_directory row ≡ false → holder_at (Some row) ≡ Some writer
+    → file_above path (rows_of config earlier) ≡ None → decision (rows_of config earlier) (users_of earlier) request.caller (op.Append path) ≡ None
+    → (lease_facts config earlier (now_at earlier request)).is_live writer ≡ true → verdict_of config earlier request ≡ Refused (LeaseHeld writer)
+
+-- ---- entries that change nothing but the clock
+
+-- users, namespace and renewals are as before the last entry
+pub record IsSame (config : Settings) (entry : HistoryEntry) (earlier : List HistoryEntry) : Type 0 where
+  pub users : users_of (entry ∷ earlier) ≡ users_of earlier
+  pub rows : rows_of config (entry ∷ earlier) ≡ rows_of config earlier
+  pub renewals : (client : List ℕ) → last_renewal (entry ∷ earlier) client ≡ last_renewal earlier client
+
+abbrev pub WhatIsNotDoneChangesNothing : Type 0
+WhatIsNotDoneChangesNothing = (config : Settings) (entry : HistoryEntry) (earlier : List HistoryEntry) → is_done entry.verdict ≡ false → IsSame config entry earlier
+
+abbrev pub LooksChangeNothing : Type 0
+LooksChangeNothing = (config : Settings) (entry : HistoryEntry) (earlier : List HistoryEntry) → is_look entry.request.op ≡ true → IsSame config entry earlier

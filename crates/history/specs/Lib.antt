@@ -1,0 +1,6 @@
+pub mod Config
+pub mod Kept
+pub mod ClockAndLease
+pub mod State
+pub mod LegalHistory
+pub mod Laws

@@ -1,0 +1,21 @@
+//! Laws about histories. Each function does nothing: what it ensures follows from the definitions.
+
+ghost use Rattle.history.specs.Laws as law;
+
+/// No two clients have a file open to write at a time.
+pub fn files_have_one_writer()
+    ensures { law.FilesHaveOneWriter }
+{}
+
+/// While the lease of the client who has a file open is live, no append takes the file over: it isn't done. Where nothing else stands
+/// against it, it is refused with that client's name.
+pub fn live_writers_stay()
+    ensures stay { law.LiveWritersStay }
+    ensures named { law.LiveWritersAreNamed }
+{}
+
+/// What is denied or refused leaves users, namespace and renewals as they are, and so does a request that only looks.
+pub fn nothing_changes()
+    ensures not_done { law.WhatIsNotDoneChangesNothing }
+    ensures looks { law.LooksChangeNothing }
+{}

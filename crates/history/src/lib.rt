@@ -1,0 +1,6 @@
+//! Histories of a NameNode: what it opens with, its entries, and what these give.
+#![tactic(auto)]
+
+pub mod config;
+pub mod entry;
+pub mod laws;

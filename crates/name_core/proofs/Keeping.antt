@@ -1,0 +1,99 @@
+-- One more entry keeps what a core keeps.
+use Rattle.std.proofs.Common.{◌≡◌, ℕ, ◌+◌, ◌≤◌, max, List, [], ◌∷◌, ◌++◌, length, reverse, Option, Some, refl, ap, sym, ◌∙◌, subst}
+use Rattle.std.proofs.lemmas.List.{reverse-append, length-reverse}
+use Rattle.hdfs_types.specs.declared.op.Request.{Request}
+use Rattle.lease_manager.specs.Lease.{latest}
+use Rattle.principals.specs.Principals.{Principals}
+use Rattle.flat_rows.specs.declared.row.Row.{Row}
+use Rattle.flat_rows.specs.declared.verdict.Verdict.{Verdict}
+use Rattle.flat_rows.specs.FileOutcome.{LeaseFacts}
+use Rattle.flat_rows.specs.Outcome.{Step, step}
+use Rattle.history.specs.declared.entry.HistoryEntry.{HistoryEntry}
+use Rattle.history.specs.declared.entry.Answer.{Answer}
+use Rattle.history.specs.Config.{Settings, limits_of}
+use Rattle.history.specs.ClockAndLease.{clock_of, last_renewal, renews, facts_at, lease_in}
+use Rattle.history.specs.State.{rows_of, users_of, rows_by, users_by}
+use Rattle.history.specs.LegalHistory.{IsLegal, verdict_of}
+use Rattle.name_core.specs.declared.namenode.NameCore.TheInside.{Inside}
+use Rattle.name_core.specs.Core.{Core, Steps, entry_of}
+use Rattle.name_core.specs.Kept.{IsKept, core_of, entries_of}
+use Rattle.name_core.specs.Performed.{IsExact, facts_of, renewed_where}
+use Rattle.name_core.proofs.Stepping.{stepped_rows, stepped_users, same_facts, same_step}
+
+-- what a step does to the fields
+pub record Adds (a b : Inside) (e : HistoryEntry) : Type 0 where
+  pub config : b.config ≡ a.config
+  pub history : b.history.items ≡ a.history.items ++ e ∷ []
+  pub clock : b.clock ≡ max a.clock e.request.moment
+  pub stepped : record { verdict = e.verdict; rows = b.system.tree; users = b.system.users } ≡ step (facts_of (last_renewal (entries_of a)) b.clock a.system) a.system.tree a.system.users e.request.caller e.request.op
+  pub exact : IsExact (renewed_where (renews e.request.op e.verdict) e.request.caller b.clock (last_renewal (entries_of a))) b.system.tree b.system.writers
+  pub limits : b.system.writers.leases.limits ≡ a.system.writers.leases.limits
+  pub latest : latest b.system.writers.leases.renewals ≤ b.clock
+  pub place : e.place ≡ length a.history.items + 1
+
+pub entries_more : (a b : Inside) (e : HistoryEntry) → Adds a b e → entries_of b ≡ e ∷ entries_of a
+entries_more a b e h = ap reverse h.history ∙ reverse-append a.history.items (e ∷ [])
+
+clock_more : (a b : Inside) (e : HistoryEntry) → IsKept a → Adds a b e → b.clock ≡ clock_of (e ∷ entries_of a)
+clock_more a b e k h = h.clock ∙ ap (λ n. max n e.request.moment) k.clock
+
+abbrev facts_now : Inside → HistoryEntry → LeaseFacts
+facts_now a e = facts_at (limits_of a.config) (clock_of (e ∷ entries_of a)) (lease_in (last_renewal (entries_of a)) (rows_of a.config (entries_of a)))
+
+abbrev step_now : Inside → HistoryEntry → Step
+step_now a e = step (facts_now a e) (rows_of a.config (entries_of a)) (users_of (entries_of a)) e.request.caller e.request.op
+
+-- the step is that of the history
+step_is : (a b : Inside) (e : HistoryEntry) → IsKept a → Adds a b e → record { verdict = e.verdict; rows = b.system.tree; users = b.system.users } ≡ step_now a e
+step_is a b e k h =
+    h.stepped
+    ∙ same_step (facts_of (last_renewal (entries_of a)) b.clock a.system) (facts_now a e) a.system.tree (rows_of a.config (entries_of a)) a.system.users (users_of (entries_of a)) e.request.caller e.request.op
+    (same_facts a.system.writers.leases.limits (limits_of a.config) b.clock (clock_of (e ∷ entries_of a)) (last_renewal (entries_of a)) a.system.tree (rows_of a.config (entries_of a)) k.limits (clock_more a b e k h) k.tree)
+    k.tree k.users
+
+pub verdict_is : (a b : Inside) (e : HistoryEntry) → IsKept a → Adds a b e → e.verdict ≡ verdict_of a.config (entries_of a) e.request
+verdict_is a b e k h = ap (λ (s : Step). s.verdict) (step_is a b e k h)
+
+tree_is : (a b : Inside) (e : HistoryEntry) → IsKept a → Adds a b e → b.system.tree ≡ rows_of a.config (e ∷ entries_of a)
+tree_is a b e k h =
+    ap (λ (s : Step). s.rows) (step_is a b e k h)
+    ∙ (stepped_rows (facts_now a e) (rows_of a.config (entries_of a)) (users_of (entries_of a)) e.request.caller e.request.op
+    ∙ ap (λ v. rows_by (facts_now a e) e.request.op e.request.caller v (rows_of a.config (entries_of a))) (sym (verdict_is a b e k h)))
+
+users_are : (a b : Inside) (e : HistoryEntry) → IsKept a → Adds a b e → b.system.users ≡ users_of (e ∷ entries_of a)
+users_are a b e k h =
+    ap (λ (s : Step). s.users) (step_is a b e k h)
+    ∙ (stepped_users (facts_now a e) (rows_of a.config (entries_of a)) (users_of (entries_of a)) e.request.caller e.request.op
+    ∙ ap (λ v. users_by e.request.op v (users_of (entries_of a))) (sym (verdict_is a b e k h)))
+
+exact_more : (a b : Inside) (e : HistoryEntry) → IsKept a → Adds a b e → IsExact (last_renewal (e ∷ entries_of a)) b.system.tree b.system.writers
+exact_more a b e k h = subst (λ n. IsExact (renewed_where (renews e.request.op e.verdict) e.request.caller n (last_renewal (entries_of a))) b.system.tree b.system.writers) (clock_more a b e k h) h.exact
+
+pub kept_more : (a b : Inside) (e : HistoryEntry) → IsKept a → Adds a b e → IsKept b
+kept_more a b e k h =
+    let more : entries_of b ≡ e ∷ entries_of a = entries_more a b e h in
+    let place : e.place ≡ length (entries_of a) + 1 = h.place ∙ ap (λ n. n + 1) (sym (length-reverse a.history.items)) in
+    let legal : IsLegal a.config (e ∷ entries_of a) = (place, verdict_is a b e k h, k.legal) in
+    record {
+      legal = subst (λ l. IsLegal b.config l) (sym more) (subst (λ s. IsLegal s (e ∷ entries_of a)) (sym h.config) legal);
+      clock = clock_more a b e k h ∙ ap clock_of (sym more);
+      tree = tree_is a b e k h ∙ (ap (λ s. rows_of s (e ∷ entries_of a)) (sym h.config) ∙ ap (rows_of b.config) (sym more));
+      users = users_are a b e k h ∙ ap users_of (sym more);
+      exact = subst (λ l. IsExact (last_renewal l) b.system.tree b.system.writers) (sym more) (exact_more a b e k h);
+      limits = h.limits ∙ (k.limits ∙ ap limits_of (sym h.config));
+      latest = h.latest;
+    }
+
+pub steps_is : (a b : Inside) (e : HistoryEntry) (n pass index : ℕ) (r : Request) (v : Verdict) (told : Answer) → IsKept a → Adds a b e
+    → e ≡ record { place = n; pass = pass; index = index; request = r; verdict = v } → told ≡ record { place = n; request = r; verdict = v } → Steps (core_of a) pass index r told (core_of b)
+steps_is a b e n pass index r v told k h is to =
+    let place : n ≡ length (entries_of a) + 1 = sym (ap (λ (x : HistoryEntry). x.place) is) ∙ (h.place ∙ ap (λ m. m + 1) (sym (length-reverse a.history.items))) in
+    let verdict : v ≡ verdict_of a.config (entries_of a) r =
+    sym (ap (λ (x : HistoryEntry). x.verdict) is) ∙ (verdict_is a b e k h ∙ ap (λ (x : HistoryEntry). verdict_of a.config (entries_of a) x.request) is) in
+    let made : e ≡ entry_of (core_of a) pass index r =
+    is ∙ (ap (λ m. record { place = m; pass = pass; index = index; request = r; verdict = v }) place ∙ ap (λ w. record { place = length (entries_of a) + 1; pass = pass; index = index; request = r; verdict = w }) verdict) in
+    let entries : entries_of b ≡ entry_of (core_of a) pass index r ∷ entries_of a = entries_more a b e h ∙ ap (λ x. x ∷ entries_of a) made in
+    record {
+      new_is = ap (λ (s : Settings). record { config = s; entries = entries_of b }) h.config ∙ ap (λ l. record { config = a.config; entries = l }) entries;
+      answer_is = to ∙ (ap (λ m. record { place = m; request = r; verdict = v }) place ∙ ap (λ w. record { place = length (entries_of a) + 1; request = r; verdict = w }) verdict);
+    }

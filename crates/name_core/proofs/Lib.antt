@@ -1,0 +1,13 @@
+pub mod Counts
+pub mod Moments
+pub mod Leasing
+pub mod Stepping
+pub mod Keeping
+pub mod Effects
+pub mod Expiring
+pub mod Plain
+pub mod Performing
+pub mod Effected
+pub mod Deciding
+pub mod Looking
+pub mod Recording

@@ -1,0 +1,25 @@
+use Rattle.std.proofs.Common.{ap, ◌∙◌}
+use Rattle.fs_operations.specs.Judged.{verdict_under}
+use Rattle.name_core.specs.Performed.{facts_of}
+use Rattle.name_core.proofs.Performing.{no_facts}
+use Rattle.name_core.proofs.Deciding.{free_of, judged_is, held_free, held_is}
+use Rattle.name_core.proofs.namesystem.decide.Goals as goal
+
+pub returns-in-Verdict-clause-free : goal.returns-in-Verdict-clause-free
+returns-in-Verdict-clause-free c = λ done.
+    free_of no_facts c.args.system.now.tree c.args.system.now.users c.args.request.now.caller c.args.request.now.op c.in-Verdict.verdict
+    (judged_is c.args.system.now c.args.request.now.caller c.args.request.now.op c.in_ok-verdict.field-0 c.in_ok-verdict.ensures no_facts c.in-Verdict.verdict (ap (verdict_under no_facts) c.in-Verdict.is)) done
+
+pub returns-in-Verdict-clause-verdict : goal.returns-in-Verdict-clause-verdict
+returns-in-Verdict-clause-verdict c = λ last exact.
+    judged_is c.args.system.now c.args.request.now.caller c.args.request.now.op c.in_ok-verdict.field-0 c.in_ok-verdict.ensures (facts_of last c.args.now c.args.system.now) c.in-Verdict.verdict (ap (verdict_under (facts_of last c.args.now c.args.system.now)) c.in-Verdict.is)
+
+pub returns-in_ok-verdict-in-Held-clause-free : goal.returns-in_ok-verdict-in-Held-clause-free
+returns-in_ok-verdict-in-Held-clause-free c = λ done.
+    held_free c.args.system.now c.args.request.now.caller c.args.request.now.op c.in_ok-verdict.field-0 c.in_ok-verdict.ensures c.args.now c.in-Held.holder.now c.in-Held.ends_uncommitted c.in_ok-verdict-in-Held.verdict
+    (λ leases. ap (verdict_under leases) c.in-Held.is) c.in_ok-verdict-in-Held.ensures done
+
+pub returns-in_ok-verdict-in-Held-clause-verdict : goal.returns-in_ok-verdict-in-Held-clause-verdict
+returns-in_ok-verdict-in-Held-clause-verdict c = λ last exact.
+    held_is c.args.system.now c.args.request.now.caller c.args.request.now.op c.in_ok-verdict.field-0 c.in_ok-verdict.ensures c.args.now c.in-Held.holder.now c.in-Held.ends_uncommitted c.in_ok-verdict-in-Held.verdict
+    (λ leases. ap (verdict_under leases) c.in-Held.is) c.in_ok-verdict-in-Held.ensures last exact

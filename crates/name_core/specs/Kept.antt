@@ -1,0 +1,28 @@
+-- What a core keeps: its history is legal, and its state is what the history gives.
+use Rattle.std.specs.Prelude.{◌≡◌, ◌≤◌, List, reverse}
+use Rattle.flat_rows.specs.declared.row.Row.{Row}
+use Rattle.lease_manager.specs.Lease.{latest}
+use Rattle.history.specs.declared.entry.HistoryEntry.{HistoryEntry}
+use Rattle.history.specs.Config.{limits_of}
+use Rattle.history.specs.ClockAndLease.{clock_of, last_renewal}
+use Rattle.history.specs.State.{rows_of, users_of}
+use Rattle.history.specs.LegalHistory.{IsLegal}
+use Rattle.name_core.specs.declared.namenode.NameCore.TheInside.{Inside}
+use Rattle.name_core.specs.Core.{Core}
+use Rattle.name_core.specs.Performed.{IsExact}
+
+abbrev pub entries_of : Inside → List HistoryEntry
+entries_of core = reverse core.history.items
+
+abbrev pub core_of : Inside → Core
+core_of core = record { config = core.config; entries = entries_of core }
+
+pub record IsKept (core : Inside) : Type 0 where
+  pub legal : IsLegal core.config (entries_of core)
+  pub clock : core.clock ≡ clock_of (entries_of core)
+  pub tree : core.system.tree ≡ rows_of core.config (entries_of core)
+  pub users : core.system.users ≡ users_of (entries_of core)
+  -- of each client how many files it has open, and its lease
+  pub exact : IsExact (last_renewal (entries_of core)) core.system.tree core.system.writers
+  pub limits : core.system.writers.leases.limits ≡ limits_of core.config
+  pub latest : latest core.system.writers.leases.renewals ≤ core.clock

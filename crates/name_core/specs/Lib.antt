@@ -1,0 +1,5 @@
+pub mod Writers
+pub mod Told
+pub mod Performed
+pub mod Core
+pub mod Kept

@@ -1,0 +1,9 @@
+//! The NameNode's core: its history is legal, and its state is what the history gives.
+#![tactic(auto)]
+
+pub mod effect;
+pub mod namenode;
+pub mod namesystem;
+pub mod open_files;
+pub mod told;
+pub mod writers;

@@ -1,0 +1,193 @@
+ghost use Rattle.std.specs.Prelude.{◌≡◌, ◌<◌, ◌++◌, [], ◌∷◌, length, reverse, true, vec_len, vec_capacity, IfOk, OnErr};
+ghost use Rattle.hdfs_types.specs.Request.{is_look};
+ghost use Rattle.hdfs_types.specs.Who.{IsWho};
+ghost use Rattle.history.specs.LegalHistory.{IsLegal};
+ghost use Rattle.history.specs.State.{rows_of, users_of};
+ghost use Rattle.name_core.specs.Core.{Steps, Looks};
+
+use crate::namesystem::{Namesystem, perform};
+use crate::writers::Writers;
+use fs_operations::apply::answer_look;
+use hdfs_types::fault::ParseFault;
+use hdfs_types::moment::Moment;
+use hdfs_types::op::Request;
+use hdfs_types::who::Who;
+use history::config::Config;
+use history::entry::{Answer, HistoryEntry};
+use inode_tree::tree::Tree;
+use principals::users::Users;
+use std::alloc::{AllocError, Global};
+use std::marker::Model;
+
+// The moment of a core that has no entries.
+fn first_moment() -> Moment
+    ensures { result ≡ 0 }
+{
+    let Some(moment) = Moment::new(0) else {
+        unreachable!()
+    };
+    moment
+}
+
+// A name that is known to be well-formed.
+fn known_who(alloc: Global, text: &str) -> Result<Who, AllocError>
+    requires { IsWho text.now }
+    ensures { IfOk result (λ who. who ≡ text.now) }
+{
+    match Who::parse(alloc, text) {
+        Ok(who) => Ok(who),
+        Err(ParseFault::IllFormed(_)) => unreachable!(),
+        Err(ParseFault::OutOfMemory) => Err(AllocError),
+    }
+}
+
+// Puts an entry where there is room for it.
+fn append(history: &mut Vec<HistoryEntry>, entry: HistoryEntry)
+    requires { vec_len history.old < vec_capacity history.old }
+    ensures { history.new.items ≡ history.old.items ++ entry ∷ [] }
+{
+    let Ok(()) = history.push(entry) else {
+        unreachable!()
+    };
+}
+
+/// A NameNode's core: what it opened with, and its history, which is legal. Its namespace, its users and its leases are what the
+/// history gives.
+#[derive(Drop)]
+pub struct NameCore {
+    config: Config,
+    system: Namesystem,
+    clock: Moment,
+    // the oldest first
+    history: Vec<HistoryEntry>,
+    alloc: Global,
+}
+
+impl Model for NameCore {
+    ghost use Rattle.name_core.specs.Core.{Core};
+
+    ghost Value = { Core };
+
+    ghost use Rattle.name_core.specs.Kept.{IsKept, core_of};
+
+    ghost view = { core_of };
+
+    ghost invariant = { λ core. IsKept core };
+}
+
+impl NameCore {
+    /// A core without entries: no user is known but the superuser, and the namespace is the root.
+    ///
+    /// # Errors
+    /// Want of memory.
+    pub fn open(alloc: Global, config: Config) -> Result<NameCore, AllocError>
+        ensures { IfOk result (λ core. core ≡ record { config = config; entries = [] }) }
+    {
+        let superuser = known_who(alloc, "hdfs")?;
+        let supergroup = known_who(alloc, "supergroup")?;
+        let tree = Tree::new(alloc, superuser.clone()?, supergroup.clone()?);
+        let users = Users::new(alloc, superuser, supergroup);
+        let durations = config.durations();
+        let writers = Writers::new(alloc, durations.soft_limit, durations.hard_limit);
+        Ok(NameCore {
+            config,
+            system: Namesystem {
+                tree,
+                users,
+                writers,
+            },
+            clock: first_moment(),
+            history: Vec::new(alloc),
+            alloc,
+        })
+    }
+
+    /// The number of entries. Takes no memory.
+    pub fn place(&self) -> u64
+        ensures place { result ≡ length self.now.entries }
+        ensures legal { IsLegal self.now.config self.now.entries }
+    {
+        self.history.len() as u64
+    }
+
+    /// The entries, the oldest first. Takes no memory.
+    pub fn history(&self) -> &[HistoryEntry]
+        ensures entries { reverse result.now ≡ self.now.entries }
+        ensures legal { IsLegal self.now.config self.now.entries }
+    {
+        self.history.as_slice()
+    }
+
+    /// The namespace as it is now. Takes no memory.
+    pub fn tree(&self) -> &Tree
+        ensures { result.now ≡ rows_of self.now.config self.now.entries }
+    {
+        &self.system.tree
+    }
+
+    /// The users as they are now. Takes no memory.
+    pub fn users(&self) -> &Users
+        ensures { result.now ≡ users_of self.now.entries }
+    {
+        &self.system.users
+    }
+
+    /// Answers a request that only looks, on what the history gives. It makes no entry, and the answer's place is the number of
+    /// entries.
+    ///
+    /// # Errors
+    /// Want of memory.
+    pub fn look(&self, request: &Request) -> Result<Answer, AllocError>
+        requires { is_look request.now.op ≡ true }
+        ensures { IfOk result (λ answer. Looks self.now request.now answer) }
+    {
+        let verdict = answer_look(
+            self.alloc,
+            &self.system.tree,
+            &self.system.users,
+            &request.caller,
+            &request.op,
+        )?;
+        Ok(Answer {
+            place: self.place(),
+            request: request.clone()?,
+            verdict,
+        })
+    }
+
+    /// Answers a request, does it where no need fails and nothing stands against it, and appends it to the history, whatever the
+    /// verdict. `pass` and `index` say whose request it is. Costs what the request costs, and never the history.
+    ///
+    /// # Errors
+    /// Want of memory. Nothing has changed then, and there is no entry.
+    pub fn step(&mut self, pass: u64, index: u64, request: &Request) -> Result<Answer, AllocError>
+        ensures ok { IfOk result (λ answer. Steps self.old pass index request.now answer self.new) }
+        ensures err { OnErr result (self.new ≡ self.old) }
+    {
+        let entries = self.history.len() as u64;
+        if entries == u64::MAX {
+            return Err(AllocError);
+        }
+        let place = entries + 1;
+        let now = self.clock.later(request.moment);
+        let kept = request.clone()?;
+        let answered = request.clone()?;
+        self.history.reserve(1)?;
+        let _root = self.system.tree.root();
+        let told = perform(self.alloc, &mut self.system, request, now)?;
+        let entry = HistoryEntry {
+            place,
+            pass,
+            index,
+            request: kept,
+            verdict: told.verdict,
+        };
+        append(&mut self.history, entry);
+        self.clock = now;
+        Ok(Answer {
+            place,
+            request: answered,
+            verdict: told.copy,
+        })
+    }
+}
