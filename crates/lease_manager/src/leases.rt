@@ -167,7 +167,8 @@ impl Leases {
 
     /// The clients whose leases are older than the hard limit, the oldest first. Costs its answer, and takes no memory.
     pub fn past_hard(&self, now: Moment) -> &[Who]
-        ensures { result.now ≡ spec.clients (spec.past_hard self.now.limits now self.now.renewals) }
+        ensures past { result.now ≡ spec.clients (spec.past_hard self.now.limits now self.now.renewals) }
+        ensures renewals { spec.AreRenewals self.now.renewals }
     {
         let count = self.first_within_hard(self.renewals.values().as_slice(), now);
         &self.renewals.keys().as_slice()[..count]

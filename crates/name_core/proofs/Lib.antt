@@ -7,6 +7,7 @@ pub mod Effects
 pub mod Expiring
 pub mod Plain
 pub mod Performing
+pub mod Ticking
 pub mod Effected
 pub mod Deciding
 pub mod Looking

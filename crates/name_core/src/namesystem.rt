@@ -165,7 +165,8 @@ fn perform_write(
 
 /// The clients whose leases are past the hard limit.
 fn clients_past(alloc: Global, writers: &Writers, now: Moment) -> Result<Vec<Who>, AllocError>
-    ensures { IfOk result (λ past. past.items ≡ lease.clients (lease.past_hard writers.now.leases.limits now writers.now.leases.renewals)) }
+    ensures past { IfOk result (λ past. past.items ≡ lease.clients (lease.past_hard writers.now.leases.limits now writers.now.leases.renewals)) }
+    ensures renewals { lease.AreRenewals writers.now.leases.renewals }
 {
     let mut past = Vec::new(alloc);
     for client in writers.leases.past_hard(now) {

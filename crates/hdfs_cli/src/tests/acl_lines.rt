@@ -1,6 +1,4 @@
-use crate::script::Status;
 use crate::tests::lines::made;
-use crate::tests::operations::ends;
 use std::test::Fail;
 
 /// Numbers of words that the form doesn't take. The words are ill-formed too, which is judged later.
@@ -72,28 +70,5 @@ fn the_first_ill_formed_word_of_setfacl_counts(rt: HostRuntime) -> Result<(), Fa
         let found = made(rt.alloc(), line)?;
         assert_eq!(rt; found.as_str(), want, "of {line}");
     }
-    Ok(())
-}
-
-/// An ill-formed line is none for its path's needs and refusals, and changes nothing.
-#[test]
-fn ill_formed_entries_are_told(rt: HostRuntime) -> Result<(), Fail> {
-    let table = [
-        ("hdfs mkdirs /p 755", "ok"),
-        ("bob setfacl /p set user:rwx", "bad 9 BadAcl Form"),
-        (
-            "bob setfacl /none modify user:b:rwx,user:b:r--",
-            "bad 9 BadAcl Duplicate",
-        ),
-        (
-            "hdfs setfacl /p modify user:b:rwx,mask:b:rwx",
-            "bad 9 BadAcl NamedBase",
-        ),
-        ("hdfs setfacl /p set", "bad 0 BadLine"),
-        ("hdfs setfacl /p clear user:b", "bad 0 BadLine"),
-        ("hdfs getfacl /p user:b", "bad 0 BadLine"),
-        ("hdfs stat /p", "ok dir 0755 hdfs supergroup"),
-    ];
-    assert!(rt; ends(&rt, &table, Status::IllFormed)?);
     Ok(())
 }

@@ -41,7 +41,7 @@ const LINES_ANSWERED: &str = "3 ok dir 0755 hdfs supergroup\n\
 30 bad 19 BadName\n31 bad 19 BadName\n32 bad 19 BadName\n33 bad 20 BadMode\n34 bad 20 BadMode\n35 refused 2 NotFound\n";
 
 /// Whether the script prints these answers, and ends so.
-pub(crate) fn prints(
+fn prints(
     rt: &HostRuntime,
     script: &str,
     answers: &str,
@@ -57,71 +57,9 @@ fn answers_each_line(rt: HostRuntime) -> Result<(), Fail> {
     Ok(())
 }
 
-/// The example of the first path; then missing parents, the root, the owner's own entry, and names that sort apart as texts.
-const REQUESTS: &str =
-    "0 hdfs mkdirs /a 1777\n0 alice mkdirs /a/b/c 700\n0 bob stat /a/b/c\n0 bob stat /a/b\n\
-0 bob stat /a/x/y\n0 bob stat /a/b/x/y\n0 bob mkdirs /z 755\n0 alice mkdirs /a/b/c 755\n0 hdfs stat /\n\
-0 hdfs mkdirs /q/r/s 1005\n0 hdfs stat /q\n0 hdfs stat /q/r\n0 hdfs stat /q/r/s\n\
-0 bob mkdirs / 755\n0 hdfs mkdirs /o 777\n0 ann mkdirs /o/b 077\n0 ann stat /o/b/c\n0 bob stat /o/b/c\n\
-0 hdfs mkdirs /t/a-b 700\n0 hdfs mkdirs /t/a/c 701\n0 hdfs stat /t/a-b\n0 hdfs stat /t/a/c\n";
-
-const REQUESTS_ANSWERED: &str =
-    "1 ok\n2 ok\n3 denied /a/b --x by other::---\n4 ok dir 0700 alice supergroup\n\
-5 refused 2 NotFound\n6 denied /a/b --x by other::---\n7 denied / -w- by other::r-x\n8 ok\n9 ok dir 0755 hdfs supergroup\n\
-10 ok\n11 ok dir 0305 hdfs supergroup\n12 ok dir 0305 hdfs supergroup\n13 ok dir 1005 hdfs supergroup\n\
-14 ok\n15 ok\n16 ok\n17 denied /o/b --x by user::---\n18 refused 2 NotFound\n\
-19 ok\n20 ok\n21 ok dir 0700 hdfs supergroup\n22 ok dir 0701 hdfs supergroup\n";
-
-#[test]
-fn decides_and_does(rt: HostRuntime) -> Result<(), Fail> {
-    assert!(rt; prints(&rt, REQUESTS, REQUESTS_ANSWERED, Status::Clean)?);
-    Ok(())
-}
-
 #[test]
 fn an_empty_script_prints_nothing(rt: HostRuntime) -> Result<(), Fail> {
     assert!(rt; prints(&rt, "", "", Status::Clean)?);
-    Ok(())
-}
-
-/// A path of so many names, each of so many letters, and the last of so many.
-pub(crate) fn deep(
-    rt: &HostRuntime,
-    names: usize,
-    each: usize,
-    last: usize,
-) -> Result<String, Fail> {
-    let mut path = String::new(rt.alloc());
-    for i in 0..names {
-        path.push_str("/")?;
-        let long = if i.wrapping_add(1) == names {
-            last
-        } else {
-            each
-        };
-        for _ in 0..long {
-            path.push_str("a")?;
-        }
-    }
-    Ok(path)
-}
-
-#[test]
-fn paths_have_limits(rt: HostRuntime) -> Result<(), Fail> {
-    let table = [
-        (32, 255, 63, "1 refused 2 NotFound\n"),
-        (32, 255, 64, "1 bad 1 BadPath\n"),
-        (1000, 1, 1, "1 refused 2 NotFound\n"),
-        (1001, 1, 1, "1 bad 1 BadPath\n"),
-        (1, 1, 255, "1 refused 2 NotFound\n"),
-        (1, 1, 256, "1 bad 1 BadPath\n"),
-    ];
-    for (names, each, last, want) in table {
-        let path = deep(&rt, names, each, last)?;
-        let script = format!(in rt.alloc(); "0 hdfs stat {path}\n")?;
-        let (text, _) = printed(&rt, script.as_str())?;
-        assert_eq!(rt; text.as_str(), want, "of {names} names");
-    }
     Ok(())
 }
 

@@ -17,8 +17,8 @@ slice_bounds-result-end c =
     omega (arith, counted, ap length keys, young_within c.args.self.now.limits c.args.now es) in
     sym (length-take-le c.first_within_hard-count.result c.as_slice-2.result.now within)
 
-pub returns : goal.returns
-returns c =
+pub returns-clause-past : goal.returns-clause-past
+returns-clause-past c =
     let es = c.self.inside.renewals.entries in
     let counted : c.first_within_hard-count.result ≡ young_from c.args.self.now.limits c.args.now es =
     c.first_within_hard-count.ensures
