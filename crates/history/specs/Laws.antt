@@ -36,6 +36,11 @@ abbrev pub FilesHaveOneWriter : Type 0
 FilesHaveOneWriter = (rows : List Row) (path : List (List ℕ)) (client other : List ℕ)
     → IsNamespace rows → writes path client rows ≡ true → writes path other rows ≡ true → client ≡ other
 
+-- the same of what these entries give
+abbrev pub HasOneWriter : Settings → List HistoryEntry → Type 0
+HasOneWriter config entries = (path : List (List ℕ)) (client other : List ℕ)
+    → writes path client (rows_of config entries) ≡ true → writes path other (rows_of config entries) ≡ true → client ≡ other
+
 -- an append to a file that a client has open whose lease is live isn't done, whoever asks for it
 abbrev pub LiveWritersStay : Type 0
 LiveWritersStay = (config : Settings) (earlier : List HistoryEntry) (request : Request) (path : List (List ℕ)) (writer : List ℕ)

@@ -1,5 +1,7 @@
 -- What a tick leaves, where it is known which clients' leases are past the hard limit.
-use Rattle.std.proofs.Common.{◌≡◌, ℕ, List, [], ◌∷◌, map, filter, length, Bool, true, false, ◌&&◌, not, Option, Some, None, refl, sym, ap, ◌∙◌, subst, cond}
+use Rattle.std.proofs.Common.{◌≡◌, ℕ, suc, List, [], ◌∷◌, map, filter, length, Bool, true, false, ◌&&◌, not, Option, Some, None, refl, sym, ap, ◌∙◌, subst, cond}
+use Rattle.std.proofs.lemmas.Bool.{eqb-true}
+use Rattle.std.proofs.Math.Dec.{eqb}
 use Rattle.std.specs.List.{IsDistinct}
 use Rattle.hdfs_types.specs.Text.{same}
 use Rattle.hdfs_types.specs.declared.op.Op.TheVariants as op
@@ -67,3 +69,10 @@ performed_idle last now request old told past asked granted past_is distinct non
     (sym (ap (λ p. map (closed_where_expired (tree.past_hard p)) old.tree) none ∙ none_closed old.tree))
     (sym (ap (λ p. length (filter (is_expired (tree.past_hard p)) old.tree)) none ∙ ap length (none_expired old.tree)))
     refl exact is exact
+
+pub no_items : (n : ℕ) (items : List (List ℕ)) → eqb n 0 ≡ true → n ≡ length items → items ≡ []
+no_items n [] h k = refl
+no_items n (item ∷ items) h k = absurd (never (length items) (sym (eqb-true n 0 h) ∙ k))
+  where
+    never : (m : ℕ) → 0 ≡ suc m → ⊥
+    never m e = cc

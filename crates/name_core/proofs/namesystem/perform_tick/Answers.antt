@@ -1,0 +1,13 @@
+use Rattle.std.proofs.Common.{refl, sym, ◌∙◌}
+use Rattle.name_core.proofs.Ticking.{no_items, performed_idle, performed_tick}
+use Rattle.name_core.proofs.namesystem.perform_tick.Goals as goal
+
+pub returns-then-is_empty-clause-ok : goal.returns-then-is_empty-clause-ok
+returns-then-is_empty-clause-ok c = λ last exact.
+    performed_idle last c.args.now c.args.request.now c.args.system.now c.told_expired.result c.in_ok-past.past.items c.requires.verb (sym c.in_ok-denial.ensures ∙ c.in_default.is) c.in_ok-past.ensures.past c.in_ok-past.ensures.renewals.0
+    (no_items c.in_ok-past.past.len c.in_ok-past.past.items (sym c.is_empty.ensures ∙ c.if-is_empty.true) c.in_ok-past.past.ok.0) c.told_expired.ensures exact
+
+pub returns-clause-ok : goal.returns-clause-ok
+returns-clause-ok c = λ last exact.
+    performed_tick last c.args.now c.args.request.now c.args.system.now (record { tree = c.expire.new.tree; users = c.args.system.now.users; writers = c.expire.new.writers }) c.told_expired-2.result c.deref.result.now c.in_ok-closed.closed
+    c.requires.verb (sym c.in_ok-denial.ensures ∙ c.in_default.is) (c.deref.ensures.value ∙ c.in_ok-past.ensures.past) c.in_ok-past.ensures.renewals.0 c.in_ok-closed.ensures.tree c.in_ok-closed.ensures.closed refl (c.in_ok-closed.ensures.exact last exact) c.told_expired-2.ensures exact
