@@ -10,6 +10,7 @@ pub enum EntryKind {
 }
 
 /// An entry that a change names.
+#[derive(Clone)]
 pub struct Entry {
     kind: EntryKind,
     name: Option<String>,
@@ -17,6 +18,7 @@ pub struct Entry {
 }
 
 /// How a list is changed.
+#[derive(Clone)]
 pub enum AclChange {
     /// These entries alone, those of owner, owning group and others among them.
     Set(Vec<Entry>),
@@ -24,7 +26,7 @@ pub enum AclChange {
     Modify(Vec<Entry>),
 }
 
-#[derive(Debug)]
+#[derive(Debug, Clone)]
 pub enum AclFault {
     NoBase,
     TooManyEntries,

@@ -1,167 +1,52 @@
-//! `plain NAME N` does the workload `mkdirs`, `stat`, `acl_stat` or `setfacl` of `hdfs_bench` on a namespace in plain Rust, and
-//! prints the same line, `NAME N OPS_PER_SECOND`: the mark that the proved namesystem is measured by. Build it with
-//! `rustc --edition 2024 -O`.
+//! `plain NAME N` does a workload of `hdfs_bench` in plain Rust, and prints the same line, `NAME N OPS_PER_SECOND`: the mark that
+//! the proved namesystem is measured by. Build it with `rustc --edition 2024 -O`. The workloads are `mkdirs`, `stat`, `acl_stat`
+//! and `setfacl` on a namespace, and `create_complete`, `append_takeover`, `tick_idle`, `step_stat` and `look_stat` on a NameNode,
+//! which has leases and a history beside it.
 //!
-//! The paths, their order, the users, the modes, the access lists and the bundles are those of `hdfs_bench`, and so is what is
-//! timed: each request until its reply is dropped. The caller is looked up among the users, each existing directory above the
-//! path is judged for the right to traverse it, `mkdirs` judges the last existing component for the right to write, `stat`
-//! answers with copies of owner and group, and `setfacl` judges who owns the directory. It does less in these ways: it has three
-//! verbs; a request finds out what it needs as it goes down, once, where `hdfs_bench` makes a list of its needs and judges one
-//! after another; a denial names the path and the right that is missing, and not what decided; there are no default lists, and
-//! two forms of `setfacl`; and it aborts for want of memory. A request is served by one match. `mkdirs` makes its chain of
-//! directories aside, so that nothing has changed where it is denied or refused; `setfacl` asks first whether the entries have
-//! room, and then changes the list in place.
+//! The paths, their order, the users, the modes, the access lists, the moments and the bundles are those of `hdfs_bench`, and so
+//! is what is timed: each request until its reply or answer is dropped. The caller is looked up among the users, each existing
+//! directory above the path is judged for the right to traverse it, what is made is judged by the right to write the last existing
+//! component, `stat` answers with copies of owner, group and the client that has the file open, `setfacl` judges who owns the
+//! directory, and `append` and `complete` who has the file open. A step keeps a copy of the request and of the verdict in the
+//! history, and answers with copies of both. Leases are linked in the order of their renewals, with an index by client and the
+//! number of files that each has open.
+//!
+//! It does less in these ways: it has seven verbs; a request finds out what it needs as it goes down, once, where `hdfs_bench`
+//! makes a list of its needs and judges one after another; a denial names the path and the right that is missing, and not what
+//! decided; there are no default lists, and two forms of `setfacl`; and it aborts for want of memory. A request is served by one
+//! match. What is made is made aside, so that nothing has changed where it is denied or refused; `setfacl` asks first whether the
+//! entries have room, and then changes the list in place.
 
 mod access_list;
+mod leases;
+mod name_node;
 mod namespace;
+mod steps;
+mod workloads;
 
-use access_list::{AclChange, Entry, parse_spec};
-use namespace::{Failure, MAKER, Namespace, Op, Path, READER, Request, SUPERUSER};
+use namespace::Failure;
 use std::env;
-use std::hint::black_box;
 use std::process::ExitCode;
-use std::time::{Duration, Instant};
+use std::time::Duration;
 
-const BUNDLE: u32 = 1000;
+const NAMES: &str =
+    "mkdirs stat acl_stat setfacl create_complete append_takeover tick_idle step_stat look_stat";
 
-/// Eight entries, as in `hdfs_bench`.
-const ENTRIES: &str = "user::rwx,user:amy:r--,user:ben:---,user:bob:r-x,group::---,group:analysts:r-x,mask::r-x,other::---";
-
-/// Makes the directories of the indices below a count.
-fn fill(namespace: &mut Namespace, count: u32) -> Result<(), Failure> {
-    for index in 0..count {
-        namespace.serve(&making(index))?;
-    }
-    Ok(())
-}
-
-fn extend(namespace: &mut Namespace, caller: &str, path: Path) -> Result<(), Failure> {
-    let request = Request {
-        caller: caller.to_string(),
-        op: Op::SetAcl(path, AclChange::Set(entries(ENTRIES))),
-    };
-    namespace.serve(&request)?;
-    Ok(())
-}
-
-/// How many directories, from the path of an index up, no lower index has on its path.
-fn new_on_path(index: u32) -> usize {
-    let begun = |unit: &&u32| index % **unit == 0;
-    1 + [100, 10_000, 1_000_000, 100_000_000]
-        .iter()
-        .take_while(begun)
-        .count()
-}
-
-/// Gives the list of eight entries to each directory of a tree that was made of so many, the root too.
-fn extend_all(namespace: &mut Namespace, count: u32) -> Result<(), Failure> {
-    for index in 0..count {
-        for above in 0..new_on_path(index) {
-            extend(namespace, MAKER, path_of(index).front(PATH_NAMES - above))?;
-        }
-    }
-    extend(namespace, SUPERUSER, Path::parse("/").expect("a path"))
-}
-
-/// Serves so many requests; the clock stands while a bundle of them is built or dropped.
-fn time_requests(
-    namespace: &mut Namespace,
-    count: u32,
-    request: impl Fn(u32) -> Request,
-) -> Result<Duration, Failure> {
-    let mut taken = Duration::ZERO;
-    for first in (0..count).step_by(BUNDLE as usize) {
-        let end = first.saturating_add(BUNDLE).min(count);
-        let requests: Vec<Request> = (first..end).map(&request).collect();
-        let start = Instant::now();
-        for request in &requests {
-            drop(black_box(namespace.serve(request)?));
-        }
-        taken += start.elapsed();
-    }
-    Ok(taken)
-}
-
-/// How many names each path has.
-const PATH_NAMES: usize = 5;
-
-/// The path of an index: five names, each with two digits of the index.
-fn path_of(index: u32) -> Path {
-    let digits = |unit: u32| index / unit % 100;
-    let text = format!(
-        "/d{:02}/d{:02}/d{:02}/d{:02}/d{:02}",
-        digits(100_000_000),
-        digits(1_000_000),
-        digits(10_000),
-        digits(100),
-        digits(1)
-    );
-    Path::parse(&text).expect("a path")
-}
-
-fn entries(text: &str) -> Vec<Entry> {
-    parse_spec(text).expect("entries")
-}
-
-fn making(index: u32) -> Request {
-    Request {
-        caller: MAKER.to_string(),
-        op: Op::Mkdirs(path_of(index), 0o755),
-    }
-}
-
-fn looking(turn: u32, bound: u32) -> Request {
-    Request {
-        caller: READER.to_string(),
-        op: Op::Stat(path_of(jumping(turn, bound))),
-    }
-}
-
-fn modifying(turn: u32, bound: u32) -> Request {
-    let entry = if turn % 2 == 0 {
-        "user:bob:rwx"
-    } else {
-        "user:bob:r-x"
-    };
-    Request {
-        caller: MAKER.to_string(),
-        op: Op::SetAcl(
-            path_of(jumping(turn, bound)),
-            AclChange::Modify(entries(entry)),
-        ),
-    }
-}
-
-/// An index below the bound, which jumps about from turn to turn, as in `hdfs_bench`.
-fn jumping(turn: u32, bound: u32) -> u32 {
-    let spread = (u64::from(turn) + 1).wrapping_mul(0x9e37_79b9_7f4a_7c15);
-    let mixed = (spread ^ (spread >> 30)).wrapping_mul(0xbf58_476d_1ce4_e5b9);
-    let mixed = (mixed ^ (mixed >> 27)).wrapping_mul(0x94d0_49bb_1331_11eb);
-    ((mixed ^ (mixed >> 31)) % u64::from(bound)) as u32
-}
-
-fn mkdirs(count: u32) -> Result<Duration, Failure> {
-    time_requests(&mut Namespace::new(), count, making)
-}
-
-fn stat(count: u32) -> Result<Duration, Failure> {
-    let mut namespace = Namespace::new();
-    fill(&mut namespace, count)?;
-    time_requests(&mut namespace, count, |turn| looking(turn, count))
-}
-
-fn acl_stat(count: u32) -> Result<Duration, Failure> {
-    let mut namespace = Namespace::new();
-    fill(&mut namespace, count)?;
-    extend_all(&mut namespace, count)?;
-    time_requests(&mut namespace, count, |turn| looking(turn, count))
-}
-
-fn setfacl(count: u32) -> Result<Duration, Failure> {
-    let mut namespace = Namespace::new();
-    fill(&mut namespace, count)?;
-    extend_all(&mut namespace, count)?;
-    time_requests(&mut namespace, count, |turn| modifying(turn, count))
+/// Does a workload; answers how many operations that was, and how long they took.
+fn run(name: &str, count: u32) -> Option<Result<(u32, Duration), Failure>> {
+    let counted = |taken: Result<Duration, Failure>| taken.map(|taken| (count, taken));
+    Some(match name {
+        "mkdirs" => counted(workloads::mkdirs(count)),
+        "stat" => counted(workloads::stat(count)),
+        "acl_stat" => counted(workloads::acl_stat(count)),
+        "setfacl" => counted(workloads::setfacl(count)),
+        "create_complete" => steps::create_complete(count),
+        "append_takeover" => steps::append_takeover(count),
+        "tick_idle" => steps::tick_idle(count),
+        "step_stat" => steps::step_stat(count),
+        "look_stat" => steps::look_stat(count),
+        _ => return None,
+    })
 }
 
 fn main() -> ExitCode {
@@ -170,26 +55,20 @@ fn main() -> ExitCode {
         [_, name, count] => count.parse().ok().map(|count| (name.as_str(), count)),
         _ => None,
     };
-    let timed = match asked {
-        Some(("mkdirs", count)) => mkdirs(count),
-        Some(("stat", count)) => stat(count),
-        Some(("acl_stat", count)) => acl_stat(count),
-        Some(("setfacl", count)) => setfacl(count),
-        _ => {
-            eprintln!("usage: plain NAME N, with a NAME of: mkdirs stat acl_stat setfacl");
-            return ExitCode::from(2);
-        }
-    };
-    match (asked, timed) {
-        (Some((name, count)), Ok(taken)) => {
-            let rate = u128::from(count) * 1_000_000_000 / taken.as_nanos().max(1);
+    let timed = asked.and_then(|(name, count)| Some((name, count, run(name, count)?)));
+    match timed {
+        Some((name, count, Ok((operations, taken)))) => {
+            let rate = u128::from(operations) * 1_000_000_000 / taken.as_nanos().max(1);
             println!("{name} {count} {rate}");
             ExitCode::SUCCESS
         }
-        (_, Err(failure)) => {
+        Some((_, _, Err(failure))) => {
             eprintln!("plain: {failure:?}");
             ExitCode::FAILURE
         }
-        (None, Ok(_)) => unreachable!("a workload without a name"),
+        None => {
+            eprintln!("usage: plain NAME N, with a NAME of: {NAMES}");
+            ExitCode::from(2)
+        }
     }
 }

@@ -1,5 +1,6 @@
-use crate::namespace::{MAKER, Namespace, SUPERUSER, request};
+use crate::namespace::Namespace;
 use crate::paths::{parsed, path_of};
+use crate::requests::{MAKER, SUPERUSER, request};
 use acl_entries::spec_text::parse_spec;
 use anyhow::{Context, Result};
 use hdfs_types::acl_change::AclChange;

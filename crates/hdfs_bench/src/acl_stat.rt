@@ -1,4 +1,5 @@
 use crate::namespace::Namespace;
+use crate::requests::time_requests;
 use crate::stat::Stat;
 use crate::timed::Timed;
 use anyhow::Result;
@@ -10,5 +11,5 @@ pub fn run<R: Clock + AllocGlobal>(rt: &R, count: u32) -> Result<Timed> {
     let mut namespace = Namespace::new(rt.alloc())?;
     namespace.fill("", count)?;
     namespace.extend_all(count)?;
-    namespace.time_requests(rt, &Stat { count }, count)
+    time_requests(rt, &mut namespace, &Stat { count }, count)
 }

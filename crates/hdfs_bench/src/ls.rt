@@ -1,5 +1,6 @@
-use crate::namespace::{Namespace, READER, Requests, request};
+use crate::namespace::Namespace;
 use crate::paths::{directory_of, jumping};
+use crate::requests::{READER, Requests, request, time_requests};
 use crate::timed::Timed;
 use anyhow::Result;
 use hdfs_types::op::{Op, Request};
@@ -24,5 +25,5 @@ impl Requests for Ls {
 pub fn run<R: Clock + AllocGlobal>(rt: &R, count: u32) -> Result<Timed> {
     let mut namespace = Namespace::new(rt.alloc())?;
     namespace.fill("", count)?;
-    namespace.time_requests(rt, &Ls { count }, count)
+    time_requests(rt, &mut namespace, &Ls { count }, count)
 }

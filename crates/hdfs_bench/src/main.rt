@@ -4,17 +4,24 @@
 
 mod access_lists;
 mod acl_stat;
+mod append_takeover;
+mod create_complete;
 mod delete_recursive;
+mod files;
 mod ls;
 mod mkdirs;
+mod name_node;
 mod namespace;
 mod paths;
 mod rename_dir;
+mod requests;
 mod script;
 mod setfacl;
 mod stat;
+mod step_stat;
 #[cfg(test)]
 mod tests;
+mod tick_idle;
 mod timed;
 mod tokens;
 mod workload;
@@ -28,7 +35,7 @@ use std::process::ExitCode;
 const BAD_COMMAND_LINE: u8 = 2;
 
 const USAGE: &str =
-    "usage: hdfs_bench NAME N, with a NAME of: check_token_uncached mkdirs stat acl_stat setfacl ls rename_dir delete_recursive script";
+    "usage: hdfs_bench NAME N, with a NAME of: check_token_uncached mkdirs stat acl_stat setfacl ls rename_dir delete_recursive create_complete append_takeover tick_idle step_stat look_stat script";
 
 /// What a command line asks to be done, and of which size.
 fn asked(words: &[String]) -> Option<(Workload, u32)> {

@@ -1,4 +1,5 @@
-use crate::namespace::{Namespace, Requests, making};
+use crate::namespace::Namespace;
+use crate::requests::{Requests, making, time_requests};
 use crate::timed::Timed;
 use anyhow::Result;
 use hdfs_types::op::Request;
@@ -19,5 +20,5 @@ impl Requests for Mkdirs {
 /// directory. Each hundredth or so is made with directories above it that are missing.
 pub fn run<R: Clock + AllocGlobal>(rt: &R, count: u32) -> Result<Timed> {
     let mut namespace = Namespace::new(rt.alloc())?;
-    namespace.time_requests(rt, &Mkdirs, count)
+    time_requests(rt, &mut namespace, &Mkdirs, count)
 }

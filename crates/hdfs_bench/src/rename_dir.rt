@@ -1,5 +1,6 @@
-use crate::namespace::{MAKER, Namespace, Requests, request};
+use crate::namespace::Namespace;
 use crate::paths::parsed;
+use crate::requests::{MAKER, Requests, request, time_requests};
 use crate::timed::Timed;
 use anyhow::Result;
 use hdfs_types::op::{Op, Request};
@@ -36,5 +37,5 @@ pub fn run<R: Clock + AllocGlobal>(rt: &R, count: u32) -> Result<Timed> {
     namespace.make(HERE)?;
     namespace.make("/away")?;
     namespace.fill(HERE, count)?;
-    namespace.time_requests(rt, &RenameDir, MOVES)
+    time_requests(rt, &mut namespace, &RenameDir, MOVES)
 }

@@ -1,5 +1,5 @@
-use crate::namespace::{MAKER, READER, SUPERUSER};
 use crate::paths::{jumping, text_of};
+use crate::requests::{MAKER, READER, SUPERUSER};
 use crate::timed::Timed;
 use anyhow::{Result, bail};
 use hdfs_cli::script::{Status, run_script};

@@ -1,6 +1,7 @@
 use crate::access_lists::entries;
-use crate::namespace::{MAKER, Namespace, Requests, request};
+use crate::namespace::Namespace;
 use crate::paths::{jumping, path_of};
+use crate::requests::{MAKER, Requests, request, time_requests};
 use crate::timed::Timed;
 use anyhow::Result;
 use hdfs_types::acl_change::AclChange;
@@ -34,5 +35,5 @@ pub fn run<R: Clock + AllocGlobal>(rt: &R, count: u32) -> Result<Timed> {
     let mut namespace = Namespace::new(rt.alloc())?;
     namespace.fill("", count)?;
     namespace.extend_all(count)?;
-    namespace.time_requests(rt, &SetAcl { count }, count)
+    time_requests(rt, &mut namespace, &SetAcl { count }, count)
 }

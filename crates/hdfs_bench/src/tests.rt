@@ -1,10 +1,14 @@
 use crate::access_lists::entries;
-use crate::namespace::{Namespace, READER, Requests, SUPERUSER, request};
+use crate::append_takeover::AppendTakeover;
+use crate::name_node::NameNode;
+use crate::namespace::Namespace;
 use crate::paths::parsed;
+use crate::requests::{READER, Requests, SUPERUSER, request};
 use crate::script;
 use crate::setfacl::SetAcl;
 use crate::timed::Timed;
 use crate::workload::Workload;
+use flat_rows::verdict::Verdict;
 use hdfs_cli::script::run_script;
 use hdfs_types::acl_change::AclChange;
 use hdfs_types::op::Op;
@@ -24,6 +28,11 @@ fn workloads_run(rt: HostRuntime) -> Result<(), Fail> {
         ("rename_dir", 20_000),
         // The three, the four above them and the directory itself.
         ("delete_recursive", 8),
+        ("create_complete", 6),
+        ("append_takeover", 6),
+        ("tick_idle", 20_000),
+        ("step_stat", 3),
+        ("look_stat", 3),
         ("script", 3),
     ];
     for (name, operations) in cases {
@@ -142,6 +151,37 @@ fn the_reader_needs_the_named_entry(rt: HostRuntime) -> Result<(), Fail> {
     assert!(rt; is_told(&rt, &mut namespace, "/d00")?);
     shut_out(&rt, &mut namespace)?;
     assert!(rt; !is_told(&rt, &mut namespace, "/d00")?);
+    Ok(())
+}
+
+/// What the reader is told of a file, up to its state.
+fn file_told(rt: &HostRuntime, node: &NameNode, path: &str) -> Result<String, Fail> {
+    let op = Op::Stat(parsed(rt.alloc(), path)?);
+    let answer = node.answer_look(&request(rt.alloc(), READER, op)?)?;
+    match &answer.verdict {
+        Verdict::Done(Reply::Status(status)) => Ok(format!(in rt.alloc(); "{status}")?),
+        _ => Err("no status".into()),
+    }
+}
+
+#[test]
+fn a_file_is_released_and_then_opened(rt: HostRuntime) -> Result<(), Fail> {
+    let mut node = NameNode::with_open_files(rt.alloc(), 2)?;
+    let path = "/d00/d00/d00/d00/d01";
+    assert_eq!(rt;
+        file_told(&rt, &node, path)?.as_str(),
+        "file 0777 u01 supergroup 3 0 open:u01"
+    );
+    node.step(&AppendTakeover.request(rt.alloc(), 2)?)?;
+    assert_eq!(rt;
+        file_told(&rt, &node, path)?.as_str(),
+        "file 0777 u01 supergroup 3 0 closed"
+    );
+    node.step(&AppendTakeover.request(rt.alloc(), 3)?)?;
+    assert_eq!(rt;
+        file_told(&rt, &node, path)?.as_str(),
+        "file 0777 u01 supergroup 3 0 open:bob"
+    );
     Ok(())
 }
 

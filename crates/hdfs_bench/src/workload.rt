@@ -1,5 +1,8 @@
 use crate::timed::Timed;
-use crate::{acl_stat, delete_recursive, ls, mkdirs, rename_dir, script, setfacl, stat, tokens};
+use crate::{
+    acl_stat, append_takeover, create_complete, delete_recursive, ls, mkdirs, rename_dir, script,
+    setfacl, stat, step_stat, tick_idle, tokens,
+};
 use anyhow::Result;
 use std::time::Clock;
 
@@ -22,6 +25,16 @@ pub enum Workload {
     RenameDir,
     /// A directory is deleted with all that is beneath it.
     DeleteRecursive,
+    /// Files are made, and then closed.
+    CreateComplete,
+    /// Files that other clients have open are taken over, and opened to append.
+    AppendTakeover,
+    /// A NameNode with open files looks for leases past the hard limit, and finds none.
+    TickIdle,
+    /// A caller asks what a file is, by steps of a NameNode.
+    StepStat,
+    /// The same by looks.
+    LookStat,
     /// The lines of a script are answered, from its text to theirs.
     Script,
 }
@@ -37,6 +50,11 @@ impl Workload {
             "ls" => Some(Workload::Ls),
             "rename_dir" => Some(Workload::RenameDir),
             "delete_recursive" => Some(Workload::DeleteRecursive),
+            "create_complete" => Some(Workload::CreateComplete),
+            "append_takeover" => Some(Workload::AppendTakeover),
+            "tick_idle" => Some(Workload::TickIdle),
+            "step_stat" => Some(Workload::StepStat),
+            "look_stat" => Some(Workload::LookStat),
             "script" => Some(Workload::Script),
             _ => None,
         }
@@ -52,6 +70,11 @@ impl Workload {
             Workload::Ls => "ls",
             Workload::RenameDir => "rename_dir",
             Workload::DeleteRecursive => "delete_recursive",
+            Workload::CreateComplete => "create_complete",
+            Workload::AppendTakeover => "append_takeover",
+            Workload::TickIdle => "tick_idle",
+            Workload::StepStat => "step_stat",
+            Workload::LookStat => "look_stat",
             Workload::Script => "script",
         }
     }
@@ -71,6 +94,11 @@ impl Workload {
             Workload::Ls => ls::run(rt, count),
             Workload::RenameDir => rename_dir::run(rt, count),
             Workload::DeleteRecursive => delete_recursive::run(rt, count),
+            Workload::CreateComplete => create_complete::run(rt, count),
+            Workload::AppendTakeover => append_takeover::run(rt, count),
+            Workload::TickIdle => tick_idle::run(rt, count),
+            Workload::StepStat => step_stat::run_steps(rt, count),
+            Workload::LookStat => step_stat::run_looks(rt, count),
             Workload::Script => script::run(rt, count),
         }
     }
