@@ -171,6 +171,27 @@ fn run_text(alloc: Global, session: &mut Session, script: &str) -> Result<Status
     Ok(Status::by(session.has_bad))
 }
 
+/// What a script prints, and how it ended. Where memory ran out, the text is what the lines before print.
+#[derive(Debug, Drop)]
+struct ScriptRun {
+    text: String,
+    ended: Result<Status, AllocError>,
+}
+
+/// Runs a script on a NameNode of its own.
+fn run_alone(alloc: Global, script: &str) -> Result<ScriptRun, AllocError>
+    ensures ok { IfOk result (λ ran. OnOk ran.ended (string_bytes ran.text ≡ spec.output_of script.now)) }
+    ensures status { IfOk result (λ ran. IfOk ran.ended (λ status. status ≡ spec.status_of (spec.answers_of script.now))) }
+    ensures err { IfOk result (λ ran. OnErr ran.ended (IsAnswersBefore script.now (string_bytes ran.text))) }
+{
+    let mut session = Session::open(alloc)?;
+    let ended = run_text(alloc, &mut session, script);
+    Ok(ScriptRun {
+        text: session.out,
+        ended,
+    })
+}
+
 /// The text of a script, read whole.
 ///
 /// # Errors
@@ -210,10 +231,9 @@ pub fn run_script<R: Read, W: Write>(
     ensures unwritten { result ≡ Err ScriptFault.CannotWrite → IfSome (R.remaining reader.old) (λ script. AppendsFront (W.contents writer.old) (W.contents writer.new) (spec.output_of script)) }
 {
     let script = read_script(alloc, reader)?;
-    let Ok(mut session) = Session::open(alloc) else {
+    let Ok(ran) = run_alone(alloc, &script) else {
         return Err(ScriptFault::OutOfMemory);
     };
-    let ended = run_text(alloc, &mut session, &script);
-    write_text(writer, session.out.as_bytes()).map_err(|_| ScriptFault::CannotWrite)?;
-    ended.map_err(|_| ScriptFault::OutOfMemory)
+    write_text(writer, ran.text.as_bytes()).map_err(|_| ScriptFault::CannotWrite)?;
+    ran.ended.map_err(|_| ScriptFault::OutOfMemory)
 }

@@ -41,12 +41,7 @@ const LINES_ANSWERED: &str = "3 ok dir 0755 hdfs supergroup\n\
 30 bad 19 BadName\n31 bad 19 BadName\n32 bad 19 BadName\n33 bad 20 BadMode\n34 bad 20 BadMode\n35 refused 2 NotFound\n";
 
 /// Whether the script prints these answers, and ends so.
-fn prints(
-    rt: &HostRuntime,
-    script: &str,
-    answers: &str,
-    status: Status,
-) -> Result<bool, Fail> {
+fn prints(rt: &HostRuntime, script: &str, answers: &str, status: Status) -> Result<bool, Fail> {
     let (text, ended) = printed(rt, script)?;
     Ok(text.as_str() == answers && ended == status)
 }

@@ -10,7 +10,7 @@ returns-in_default-clause-no_memory g c = λ _. nothing_written (g.R.Read.remain
 
 pub returns-in_err-map_err-clause-unwritten : goal.returns-in_err-map_err-clause-unwritten
 returns-in_err-map_err-clause-unwritten g c = λ _.
-    partly_written (g.R.Read.remaining c.args.reader.now) (g.W.Write.contents c.args.writer.now) (g.W.Write.contents c.write_text.new.writer) c.deref.result.now (string_bytes c.run_text-ended.new.session.out)
+    partly_written (g.R.Read.remaining c.args.reader.now) (g.W.Write.contents c.args.writer.now) (g.W.Write.contents c.write_text.new.writer) c.deref.result.now (string_bytes c.in-Ok.ran.text)
     (rw c.deref.ensures c.in_ok-script.ensures.ok)
-    (ended_front c.run_text-ended.result c.deref.result.now (string_bytes c.run_text-ended.new.session.out) c.run_text-ended.ensures.ok c.run_text-ended.ensures.err)
+    (ended_front c.in-Ok.ran.ended c.deref.result.now (string_bytes c.in-Ok.ran.text) c.in-Ok.ensures.ok c.in-Ok.ensures.err)
     (rw c.as_bytes.ensures.value at c.write_text.ensures.front)
