@@ -70,36 +70,18 @@ fn denials(rt: &HostRuntime, script: &str) -> Result<String, Fail> {
 const FIRST_PATH: &str = "0 hdfs mkdirs /a 1777\n0 alice mkdirs /a/b/c 700\n0 bob stat /a/b/c\n\
 0 bob stat /a/b\n0 bob stat /a/x/y\n0 bob stat /a/b/x/y\n0 bob mkdirs /z 755\n0 alice mkdirs /a/b/c 755\n0 hdfs stat /";
 
-#[test]
-fn core_and_rows_deny_the_same_on_the_first_path(rt: HostRuntime) -> Result<(), Fail> {
-    let found = denials(&rt, FIRST_PATH)?;
-    let want = "/a/b --x by other::---\n/a/b --x by other::---\n/ -w- by other::r-x\n";
-    assert_eq!(rt; found.as_str(), want);
-    Ok(())
-}
+const FIRST_PATH_DENIED: &str =
+    "/a/b --x by other::---\n/a/b --x by other::---\n/ -w- by other::r-x\n";
 
 const RENAME: &str =
     "0 hdfs mkdirs /r/a/b 755\n0 hdfs mkdirs /r/c 755\n0 hdfs rename /r/a /r/a/b/z\n\
 0 hdfs rename /r/a /r/c\n0 hdfs rename /r/q /r/y\n0 hdfs rename / /x\n0 hdfs rename /r/a /r/c/a\n0 hdfs ls /r/c/a\n\
 0 hdfs ls /r/c/a/b";
 
-#[test]
-fn core_and_rows_deny_nothing_of_the_renames(rt: HostRuntime) -> Result<(), Fail> {
-    assert_eq!(rt; denials(&rt, RENAME)?.as_str(), "");
-    Ok(())
-}
-
 const SUBTREE_RIGHTS: &str =
     "0 hdfs mkdirs /p 777\n0 alice mkdirs /p/x/m 755\n0 alice mkdirs /p/x/b 755\n\
 0 hdfs chown /p/x/b hdfs -\n0 hdfs chown /p/x/m hdfs -\n0 alice delete /p/x recursive\n0 alice du /p/x\n\
 0 hdfs delete /p/x\n0 hdfs delete /p/x recursive\n0 hdfs delete / recursive";
-
-#[test]
-fn core_and_rows_deny_the_same_of_sub_trees(rt: HostRuntime) -> Result<(), Fail> {
-    let found = denials(&rt, SUBTREE_RIGHTS)?;
-    assert_eq!(rt; found.as_str(), "/p/x/b rwx by other::r-x\n");
-    Ok(())
-}
 
 /// A denial by each kind of need, and by each class of entries.
 const KINDS: &str =
@@ -112,13 +94,6 @@ const KINDS_DENIED: &str = "/s/x sticky by owner:ann dir:hdfs\n/s/x sticky by ow
 /s/x -w- by group::r-x\n/s/x owner by owner:ann\n/s/x owner by owner:ann\n/s/x superuser by superuser\n\
 /s/x member:g2 by group:g2\n/ superuser by superuser\n/s/x r-x by other::---\n/s/x r-x by user::---\n/s/x --x by group::---\n";
 
-#[test]
-fn core_and_rows_deny_the_same_by_each_need(rt: HostRuntime) -> Result<(), Fail> {
-    let found = denials(&rt, KINDS)?;
-    assert_eq!(rt; found.as_str(), KINDS_DENIED);
-    Ok(())
-}
-
 /// A denial by each class of entries of an extended list, and for the owner's need of a change of it.
 const CLASSES: &str =
     "0 hdfs adduser ann zed,abe\n0 hdfs adduser bob crew\n0 hdfs mkdirs /n 700\n0 hdfs chown /n - crew\n\
@@ -128,13 +103,6 @@ const CLASSES: &str =
 const CLASSES_DENIED: &str =
     "/n r-x by user:dan:rwx mask::rw-\n/n r-x by group:abe:-w- mask::rw-\n/n --x by group::--- mask::rw-\n\
 /n --x by other::---\n/n owner by owner:hdfs\n";
-
-#[test]
-fn core_and_rows_deny_the_same_by_each_class(rt: HostRuntime) -> Result<(), Fail> {
-    let found = denials(&rt, CLASSES)?;
-    assert_eq!(rt; found.as_str(), CLASSES_DENIED);
-    Ok(())
-}
 
 /// What files need: to write the directory above, and to write or read the file.
 const FILES: &str =
@@ -146,9 +114,20 @@ const FILES_DENIED: &str =
     "/d -w- by other::r-x\n/d -w- by other::r-x\n/d/f -w- by other::---\n/d/f r-- by other::---\n\
 /d/f -w- by other::---\n/ superuser by superuser\n/d/f -w- by other::---\n";
 
+/// Scripts, and what is denied of them.
+const COMPARED: [(&str, &str); 6] = [
+    (FIRST_PATH, FIRST_PATH_DENIED),
+    (RENAME, ""),
+    (SUBTREE_RIGHTS, "/p/x/b rwx by other::r-x\n"),
+    (KINDS, KINDS_DENIED),
+    (CLASSES, CLASSES_DENIED),
+    (FILES, FILES_DENIED),
+];
+
 #[test]
-fn core_and_rows_deny_the_same_of_files(rt: HostRuntime) -> Result<(), Fail> {
-    let found = denials(&rt, FILES)?;
-    assert_eq!(rt; found.as_str(), FILES_DENIED);
+fn core_and_rows_deny_the_same(rt: HostRuntime) -> Result<(), Fail> {
+    for (script, want) in COMPARED {
+        assert_eq!(rt; denials(&rt, script)?.as_str(), want);
+    }
     Ok(())
 }

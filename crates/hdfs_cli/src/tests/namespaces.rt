@@ -1,5 +1,6 @@
 ghost use Rattle.std.specs.Prelude.{◌≡◌, true, IsTrue};
 ghost use Rattle.flat_rows.specs.Namespace.{has_parent, suits_kind};
+ghost use Rattle.hdfs_types.specs.Request.{is_look};
 
 use crate::explain::rows_of;
 use crate::tests::lines::read;
@@ -251,13 +252,26 @@ fn text_of(alloc: Global, verdict: &Verdict) -> Result<String, AllocError> {
     }
 }
 
-/// What `bob` is told of a path by a look that lends the tree.
-fn status_for_bob(alloc: Global, tree: &Tree, path: &str) -> Result<String, Fail> {
-    let users = users_with_bob(alloc)?;
-    let op = Op::Stat(path_of(alloc, path)?);
-    let bob = who_of(alloc, "bob")?;
-    let verdict = answer_look(alloc, tree, &users, &bob, &op)?;
+/// What a caller is told by a look that lends the tree. Of what the next functions make, each drops one value that is large.
+fn looked(alloc: Global, tree: &Tree, users: &Users, caller: &Who, op: &Op) -> Result<String, Fail>
+    requires { is_look op.now ≡ true }
+{
+    let verdict = answer_look(alloc, tree, users, caller, op)?;
     Ok(text_of(alloc, &verdict)?)
+}
+
+fn looked_by_bob(alloc: Global, tree: &Tree, op: &Op) -> Result<String, Fail>
+    requires { is_look op.now ≡ true }
+{
+    let users = users_with_bob(alloc)?;
+    let bob = who_of(alloc, "bob")?;
+    looked(alloc, tree, &users, &bob, op)
+}
+
+/// What `bob` is told of a path.
+fn status_for_bob(alloc: Global, tree: &Tree, path: &str) -> Result<String, Fail> {
+    let op = Op::Stat(path_of(alloc, path)?);
+    looked_by_bob(alloc, tree, &op)
 }
 
 #[test]

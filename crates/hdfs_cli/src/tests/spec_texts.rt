@@ -57,20 +57,40 @@ const ENTRIES: [&str; 24] = [
     "group:0:r--",
 ];
 
+/// The texts, each behind this one.
+fn each_behind(alloc: Global, front: &str, texts: &[&str]) -> Result<String, Fail> {
+    let mut all = String::new(alloc);
+    for text in texts {
+        all.push_str(front)?;
+        all.push_str(text)?;
+    }
+    Ok(all)
+}
+
+/// Whether each of the texts is read as it is printed.
+fn are_read(alloc: Global, texts: &[&str]) -> Result<bool, Fail> {
+    for text in texts {
+        let shown = format!(in alloc; " {text}")?;
+        if told(alloc, text, true)?.as_str() != shown.as_str() {
+            return Ok(false);
+        }
+    }
+    Ok(true)
+}
+
 #[test]
 fn entries_with_rights_are_read_as_they_are_printed(rt: HostRuntime) -> Result<(), Fail> {
-    let alloc = rt.alloc();
-    let mut all = String::new(alloc);
-    let mut want = String::new(alloc);
-    for text in ENTRIES {
-        let shown = format!(in alloc; " {text}")?;
-        assert_eq!(rt; told(alloc, text, true)?.as_str(), shown.as_str());
-        let comma = if all.is_empty() { "" } else { "," };
-        all.push_str(comma)?;
-        all.push_str(text)?;
-        want.push_str(shown.as_str())?;
-    }
-    assert_eq!(rt; told(alloc, all.as_str(), true)?.as_str(), want.as_str());
+    assert!(rt; are_read(rt.alloc(), &ENTRIES)?);
+    Ok(())
+}
+
+/// All of them as one spec.
+#[test]
+fn entries_of_every_kind_are_read_together(rt: HostRuntime) -> Result<(), Fail> {
+    let all = each_behind(rt.alloc(), ",", &ENTRIES)?;
+    let want = each_behind(rt.alloc(), " ", &ENTRIES)?;
+    let spec = all.as_str().strip_prefix(",").unwrap_or("");
+    assert_eq!(rt; told(rt.alloc(), spec, true)?.as_str(), want.as_str());
     Ok(())
 }
 
