@@ -57,12 +57,13 @@ module _ (path : List (List ℕ)) (rows : List Row) where
       by (Some row) e = cc
 
 pub free_create : (path : List (List ℕ)) (mode replication : ℕ) (over : Bool) (caller : List ℕ) (rows : List Row) (users : Principals) → IsFree (op.Create path mode replication over) caller rows users
-    → (beneath_file path rows ≡ None) × (directory_there (row_at path rows) ≡ None)
+    → (beneath_file path rows ≡ None) × (directory_there (row_at path rows) ≡ None) × (file_there over (row_at path rows) ≡ None)
 free_create path mode replication over caller rows users free =
     let a = beneath_file path rows in
     let b = directory_there (row_at path rows) in
     let c = file_there over (row_at path rows) in
-    (none_first a (option_or b (option_or c None)) free.1, none_first b (option_or c None) (none_then a (option_or b (option_or c None)) free.1))
+    let bc = none_then a (option_or b (option_or c None)) free.1 in
+    (none_first a (option_or b (option_or c None)) free.1, none_first b (option_or c None) bc, none_first c None (none_then b (option_or c None) bc))
 
 -- what has the path is a file
 pub record IsFileAt (path : List (List ℕ)) (rows : List Row) : Type 0 where

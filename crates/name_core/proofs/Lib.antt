@@ -9,6 +9,7 @@ pub mod Plain
 pub mod Performing
 pub mod Ticking
 pub mod Effected
+pub mod Replacing
 pub mod Deciding
 pub mod Looking
 pub mod Recording

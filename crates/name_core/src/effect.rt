@@ -158,6 +158,23 @@ fn create_open(
     create_another(alloc, tree, writers, path, mode, replication, caller, now)
 }
 
+/// The clients who have open what a creation takes the place of. Where nothing may be replaced, nothing has the path.
+fn replaced_holders(
+    alloc: Global,
+    tree: &Tree,
+    path: &Path,
+    over: bool,
+) -> Result<Vec<Who>, AllocError>
+    requires free { (mode : ℕ) × (replication : ℕ) × (caller : List ℕ) × (users : Principals) × IsFree (op.Create path.now mode replication over) caller tree.now users }
+    requires namespace { IsNamespace tree.now }
+    ensures { IfOk result (λ clients. clients.items ≡ holders (rows_under path.now tree.now)) }
+{
+    if !over {
+        return Ok(Vec::new(alloc));
+    }
+    holders_at(alloc, tree, path)
+}
+
 /// Makes a file that the caller has open, in the place of one that has the path.
 fn create(
     alloc: Global,
@@ -178,7 +195,7 @@ fn create(
     ensures latest { OnOk result (lease.latest writers.new.leases.renewals ≤ now) }
     ensures err { OnErr result ((tree.new ≡ tree.old) × IsAlike writers.old writers.new) }
 {
-    let clients = holders_at(alloc, tree, path)?;
+    let clients = replaced_holders(alloc, tree, path, over)?;
     create_open(alloc, tree, writers, path, mode, replication, caller, now)?;
     writers.close_each(&clients);
     Ok(())
