@@ -11,8 +11,10 @@ use crate::workload::Workload;
 use flat_rows::verdict::Verdict;
 use hdfs_cli::script::run_script;
 use hdfs_types::acl_change::AclChange;
-use hdfs_types::op::Op;
+use hdfs_types::op::{Op, Request};
 use hdfs_types::reply::Reply;
+use history::entry::Answer;
+use std::alloc::Global;
 use std::test::Fail;
 use std::time::Duration;
 
@@ -154,34 +156,47 @@ fn the_reader_needs_the_named_entry(rt: HostRuntime) -> Result<(), Fail> {
     Ok(())
 }
 
-/// What the reader is told of a file, up to its state.
-fn file_told(rt: &HostRuntime, node: &NameNode, path: &str) -> Result<String, Fail> {
-    let op = Op::Stat(parsed(rt.alloc(), path)?);
-    let answer = node.answer_look(&request(rt.alloc(), READER, op)?)?;
+/// The status that is told.
+fn status_in(alloc: Global, answer: &Answer) -> Result<String, Fail> {
     match &answer.verdict {
-        Verdict::Done(Reply::Status(status)) => Ok(format!(in rt.alloc(); "{status}")?),
+        Verdict::Done(Reply::Status(status)) => Ok(status.to_string(alloc)?),
         _ => Err("no status".into()),
     }
+}
+
+fn looked(node: &NameNode, request: &Request) -> Result<String, Fail> {
+    let answer = node.answer_look(request)?;
+    status_in(node.alloc(), &answer)
+}
+
+/// What the reader is told of a file.
+fn file_told(node: &NameNode, path: &str) -> Result<String, Fail> {
+    let op = Op::Stat(parsed(node.alloc(), path)?);
+    looked(node, &request(node.alloc(), READER, op)?)
+}
+
+/// Appends to a file in this turn, and tells what the reader is told of it then.
+fn appended(node: &mut NameNode, turn: u32, path: &str) -> Result<String, Fail> {
+    node.step(&AppendTakeover.request(node.alloc(), turn)?)?;
+    file_told(node, path)
+}
+
+/// What is told of the second file before it is appended to, then, and then again.
+fn told_in_turn(node: &mut NameNode) -> Result<String, Fail> {
+    let path = "/d00/d00/d00/d00/d01";
+    let opened = file_told(node, path)?;
+    let released = appended(node, 2, path)?;
+    let taken = appended(node, 3, path)?;
+    Ok(format!(in node.alloc(); "{opened}\n{released}\n{taken}")?)
 }
 
 #[test]
 fn a_file_is_released_and_then_opened(rt: HostRuntime) -> Result<(), Fail> {
     let mut node = NameNode::with_open_files(rt.alloc(), 2)?;
-    let path = "/d00/d00/d00/d00/d01";
-    assert_eq!(rt;
-        file_told(&rt, &node, path)?.as_str(),
-        "file 0777 u01 supergroup 3 0 open:u01"
-    );
-    node.step(&AppendTakeover.request(rt.alloc(), 2)?)?;
-    assert_eq!(rt;
-        file_told(&rt, &node, path)?.as_str(),
-        "file 0777 u01 supergroup 3 0 closed"
-    );
-    node.step(&AppendTakeover.request(rt.alloc(), 3)?)?;
-    assert_eq!(rt;
-        file_told(&rt, &node, path)?.as_str(),
-        "file 0777 u01 supergroup 3 0 open:bob"
-    );
+    let told = told_in_turn(&mut node)?;
+    let want = "file 0777 u01 supergroup 3 0 open:u01\nfile 0777 u01 supergroup 3 0 closed\n\
+file 0777 u01 supergroup 3 0 open:bob";
+    assert_eq!(rt; told.as_str(), want);
     Ok(())
 }
 
