@@ -6,5 +6,6 @@ pub mod laws;
 pub mod namenode;
 pub mod namesystem;
 pub mod open_files;
+pub mod open_paths;
 pub mod told;
 pub mod writers;
