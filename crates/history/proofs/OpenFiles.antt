@@ -36,7 +36,7 @@ module _ (p : Row → Bool) (path : List (List ℕ)) (change : Change) where
   anew row = cond (same_path path row.path) (changed change row) row
 
   -- behind the row of the path there is none other of it
-  behind : (row : Row) (rows : List Row) → same_path path row.path ≡ true → is_before_all row rows ≡ true → map anew rows ≡ rows
+  pub behind : (row : Row) (rows : List Row) → same_path path row.path ≡ true → is_before_all row rows ≡ true → map anew rows ≡ rows
   behind row [] at low = refl
   behind row (other ∷ rows) at low =
       let lows = both (is_lt (path_cmp row.path other.path)) (is_before_all row rows) low in

@@ -5,6 +5,7 @@ pub mod Stepping
 pub mod Keeping
 pub mod Effects
 pub mod Expiring
+pub mod Closing
 pub mod Plain
 pub mod Performing
 pub mod Ticking

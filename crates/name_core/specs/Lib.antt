@@ -3,3 +3,4 @@ pub mod Told
 pub mod Performed
 pub mod Core
 pub mod Kept
+pub mod Expiry

@@ -227,7 +227,7 @@ fn reopen(
 // ---- files that are closed or deleted
 
 /// Closes a file that a client has open. Takes no memory.
-fn close(tree: &mut Tree, writers: &mut Writers, path: &Path, client: &Who)
+pub fn close(tree: &mut Tree, writers: &mut Writers, path: &Path, client: &Who)
     requires held { holder_at (row_at path.now tree.old) ≡ Some client.now }
     requires namespace { IsNamespace tree.old }
     ensures tree { tree.new ≡ rewritten path.now (change.State Closed) tree.old }
@@ -279,38 +279,6 @@ fn delete(
     writers.close_each(&clients);
     tree.remove(path);
     Ok(())
-}
-
-/// The holders of the files that are closed where the leases of these clients are past the hard limit, one for each file.
-fn holders_past(alloc: Global, tree: &Tree, past: &[Who]) -> Result<Vec<Who>, AllocError>
-    ensures { IfOk result (λ clients. clients.items ≡ holders (filter (is_expired (past_hard past.now)) tree.now)) }
-{
-    let clients = tree.holders_expired(past)?;
-    copies(alloc, &clients)
-}
-
-/// Closes the files of these clients, but where the length of the last block isn't committed, and tells how many. Costs the whole
-/// tree.
-///
-/// # Errors
-/// Want of memory, and nothing has changed.
-pub fn expire(
-    alloc: Global,
-    tree: &mut Tree,
-    writers: &mut Writers,
-    past: &[Who],
-) -> Result<u64, AllocError>
-    ensures tree { OnOk result (tree.new ≡ map (closed_where_expired (past_hard past.now)) tree.old) }
-    ensures closed { IfOk result (λ closed. closed ≡ length (filter (is_expired (past_hard past.now)) tree.old)) }
-    ensures exact { OnOk result ((last : List ℕ → Option ℕ) → IsExact last tree.old writers.old → IsExact last tree.new writers.new) }
-    ensures limits { writers.new.leases.limits ≡ writers.old.leases.limits }
-    ensures latest { lease.latest writers.new.leases.renewals ≤ lease.latest writers.old.leases.renewals }
-    ensures err { OnErr result ((tree.new ≡ tree.old) × IsAlike writers.old writers.new) }
-{
-    let clients = holders_past(alloc, tree, past)?;
-    writers.close_each(&clients);
-    tree.close_expired(past);
-    Ok(clients.len() as u64)
 }
 
 /// Does an operation that writes files, or a deletion, where nothing stands against it.

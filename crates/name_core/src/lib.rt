@@ -2,6 +2,7 @@
 #![tactic(auto)]
 
 pub mod effect;
+pub mod expiry;
 pub mod laws;
 pub mod namenode;
 pub mod namesystem;

@@ -6,6 +6,7 @@ ghost use Rattle.history.specs.State.{rows_of, users_of};
 ghost use Rattle.name_core.specs.Core.{Steps, Looks};
 
 use crate::namesystem::{Namesystem, perform};
+use crate::open_paths::OpenPaths;
 use crate::writers::Writers;
 use fs_operations::apply::answer_look;
 use hdfs_types::fault::ParseFault;
@@ -57,6 +58,7 @@ fn append(history: &mut Vec<HistoryEntry>, entry: HistoryEntry)
 pub struct NameCore {
     config: Config,
     system: Namesystem,
+    open_paths: OpenPaths,
     clock: Moment,
     // the oldest first
     history: Vec<HistoryEntry>,
@@ -96,6 +98,7 @@ impl NameCore {
                 users,
                 writers,
             },
+            open_paths: OpenPaths::new(alloc),
             clock: first_moment(),
             history: Vec::new(alloc),
             alloc,
@@ -174,7 +177,13 @@ impl NameCore {
         let answered = request.clone()?;
         self.history.reserve(1)?;
         let _root = self.system.tree.root();
-        let told = perform(self.alloc, &mut self.system, request, now)?;
+        let told = perform(
+            self.alloc,
+            &mut self.system,
+            &mut self.open_paths,
+            request,
+            now,
+        )?;
         let entry = HistoryEntry {
             place,
             pass,

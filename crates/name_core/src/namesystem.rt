@@ -12,7 +12,9 @@ ghost use Rattle.lease_manager.specs.Lease.{latest};
 ghost use Rattle.name_core.specs.Writers.{moment_of};
 ghost use Rattle.name_core.specs.Performed.{IsExact, IsFree, IsPerformed, IsUndone, facts_of};
 
-use crate::effect::{effect, expire};
+use crate::effect::effect;
+use crate::expiry::expire;
+use crate::open_paths::OpenPaths;
 use crate::told::{Told, is_done, is_plain, told_done, told_expired, told_plain, with_copy};
 use crate::writers::Writers;
 use flat_rows::verdict::Verdict;
@@ -175,14 +177,16 @@ fn clients_past(alloc: Global, writers: &Writers, now: Moment) -> Result<Vec<Who
     Ok(past)
 }
 
-/// A request to close the files of all clients whose leases are past the hard limit. Costs the whole tree where there are such
-/// clients, and else nothing that grows.
+/// A request to close the files of all clients whose leases are past the hard limit. Costs these files, and where there are no
+/// such clients nothing that grows.
 fn perform_tick(
     alloc: Global,
     system: &mut Namesystem,
+    open_paths: &mut OpenPaths,
     request: &Request,
     now: Moment,
 ) -> Result<Told, AllocError>
+    requires namespace { IsNamespace system.old.tree }
     requires latest { latest system.old.writers.leases.renewals ≤ now }
     requires verb { request.now.op ≡ op.Tick }
     ensures ok { (last : List ℕ → Option ℕ) → IsExact last system.old.tree system.old.writers → IfOk result (λ told. IsPerformed last now request.now system.old told system.new) }
@@ -198,17 +202,20 @@ fn perform_tick(
     if past.is_empty() {
         return Ok(told_expired(0));
     }
-    let closed = expire(alloc, &mut system.tree, &mut system.writers, &past)?;
+    let closed = expire(
+        alloc,
+        &mut system.tree,
+        &mut system.writers,
+        open_paths,
+        &past,
+    )?;
     Ok(told_expired(closed))
 }
 
-/// Answers a request, and does it where no need fails and nothing stands against it.
-///
-/// # Errors
-/// Want of memory, and nothing has changed.
-pub fn perform(
+fn answer(
     alloc: Global,
     system: &mut Namesystem,
+    open_paths: &mut OpenPaths,
     request: &Request,
     now: Moment,
 ) -> Result<Told, AllocError>
@@ -224,7 +231,30 @@ pub fn perform(
     }
     match &request.op {
         Op::Renew => perform_renewal(system, request, now),
-        Op::Tick => perform_tick(alloc, system, request, now),
+        Op::Tick => perform_tick(alloc, system, open_paths, request, now),
         _ => perform_write(alloc, system, request, now),
     }
+}
+
+/// Answers a request, and does it where no need fails and nothing stands against it. Where the open files are is noted.
+///
+/// # Errors
+/// Want of memory, and nothing has changed.
+pub fn perform(
+    alloc: Global,
+    system: &mut Namesystem,
+    open_paths: &mut OpenPaths,
+    request: &Request,
+    now: Moment,
+) -> Result<Told, AllocError>
+    requires latest { latest system.old.writers.leases.renewals ≤ now }
+    requires namespace { IsNamespace system.old.tree }
+    ensures ok { (last : List ℕ → Option ℕ) → IsExact last system.old.tree system.old.writers → IfOk result (λ told. IsPerformed last now request.now system.old told system.new) }
+    ensures limits { system.new.writers.leases.limits ≡ system.old.writers.leases.limits }
+    ensures latest { OnOk result (latest system.new.writers.leases.renewals ≤ now) }
+    ensures err { OnErr result (IsUndone system.old system.new) }
+{
+    let told = answer(alloc, system, open_paths, request, now)?;
+    open_paths.note(request, &told.verdict);
+    Ok(told)
 }

@@ -9,5 +9,6 @@ returns-then-is_empty-clause-ok c = λ last exact.
 
 pub returns-clause-ok : goal.returns-clause-ok
 returns-clause-ok c = λ last exact.
+    let expired = c.in_ok-closed.ensures.done last exact in
     performed_tick last c.args.now c.args.request.now c.args.system.now (record { tree = c.expire.new.tree; users = c.args.system.now.users; writers = c.expire.new.writers }) c.told_expired-2.result c.deref.result.now c.in_ok-closed.closed
-    c.requires.verb (sym c.in_ok-denial.ensures ∙ c.in_default.is) (c.deref.ensures.value ∙ c.in_ok-past.ensures.past) c.in_ok-past.ensures.renewals.0 c.in_ok-closed.ensures.tree c.in_ok-closed.ensures.closed refl (c.in_ok-closed.ensures.exact last exact) c.told_expired-2.ensures exact
+    c.requires.verb (sym c.in_ok-denial.ensures ∙ c.in_default.is) (c.deref.ensures.value ∙ c.in_ok-past.ensures.past) c.in_ok-past.ensures.renewals.0 expired.tree expired.closed refl expired.exact c.told_expired-2.ensures exact

@@ -8,7 +8,7 @@ use Rattle.name_core.proofs.Recording.{on_err, adds_of, recorded, kept_undone, c
 use Rattle.name_core.proofs.namenode.NameCore.step.Goals as goal
 
 abbrev after : goal.After-now-1 → Inside
-after c = record { config = c.self.inside.config; system = c.perform.new.system; clock = c.later-now.result; history = c.append.new.history; alloc = c.self.inside.alloc }
+after c = record { config = c.self.inside.config; system = c.perform.new.system; open_paths = c.perform.new.open_paths; clock = c.later-now.result; history = c.append.new.history; alloc = c.self.inside.alloc }
 
 abbrev entry : goal.After-now-1 → HistoryEntry
 entry c = record { place = c.len-entries.result + 1; pass = c.args.pass; index = c.args.index; request = c.in_ok-kept.kept; verdict = c.in_ok-told.told.verdict }
@@ -23,7 +23,7 @@ pub invariant_of-self-in_err-told : goal.invariant_of-self-in_err-told
 invariant_of-self-in_err-told c = kept_undone c.self.inside _ c.self.invariant refl c.in_ok-reserve.ensures.items refl c.in_err-told.ensures.err
 
 pub returns-in_err-told-clause-err : goal.returns-in_err-told-clause-err
-returns-in_err-told-clause-err c = on_err _ (core_same c.self.inside (record { config = c.self.inside.config; system = c.perform.new.system; clock = c.self.inside.clock; history = c.reserve.new.self; alloc = c.self.inside.alloc }) refl c.in_ok-reserve.ensures.items ∙ c.self.view_is)
+returns-in_err-told-clause-err c = on_err _ (core_same c.self.inside (record { config = c.self.inside.config; system = c.perform.new.system; open_paths = c.perform.new.open_paths; clock = c.self.inside.clock; history = c.reserve.new.self; alloc = c.self.inside.alloc }) refl c.in_ok-reserve.ensures.items ∙ c.self.view_is)
 
 pub invariant_of-self-2 : goal.invariant_of-self-2
 invariant_of-self-2 c = kept_more c.self.inside (after c) (entry c) c.self.invariant (added c)
