@@ -1,6 +1,7 @@
-//! The leases of clients in plain Rust: how many files each has open, and when each was last renewed, the oldest first.
+//! The leases of clients in plain Rust: which files each has open, and when each was last renewed, the oldest first.
 
-use std::collections::HashMap;
+use crate::namespace::Path;
+use std::collections::{HashMap, HashSet};
 
 /// The greatest age, in milliseconds, at which no other client may take over a file.
 const SOFT_LIMIT: u64 = 60_000;
@@ -12,8 +13,9 @@ const HARD_LIMIT: u64 = 1_200_000;
 const NONE: usize = usize::MAX;
 
 struct Lease {
+    client: String,
     renewed: u64,
-    open_files: usize,
+    open_files: HashSet<Path>,
     older: usize,
     newer: usize,
 }
@@ -63,8 +65,9 @@ impl Leases {
 
     fn add(&mut self, client: &str) -> usize {
         let lease = Lease {
+            client: client.to_string(),
             renewed: 0,
-            open_files: 0,
+            open_files: HashSet::new(),
             older: NONE,
             newer: NONE,
         };
@@ -83,7 +86,7 @@ impl Leases {
     }
 
     /// A client has opened a file: its lease is renewed.
-    pub fn opened(&mut self, client: &str, now: u64) {
+    pub fn opened(&mut self, client: &str, path: &Path, now: u64) {
         let place = match self.places.get(client) {
             Some(&place) => {
                 self.unlink(place);
@@ -93,16 +96,16 @@ impl Leases {
         };
         self.link_last(place);
         self.leases[place].renewed = now;
-        self.leases[place].open_files += 1;
+        self.leases[place].open_files.insert(path.clone());
     }
 
     /// A file that a client had open is closed. With the last one its lease ends.
-    pub fn closed(&mut self, client: &str) {
+    pub fn closed(&mut self, client: &str, path: &Path) {
         let Some(&place) = self.places.get(client) else {
             return;
         };
-        self.leases[place].open_files -= 1;
-        if self.leases[place].open_files == 0 {
+        self.leases[place].open_files.remove(path);
+        if self.leases[place].open_files.is_empty() {
             self.unlink(place);
             self.places.remove(client);
             self.free.push(place);
@@ -116,19 +119,20 @@ impl Leases {
             .is_some_and(|&place| self.age(place, now) <= SOFT_LIMIT.min(HARD_LIMIT))
     }
 
-    /// Whether the age of a client's lease is past the hard limit.
-    pub fn is_past_hard(&self, client: &str, now: u64) -> bool {
-        self.places
-            .get(client)
-            .is_some_and(|&place| self.age(place, now) > HARD_LIMIT)
-    }
-
     fn age(&self, place: usize, now: u64) -> u64 {
         now.saturating_sub(self.leases[place].renewed)
     }
 
-    /// Whether any lease is past the hard limit.
-    pub fn are_any_past_hard(&self, now: u64) -> bool {
-        self.oldest != NONE && self.age(self.oldest, now) > HARD_LIMIT
+    /// The files of the clients whose leases are past the hard limit, each with its client.
+    pub fn past_hard(&self, now: u64) -> Vec<(String, Path)> {
+        let mut files = Vec::new();
+        let mut place = self.oldest;
+        while place != NONE && self.age(place, now) > HARD_LIMIT {
+            let lease = &self.leases[place];
+            let of_client = lease.open_files.iter();
+            files.extend(of_client.map(|path| (lease.client.clone(), path.clone())));
+            place = lease.newer;
+        }
+        files
     }
 }

@@ -1,7 +1,7 @@
 //! `plain NAME N` does a workload of `hdfs_bench` in plain Rust, and prints the same line, `NAME N OPS_PER_SECOND`: the mark that
 //! the proved namesystem is measured by. Build it with `rustc --edition 2024 -O`. The workloads are `mkdirs`, `stat`, `acl_stat`
-//! and `setfacl` on a namespace, and `create_complete`, `append_takeover`, `tick_idle`, `step_stat` and `look_stat` on a NameNode,
-//! which has leases and a history beside it.
+//! and `setfacl` on a namespace, and `create_complete`, `append_takeover`, `tick_idle`, `tick_expired`, `step_stat` and `look_stat`
+//! on a NameNode, which has leases and a history beside it.
 //!
 //! The paths, their order, the users, the modes, the access lists, the moments and the bundles are those of `hdfs_bench`, and so
 //! is what is timed: each request until its reply or answer is dropped. The caller is looked up among the users, each existing
@@ -9,13 +9,13 @@
 //! component, `stat` answers with copies of owner, group and the client that has the file open, `setfacl` judges who owns the
 //! directory, and `append` and `complete` who has the file open. A step keeps a copy of the request and of the verdict in the
 //! history, and answers with copies of both. Leases are linked in the order of their renewals, with an index by client and the
-//! number of files that each has open.
+//! paths of the files that each has open.
 //!
-//! It does less in these ways: it has seven verbs; a request finds out what it needs as it goes down, once, where `hdfs_bench`
-//! makes a list of its needs and judges one after another; a denial names the path and the right that is missing, and not what
-//! decided; there are no default lists, and two forms of `setfacl`; and it aborts for want of memory. A request is served by one
-//! match. What is made is made aside, so that nothing has changed where it is denied or refused; `setfacl` asks first whether the
-//! entries have room, and then changes the list in place.
+//! It does less in these ways: it has seven verbs, and so no path of an open file changes; a request finds out what it needs as it
+//! goes down, once, where `hdfs_bench` makes a list of its needs and judges one after another; a denial names the path and the
+//! right that is missing, and not what decided; there are no default lists, and two forms of `setfacl`; and it aborts for want of
+//! memory. A request is served by one match. What is made is made aside, so that nothing has changed where it is denied or
+//! refused; `setfacl` asks first whether the entries have room, and then changes the list in place.
 
 mod access_list;
 mod leases;
@@ -29,8 +29,7 @@ use std::env;
 use std::process::ExitCode;
 use std::time::Duration;
 
-const NAMES: &str =
-    "mkdirs stat acl_stat setfacl create_complete append_takeover tick_idle step_stat look_stat";
+const NAMES: &str = "mkdirs stat acl_stat setfacl create_complete append_takeover tick_idle tick_expired step_stat look_stat";
 
 /// Does a workload; answers how many operations that was, and how long they took.
 fn run(name: &str, count: u32) -> Option<Result<(u32, Duration), Failure>> {
@@ -43,6 +42,7 @@ fn run(name: &str, count: u32) -> Option<Result<(u32, Duration), Failure>> {
         "create_complete" => steps::create_complete(count),
         "append_takeover" => steps::append_takeover(count),
         "tick_idle" => steps::tick_idle(count),
+        "tick_expired" => steps::tick_expired(count),
         "step_stat" => steps::step_stat(count),
         "look_stat" => steps::look_stat(count),
         _ => return None,

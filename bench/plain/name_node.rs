@@ -121,9 +121,9 @@ impl Writing<'_> {
         };
         let holder = self.root.create(&made, 0, replication, over)?;
         if let Some(holder) = holder {
-            self.leases.closed(&holder);
+            self.leases.closed(&holder, path);
         }
-        self.leases.opened(self.caller.name, self.now);
+        self.leases.opened(self.caller.name, path, self.now);
         Ok(Reply::Empty)
     }
 
@@ -133,7 +133,7 @@ impl Writing<'_> {
             FileState::Recovering(..) => return Err(Failure::RecoveryRunning),
             FileState::Closed => {
                 file.state = FileState::Open(self.caller.name.to_string());
-                self.leases.opened(self.caller.name, self.now);
+                self.leases.opened(self.caller.name, path, self.now);
                 return Ok(Reply::Empty);
             }
             FileState::Open(holder) => holder,
@@ -144,7 +144,7 @@ impl Writing<'_> {
         if file.ends_uncommitted() {
             return Err(Failure::TooFewNodes);
         }
-        self.leases.closed(holder);
+        self.leases.closed(holder, path);
         file.state = FileState::Closed;
         Ok(Reply::Released)
     }
@@ -161,7 +161,7 @@ impl Writing<'_> {
             return Err(Failure::NotYetReplicated);
         }
         file.state = FileState::Closed;
-        self.leases.closed(self.caller.name);
+        self.leases.closed(self.caller.name, path);
         Ok(Reply::Closed(file.length()))
     }
 
@@ -169,15 +169,13 @@ impl Writing<'_> {
         if !self.caller.is_superuser {
             return Err(Failure::NotSuperuser);
         }
-        if !self.leases.are_any_past_hard(self.now) {
-            return Ok(Reply::Expired(0));
+        let mut closed = 0;
+        for (client, path) in self.leases.past_hard(self.now) {
+            if self.root.close(&path.names) {
+                self.leases.closed(&client, &path);
+                closed += 1;
+            }
         }
-        let is_past_hard = |holder: &str| self.leases.is_past_hard(holder, self.now);
-        let mut closed = Vec::new();
-        self.root.close_expired(&is_past_hard, &mut closed);
-        for holder in &closed {
-            self.leases.closed(holder);
-        }
-        Ok(Reply::Expired(closed.len() as u64))
+        Ok(Reply::Expired(closed))
     }
 }

@@ -17,7 +17,7 @@ const MAX_PATH_BYTES: usize = 8000;
 const MAX_NAME_BYTES: usize = 255;
 
 /// The names from the root down.
-#[derive(Clone)]
+#[derive(Clone, PartialEq, Eq, Hash)]
 pub struct Path {
     pub names: Vec<String>,
 }
@@ -440,27 +440,24 @@ impl Node {
         }
     }
 
-    /// Closes the files at and beneath the node that have these holders, but those whose last block isn't committed. Answers the
-    /// holder of each.
-    pub fn close_expired(&mut self, is_expired: &impl Fn(&str) -> bool, closed: &mut Vec<String>) {
-        match &mut self.held {
-            Held::Directory(children) => {
-                for child in children.values_mut() {
-                    child.close_expired(is_expired, closed);
-                }
+    /// Closes the file at a path, but where the length of its last block isn't committed; whether it is closed.
+    pub fn close(&mut self, path: &[String]) -> bool {
+        let mut node = self;
+        for name in path {
+            let Held::Directory(children) = &mut node.held else {
+                return false;
+            };
+            let Some(child) = children.get_mut(name) else {
+                return false;
+            };
+            node = child;
+        }
+        match &mut node.held {
+            Held::File(file) if !file.ends_uncommitted() => {
+                file.state = FileState::Closed;
+                true
             }
-            Held::File(file) => {
-                if let FileState::Open(holder) = &mut file.state
-                    && is_expired(holder)
-                    && !file
-                        .blocks
-                        .last()
-                        .is_some_and(|block| block.committed.is_none())
-                {
-                    closed.push(std::mem::take(holder));
-                    file.state = FileState::Closed;
-                }
-            }
+            _ => false,
         }
     }
 

@@ -2,9 +2,9 @@
 
 use crate::name_node::{Answer, NameNode};
 use crate::namespace::{Failure, Namespace, Op, READER, Request, SUPERUSER};
-use crate::workloads::{BUNDLE, jumping, path_of};
+use crate::workloads::{jumping, path_of, time_each};
 use std::hint::black_box;
-use std::time::{Duration, Instant};
+use std::time::Duration;
 
 const WRITERS: u32 = 100;
 
@@ -17,6 +17,12 @@ const PAST_SOFT: u64 = 60_001;
 
 const TICKS: u32 = 20_000;
 
+/// How many files the tick closes that finds an expired lease.
+const EXPIRED: u32 = 1000;
+
+/// A moment at which leases that were renewed at 0 are past the hard limit.
+const PAST_HARD: u64 = 2_000_000;
+
 fn writer(index: u32) -> String {
     format!("u{:02}", index % WRITERS)
 }
@@ -25,9 +31,13 @@ fn request(moment: u64, caller: String, op: Op) -> Request {
     Request { caller, moment, op }
 }
 
-fn creating(index: u32) -> Request {
+fn creating_by(moment: u64, caller: String, index: u32) -> Request {
     let op = Op::Create(path_of(index), FILE_MODE, REPLICATION, false);
-    request(0, writer(index), op)
+    request(moment, caller, op)
+}
+
+fn creating(index: u32) -> Request {
+    creating_by(0, writer(index), index)
 }
 
 fn completing(index: u32) -> Request {
@@ -78,31 +88,23 @@ fn open_files(node: &mut NameNode, count: u32) -> Result<(), Failure> {
 }
 
 fn closed_files(node: &mut NameNode, count: u32) -> Result<(), Failure> {
-    open_files(node, count)?;
     for index in 0..count {
+        step(node, &creating(index)).verdict?;
         step(node, &completing(index)).verdict?;
     }
     Ok(())
 }
 
-/// Has so many requests answered; the clock stands while a bundle of them is built or dropped.
 fn time(
     node: &mut NameNode,
     count: u32,
     request: impl Fn(u32) -> Request,
     answer: impl Fn(&mut NameNode, &Request) -> Answer,
 ) -> Result<Duration, Failure> {
-    let mut taken = Duration::ZERO;
-    for first in (0..count).step_by(BUNDLE as usize) {
-        let end = first.saturating_add(BUNDLE).min(count);
-        let requests: Vec<Request> = (first..end).map(&request).collect();
-        let start = Instant::now();
-        for request in &requests {
-            drop(black_box(answer(node, request)).verdict?);
-        }
-        taken += start.elapsed();
-    }
-    Ok(taken)
+    time_each(count, request, |request| {
+        drop(black_box(answer(node, request)).verdict?);
+        Ok(())
+    })
 }
 
 /// A workload's operations, and how long they took.
@@ -125,6 +127,19 @@ pub fn tick_idle(count: u32) -> Timed {
     let mut node = new_node();
     open_files(&mut node, count)?;
     Ok((TICKS, time(&mut node, TICKS, |_| ticking(), step)?))
+}
+
+pub fn tick_expired(count: u32) -> Timed {
+    let mut node = new_node();
+    for index in 0..EXPIRED {
+        let creating = creating_by(0, READER.to_string(), count + index);
+        step(&mut node, &creating).verdict?;
+    }
+    for index in 0..count {
+        let creating = creating_by(PAST_HARD, writer(index), index);
+        step(&mut node, &creating).verdict?;
+    }
+    Ok((EXPIRED, time(&mut node, 1, |_| ticking(), step)?))
 }
 
 pub fn step_stat(count: u32) -> Timed {

@@ -6,7 +6,7 @@ use std::hint::black_box;
 use std::time::{Duration, Instant};
 
 /// How many requests are built at a time, before the clock starts for them.
-pub const BUNDLE: u32 = 1000;
+const BUNDLE: u32 = 1000;
 
 /// Eight entries, as in `hdfs_bench`.
 const ENTRIES: &str = "user::rwx,user:amy:r--,user:ben:---,user:bob:r-x,group::---,group:analysts:r-x,mask::r-x,other::---";
@@ -48,11 +48,11 @@ fn extend_all(namespace: &mut Namespace, count: u32) -> Result<(), Failure> {
     extend(namespace, SUPERUSER, Path::parse("/").expect("a path"))
 }
 
-/// Serves so many requests; the clock stands while a bundle of them is built or dropped.
-fn time_requests(
-    namespace: &mut Namespace,
+/// Has so many requests served, each until its answer is dropped; the clock stands while a bundle of them is built or dropped.
+pub fn time_each(
     count: u32,
     request: impl Fn(u32) -> Request,
+    mut serve_and_drop: impl FnMut(&Request) -> Result<(), Failure>,
 ) -> Result<Duration, Failure> {
     let mut taken = Duration::ZERO;
     for first in (0..count).step_by(BUNDLE as usize) {
@@ -60,11 +60,22 @@ fn time_requests(
         let requests: Vec<Request> = (first..end).map(&request).collect();
         let start = Instant::now();
         for request in &requests {
-            drop(black_box(namespace.serve(request)?));
+            serve_and_drop(request)?;
         }
         taken += start.elapsed();
     }
     Ok(taken)
+}
+
+fn time_requests(
+    namespace: &mut Namespace,
+    count: u32,
+    request: impl Fn(u32) -> Request,
+) -> Result<Duration, Failure> {
+    time_each(count, request, |request| {
+        drop(black_box(namespace.serve(request)?));
+        Ok(())
+    })
 }
 
 /// How many names each path has.

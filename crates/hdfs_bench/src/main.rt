@@ -21,6 +21,7 @@ mod stat;
 mod step_stat;
 #[cfg(test)]
 mod tests;
+mod tick_expired;
 mod tick_idle;
 mod timed;
 mod tokens;
@@ -35,7 +36,7 @@ use std::process::ExitCode;
 const BAD_COMMAND_LINE: u8 = 2;
 
 const USAGE: &str =
-    "usage: hdfs_bench NAME N, with a NAME of: check_token_uncached mkdirs stat acl_stat setfacl ls rename_dir delete_recursive create_complete append_takeover tick_idle step_stat look_stat script";
+    "usage: hdfs_bench NAME N, with a NAME of: check_token_uncached mkdirs stat acl_stat setfacl ls rename_dir delete_recursive create_complete append_takeover tick_idle tick_expired step_stat look_stat script";
 
 /// What a command line asks to be done, and of which size.
 fn asked(words: &[String]) -> Option<(Workload, u32)> {

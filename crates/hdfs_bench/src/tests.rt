@@ -33,6 +33,7 @@ fn workloads_run(rt: HostRuntime) -> Result<(), Fail> {
         ("create_complete", 6),
         ("append_takeover", 6),
         ("tick_idle", 20_000),
+        ("tick_expired", 1_000),
         ("step_stat", 3),
         ("look_stat", 3),
         ("script", 3),
@@ -196,6 +197,23 @@ fn a_file_is_released_and_then_opened(rt: HostRuntime) -> Result<(), Fail> {
     let told = told_in_turn(&mut node)?;
     let want = "file 0777 u01 supergroup 3 0 open:u01\nfile 0777 u01 supergroup 3 0 closed\n\
 file 0777 u01 supergroup 3 0 open:bob";
+    assert_eq!(rt; told.as_str(), want);
+    Ok(())
+}
+
+/// What is told of the file of a writer, and of one that the reader opened long before, once there was a tick.
+fn told_behind_a_tick(node: &mut NameNode) -> Result<String, Fail> {
+    node.step(&request(node.alloc(), SUPERUSER, Op::Tick)?)?;
+    let late = file_told(node, "/d00/d00/d00/d00/d00")?;
+    let older = file_told(node, "/d00/d00/d00/d00/d01")?;
+    Ok(format!(in node.alloc(); "{late}\n{older}")?)
+}
+
+#[test]
+fn the_older_files_are_closed(rt: HostRuntime) -> Result<(), Fail> {
+    let mut node = NameNode::with_older_files(rt.alloc(), 1_200_001, 1, 1)?;
+    let told = told_behind_a_tick(&mut node)?;
+    let want = "file 0777 u00 supergroup 3 0 open:u00\nfile 0777 bob supergroup 3 0 closed";
     assert_eq!(rt; told.as_str(), want);
     Ok(())
 }

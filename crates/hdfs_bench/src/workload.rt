@@ -1,7 +1,7 @@
 use crate::timed::Timed;
 use crate::{
     acl_stat, append_takeover, create_complete, delete_recursive, ls, mkdirs, rename_dir, script,
-    setfacl, stat, step_stat, tick_idle, tokens,
+    setfacl, stat, step_stat, tick_expired, tick_idle, tokens,
 };
 use anyhow::Result;
 use std::time::Clock;
@@ -31,6 +31,8 @@ pub enum Workload {
     AppendTakeover,
     /// A NameNode with open files looks for leases past the hard limit, and finds none.
     TickIdle,
+    /// The same, and finds some.
+    TickExpired,
     /// A caller asks what a file is, by steps of a NameNode.
     StepStat,
     /// The same by looks.
@@ -53,6 +55,7 @@ impl Workload {
             "create_complete" => Some(Workload::CreateComplete),
             "append_takeover" => Some(Workload::AppendTakeover),
             "tick_idle" => Some(Workload::TickIdle),
+            "tick_expired" => Some(Workload::TickExpired),
             "step_stat" => Some(Workload::StepStat),
             "look_stat" => Some(Workload::LookStat),
             "script" => Some(Workload::Script),
@@ -73,6 +76,7 @@ impl Workload {
             Workload::CreateComplete => "create_complete",
             Workload::AppendTakeover => "append_takeover",
             Workload::TickIdle => "tick_idle",
+            Workload::TickExpired => "tick_expired",
             Workload::StepStat => "step_stat",
             Workload::LookStat => "look_stat",
             Workload::Script => "script",
@@ -97,6 +101,7 @@ impl Workload {
             Workload::CreateComplete => create_complete::run(rt, count),
             Workload::AppendTakeover => append_takeover::run(rt, count),
             Workload::TickIdle => tick_idle::run(rt, count),
+            Workload::TickExpired => tick_expired::run(rt, count),
             Workload::StepStat => step_stat::run_steps(rt, count),
             Workload::LookStat => step_stat::run_looks(rt, count),
             Workload::Script => script::run(rt, count),
