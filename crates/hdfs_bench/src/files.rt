@@ -24,7 +24,12 @@ fn creation(alloc: Global, index: u32) -> Result<Op> {
 /// The request of its writer to make the file of an index at a moment in milliseconds.
 fn creating_at(alloc: Global, milliseconds: u64, index: u32) -> Result<Request> {
     let writer = writer_of(alloc, index)?;
-    request_at(alloc, milliseconds, writer.as_str(), creation(alloc, index)?)
+    request_at(
+        alloc,
+        milliseconds,
+        writer.as_str(),
+        creation(alloc, index)?,
+    )
 }
 
 /// The request of its writer to make the file of an index.

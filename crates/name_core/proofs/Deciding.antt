@@ -1,5 +1,5 @@
 -- The verdict on a request that writes a file, and what it is free of.
-use Rattle.std.proofs.Common.{◌≡◌, ℕ, Bool, true, false, List, Option, Some, None, refl, sym, ap, ◌∙◌}
+use Rattle.std.proofs.Common.{◌≡◌, ℕ, Bool, true, false, List, Option, refl, sym, ap, ◌∙◌}
 use Rattle.hdfs_types.specs.declared.op.Op.{Op}
 use Rattle.principals.specs.Principals.{Principals}
 use Rattle.flat_rows.specs.declared.row.Row.{Row}
@@ -8,12 +8,12 @@ use Rattle.flat_rows.specs.FileOutcome.{LeaseFacts}
 use Rattle.flat_rows.specs.Outcome.{step}
 use Rattle.fs_operations.specs.declared.write.Judged.{Judged}
 use Rattle.fs_operations.specs.Judged.{verdict_under, takeover, IsJudged}
-use Rattle.history.specs.ClockAndLease.{is_live, state_at, lease_in}
+use Rattle.history.specs.ClockAndLease.{is_live, state_at}
 use Rattle.history.specs.Laws.{is_done}
 use Rattle.name_core.specs.declared.namesystem.Namesystem.{Namesystem}
 use Rattle.name_core.specs.Writers.{moment_of}
 use Rattle.name_core.specs.Performed.{IsExact, IsFree, facts_of}
-use Rattle.name_core.proofs.Performing.{done_free, lease_is, no_facts}
+use Rattle.name_core.proofs.Performing.{done_free, lease_is}
 
 pub free_of : (leases : LeaseFacts) (rows : List Row) (users : Principals) (caller : List ℕ) (what : Op) (verdict : answer.Verdict) → verdict ≡ (step leases rows users caller what).verdict → is_done verdict ≡ true → IsFree what caller rows users
 free_of leases rows users caller what verdict is done = (leases, (done_free leases rows users caller what (ap is_done (sym is) ∙ done)).free)

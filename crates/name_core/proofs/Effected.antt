@@ -1,5 +1,5 @@
 -- What an operation leaves, from what its calls leave.
-use Rattle.std.proofs.Common.{◌≡◌, ℕ, Bool, true, false, List, length, filter, map, Option, Some, None, refl, sym, ap, ◌∙◌, subst}
+use Rattle.std.proofs.Common.{◌≡◌, ℕ, Bool, List, length, filter, map, Option, Some, None, refl, sym, ap, ◌∙◌, subst}
 use Rattle.hdfs_types.specs.declared.op.Op.TheVariants as op
 use Rattle.hdfs_types.specs.declared.file.LastBlock.{LastBlock}
 use Rattle.hdfs_types.specs.declared.file.FileState.TheVariants.{Closed, Open}
@@ -18,7 +18,7 @@ use Rattle.name_core.specs.declared.writers.Writers.{Writers}
 use Rattle.name_core.specs.Writers.{IsLeased, renewed_at}
 use Rattle.name_core.specs.Performed.{IsExact, IsFree, IsEffected, renewed_where}
 use Rattle.name_core.proofs.Leasing.{leased_open}
-use Rattle.name_core.proofs.Effects.{AreCounted, OneMore, OneLess, EachLess, free_create, free_append, counted_create, counted_reopen, counted_close, counted_delete}
+use Rattle.name_core.proofs.Effects.{OneMore, OneLess, EachLess, free_create, free_append, counted_create, counted_reopen, counted_close, counted_delete}
 use Rattle.name_core.proofs.Expiring.{counted_expire, holders_counted}
 
 abbrev pub KeepsLeased : Writers → Writers → Type 0

@@ -1,29 +1,26 @@
 -- The clients who have files open, behind what an operation leaves of the rows.
-use Rattle.std.proofs.Common.{◌≡◌, ℕ, ◌+◌, ◌-◌, Bool, true, false, ◌&&◌, ◌||◌, List, [], ◌∷◌, ◌++◌, filter, length, not, Option, Some, None, arith, refl, sym, ap, ◌∙◌, subst, cond}
+use Rattle.std.proofs.Common.{◌≡◌, ℕ, ◌+◌, ◌-◌, Bool, true, false, List, [], ◌∷◌, filter, length, not, Option, Some, None, arith, refl, sym, ap, ◌∙◌, subst, cond}
 use Rattle.std.specs.List.{list_all}
 use Rattle.std.specs.Option.{option_or, option_map}
 use Rattle.hdfs_types.specs.Text.{same}
-use Rattle.hdfs_types.proofs.Texts.{same_is, same_self, same_symm}
+use Rattle.hdfs_types.proofs.Texts.{same_is, same_symm}
 use Rattle.hdfs_types.specs.PathOrder.{same_path}
-use Rattle.hdfs_types.specs.declared.op.Op.{Op}
 use Rattle.hdfs_types.specs.declared.op.Op.TheVariants as op
 use Rattle.hdfs_types.specs.declared.file.FileState.{FileState}
 use Rattle.hdfs_types.specs.declared.file.FileState.TheVariants.{Closed, Open, Recovering}
 use Rattle.hdfs_types.specs.declared.file.LastBlock.{LastBlock}
 use Rattle.hdfs_types.specs.declared.reply.Refusal.{Refusal}
 use Rattle.hdfs_types.specs.declared.reply.Refusal.TheVariants.{IsDirectory, IsRoot, NoLease, NotDirectory}
-use Rattle.acl_entries.specs.AccessControlList.{AccessControlList}
 use Rattle.principals.specs.Principals.{Principals}
-use Rattle.flat_rows.specs.declared.file_row.FileBlock.{FileBlock}
 use Rattle.flat_rows.specs.declared.file_row.FileRow.{FileRow}
 use Rattle.flat_rows.specs.declared.row.Row.{Row}
 use Rattle.flat_rows.specs.declared.row.Change.TheVariants as change
 use Rattle.flat_rows.specs.First.{first}
 use Rattle.flat_rows.specs.Rows.{is_directory, row_at, ancestor, file_above}
 use Rattle.flat_rows.specs.Namespace.{IsNamespace, suits_kind, suits_parts, is_root}
-use Rattle.flat_rows.specs.Files.{new_file, holder_of, holder_of_file, is_client, is_open_by, open_files, holders}
-use Rattle.flat_rows.specs.FileOutcome.{LeaseFacts, directory_there, file_there, holder_at, of_file, if_some_file, refused_write, refused_by_state, refused_commit, state_after_append}
-use Rattle.flat_rows.specs.Outcome.{first_some, first_refusal, beneath_file, nothing_at, rows_after, with_new, refused_where}
+use Rattle.flat_rows.specs.Files.{new_file, holder_of, holder_of_file, is_client, open_files, holders}
+use Rattle.flat_rows.specs.FileOutcome.{directory_there, file_there, holder_at, of_file, if_some_file, refused_write, refused_by_state}
+use Rattle.flat_rows.specs.Outcome.{beneath_file, nothing_at, with_new, refused_where}
 use Rattle.flat_rows.specs.Changes.{rows_under, without, changed, rewritten}
 use Rattle.flat_rows.proofs.Tests.{both, all_kept}
 use Rattle.flat_rows.proofs.Namespaces.{namespace_tests}
@@ -31,8 +28,8 @@ use Rattle.history.proofs.Counting.{count, bit, count_without}
 use Rattle.history.proofs.Apart.{no_ancestor}
 use Rattle.history.proofs.OpenFiles.{count_new, count_rewritten, count_holders, with_holder, closed_row, opens}
 use Rattle.name_core.specs.declared.writers.Writers.{Writers}
-use Rattle.name_core.specs.Writers.{count_of, IsLeased, renewed_at}
-use Rattle.name_core.specs.Performed.{IsExact, IsFree}
+use Rattle.name_core.specs.Writers.{count_of}
+use Rattle.name_core.specs.Performed.{IsFree}
 
 some_none : {X : Type 0} (x : X) → Some x ≡ None → ⊥
 some_none x e = cc

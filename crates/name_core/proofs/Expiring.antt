@@ -1,12 +1,12 @@
 -- The files whose holders' leases are past the hard limit, by the list of these clients and by their last renewals.
-use Rattle.std.proofs.Common.{◌≡◌, ℕ, suc, ◌+◌, ◌-◌, Bool, true, false, ◌&&◌, ◌||◌, nat_lt, not, List, [], ◌∷◌, ◌++◌, map, filter, length, Option, Some, None, arith, refl, sym, ap, ◌∙◌, subst, cond}
-use Rattle.std.specs.List.{AllByRecursion, IsDistinct, list_any}
+use Rattle.std.proofs.Common.{◌≡◌, ℕ, suc, ◌+◌, ◌-◌, Bool, true, false, ◌&&◌, ◌||◌, nat_lt, not, List, [], ◌∷◌, map, filter, length, Option, Some, None, arith, refl, sym, ap, ◌∙◌, cond}
+use Rattle.std.specs.List.{AllByRecursion, IsDistinct}
 use Rattle.hdfs_types.specs.Text.{same}
 use Rattle.hdfs_types.proofs.Texts.{same_is, same_symm}
 use Rattle.hdfs_types.specs.declared.file.FileState.TheVariants.{Closed}
 use Rattle.std.specs.Option.{option_to_list}
 use Rattle.std.proofs.lemmas.List.{length-append}
-use Rattle.lease_manager.specs.Lease.{Limits, Renewal, age, lease_state, past_hard, clients}
+use Rattle.lease_manager.specs.Lease.{Limits, Renewal, age, past_hard, clients}
 use Rattle.lease_manager.specs.declared.leases.LeaseState.TheVariants.{Live, PastSoft, PastHard}
 use Rattle.flat_rows.specs.declared.file_row.FileRow.{FileRow}
 use Rattle.flat_rows.specs.declared.row.Row.{Row}

@@ -1,10 +1,8 @@
 -- One more entry keeps what a core keeps.
-use Rattle.std.proofs.Common.{◌≡◌, ℕ, ◌+◌, ◌≤◌, max, List, [], ◌∷◌, ◌++◌, length, reverse, Option, Some, refl, ap, sym, ◌∙◌, subst}
+use Rattle.std.proofs.Common.{◌≡◌, ℕ, ◌+◌, ◌≤◌, max, [], ◌∷◌, ◌++◌, length, reverse, ap, sym, ◌∙◌, subst}
 use Rattle.std.proofs.lemmas.List.{reverse-append, length-reverse}
 use Rattle.hdfs_types.specs.declared.op.Request.{Request}
 use Rattle.lease_manager.specs.Lease.{latest}
-use Rattle.principals.specs.Principals.{Principals}
-use Rattle.flat_rows.specs.declared.row.Row.{Row}
 use Rattle.flat_rows.specs.declared.verdict.Verdict.{Verdict}
 use Rattle.flat_rows.specs.FileOutcome.{LeaseFacts}
 use Rattle.flat_rows.specs.Outcome.{Step, step}
@@ -15,7 +13,7 @@ use Rattle.history.specs.ClockAndLease.{clock_of, last_renewal, renews, facts_at
 use Rattle.history.specs.State.{rows_of, users_of, rows_by, users_by}
 use Rattle.history.specs.LegalHistory.{IsLegal, verdict_of}
 use Rattle.name_core.specs.declared.namenode.NameCore.TheInside.{Inside}
-use Rattle.name_core.specs.Core.{Core, Steps, entry_of}
+use Rattle.name_core.specs.Core.{Steps, entry_of}
 use Rattle.name_core.specs.Kept.{IsKept, core_of, entries_of}
 use Rattle.name_core.specs.Performed.{IsExact, facts_of, renewed_where}
 use Rattle.name_core.proofs.Stepping.{stepped_rows, stepped_users, same_facts, same_step}

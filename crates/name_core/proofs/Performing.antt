@@ -1,5 +1,5 @@
 -- What a request leaves, from what its parts leave.
-use Rattle.std.proofs.Common.{◌≡◌, ◌≢◌, ℕ, ◌<◌, ◌≤◌, Bool, true, false, ◌&&◌, not, nat_lt, List, length, Option, Some, None, arith, refl, sym, ap, ◌∙◌, subst, cond}
+use Rattle.std.proofs.Common.{◌≡◌, ◌≢◌, ℕ, ◌<◌, Bool, true, false, ◌&&◌, not, nat_lt, List, length, Option, Some, None, arith, refl, sym, ap, ◌∙◌, subst, cond}
 use Rattle.std.proofs.lemmas.Bool.{lt-ltb}
 use Rattle.hdfs_types.specs.Text.{same}
 use Rattle.hdfs_types.specs.Request.{keeps_leases}
@@ -19,10 +19,9 @@ use Rattle.flat_rows.specs.Decision.{decision}
 use Rattle.flat_rows.specs.Files.{open_files, has_open_file}
 use Rattle.flat_rows.specs.Namespace.{IsNamespace}
 use Rattle.flat_rows.specs.FileOutcome.{LeaseFacts}
-use Rattle.flat_rows.specs.Outcome.{Step, step, first_refusal, denied_or_outcome, refused_or_done, refused_where, reply_of, rows_after, users_after}
+use Rattle.flat_rows.specs.Outcome.{Step, step, first_refusal, denied_or_outcome, refused_or_done, refused_where, reply_of, users_after}
 use Rattle.fs_operations.specs.Judged.{writes_or_deletes}
-use Rattle.lease_manager.specs.Lease.{Renewal}
-use Rattle.history.specs.ClockAndLease.{renews, lease_in, facts_at}
+use Rattle.history.specs.ClockAndLease.{renews, lease_in}
 use Rattle.history.specs.Laws.{is_done}
 use Rattle.history.specs.State.{rows_by, users_by}
 use Rattle.history.proofs.OpenFiles.{any_counted}
@@ -31,7 +30,7 @@ use Rattle.name_core.specs.declared.told.Told.{Told}
 use Rattle.name_core.specs.declared.writers.Writers.{Writers}
 use Rattle.name_core.specs.Writers.{count_of, moment_of, IsLeased, renewed_at}
 use Rattle.name_core.specs.Told.{IsTold, is_empty, is_plain}
-use Rattle.name_core.specs.Performed.{IsExact, IsPerformed, IsUndone, IsFree, IsEffected, facts_of, renewed_where}
+use Rattle.name_core.specs.Performed.{IsExact, IsPerformed, IsUndone, IsEffected, facts_of, renewed_where}
 use Rattle.name_core.proofs.Stepping.{stepped_rows, stepped_users}
 use Rattle.name_core.proofs.Plain.{plain_or_stays, exact_kept}
 

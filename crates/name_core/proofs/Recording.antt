@@ -1,21 +1,19 @@
 -- What a step records, and what it leaves where memory runs out.
-use Rattle.std.proofs.Common.{◌≡◌, ℕ, ◌+◌, ◌≤◌, max, List, [], ◌∷◌, ◌++◌, length, reverse, nat_lt, Option, None, Result, Ok, Err, refl, ap, sym, ◌∙◌, subst, cond}
+use Rattle.std.proofs.Common.{◌≡◌, ℕ, ◌+◌, ◌≤◌, max, [], ◌∷◌, ◌++◌, length, reverse, nat_lt, None, Result, Ok, Err, ap, sym, ◌∙◌, subst, cond}
 use Rattle.std.specs.Result.{OnErr}
 use Rattle.hdfs_types.specs.declared.op.Request.{Request}
 use Rattle.lease_manager.specs.Lease.{LeaseList, latest}
-use Rattle.history.specs.declared.entry.HistoryEntry.{HistoryEntry}
-use Rattle.history.specs.declared.entry.Answer.{Answer}
 use Rattle.history.specs.Config.{limits_of}
 use Rattle.history.specs.ClockAndLease.{clock_of, last_renewal}
 use Rattle.history.specs.State.{rows_of, users_of}
 use Rattle.history.specs.LegalHistory.{IsLegal}
 use Rattle.name_core.specs.declared.namenode.NameCore.TheInside.{Inside}
 use Rattle.name_core.specs.declared.told.Told.{Told}
-use Rattle.name_core.specs.Core.{Core, Steps}
+use Rattle.name_core.specs.Core.{Steps}
 use Rattle.name_core.specs.Kept.{IsKept, core_of, entries_of}
-use Rattle.name_core.specs.Writers.{count_of, moment_of}
+use Rattle.name_core.specs.Writers.{moment_of}
 use Rattle.name_core.specs.Performed.{IsExact, IsPerformed, IsUndone}
-use Rattle.name_core.proofs.Keeping.{Adds, kept_more, steps_is}
+use Rattle.name_core.proofs.Keeping.{Adds, steps_is}
 
 pub on_err : {T E P : Type 0} (r : Result T E) → P → OnErr r P
 on_err (Ok x) p = tt

@@ -7,7 +7,6 @@ use Rattle.hdfs_types.specs.Text.{same}
 use Rattle.hdfs_types.specs.declared.op.Op.TheVariants as op
 use Rattle.hdfs_types.specs.declared.op.Request.{Request}
 use Rattle.hdfs_types.specs.declared.reply.Reply.TheVariants as reply
-use Rattle.principals.specs.Principals.{Principals}
 use Rattle.lease_manager.specs.Lease.{past_hard, clients}
 use Rattle.flat_rows.specs.declared.file_row.FileRow.{FileRow}
 use Rattle.flat_rows.specs.declared.row.Row.{Row}

@@ -1,6 +1,5 @@
 -- What a core keeps: its history is legal, and its state is what the history gives.
 use Rattle.std.specs.Prelude.{◌≡◌, ◌≤◌, List, reverse}
-use Rattle.flat_rows.specs.declared.row.Row.{Row}
 use Rattle.lease_manager.specs.Lease.{latest}
 use Rattle.history.specs.declared.entry.HistoryEntry.{HistoryEntry}
 use Rattle.history.specs.Config.{limits_of}

@@ -1,11 +1,10 @@
 -- What a request leaves of the namespace, the users, and the clients who have files open.
-use Rattle.std.specs.Prelude.{◌≡◌, ℕ, Bool, true, ◌&&◌, List, length, if◌then◌else◌, Option, Some, None}
+use Rattle.std.specs.Prelude.{◌≡◌, ℕ, Bool, ◌&&◌, List, length, if◌then◌else◌, Option, Some, None}
 use Rattle.hdfs_types.specs.Text.{same}
 use Rattle.hdfs_types.specs.declared.op.Op.{Op}
 use Rattle.hdfs_types.specs.declared.op.Request.{Request}
 use Rattle.principals.specs.Principals.{Principals}
 use Rattle.flat_rows.specs.declared.row.Row.{Row}
-use Rattle.flat_rows.specs.declared.verdict.Verdict.{Verdict}
 use Rattle.flat_rows.specs.declared.verdict.Verdict.TheVariants.{Done}
 use Rattle.flat_rows.specs.Files.{open_files}
 use Rattle.flat_rows.specs.FileOutcome.{LeaseFacts}

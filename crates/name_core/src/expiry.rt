@@ -139,7 +139,6 @@ fn expire_all(
     Ok(clients.len() as u64)
 }
 
-
 // ---- both
 
 /// Closes the files of these clients, whether these are all of them or not.

@@ -1,4 +1,4 @@
-use Rattle.std.proofs.Common.{ap, ◌∙◌}
+use Rattle.std.proofs.Common.{ap}
 use Rattle.fs_operations.specs.Judged.{verdict_under}
 use Rattle.name_core.specs.Performed.{facts_of}
 use Rattle.name_core.proofs.Performing.{no_facts}

@@ -1,4 +1,4 @@
-use Rattle.std.proofs.Common.{rules, ◌≡◌, length, sym, ap, ◌∙◌, subst}
+use Rattle.std.proofs.Common.{length, sym, ap, ◌∙◌, subst}
 use Rattle.name_core.specs.Core.{Core, Looks}
 use Rattle.name_core.proofs.Looking.{looks_is}
 use Rattle.name_core.proofs.namenode.NameCore.look.Goals as goal
