@@ -17,6 +17,7 @@ ghost use Rattle.principals.specs.Principals.{Principals};
 ghost use Rattle.name_core.specs.Performed.{IsExact, IsFree, IsEffected};
 ghost use Rattle.name_core.specs.Writers.{count_of, moment_of, HasRoom, IsAlike, IsLeased, renewed_at};
 
+use crate::open_paths::OpenPaths;
 use crate::writers::Writers;
 use flat_rows::row::Change;
 use fs_operations::write::make_file;
@@ -180,6 +181,7 @@ fn create(
     alloc: Global,
     tree: &mut Tree,
     writers: &mut Writers,
+    open_paths: &mut OpenPaths,
     path: &Path,
     mode: Mode,
     replication: Repl,
@@ -198,6 +200,8 @@ fn create(
     let clients = replaced_holders(alloc, tree, path, over)?;
     create_open(alloc, tree, writers, path, mode, replication, caller, now)?;
     writers.close_each(&clients);
+    open_paths.delete(path, &clients);
+    open_paths.open(path, caller);
     Ok(())
 }
 
@@ -205,6 +209,7 @@ fn create(
 fn reopen(
     tree: &mut Tree,
     writers: &mut Writers,
+    open_paths: &mut OpenPaths,
     path: &Path,
     caller: &Who,
     now: Moment,
@@ -221,6 +226,7 @@ fn reopen(
     let client = caller.clone()?;
     writers.open(caller, now)?;
     tree.rewrite(path, Change::State(FileState::Open(client)));
+    open_paths.open(path, caller);
     Ok(())
 }
 
@@ -243,6 +249,7 @@ pub fn close(tree: &mut Tree, writers: &mut Writers, path: &Path, client: &Who)
 fn append(
     tree: &mut Tree,
     writers: &mut Writers,
+    open_paths: &mut OpenPaths,
     path: &Path,
     caller: &Who,
     now: Moment,
@@ -256,9 +263,10 @@ fn append(
     ensures err { OnErr result ((tree.new ≡ tree.old) × IsAlike writers.old writers.new) }
 {
     let Some(holder) = holder_of(tree, path)? else {
-        return reopen(tree, writers, path, caller, now);
+        return reopen(tree, writers, open_paths, path, caller, now);
     };
     close(tree, writers, path, &holder);
+    open_paths.close(path, &holder);
     Ok(())
 }
 
@@ -267,6 +275,7 @@ fn delete(
     alloc: Global,
     tree: &mut Tree,
     writers: &mut Writers,
+    open_paths: &mut OpenPaths,
     path: &Path,
 ) -> Result<(), AllocError>
     requires { not (is_root path.now) ≡ true }
@@ -278,6 +287,7 @@ fn delete(
     let clients = holders_at(alloc, tree, path)?;
     writers.close_each(&clients);
     tree.remove(path);
+    open_paths.delete(path, &clients);
     Ok(())
 }
 
@@ -289,6 +299,7 @@ pub fn effect(
     alloc: Global,
     tree: &mut Tree,
     writers: &mut Writers,
+    open_paths: &mut OpenPaths,
     op: &Op,
     caller: &Who,
     now: Moment,
@@ -307,6 +318,7 @@ pub fn effect(
             alloc,
             tree,
             writers,
+            open_paths,
             path,
             *mode,
             *replication,
@@ -314,12 +326,13 @@ pub fn effect(
             caller,
             now,
         ),
-        Op::Append(path) => append(tree, writers, path, caller, now),
+        Op::Append(path) => append(tree, writers, open_paths, path, caller, now),
         Op::Complete(path, _) => {
             close(tree, writers, path, caller);
+            open_paths.close(path, caller);
             Ok(())
         }
-        Op::Delete(path, _) => delete(alloc, tree, writers, path),
+        Op::Delete(path, _) => delete(alloc, tree, writers, open_paths, path),
         Op::AddBlock(_, _) => Ok(()),
         _ => unreachable!(),
     }

@@ -36,6 +36,22 @@ fn can_close(tree: &Tree, path: &Path, client: &Who) -> bool
     }
 }
 
+/// Adds a file, where the client has it open and it can be closed.
+fn add(
+    tree: &Tree,
+    path: &Path,
+    client: &Who,
+    files: &mut BTreeMap<Path, Who>,
+) -> Result<(), AllocError>
+    ensures { (past : List (List ℕ)) → is_among past client.now ≡ true → AreClosable past tree.now files.old → OnOk result (AreClosable past tree.now files.new) }
+{
+    if !can_close(tree, path, client) {
+        return Ok(());
+    }
+    files.insert(path.clone()?, client.clone()?)?;
+    Ok(())
+}
+
 /// Adds the files of a client that are known and can be closed.
 fn add_closable(
     tree: &Tree,
@@ -45,13 +61,8 @@ fn add_closable(
 ) -> Result<(), AllocError>
     ensures { (past : List (List ℕ)) → is_among past client.now ≡ true → AreClosable past tree.now files.old → OnOk result (AreClosable past tree.now files.new) }
 {
-    let Some(paths) = open_paths.of_client(client) else {
-        return Ok(());
-    };
-    for path in paths {
-        if can_close(tree, path, client) {
-            files.insert(path.clone()?, client.clone()?)?;
-        }
+    for path in &open_paths.of_client(client)? {
+        add(tree, path, client, files)?;
     }
     Ok(())
 }

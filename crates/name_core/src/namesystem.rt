@@ -22,7 +22,7 @@ use fs_operations::apply::apply;
 use fs_operations::write::{Judged, judge, judge_tick};
 use hdfs_types::moment::Moment;
 use hdfs_types::op::{Op, Request, keeps_leases};
-use hdfs_types::reply::{Refusal, Reply};
+use hdfs_types::reply::{ObjectKind, Refusal, Reply};
 use hdfs_types::who::Who;
 use inode_tree::tree::Tree;
 use lease_manager::leases::LeaseState;
@@ -138,6 +138,7 @@ fn decide(
 fn perform_write(
     alloc: Global,
     system: &mut Namesystem,
+    open_paths: &mut OpenPaths,
     request: &Request,
     now: Moment,
 ) -> Result<Told, AllocError>
@@ -158,6 +159,7 @@ fn perform_write(
         alloc,
         &mut system.tree,
         &mut system.writers,
+        open_paths,
         &request.op,
         &request.caller,
         now,
@@ -232,11 +234,29 @@ fn answer(
     match &request.op {
         Op::Renew => perform_renewal(system, request, now),
         Op::Tick => perform_tick(alloc, system, open_paths, request, now),
-        _ => perform_write(alloc, system, request, now),
+        _ => perform_write(alloc, system, open_paths, request, now),
     }
 }
 
-/// Answers a request, and does it where no need fails and nothing stands against it. Where the open files are is noted.
+/// Notes where open files are once a rename is done.
+fn note_move(tree: &Tree, open_paths: &mut OpenPaths, op: &Op) {
+    let Op::Rename(from, to) = op else {
+        return;
+    };
+    let Some(inode) = tree.get(to) else {
+        return;
+    };
+    match inode.kind() {
+        ObjectKind::Directory => open_paths.move_directory(from, to),
+        ObjectKind::File => {
+            if let Some(holder) = inode.holder() {
+                open_paths.move_file(from, to, holder);
+            }
+        }
+    }
+}
+
+/// Answers a request, and does it where no need fails and nothing stands against it.
 ///
 /// # Errors
 /// Want of memory, and nothing has changed.
@@ -255,6 +275,8 @@ pub fn perform(
     ensures err { OnErr result (IsUndone system.old system.new) }
 {
     let told = answer(alloc, system, open_paths, request, now)?;
-    open_paths.note(request, &told.verdict);
+    if is_done(&told.verdict) {
+        note_move(&system.tree, open_paths, &request.op);
+    }
     Ok(told)
 }

@@ -1,22 +1,17 @@
-use flat_rows::verdict::Verdict;
-use hdfs_types::op::{Op, Request};
 use hdfs_types::path::Path;
-use hdfs_types::reply::Reply;
 use hdfs_types::who::Who;
-use std::alloc::Global;
+use std::alloc::{AllocError, Global};
 use std::collections::{BTreeMap, BTreeSet};
-use std::fmt::Write;
 use std::marker::Model;
 
-/// Where the open files are: by path, and of each client the paths of those that it has open. A call costs a look-up for each
-/// file that it notes.
+/// Where the files are that each client has open: their paths as texts, in which what is beneath a directory stands together. A
+/// call costs a look-up, if nothing else is said.
 ///
 /// These are hints, of which no contract speaks: the tree confirms each before it is used, and where one is missing, which is so
 /// only where there was no memory for it, the tree is gone through instead.
 #[derive(Drop)]
 pub struct OpenPaths {
-    holders: BTreeMap<Path, Who>,
-    clients: BTreeMap<Who, BTreeSet<Path>>,
+    clients: BTreeMap<Who, BTreeSet<String>>,
     alloc: Global,
 }
 
@@ -29,128 +24,181 @@ impl Model for OpenPaths {
     ghost view = { λ _. tt };
 }
 
-// The path of a file once what has a path at or above it is moved.
-fn moved(alloc: Global, file: &Path, from: &Path, to: &Path) -> Option<Path> {
+// A path's text. The root's is empty, so that a slash behind it begins what is beneath.
+fn text_of(alloc: Global, path: &Path) -> Result<String, AllocError> {
     let mut text = String::new(alloc);
-    write!(text, "{to}").ok()?;
-    for name in file.names().iter().skip(from.depth()) {
-        write!(text, "/{name}").ok()?;
+    for name in path.names() {
+        text.push('/')?;
+        text.push_str(name.as_str())?;
     }
-    Path::parse(alloc, &text).ok()
+    Ok(text)
+}
+
+// What the text of each path beneath this one begins with.
+fn front_of(alloc: Global, path: &Path) -> Result<String, AllocError> {
+    let mut front = text_of(alloc, path)?;
+    front.push('/')?;
+    Ok(front)
+}
+
+fn copied(alloc: Global, text: &str) -> Result<String, AllocError> {
+    let mut copy = String::new(alloc);
+    copy.push_str(text)?;
+    Ok(copy)
+}
+
+fn joined(alloc: Global, front: &str, rest: &str) -> Result<String, AllocError> {
+    let mut text = copied(alloc, front)?;
+    text.push_str(rest)?;
+    Ok(text)
+}
+
+// The texts that begin with this one.
+fn beginning(
+    alloc: Global,
+    texts: &BTreeSet<String>,
+    front: &String,
+) -> Result<Vec<String>, AllocError> {
+    let mut found = Vec::new(alloc);
+    for text in texts.range(front..) {
+        if !text.as_str().starts_with(front.as_str()) {
+            break;
+        }
+        found.push(copied(alloc, text.as_str())?)?;
+    }
+    Ok(found)
+}
+
+fn remove_beginning(
+    alloc: Global,
+    texts: &mut BTreeSet<String>,
+    front: &String,
+) -> Result<(), AllocError> {
+    for text in &beginning(alloc, texts, front)? {
+        texts.remove(text.as_str());
+    }
+    Ok(())
+}
+
+// Gives each text that begins so another beginning.
+fn move_beginning(
+    alloc: Global,
+    texts: &mut BTreeSet<String>,
+    from: &String,
+    to: &str,
+) -> Result<(), AllocError> {
+    for text in &beginning(alloc, texts, from)? {
+        texts.remove(text.as_str());
+        if let Some(rest) = text.as_str().strip_prefix(from.as_str()) {
+            texts.insert(joined(alloc, to, rest)?)?;
+        }
+    }
+    Ok(())
 }
 
 impl OpenPaths {
     /// No file is open. Takes no memory.
     pub fn new(alloc: Global) -> OpenPaths {
         OpenPaths {
-            holders: BTreeMap::new(alloc),
             clients: BTreeMap::new(alloc),
             alloc,
         }
     }
 
-    /// The paths of the files that a client has open. Takes no memory.
-    pub fn of_client(&self, client: &Who) -> Option<&BTreeSet<Path>> {
-        self.clients.get(client)
+    /// The paths of the files that a client has open. Costs these files.
+    ///
+    /// # Errors
+    /// Want of memory.
+    pub fn of_client(&self, client: &Who) -> Result<Vec<Path>, AllocError> {
+        let mut paths = Vec::new(self.alloc);
+        let Some(texts) = self.clients.get(client) else {
+            return Ok(paths);
+        };
+        for text in texts {
+            if let Ok(path) = Path::parse(self.alloc, text.as_str()) {
+                paths.push(path)?;
+            }
+        }
+        Ok(paths)
     }
 
-    /// Notes what a request has opened, closed, deleted or moved, but what a tick has closed. Where there is no memory for a path,
-    /// it is left out.
-    pub fn note(&mut self, request: &Request, verdict: &Verdict) {
-        if let Verdict::Done(reply) = verdict {
-            self.note_done(&request.op, &request.caller, reply);
+    /// Notes that a client has opened a file. Where there is no memory for the path, it is left out.
+    pub fn open(&mut self, path: &Path, client: &Who) {
+        let _noted = self.put(path, client);
+    }
+
+    fn put(&mut self, path: &Path, client: &Who) -> Result<(), AllocError> {
+        let text = text_of(self.alloc, path)?;
+        if let Some(texts) = self.clients.get_mut(client) {
+            texts.insert(text)?;
+            return Ok(());
+        }
+        let mut texts = BTreeSet::new(self.alloc);
+        texts.insert(text)?;
+        self.clients.insert(client.clone()?, texts)?;
+        Ok(())
+    }
+
+    /// Notes that a file is closed that a client had open. A path that there is no memory for stays.
+    pub fn close(&mut self, path: &Path, client: &Who) {
+        let _noted = self.take(path, client);
+    }
+
+    fn take(&mut self, path: &Path, client: &Who) -> Result<(), AllocError> {
+        let text = text_of(self.alloc, path)?;
+        let Some(texts) = self.clients.get_mut(client) else {
+            return Ok(());
+        };
+        texts.remove(text.as_str());
+        if texts.is_empty() {
+            self.clients.remove(client);
+        }
+        Ok(())
+    }
+
+    /// Notes that what has a path is deleted, where these clients had open what has the path, and the files beneath it. Costs a
+    /// look-up for each client, and these files.
+    pub fn delete(&mut self, path: &Path, clients: &[Who]) {
+        for client in clients {
+            self.close(path, client);
+            let _noted = self.take_beneath(path, client);
         }
     }
 
-    fn note_done(&mut self, op: &Op, caller: &Who, reply: &Reply) {
-        match op {
-            Op::Create(path, _, _, _) => self.open(path, caller),
-            Op::Append(path) => match reply {
-                Reply::Released => self.close(path),
-                _ => self.open(path, caller),
-            },
-            Op::Complete(path, _) => self.close(path),
-            Op::Delete(path, _) => self.close_beneath(path),
-            Op::Rename(from, to) => self.rename(from, to),
-            _ => {}
+    fn take_beneath(&mut self, path: &Path, client: &Who) -> Result<(), AllocError> {
+        let front = front_of(self.alloc, path)?;
+        let Some(texts) = self.clients.get_mut(client) else {
+            return Ok(());
+        };
+        remove_beginning(self.alloc, texts, &front)?;
+        if texts.is_empty() {
+            self.clients.remove(client);
         }
+        Ok(())
+    }
+
+    /// Notes that a file that a client has open is moved.
+    pub fn move_file(&mut self, from: &Path, to: &Path, client: &Who) {
+        self.close(from, client);
+        self.open(to, client);
+    }
+
+    /// Notes that a directory is moved. Costs a look-up for each client that has files open, and the open files beneath it.
+    pub fn move_directory(&mut self, from: &Path, to: &Path) {
+        let _noted = self.move_beneath(from, to);
+    }
+
+    fn move_beneath(&mut self, from: &Path, to: &Path) -> Result<(), AllocError> {
+        let from = front_of(self.alloc, from)?;
+        let to = front_of(self.alloc, to)?;
+        for texts in self.clients.values_mut() {
+            move_beginning(self.alloc, texts, &from, to.as_str())?;
+        }
+        Ok(())
     }
 
     /// Forgets the files of a client. Takes no memory.
     pub fn forget(&mut self, client: &Who) {
-        let Some(paths) = self.clients.remove(client) else {
-            return;
-        };
-        for path in &paths {
-            self.holders.remove(path);
-        }
-    }
-
-    fn open(&mut self, path: &Path, client: &Who) {
-        self.close(path);
-        let _noted = self.put(path, client);
-    }
-
-    fn put(&mut self, path: &Path, client: &Who) -> Option<()> {
-        if !self.clients.contains_key(client) {
-            let paths = BTreeSet::new(self.alloc);
-            self.clients.insert(client.clone().ok()?, paths).ok()?;
-        }
-        let paths = self.clients.get_mut(client)?;
-        paths.insert(path.clone().ok()?).ok()?;
-        self.holders
-            .insert(path.clone().ok()?, client.clone().ok()?)
-            .ok()?;
-        Some(())
-    }
-
-    fn close(&mut self, path: &Path) {
-        let Some(client) = self.holders.remove(path) else {
-            return;
-        };
-        let Some(paths) = self.clients.get_mut(&client) else {
-            return;
-        };
-        paths.remove(path);
-        if paths.is_empty() {
-            self.clients.remove(&client);
-        }
-    }
-
-    // The open files at a path and beneath it.
-    fn beneath(&self, path: &Path) -> Option<Vec<Path>> {
-        let mut files = Vec::new(self.alloc);
-        for (file, _holder) in self.holders.range(path..) {
-            if !file.is_at_or_under(path) {
-                break;
-            }
-            files.push(file.clone().ok()?).ok()?;
-        }
-        Some(files)
-    }
-
-    fn close_beneath(&mut self, path: &Path) {
-        let Some(files) = self.beneath(path) else {
-            return;
-        };
-        for file in &files {
-            self.close(file);
-        }
-    }
-
-    fn rename(&mut self, from: &Path, to: &Path) {
-        let Some(files) = self.beneath(from) else {
-            return;
-        };
-        for file in &files {
-            let _noted = self.rename_file(file, from, to);
-        }
-    }
-
-    fn rename_file(&mut self, file: &Path, from: &Path, to: &Path) -> Option<()> {
-        let client = self.holders.get(file)?.clone().ok()?;
-        self.close(file);
-        let path = moved(self.alloc, file, from, to)?;
-        self.put(&path, &client)
+        self.clients.remove(client);
     }
 }
