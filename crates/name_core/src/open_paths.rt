@@ -7,8 +7,8 @@ use std::marker::Model;
 /// Where the files are that each client has open: their paths as texts, in which what is beneath a directory stands together. A
 /// call costs a look-up, if nothing else is said.
 ///
-/// These are hints, of which no contract speaks: the tree confirms each before it is used, and where one is missing, which is so
-/// only where there was no memory for it, the tree is gone through instead.
+/// These are hints, of which no contract speaks: the tree confirms each before it is used, and where some are missing, since there
+/// was no memory for them or a tick has left a file open, the tree is gone through instead.
 #[derive(Drop)]
 pub struct OpenPaths {
     clients: BTreeMap<Who, BTreeSet<String>>,
@@ -24,9 +24,17 @@ impl Model for OpenPaths {
     ghost view = { λ _. tt };
 }
 
+fn bytes_of(path: &Path) -> usize {
+    let mut bytes: usize = 0;
+    for name in path.names() {
+        bytes = bytes.saturating_add(1).saturating_add(name.as_str().len());
+    }
+    bytes
+}
+
 // A path's text. The root's is empty, so that a slash behind it begins what is beneath.
 fn text_of(alloc: Global, path: &Path) -> Result<String, AllocError> {
-    let mut text = String::new(alloc);
+    let mut text = String::with_capacity(alloc, bytes_of(path))?;
     for name in path.names() {
         text.push('/')?;
         text.push_str(name.as_str())?;
