@@ -123,16 +123,16 @@ impl Leases {
         now.saturating_sub(self.leases[place].renewed)
     }
 
-    /// The files of the clients whose leases are past the hard limit, each with its client.
-    pub fn past_hard(&self, now: u64) -> Vec<(String, Path)> {
-        let mut files = Vec::new();
+    /// The clients whose leases are past the hard limit, each with its files.
+    pub fn past_hard(&self, now: u64) -> Vec<(String, Vec<Path>)> {
+        let mut clients = Vec::new();
         let mut place = self.oldest;
         while place != NONE && self.age(place, now) > HARD_LIMIT {
             let lease = &self.leases[place];
-            let of_client = lease.open_files.iter();
-            files.extend(of_client.map(|path| (lease.client.clone(), path.clone())));
+            let paths = lease.open_files.iter().cloned().collect();
+            clients.push((lease.client.clone(), paths));
             place = lease.newer;
         }
-        files
+        clients
     }
 }

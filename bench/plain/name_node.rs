@@ -170,12 +170,20 @@ impl Writing<'_> {
             return Err(Failure::NotSuperuser);
         }
         let mut closed = 0;
-        for (client, path) in self.leases.past_hard(self.now) {
-            if self.root.close(&path.names) {
-                self.leases.closed(&client, &path);
+        for (client, paths) in self.leases.past_hard(self.now) {
+            closed += self.close_each(&client, &paths);
+        }
+        Ok(Reply::Expired(closed))
+    }
+
+    fn close_each(&mut self, client: &str, paths: &[Path]) -> u64 {
+        let mut closed = 0;
+        for path in paths {
+            if self.root.close(&path.names, client) {
+                self.leases.closed(client, path);
                 closed += 1;
             }
         }
-        Ok(Reply::Expired(closed))
+        closed
     }
 }

@@ -440,8 +440,9 @@ impl Node {
         }
     }
 
-    /// Closes the file at a path, but where the length of its last block isn't committed; whether it is closed.
-    pub fn close(&mut self, path: &[String]) -> bool {
+    /// Closes the file at a path that a client has open, but where the length of its last block isn't committed; whether it is
+    /// closed.
+    pub fn close(&mut self, path: &[String], client: &str) -> bool {
         let mut node = self;
         for name in path {
             let Held::Directory(children) = &mut node.held else {
@@ -452,13 +453,15 @@ impl Node {
             };
             node = child;
         }
-        match &mut node.held {
-            Held::File(file) if !file.ends_uncommitted() => {
-                file.state = FileState::Closed;
-                true
-            }
-            _ => false,
+        let Held::File(file) = &mut node.held else {
+            return false;
+        };
+        let is_open = matches!(&file.state, FileState::Open(holder) if holder == client);
+        if !is_open || file.ends_uncommitted() {
+            return false;
         }
+        file.state = FileState::Closed;
+        true
     }
 
     fn status(&self) -> FileStatus {

@@ -36,8 +36,12 @@ fn creating_by(moment: u64, caller: String, index: u32) -> Request {
     request(moment, caller, op)
 }
 
+fn creating_at(moment: u64, index: u32) -> Request {
+    creating_by(moment, writer(index), index)
+}
+
 fn creating(index: u32) -> Request {
-    creating_by(0, writer(index), index)
+    creating_at(0, index)
 }
 
 fn completing(index: u32) -> Request {
@@ -58,8 +62,8 @@ fn appending(turn: u32) -> Request {
     request(PAST_SOFT, READER.to_string(), op)
 }
 
-fn ticking() -> Request {
-    request(0, SUPERUSER.to_string(), Op::Tick)
+fn ticking(moment: u64) -> Request {
+    request(moment, SUPERUSER.to_string(), Op::Tick)
 }
 
 fn looking(turn: u32, bound: u32) -> Request {
@@ -79,10 +83,23 @@ fn step(node: &mut NameNode, request: &Request) -> Answer {
     node.step(0, node.place(), request)
 }
 
-/// Makes so many files, and leaves them open.
-fn open_files(node: &mut NameNode, count: u32) -> Result<(), Failure> {
+/// Makes so many files at a moment, and leaves them open.
+fn open_files_at(node: &mut NameNode, moment: u64, count: u32) -> Result<(), Failure> {
     for index in 0..count {
-        step(node, &creating(index)).verdict?;
+        step(node, &creating_at(moment, index)).verdict?;
+    }
+    Ok(())
+}
+
+fn open_files(node: &mut NameNode, count: u32) -> Result<(), Failure> {
+    open_files_at(node, 0, count)
+}
+
+/// The reader makes so many files behind the first ones, and leaves them open.
+fn open_files_of_reader(node: &mut NameNode, first: u32, count: u32) -> Result<(), Failure> {
+    for index in first..first + count {
+        let creating = creating_by(0, READER.to_string(), index);
+        step(node, &creating).verdict?;
     }
     Ok(())
 }
@@ -126,20 +143,14 @@ pub fn append_takeover(count: u32) -> Timed {
 pub fn tick_idle(count: u32) -> Timed {
     let mut node = new_node();
     open_files(&mut node, count)?;
-    Ok((TICKS, time(&mut node, TICKS, |_| ticking(), step)?))
+    Ok((TICKS, time(&mut node, TICKS, |_| ticking(0), step)?))
 }
 
 pub fn tick_expired(count: u32) -> Timed {
     let mut node = new_node();
-    for index in 0..EXPIRED {
-        let creating = creating_by(0, READER.to_string(), count + index);
-        step(&mut node, &creating).verdict?;
-    }
-    for index in 0..count {
-        let creating = creating_by(PAST_HARD, writer(index), index);
-        step(&mut node, &creating).verdict?;
-    }
-    Ok((EXPIRED, time(&mut node, 1, |_| ticking(), step)?))
+    open_files_of_reader(&mut node, count, EXPIRED)?;
+    open_files_at(&mut node, PAST_HARD, count)?;
+    Ok((EXPIRED, time(&mut node, 1, |_| ticking(PAST_HARD), step)?))
 }
 
 pub fn step_stat(count: u32) -> Timed {

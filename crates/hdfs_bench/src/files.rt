@@ -15,7 +15,7 @@ fn writer_of(alloc: Global, index: u32) -> Result<String> {
     Ok(format!(in alloc; "u{number:02}")?)
 }
 
-/// To make the file of an index, which all may write.
+/// The operation that makes the file of an index, which all may write.
 fn creation(alloc: Global, index: u32) -> Result<Op> {
     let replication = Repl::new(3).context("no replication")?;
     Ok(Op::Create(path_of(alloc, "", index)?, mode(0o777)?, replication, false))
@@ -74,7 +74,7 @@ impl NameNode {
         Ok(())
     }
 
-    /// Makes the files of the indices below a count, and leaves them open.
+    /// Makes the files of the indices below a count at a moment in milliseconds, and leaves them open.
     fn open_files_at(&mut self, milliseconds: u64, count: u32) -> Result<()> {
         for index in 0..count {
             self.step(&creating_at(self.alloc(), milliseconds, index)?)?;

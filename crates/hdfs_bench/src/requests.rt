@@ -66,6 +66,18 @@ pub trait Requests {
     fn request(&self, alloc: Global, turn: u32) -> Result<Request>;
 }
 
+/// Ticks at a moment in milliseconds.
+#[derive(Clone, Copy, Debug)]
+pub struct Ticks {
+    pub milliseconds: u64,
+}
+
+impl Requests for Ticks {
+    fn request(&self, alloc: Global, _turn: u32) -> Result<Request> {
+        request_at(alloc, self.milliseconds, SUPERUSER, Op::Tick)
+    }
+}
+
 /// What requests are asked of.
 pub trait Serves {
     /// Serves a request that nothing forbids, and drops what it is told.

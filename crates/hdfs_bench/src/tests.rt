@@ -3,7 +3,7 @@ use crate::append_takeover::AppendTakeover;
 use crate::name_node::NameNode;
 use crate::namespace::Namespace;
 use crate::paths::parsed;
-use crate::requests::{READER, Requests, SUPERUSER, request};
+use crate::requests::{READER, Requests, SUPERUSER, Ticks, request};
 use crate::script;
 use crate::setfacl::SetAcl;
 use crate::timed::Timed;
@@ -203,7 +203,10 @@ file 0777 u01 supergroup 3 0 open:bob";
 
 /// What is told of the file of a writer, and of one that the reader opened long before, once there was a tick.
 fn told_behind_a_tick(node: &mut NameNode) -> Result<String, Fail> {
-    node.step(&request(node.alloc(), SUPERUSER, Op::Tick)?)?;
+    let tick = Ticks {
+        milliseconds: 1_200_001,
+    };
+    node.step(&tick.request(node.alloc(), 0)?)?;
     let late = file_told(node, "/d00/d00/d00/d00/d00")?;
     let older = file_told(node, "/d00/d00/d00/d00/d01")?;
     Ok(format!(in node.alloc(); "{late}\n{older}")?)

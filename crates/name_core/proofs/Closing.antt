@@ -34,7 +34,7 @@ use Rattle.history.proofs.OpenFiles.{count_rewritten, behind, opens}
 use Rattle.name_core.specs.declared.writers.Writers.{Writers}
 use Rattle.name_core.specs.Writers.{count_of}
 use Rattle.name_core.specs.Performed.{IsExact}
-use Rattle.name_core.specs.Expiry.{is_committed, can_close, open_of, AreClosable, AreExpired}
+use Rattle.name_core.specs.Expiry.{can_close, open_of, AreClosable, AreExpired}
 
 abbrev pub close_row : Row → Row
 close_row = changed (change.State Closed)
@@ -76,15 +76,22 @@ module _ (past : List (List ℕ)) where
 
   -- what one of these clients has open, and can be closed, is closed
   pub can_is : (client : List ℕ) (row : Row) → is_among past client ≡ true → can_close client (Some row) ≡ true → (expired row ≡ true) × (holder_at (Some row) ≡ Some client)
-  can_is client row among can = by row.file (both (is_open_by client row) (is_committed row.file) can)
+  can_is client row among can = by row.file can
     where
-      by : (file : Option FileRow) → (is_client client (holder_of_file file) ≡ true) × (is_committed file ≡ true) → (is_expired_file (tree.past_hard past) file ≡ true) × (holder_of_file file ≡ Some client)
+      by : (file : Option FileRow) → is_expired_file (tree.past_hard (client ∷ [])) file ≡ true → (is_expired_file (tree.past_hard past) file ≡ true) × (holder_of_file file ≡ Some client)
       by None h = absurd cc
-      by (Some file) h = held (holder_of file.state) h.0
+      by (Some file) h = let parts = both (outcome.is_past_hard (tree.past_hard (client ∷ [])) (holder_of file.state)) (not (ends_uncommitted file.blocks)) h in held (holder_of file.state) parts.0 parts.1
         where
-          held : (holder : Option (List ℕ)) → is_client client holder ≡ true → ((outcome.is_past_hard (tree.past_hard past) holder && not (ends_uncommitted file.blocks)) ≡ true) × (holder ≡ Some client)
-          held None k = absurd cc
-          held (Some who) k = (and (is_among past who) (not (ends_uncommitted file.blocks)) (ap (is_among past) (sym (same_is client who k)) ∙ among) h.1, ap (λ w. Some w) (sym (same_is client who k)))
+          alone : (b : Bool) → (b || false) ≡ true → b ≡ true
+          alone true e = refl
+          alone false e = e
+
+          held : (holder : Option (List ℕ)) → outcome.is_past_hard (tree.past_hard (client ∷ [])) holder ≡ true → not (ends_uncommitted file.blocks) ≡ true
+              → ((outcome.is_past_hard (tree.past_hard past) holder && not (ends_uncommitted file.blocks)) ≡ true) × (holder ≡ Some client)
+          held None k e = absurd cc
+          held (Some who) k e =
+              let is : client ≡ who = same_is client who (alone (same client who) k) in
+              (and (is_among past who) (not (ends_uncommitted file.blocks)) (ap (is_among past) (sym is) ∙ among) e, ap (λ w. Some w) (sym is))
 
   closed_stays : (row : Row) → expired (close_row row) ≡ false
   closed_stays row = by row.file

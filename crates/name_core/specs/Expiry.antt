@@ -1,10 +1,8 @@
 -- Which files a tick closes, where the clients are known whose leases are past the hard limit.
-use Rattle.std.specs.Prelude.{◌≡◌, ℕ, Bool, true, false, ◌&&◌, not, List, map, filter, length, sum_by, Option, Some, None}
+use Rattle.std.specs.Prelude.{◌≡◌, ℕ, Bool, true, false, List, [], ◌∷◌, map, filter, length, sum_by, Option, Some, None}
 use Rattle.std.specs.BTreeMap.{BTreeMap, get}
 use Rattle.hdfs_types.specs.PathOrder.{path_cmp}
-use Rattle.flat_rows.specs.declared.file_row.FileRow.{FileRow}
 use Rattle.flat_rows.specs.declared.row.Row.{Row}
-use Rattle.flat_rows.specs.Files.{ends_uncommitted, is_open_by}
 use Rattle.flat_rows.specs.FileOutcome.{is_expired, closed_where_expired}
 use Rattle.flat_rows.specs.Rows.{row_at}
 use Rattle.inode_tree.specs.Expired.{is_among, past_hard}
@@ -12,14 +10,10 @@ use Rattle.name_core.specs.declared.writers.Writers.{Writers}
 use Rattle.name_core.specs.Writers.{count_of}
 use Rattle.name_core.specs.Performed.{IsExact}
 
-abbrev pub is_committed : Option FileRow → Bool
-is_committed None = false
-is_committed (Some file) = not (ends_uncommitted file.blocks)
-
--- the client has the file open, and no block of it would have to be recovered
+-- what has the path would be closed, were this client's lease alone past the hard limit
 abbrev pub can_close : List ℕ → Option Row → Bool
 can_close client None = false
-can_close client (Some row) = is_open_by client row && is_committed row.file
+can_close client (Some row) = is_expired (past_hard (client ∷ [])) row
 
 -- paths of files of these clients, each with the client who has it open, that can be closed
 abbrev pub AreClosable : List (List ℕ) → List Row → BTreeMap (List (List ℕ)) (List ℕ) → Type 0
@@ -29,7 +23,8 @@ AreClosable past rows files = (path : List (List ℕ)) (client : List ℕ) → g
 abbrev pub open_of : List (List ℕ × ℕ) → List (List ℕ) → ℕ
 open_of counts clients = sum_by (count_of counts) clients
 
--- the files of these clients are closed, but those whose last block would have to be recovered
+-- the files of these clients are closed, but those whose last block would have to be recovered: so many, and it is still known of
+-- each client how many files it has open, and when it last renewed its lease
 pub record AreExpired (last : List ℕ → Option ℕ) (past : List (List ℕ)) (rows : List Row) (number : ℕ) (left : List Row) (writers_left : Writers) : Type 0 where
   pub tree : left ≡ map (closed_where_expired (past_hard past)) rows
   pub closed : number ≡ length (filter (is_expired (past_hard past)) rows)

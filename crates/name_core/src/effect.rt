@@ -1,6 +1,6 @@
-ghost use Rattle.std.specs.Prelude.{◌≡◌, ◌≤◌, ◌<◌, ◌+◌, ℕ, List, Option, None, Some, Bool, true, if◌then◌else◌, filter, length, map, not, IfOk, OnOk, OnErr};
+ghost use Rattle.std.specs.Prelude.{◌≡◌, ◌≤◌, ◌+◌, ℕ, List, Option, None, Some, Bool, true, if◌then◌else◌, map, not, IfOk, OnOk, OnErr};
 ghost use Rattle.std.specs.Option.{IsSome};
-ghost use Rattle.flat_rows.specs.FileOutcome.{holder_at, directory_there, is_expired, closed_where_expired};
+ghost use Rattle.flat_rows.specs.FileOutcome.{holder_at, directory_there};
 ghost use Rattle.flat_rows.specs.Files.{holders, new_file};
 ghost use Rattle.flat_rows.specs.Changes.{rows_under, rewritten};
 ghost use Rattle.flat_rows.specs.declared.row.Change.TheVariants as change;
@@ -10,12 +10,11 @@ ghost use Rattle.flat_rows.specs.Rows.{row_at, file_above, ancestor};
 ghost use Rattle.fs_operations.specs.Judged.{writes_or_deletes};
 ghost use Rattle.hdfs_types.specs.Text.{same};
 ghost use Rattle.hdfs_types.specs.declared.file.FileState.TheVariants.{Closed};
-ghost use Rattle.inode_tree.specs.Expired.{past_hard};
 ghost use Rattle.hdfs_types.specs.declared.op.Op.TheVariants as op;
 ghost use Rattle.lease_manager.specs.Lease as lease;
 ghost use Rattle.principals.specs.Principals.{Principals};
 ghost use Rattle.name_core.specs.Performed.{IsExact, IsFree, IsEffected};
-ghost use Rattle.name_core.specs.Writers.{count_of, moment_of, HasRoom, IsAlike, IsLeased, renewed_at};
+ghost use Rattle.name_core.specs.Writers.{count_of, moment_of, HasRoom, IsAlike};
 
 use crate::open_paths::OpenPaths;
 use crate::writers::Writers;
@@ -245,6 +244,25 @@ pub fn close(tree: &mut Tree, writers: &mut Writers, path: &Path, client: &Who)
     tree.rewrite(path, Change::State(FileState::Closed));
 }
 
+/// Closes a file that a client has open, and notes that. Takes no memory but for the note.
+fn release(
+    tree: &mut Tree,
+    writers: &mut Writers,
+    open_paths: &mut OpenPaths,
+    path: &Path,
+    client: &Who,
+)
+    requires held { holder_at (row_at path.now tree.old) ≡ Some client.now }
+    requires namespace { IsNamespace tree.old }
+    ensures tree { tree.new ≡ rewritten path.now (change.State Closed) tree.old }
+    ensures exact { (last : List ℕ → Option ℕ) → IsExact last tree.old writers.old → IsExact last tree.new writers.new }
+    ensures limits { writers.new.leases.limits ≡ writers.old.leases.limits }
+    ensures latest { lease.latest writers.new.leases.renewals ≤ lease.latest writers.old.leases.renewals }
+{
+    close(tree, writers, path, client);
+    open_paths.close(path, client);
+}
+
 /// Opens a closed file for the caller to write, or closes one that another client has open.
 fn append(
     tree: &mut Tree,
@@ -265,8 +283,7 @@ fn append(
     let Some(holder) = holder_of(tree, path)? else {
         return reopen(tree, writers, open_paths, path, caller, now);
     };
-    close(tree, writers, path, &holder);
-    open_paths.close(path, &holder);
+    release(tree, writers, open_paths, path, &holder);
     Ok(())
 }
 
@@ -328,8 +345,7 @@ pub fn effect(
         ),
         Op::Append(path) => append(tree, writers, open_paths, path, caller, now),
         Op::Complete(path, _) => {
-            close(tree, writers, path, caller);
-            open_paths.close(path, caller);
+            release(tree, writers, open_paths, path, caller);
             Ok(())
         }
         Op::Delete(path, _) => delete(alloc, tree, writers, open_paths, path),

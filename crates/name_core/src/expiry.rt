@@ -152,7 +152,7 @@ fn expire_all(
 
 // ---- both
 
-/// Closes the files of these clients, whether these are all of them or not.
+/// Closes the files of these clients, whether all of them are known, and can be closed, or not.
 fn expire_where(
     alloc: Global,
     tree: &mut Tree,
@@ -173,10 +173,12 @@ fn expire_where(
     expire_all(alloc, tree, writers, past)
 }
 
-/// Forgets where the files of these clients are. Takes no memory.
-fn forget_each(open_paths: &mut OpenPaths, clients: &[Who]) {
+/// Forgets the files of those of these clients that have none open.
+fn forget_each(writers: &Writers, open_paths: &mut OpenPaths, clients: &[Who]) {
     for client in clients {
-        open_paths.forget(client);
+        if writers.files.count(client) == 0 {
+            open_paths.forget(client);
+        }
     }
 }
 
@@ -200,6 +202,6 @@ pub fn expire(
 {
     let files = closable(alloc, tree, open_paths, past)?;
     let closed = expire_where(alloc, tree, writers, past, &files)?;
-    forget_each(open_paths, past);
+    forget_each(writers, open_paths, past);
     Ok(closed)
 }

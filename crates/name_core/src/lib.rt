@@ -8,5 +8,7 @@ pub mod namenode;
 pub mod namesystem;
 pub mod open_files;
 pub mod open_paths;
+#[cfg(test)]
+mod tests;
 pub mod told;
 pub mod writers;

@@ -37,10 +37,29 @@ pub struct Namesystem {
     pub writers: Writers,
 }
 
+/// Notes where open files are once a rename is done.
+fn note_move(tree: &Tree, open_paths: &mut OpenPaths, op: &Op) {
+    let Op::Rename(from, to) = op else {
+        return;
+    };
+    let Some(inode) = tree.get(to) else {
+        return;
+    };
+    match inode.kind() {
+        ObjectKind::Directory => open_paths.move_directory(from, to),
+        ObjectKind::File => {
+            if let Some(holder) = inode.holder() {
+                open_paths.move_file(from, to, holder);
+            }
+        }
+    }
+}
+
 /// A request that leaves leases as they are.
 fn perform_plain(
     alloc: Global,
     system: &mut Namesystem,
+    open_paths: &mut OpenPaths,
     request: &Request,
 ) -> Result<Told, AllocError>
     requires verb { keeps_leases request.now.op ≡ true }
@@ -51,6 +70,7 @@ fn perform_plain(
 {
     let verdict = apply(alloc, &mut system.tree, &mut system.users, request)?;
     if is_plain(&verdict) {
+        note_move(&system.tree, open_paths, &request.op);
         return Ok(told_plain(verdict));
     }
     match with_copy(verdict) {
@@ -179,8 +199,8 @@ fn clients_past(alloc: Global, writers: &Writers, now: Moment) -> Result<Vec<Who
     Ok(past)
 }
 
-/// A request to close the files of all clients whose leases are past the hard limit. Costs these files, and where there are no
-/// such clients nothing that grows.
+/// A request to close the files of all clients whose leases are past the hard limit. Costs what `expire` costs, and where there
+/// are no such clients nothing that grows.
 fn perform_tick(
     alloc: Global,
     system: &mut Namesystem,
@@ -214,48 +234,6 @@ fn perform_tick(
     Ok(told_expired(closed))
 }
 
-fn answer(
-    alloc: Global,
-    system: &mut Namesystem,
-    open_paths: &mut OpenPaths,
-    request: &Request,
-    now: Moment,
-) -> Result<Told, AllocError>
-    requires latest { latest system.old.writers.leases.renewals ≤ now }
-    requires namespace { IsNamespace system.old.tree }
-    ensures ok { (last : List ℕ → Option ℕ) → IsExact last system.old.tree system.old.writers → IfOk result (λ told. IsPerformed last now request.now system.old told system.new) }
-    ensures limits { system.new.writers.leases.limits ≡ system.old.writers.leases.limits }
-    ensures latest { OnOk result (latest system.new.writers.leases.renewals ≤ now) }
-    ensures err { OnErr result (IsUndone system.old system.new) }
-{
-    if keeps_leases(&request.op) {
-        return perform_plain(alloc, system, request);
-    }
-    match &request.op {
-        Op::Renew => perform_renewal(system, request, now),
-        Op::Tick => perform_tick(alloc, system, open_paths, request, now),
-        _ => perform_write(alloc, system, open_paths, request, now),
-    }
-}
-
-/// Notes where open files are once a rename is done.
-fn note_move(tree: &Tree, open_paths: &mut OpenPaths, op: &Op) {
-    let Op::Rename(from, to) = op else {
-        return;
-    };
-    let Some(inode) = tree.get(to) else {
-        return;
-    };
-    match inode.kind() {
-        ObjectKind::Directory => open_paths.move_directory(from, to),
-        ObjectKind::File => {
-            if let Some(holder) = inode.holder() {
-                open_paths.move_file(from, to, holder);
-            }
-        }
-    }
-}
-
 /// Answers a request, and does it where no need fails and nothing stands against it.
 ///
 /// # Errors
@@ -274,9 +252,12 @@ pub fn perform(
     ensures latest { OnOk result (latest system.new.writers.leases.renewals ≤ now) }
     ensures err { OnErr result (IsUndone system.old system.new) }
 {
-    let told = answer(alloc, system, open_paths, request, now)?;
-    if is_done(&told.verdict) {
-        note_move(&system.tree, open_paths, &request.op);
+    if keeps_leases(&request.op) {
+        return perform_plain(alloc, system, open_paths, request);
     }
-    Ok(told)
+    match &request.op {
+        Op::Renew => perform_renewal(system, request, now),
+        Op::Tick => perform_tick(alloc, system, open_paths, request, now),
+        _ => perform_write(alloc, system, open_paths, request, now),
+    }
 }

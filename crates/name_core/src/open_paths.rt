@@ -7,8 +7,8 @@ use std::marker::Model;
 /// Where the files are that each client has open: their paths as texts, in which what is beneath a directory stands together. A
 /// call costs a look-up, if nothing else is said.
 ///
-/// These are hints, of which no contract speaks: the tree confirms each before it is used, and where some are missing, since there
-/// was no memory for them or a tick has left a file open, the tree is gone through instead.
+/// These are hints, of which no contract speaks: the tree confirms each before it is used, and where one is missing, which is so
+/// only where there was no memory for it, the tree is gone through instead.
 #[derive(Drop)]
 pub struct OpenPaths {
     clients: BTreeMap<Who, BTreeSet<String>>,
@@ -75,17 +75,6 @@ fn beginning(
         found.push(copied(alloc, text.as_str())?)?;
     }
     Ok(found)
-}
-
-fn remove_beginning(
-    alloc: Global,
-    texts: &mut BTreeSet<String>,
-    front: &String,
-) -> Result<(), AllocError> {
-    for text in &beginning(alloc, texts, front)? {
-        texts.remove(text.as_str());
-    }
-    Ok(())
 }
 
 // Gives each text that begins so another beginning.
@@ -164,8 +153,8 @@ impl OpenPaths {
         Ok(())
     }
 
-    /// Notes that what has a path is deleted, where these clients had open what has the path, and the files beneath it. Costs a
-    /// look-up for each client, and these files.
+    /// Notes that what has a path is deleted, where these clients had open what has the path, and the files beneath it: one client
+    /// for each file. Costs these files.
     pub fn delete(&mut self, path: &Path, clients: &[Who]) {
         for client in clients {
             self.close(path, client);
@@ -174,11 +163,13 @@ impl OpenPaths {
     }
 
     fn take_beneath(&mut self, path: &Path, client: &Who) -> Result<(), AllocError> {
-        let front = front_of(self.alloc, path)?;
         let Some(texts) = self.clients.get_mut(client) else {
             return Ok(());
         };
-        remove_beginning(self.alloc, texts, &front)?;
+        let front = front_of(self.alloc, path)?;
+        for text in &beginning(self.alloc, texts, &front)? {
+            texts.remove(text.as_str());
+        }
         if texts.is_empty() {
             self.clients.remove(client);
         }
@@ -200,12 +191,12 @@ impl OpenPaths {
         let from = front_of(self.alloc, from)?;
         let to = front_of(self.alloc, to)?;
         for texts in self.clients.values_mut() {
-            move_beginning(self.alloc, texts, &from, to.as_str())?;
+            let _noted = move_beginning(self.alloc, texts, &from, to.as_str());
         }
         Ok(())
     }
 
-    /// Forgets the files of a client. Takes no memory.
+    /// Notes that all files of a client are closed. Costs these files, and takes no memory.
     pub fn forget(&mut self, client: &Who) {
         self.clients.remove(client);
     }

@@ -4,5 +4,5 @@ use Rattle.name_core.proofs.effect.append.Goals as goal
 
 pub returns-clause-ok : goal.returns-clause-ok
 returns-clause-ok c =
-    effected_release c.args.path.now c.in-Some.holder c.args.caller.now c.args.now c.args.tree.now c.close.new.tree c.args.writers.now c.close.new.writers
-    (sym c.in_ok-holder.ensures ∙ c.in-Some.is) c.close.ensures.tree c.close.ensures.exact
+    effected_release c.args.path.now c.in-Some.holder c.args.caller.now c.args.now c.args.tree.now c.release.new.tree c.args.writers.now c.release.new.writers
+    (sym c.in_ok-holder.ensures ∙ c.in-Some.is) c.release.ensures.tree c.release.ensures.exact

@@ -4,12 +4,12 @@ use Rattle.name_core.proofs.Effects.{free_complete}
 use Rattle.name_core.proofs.Effected.{effected_complete}
 use Rattle.name_core.proofs.effect.effect.Goals as goal
 
-pub close-requires-clause-held : goal.close-requires-clause-held
-close-requires-clause-held c =
+pub release-requires-clause-held : goal.release-requires-clause-held
+release-requires-clause-held c =
     free_complete c.in-Complete.path c.in-Complete.field-1 c.args.caller.now c.args.tree.now c.requires.free.0 c.requires.namespace
     (subst (λ o. IsFree o c.args.caller.now c.args.tree.now c.requires.free.0) c.in-Complete.is c.requires.free.1)
 
 pub returns-in-Complete-clause-ok : goal.returns-in-Complete-clause-ok
 returns-in-Complete-clause-ok c =
-    subst (λ o. IsEffected o c.args.caller.now c.args.now c.args.tree.now c.args.writers.now c.close.new.tree c.close.new.writers) (sym c.in-Complete.is)
-    (effected_complete c.in-Complete.path c.in-Complete.field-1 c.args.caller.now c.args.now c.args.tree.now c.close.new.tree c.args.writers.now c.close.new.writers c.close.ensures.tree c.close.ensures.exact)
+    subst (λ o. IsEffected o c.args.caller.now c.args.now c.args.tree.now c.args.writers.now c.release.new.tree c.release.new.writers) (sym c.in-Complete.is)
+    (effected_complete c.in-Complete.path c.in-Complete.field-1 c.args.caller.now c.args.now c.args.tree.now c.release.new.tree c.args.writers.now c.release.new.writers c.release.ensures.tree c.release.ensures.exact)

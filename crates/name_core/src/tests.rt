@@ -1,0 +1,150 @@
+ghost use Rattle.std.specs.Prelude.{◌≡◌, ◌≤◌, IfOk, OnOk};
+ghost use Rattle.lease_manager.specs.Lease.{latest};
+
+use crate::namesystem::{Namesystem, perform};
+use crate::open_paths::OpenPaths;
+use crate::writers::Writers;
+use flat_rows::verdict::Verdict;
+use hdfs_types::mode::Mode;
+use hdfs_types::moment::Moment;
+use hdfs_types::op::{Op, Request};
+use hdfs_types::path::Path;
+use hdfs_types::replication::Repl;
+use hdfs_types::reply::Reply;
+use hdfs_types::who::Who;
+use inode_tree::tree::Tree;
+use principals::users::Users;
+use std::alloc::Global;
+use std::fmt::Write;
+use std::test::Fail;
+
+fn who(alloc: Global, name: &str) -> Result<Who, Fail> {
+    Ok(Who::parse(alloc, name)?)
+}
+
+fn path(alloc: Global, text: &str) -> Result<Path, Fail> {
+    Ok(Path::parse(alloc, text)?)
+}
+
+fn opened(alloc: Global, client: &Who, texts: &[&str]) -> Result<OpenPaths, Fail> {
+    let mut paths = OpenPaths::new(alloc);
+    for text in texts {
+        paths.open(&path(alloc, text)?, client);
+    }
+    Ok(paths)
+}
+
+// The paths of the files that a client has open, each with a blank behind it.
+fn known(alloc: Global, paths: &OpenPaths, client: &Who) -> Result<String, Fail> {
+    let mut text = String::new(alloc);
+    for path in &paths.of_client(client)? {
+        write!(text, "{path} ")?;
+    }
+    Ok(text)
+}
+
+#[test]
+fn files_are_known_where_they_are_moved_to(rt: HostRuntime) -> Result<(), Fail> {
+    let alloc = rt.alloc();
+    let alice = who(alloc, "alice")?;
+    let mut paths = opened(alloc, &alice, &["/a/b", "/a/c/d", "/a-b", "/ab"])?;
+    assert_eq!(rt;
+        known(alloc, &paths, &alice)?.as_str(),
+        "/a-b /a/b /a/c/d /ab "
+    );
+    paths.move_directory(&path(alloc, "/a")?, &path(alloc, "/x/y")?);
+    assert_eq!(rt;
+        known(alloc, &paths, &alice)?.as_str(),
+        "/a-b /ab /x/y/b /x/y/c/d "
+    );
+    paths.move_file(&path(alloc, "/ab")?, &path(alloc, "/c")?, &alice);
+    assert_eq!(rt;
+        known(alloc, &paths, &alice)?.as_str(),
+        "/a-b /c /x/y/b /x/y/c/d "
+    );
+    Ok(())
+}
+
+#[test]
+fn files_are_known_as_long_as_they_are_open(rt: HostRuntime) -> Result<(), Fail> {
+    let alloc = rt.alloc();
+    let alice = who(alloc, "alice")?;
+    let mut paths = opened(alloc, &alice, &["/a/b", "/a/c/d", "/a-b"])?;
+    let clients = vec![in alloc; who(alloc, "alice")?, who(alloc, "bob")?]?;
+    paths.delete(&path(alloc, "/a")?, &clients);
+    assert_eq!(rt; known(alloc, &paths, &alice)?.as_str(), "/a-b ");
+    paths.close(&path(alloc, "/a-b")?, &who(alloc, "bob")?);
+    assert_eq!(rt; known(alloc, &paths, &alice)?.as_str(), "/a-b ");
+    paths.close(&path(alloc, "/a-b")?, &alice);
+    assert_eq!(rt; known(alloc, &paths, &alice)?.as_str(), "");
+    Ok(())
+}
+
+fn request(alloc: Global, caller: &str, op: Op) -> Result<Request, Fail> {
+    Ok(Request {
+        caller: who(alloc, caller)?,
+        moment: Moment::new(0).ok_or("a moment")?,
+        op,
+    })
+}
+
+fn creating(alloc: Global, caller: &str, text: &str) -> Result<Request, Fail> {
+    let mode = Mode::new(0o644).ok_or("a mode")?;
+    let replication = Repl::new(1).ok_or("a replication")?;
+    request(
+        alloc,
+        caller,
+        Op::Create(path(alloc, text)?, mode, replication, false),
+    )
+}
+
+fn system(alloc: Global) -> Result<Namesystem, Fail>
+    ensures { IfOk result (λ system. latest system.writers.leases.renewals ≡ 0) }
+{
+    let (superuser, supergroup) = (who(alloc, "hdfs")?, who(alloc, "supergroup")?);
+    Ok(Namesystem {
+        tree: Tree::new(alloc, superuser.clone()?, supergroup.clone()?),
+        users: Users::new(alloc, superuser, supergroup),
+        writers: Writers::new(alloc, 60_000, 1_200_000),
+    })
+}
+
+// How many files a request has closed.
+fn closed(
+    alloc: Global,
+    system: &mut Namesystem,
+    paths: &mut OpenPaths,
+    request: &Request,
+    now: Moment,
+) -> Result<u64, Fail>
+    requires { latest system.old.writers.leases.renewals ≤ now }
+    ensures { OnOk result (latest system.new.writers.leases.renewals ≤ now) }
+{
+    let _root = system.tree.root();
+    let told = perform(alloc, system, paths, request, now)?;
+    match &told.verdict {
+        Verdict::Done(Reply::Expired(expired)) => Ok(expired.closed),
+        _ => Ok(0),
+    }
+}
+
+// How many files a tick closes that knows of none, of one that is open.
+fn closed_unknown(alloc: Global, system: &mut Namesystem) -> Result<u64, Fail>
+    requires { latest system.old.writers.leases.renewals ≡ 0 }
+{
+    let mut paths = OpenPaths::new(alloc);
+    let opened = Moment::new(0).ok_or("a moment")?;
+    let create = creating(alloc, "hdfs", "/a/b")?;
+    closed(alloc, system, &mut paths, &create, opened)?;
+    let late = Moment::new(1_200_001).ok_or("a moment")?;
+    let tick = request(alloc, "hdfs", Op::Tick)?;
+    let mut none = OpenPaths::new(alloc);
+    closed(alloc, system, &mut none, &tick, late)
+}
+
+#[test]
+fn files_are_closed_that_are_not_known(rt: HostRuntime) -> Result<(), Fail> {
+    let mut system = system(rt.alloc())?;
+    assert_eq!(rt; closed_unknown(rt.alloc(), &mut system)?, 1);
+    Ok(())
+}
