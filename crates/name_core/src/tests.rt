@@ -109,6 +109,14 @@ fn system(alloc: Global) -> Result<Namesystem, Fail>
     })
 }
 
+// How many files are told to be closed.
+fn closed_by(verdict: &Verdict) -> u64 {
+    match verdict {
+        Verdict::Done(Reply::Expired(expired)) => expired.closed,
+        _ => 0,
+    }
+}
+
 // How many files a request has closed.
 fn closed(
     alloc: Global,
@@ -122,29 +130,39 @@ fn closed(
 {
     let _root = system.tree.root();
     let told = perform(alloc, system, paths, request, now)?;
-    match &told.verdict {
-        Verdict::Done(Reply::Expired(expired)) => Ok(expired.closed),
-        _ => Ok(0),
-    }
+    Ok(closed_by(&told.verdict))
+}
+
+// Makes a file, and leaves it open.
+fn make(alloc: Global, system: &mut Namesystem, now: Moment) -> Result<(), Fail>
+    requires { latest system.old.writers.leases.renewals ≤ now }
+    ensures { OnOk result (latest system.new.writers.leases.renewals ≤ now) }
+{
+    let request = creating(alloc, "hdfs", "/a/b")?;
+    closed(alloc, system, &mut OpenPaths::new(alloc), &request, now)?;
+    Ok(())
+}
+
+// How many files a tick closes that knows of none.
+fn closed_unknown(alloc: Global, system: &mut Namesystem, now: Moment) -> Result<u64, Fail>
+    requires { latest system.old.writers.leases.renewals ≤ now }
+{
+    let request = request(alloc, "hdfs", Op::Tick)?;
+    closed(alloc, system, &mut OpenPaths::new(alloc), &request, now)
 }
 
 // How many files a tick closes that knows of none, of one that is open.
-fn closed_unknown(alloc: Global, system: &mut Namesystem) -> Result<u64, Fail>
+fn closed_of_one(alloc: Global, system: &mut Namesystem) -> Result<u64, Fail>
     requires { latest system.old.writers.leases.renewals ≡ 0 }
 {
-    let mut paths = OpenPaths::new(alloc);
-    let opened = Moment::new(0).ok_or("a moment")?;
-    let create = creating(alloc, "hdfs", "/a/b")?;
-    closed(alloc, system, &mut paths, &create, opened)?;
+    make(alloc, system, Moment::new(0).ok_or("a moment")?)?;
     let late = Moment::new(1_200_001).ok_or("a moment")?;
-    let tick = request(alloc, "hdfs", Op::Tick)?;
-    let mut none = OpenPaths::new(alloc);
-    closed(alloc, system, &mut none, &tick, late)
+    closed_unknown(alloc, system, late)
 }
 
 #[test]
 fn files_are_closed_that_are_not_known(rt: HostRuntime) -> Result<(), Fail> {
     let mut system = system(rt.alloc())?;
-    assert_eq!(rt; closed_unknown(rt.alloc(), &mut system)?, 1);
+    assert_eq!(rt; closed_of_one(rt.alloc(), &mut system)?, 1);
     Ok(())
 }
