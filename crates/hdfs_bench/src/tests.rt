@@ -201,15 +201,25 @@ file 0777 u01 supergroup 3 0 open:bob";
     Ok(())
 }
 
-/// What is told of the file of a writer, and of one that the reader opened long before, once there was a tick.
-fn told_behind_a_tick(node: &mut NameNode) -> Result<String, Fail> {
-    let tick = Ticks {
+/// A tick at which leases that were renewed at 0 are past the hard limit.
+fn tick(node: &mut NameNode) -> Result<(), Fail> {
+    let ticks = Ticks {
         milliseconds: 1_200_001,
     };
-    node.step(&tick.request(node.alloc(), 0)?)?;
+    let request = ticks.request(node.alloc(), 0)?;
+    Ok(node.step(&request)?)
+}
+
+/// What is told of the file of a writer, and of one that the reader opened long before.
+fn files_told(node: &NameNode) -> Result<String, Fail> {
     let late = file_told(node, "/d00/d00/d00/d00/d00")?;
     let older = file_told(node, "/d00/d00/d00/d00/d01")?;
     Ok(format!(in node.alloc(); "{late}\n{older}")?)
+}
+
+fn told_behind_a_tick(node: &mut NameNode) -> Result<String, Fail> {
+    tick(node)?;
+    files_told(node)
 }
 
 #[test]
