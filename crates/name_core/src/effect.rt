@@ -232,7 +232,7 @@ fn reopen(
 // ---- files that are closed or deleted
 
 /// Closes a file that a client has open. Takes no memory.
-pub fn close(tree: &mut Tree, writers: &mut Writers, path: &Path, client: &Who)
+pub(crate) fn close(tree: &mut Tree, writers: &mut Writers, path: &Path, client: &Who)
     requires held { holder_at (row_at path.now tree.old) ≡ Some client.now }
     requires namespace { IsNamespace tree.old }
     ensures tree { tree.new ≡ rewritten path.now (change.State Closed) tree.old }

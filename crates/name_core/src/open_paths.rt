@@ -49,18 +49,6 @@ fn front_of(alloc: Global, path: &Path) -> Result<String, AllocError> {
     Ok(front)
 }
 
-fn copied(alloc: Global, text: &str) -> Result<String, AllocError> {
-    let mut copy = String::new(alloc);
-    copy.push_str(text)?;
-    Ok(copy)
-}
-
-fn joined(alloc: Global, front: &str, rest: &str) -> Result<String, AllocError> {
-    let mut text = copied(alloc, front)?;
-    text.push_str(rest)?;
-    Ok(text)
-}
-
 // The texts that begin with this one.
 fn beginning(
     alloc: Global,
@@ -72,7 +60,7 @@ fn beginning(
         if !text.as_str().starts_with(front.as_str()) {
             break;
         }
-        found.push(copied(alloc, text.as_str())?)?;
+        found.push(String::from_str(alloc, text.as_str())?)?;
     }
     Ok(found)
 }
@@ -87,7 +75,9 @@ fn move_beginning(
     for text in &beginning(alloc, texts, from)? {
         texts.remove(text.as_str());
         if let Some(rest) = text.as_str().strip_prefix(from.as_str()) {
-            texts.insert(joined(alloc, to, rest)?)?;
+            let mut moved = String::from_str(alloc, to)?;
+            moved.push_str(rest)?;
+            texts.insert(moved)?;
         }
     }
     Ok(())
@@ -138,40 +128,44 @@ impl OpenPaths {
 
     /// Notes that a file is closed that a client had open. A path that there is no memory for stays.
     pub fn close(&mut self, path: &Path, client: &Who) {
-        let _noted = self.take(path, client);
+        if let Ok(text) = text_of(self.alloc, path) {
+            self.remove(text.as_str(), client);
+        }
     }
 
-    fn take(&mut self, path: &Path, client: &Who) -> Result<(), AllocError> {
-        let text = text_of(self.alloc, path)?;
+    fn remove(&mut self, text: &str, client: &Who) {
         let Some(texts) = self.clients.get_mut(client) else {
-            return Ok(());
+            return;
         };
-        texts.remove(text.as_str());
+        texts.remove(text);
         if texts.is_empty() {
             self.clients.remove(client);
         }
-        Ok(())
     }
 
     /// Notes that what has a path is deleted, where these clients had open what has the path, and the files beneath it: one client
     /// for each file. Costs these files.
     pub fn delete(&mut self, path: &Path, clients: &[Who]) {
-        for client in clients {
-            self.close(path, client);
-            let _noted = self.take_beneath(path, client);
+        if !clients.is_empty() {
+            let _noted = self.remove_at(path, clients);
         }
     }
 
-    fn take_beneath(&mut self, path: &Path, client: &Who) -> Result<(), AllocError> {
-        let Some(texts) = self.clients.get_mut(client) else {
-            return Ok(());
-        };
+    fn remove_at(&mut self, path: &Path, clients: &[Who]) -> Result<(), AllocError> {
+        let text = text_of(self.alloc, path)?;
         let front = front_of(self.alloc, path)?;
-        for text in &beginning(self.alloc, texts, &front)? {
-            texts.remove(text.as_str());
+        for client in clients {
+            let _noted = self.remove_beneath(&front, client);
+            self.remove(text.as_str(), client);
         }
-        if texts.is_empty() {
-            self.clients.remove(client);
+        Ok(())
+    }
+
+    fn remove_beneath(&mut self, front: &String, client: &Who) -> Result<(), AllocError> {
+        if let Some(texts) = self.clients.get_mut(client) {
+            for text in &beginning(self.alloc, texts, front)? {
+                texts.remove(text.as_str());
+            }
         }
         Ok(())
     }
@@ -184,7 +178,9 @@ impl OpenPaths {
 
     /// Notes that a directory is moved. Costs a look-up for each client that has files open, and the open files beneath it.
     pub fn move_directory(&mut self, from: &Path, to: &Path) {
-        let _noted = self.move_beneath(from, to);
+        if !self.clients.is_empty() {
+            let _noted = self.move_beneath(from, to);
+        }
     }
 
     fn move_beneath(&mut self, from: &Path, to: &Path) -> Result<(), AllocError> {
