@@ -39,16 +39,16 @@ fn can_close(tree: &Tree, path: &Path, client: &Who) -> bool
 /// Adds a file, where the client has it open and it can be closed.
 fn add(
     tree: &Tree,
-    path: &Path,
+    path: Path,
     client: &Who,
     files: &mut BTreeMap<Path, Who>,
 ) -> Result<(), AllocError>
     ensures { (past : List (List ℕ)) → is_among past client.now ≡ true → AreClosable past tree.now files.old → OnOk result (AreClosable past tree.now files.new) }
 {
-    if !can_close(tree, path, client) {
+    if !can_close(tree, &path, client) {
         return Ok(());
     }
-    files.insert(path.clone()?, client.clone()?)?;
+    files.insert(path, client.clone()?)?;
     Ok(())
 }
 
@@ -61,7 +61,7 @@ fn add_closable(
 ) -> Result<(), AllocError>
     ensures { (past : List (List ℕ)) → is_among past client.now ≡ true → AreClosable past tree.now files.old → OnOk result (AreClosable past tree.now files.new) }
 {
-    for path in &open_paths.of_client(client)? {
+    for path in open_paths.of_client(client)? {
         add(tree, path, client, files)?;
     }
     Ok(())

@@ -4,4 +4,8 @@ use Rattle.name_core.specs.Expiry.{AreClosable}
 use Rattle.name_core.proofs.expiry.add_closable.Given as goal
 
 abbrev pub invariant-loop-path : goal.invariant-loop-path
-invariant-loop-path l = (past : List (List ℕ)) → is_among past l.client ≡ true → AreClosable past l.tree l.fn.files → AreClosable past l.tree l.files
+invariant-loop-path l = record {
+  can_next : (goal.iterator-loop-path).can_next l.path-iterator;
+  is_finite : (goal.iterator-loop-path).is_finite l.path-iterator;
+  closable : (past : List (List ℕ)) → is_among past l.client ≡ true → AreClosable past l.tree l.fn.files → AreClosable past l.tree l.files;
+}
