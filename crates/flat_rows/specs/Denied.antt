@@ -4,17 +4,13 @@
 use Rattle.std.specs.Prelude.{◌≡◌, ℕ, Bool, false, ◌||◌, List, [], if◌then◌else◌, Option, Some, None}
 use Rattle.hdfs_types.specs.Text.{same}
 use Rattle.hdfs_types.specs.Groups.{has_group}
-use Rattle.hdfs_types.specs.declared.rights.Rights as bits
-use Rattle.acl_entries.specs.JudgedEntry.{Judgement, judged_entry}
+use Rattle.acl_entries.specs.JudgedEntry.{Judgement}
+use Rattle.flat_rows.specs.Judgement.{judgement}
 use Rattle.flat_rows.specs.declared.row.Row.{Row}
 use Rattle.flat_rows.specs.declared.need.Need.{Need}
 use Rattle.flat_rows.specs.declared.need.Need.TheVariants as need
 use Rattle.flat_rows.specs.declared.need.By.{By}
 use Rattle.flat_rows.specs.declared.need.By.TheVariants as by
-
--- the entry of the row that decides for a caller with these groups
-abbrev pub judgement : Row → List ℕ → List (List ℕ) → bits.Rights → Judgement
-judgement row caller groups asked = judged_entry row.owner row.group row.acl caller groups asked
 
 -- what decides, and whether the need is met
 pub record Decided : Type 0 where

@@ -13,3 +13,5 @@ pub mod Kept
 pub mod Changes
 pub mod FileOutcome
 pub mod Outcome
+pub mod Demands
+pub mod Judgement

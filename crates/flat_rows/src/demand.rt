@@ -64,7 +64,7 @@ impl<'a> Model for Demand<'a> {
 
     ghost Value = { spec.Demand };
 
-    ghost use Rattle.flat_rows.specs.Kept.{IsDemand, demand_of};
+    ghost use Rattle.flat_rows.specs.Demands.{IsDemand, demand_of};
 
     ghost view = { demand_of };
 
@@ -74,7 +74,7 @@ impl<'a> Model for Demand<'a> {
 impl<'a> Demand<'a> {
     ghost use Rattle.std.specs.Prelude.{◌≡◌, IfOk};
     ghost use Rattle.flat_rows.specs.RequiredRights as spec;
-    ghost use Rattle.flat_rows.specs.Kept.{IsDemand};
+    ghost use Rattle.flat_rows.specs.Demands.{IsDemand};
 
     /// Rights on the components of a path, while permission checking is on.
     fn rights(role: Role, path: &'a Path, condition: Condition, rights: Rights) -> Demand<'a>

@@ -1,6 +1,6 @@
 ghost use Rattle.std.specs.Prelude.{◌≡◌, IfOk};
 ghost use Rattle.flat_rows.specs.Rows as spec;
-ghost use Rattle.flat_rows.specs.Denied.{judgement};
+ghost use Rattle.flat_rows.specs.Judgement.{judgement};
 
 use crate::file_row::FileRow;
 use acl_entries::access_check::chosen;

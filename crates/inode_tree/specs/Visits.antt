@@ -7,7 +7,7 @@ use Rattle.flat_rows.specs.declared.row.Row.{Row}
 use Rattle.flat_rows.specs.Rows.{is_directory}
 use Rattle.flat_rows.specs.Files.{told_length}
 use Rattle.flat_rows.specs.Outcome.{bytes_in}
-use Rattle.flat_rows.specs.Denied.{judgement}
+use Rattle.flat_rows.specs.Judgement.{judgement}
 use Rattle.inode_tree.specs.declared.visit.Counts.{Counts}
 use Rattle.inode_tree.specs.declared.visit.Found.{Found}
 

@@ -4,6 +4,7 @@
 
 mod change;
 mod expired;
+mod expired_holders;
 pub mod inode;
 mod limit;
 mod node;

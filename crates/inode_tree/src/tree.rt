@@ -19,7 +19,8 @@ ghost use Rattle.inode_tree.specs.Tree.{branch_at, IsTree};
 use crate::inode::Inode;
 use crate::node::Node;
 use crate::visit::{self, Counts};
-use crate::{expired, limit};
+use crate::expired_holders;
+use crate::limit;
 use acl_entries::acl::Acl;
 use flat_rows::file_row::FileRow;
 use flat_rows::row::{Change, Row};
@@ -181,7 +182,7 @@ impl Tree {
         ensures { IfOk result (λ found. map (λ who. who.now) found.items ≡ holders (filter (is_expired (past_hard past.now)) self.now)) }
     {
         let mut holders = Vec::new(self.alloc);
-        expired::push_expired(&self.root, past, &mut holders)?;
+        expired_holders::push_expired(&self.root, past, &mut holders)?;
         Ok(holders)
     }
 

@@ -14,10 +14,11 @@ use Rattle.flat_rows.specs.First.{first, first_answer}
 use Rattle.flat_rows.specs.declared.demand.Role.{Role}
 use Rattle.flat_rows.specs.declared.demand.Role.TheVariants.{Final}
 use Rattle.flat_rows.specs.Rows.{is_directory, directories_above, directories_beneath, directory_of, owner_above, row_at}
-use Rattle.flat_rows.specs.Denied.{Denied, judgement, denial_at}
+use Rattle.flat_rows.specs.Judgement.{judgement}
+use Rattle.flat_rows.specs.Denied.{Denied, denial_at}
 use Rattle.flat_rows.specs.RequiredRights.{Demand}
 use Rattle.flat_rows.specs.Decision.{Ask, ask_at, asks_of, holds, denial_of}
-use Rattle.flat_rows.specs.Kept.{IsDemand, suits_role}
+use Rattle.flat_rows.specs.Demands.{IsDemand, suits_role}
 use Rattle.flat_rows.proofs.PathOrders.{same_path_is}
 use Rattle.flat_rows.proofs.Tests.{both}
 use Rattle.perm_walk.specs.declared.reach.Reach.{Reach}

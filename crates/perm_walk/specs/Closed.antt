@@ -4,7 +4,7 @@ use Rattle.hdfs_types.specs.declared.rights.Rights.{Rights}
 use Rattle.principals.specs.Principals.{Asking}
 use Rattle.flat_rows.specs.declared.row.Row.{Row}
 use Rattle.flat_rows.specs.First.{first}
-use Rattle.flat_rows.specs.Denied.{judgement}
+use Rattle.flat_rows.specs.Judgement.{judgement}
 
 abbrev pub is_closed : Rights → Asking → Row → Bool
 is_closed asked caller row = not (judgement row caller.name caller.groups asked).granted

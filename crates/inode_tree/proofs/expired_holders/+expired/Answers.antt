@@ -5,7 +5,7 @@ use Rattle.flat_rows.specs.FileOutcome.{is_expired}
 use Rattle.inode_tree.specs.Branch.{flatten}
 use Rattle.inode_tree.specs.Expired.{past_hard}
 use Rattle.inode_tree.proofs.Visits.{shorter, passing_next}
-use Rattle.inode_tree.proofs.expired.+expired.Goals as goal
+use Rattle.inode_tree.proofs.expired_holders.+expired.Goals as goal
 
 pub push_expired_in-loop-name-preserved : goal.push_expired_in-loop-name-preserved
 push_expired_in-loop-name-preserved t c =

@@ -4,7 +4,7 @@ use Rattle.flat_rows.specs.Files.{holders}
 use Rattle.flat_rows.specs.FileOutcome.{is_expired}
 use Rattle.inode_tree.specs.Branch.{flatten}
 use Rattle.inode_tree.specs.Expired.{past_hard}
-use Rattle.inode_tree.proofs.expired.+expired.Given as goal
+use Rattle.inode_tree.proofs.expired_holders.+expired.Given as goal
 
 abbrev pub decreases-push_expired : goal.decreases-push_expired
 decreases-push_expired l = 2 * length l.node.now.beneath + 1
