@@ -1,4 +1,3 @@
 pub mod Printing
-pub mod Searches
 pub mod SpecTexts
 pub mod SpecSpellings

@@ -2,12 +2,12 @@
 use Rattle.std.proofs.Common.{◌≡◌, ℕ, List, [], ◌∷◌, ◌++◌, map, Option, Some, None, refl, sym, ap, ◌∙◌, append_assoc}
 use Rattle.std.specs.List.{flat_map, join_with_byte}
 use Rattle.std.specs.Option.{option_map_or}
-use Rattle.hdfs_types.specs.Entry.{entry_text}
-use Rattle.hdfs_types.specs.declared.entry.Entry.{Entry}
-use Rattle.hdfs_types.specs.declared.entry.EntryKind.TheVariants.{User, Group, Other}
-use Rattle.hdfs_types.specs.declared.entry.Scope.{Scope}
-use Rattle.hdfs_types.specs.declared.entry.Scope.TheVariants.{Access, Default}
-use Rattle.acl_entries.specs.AccessControlList.{AccessControlList, EntryList, base_entry, named_entry, mask_entries, entries_in, entries}
+use Rattle.acl_specs.specs.Entry.{entry_text}
+use Rattle.acl_specs.specs.declared.entry.Entry.{Entry}
+use Rattle.acl_specs.specs.declared.entry.EntryKind.TheVariants.{User, Group, Other}
+use Rattle.acl_specs.specs.declared.entry.Scope.{Scope}
+use Rattle.acl_specs.specs.declared.entry.Scope.TheVariants.{Access, Default}
+use Rattle.access_lists.specs.AccessControlList.{AccessControlList, EntryList, base_entry, named_entry, mask_entries, entries_in, entries}
 use Rattle.acl_entries.specs.Printed.{behind_comma, text_in, default_text, text_of}
 
 no_more : (xs : List ℕ) → xs ++ [] ≡ xs

@@ -5,19 +5,19 @@ use Rattle.std.specs.Option.{option_map}
 use Rattle.std.proofs.lemmas.Bool.Decides.{nat_tests}
 use Rattle.std.proofs.lemmas.List.Splits.{join_with_byte-slice_split}
 use Rattle.std.specs.Prelude.{codes}
-use Rattle.hdfs_types.specs.Text.{same}
-use Rattle.hdfs_types.specs.Who.{is_who}
-use Rattle.hdfs_types.specs.Rights.{rights, rights_text, rights_of}
-use Rattle.hdfs_types.specs.Entry.{entry_text, kind_text, name_text}
-use Rattle.hdfs_types.specs.Spec.{IsSpec, spec_fault, checked}
-use Rattle.hdfs_types.proofs.Texts.{same_is}
-use Rattle.hdfs_types.specs.declared.rights.Rights.{Rights}
-use Rattle.hdfs_types.specs.declared.fault.AclFault.{AclFault}
-use Rattle.hdfs_types.specs.declared.entry.Scope.{Scope}
-use Rattle.hdfs_types.specs.declared.entry.Scope.TheVariants.{Access, Default}
-use Rattle.hdfs_types.specs.declared.entry.EntryKind.{EntryKind}
-use Rattle.hdfs_types.specs.declared.entry.EntryKind.TheVariants.{User, Group, Mask, Other}
-use Rattle.hdfs_types.specs.declared.entry.Entry.{Entry}
+use Rattle.hdfs_texts.specs.Text.{same}
+use Rattle.principal_names.specs.Who.{is_who}
+use Rattle.permission_bits.specs.Rights.{rights, rights_text, rights_of}
+use Rattle.acl_specs.specs.Entry.{entry_text, kind_text, name_text}
+use Rattle.acl_specs.specs.Spec.{IsSpec, spec_fault, checked}
+use Rattle.hdfs_texts.proofs.Texts.{same_is}
+use Rattle.permission_bits.specs.declared.rights.Rights.{Rights}
+use Rattle.hdfs_texts.specs.declared.fault.AclFault.{AclFault}
+use Rattle.acl_specs.specs.declared.entry.Scope.{Scope}
+use Rattle.acl_specs.specs.declared.entry.Scope.TheVariants.{Access, Default}
+use Rattle.acl_specs.specs.declared.entry.EntryKind.{EntryKind}
+use Rattle.acl_specs.specs.declared.entry.EntryKind.TheVariants.{User, Group, Mask, Other}
+use Rattle.acl_specs.specs.declared.entry.Entry.{Entry}
 use Rattle.acl_entries.specs.SpecText.{pieces_at, kind_of, name_of, entry_with, granting_entry, entry_of, entry_of_fields, both, entries_of, spec_or_fault, spec_of, spec_text, is_printable}
 use Rattle.acl_entries.proofs.SpecTexts.{is_name, and_true}
 

@@ -4,16 +4,16 @@ use Rattle.std.specs.List.{list_all, join_with_byte}
 use Rattle.std.specs.Option.{option_map_or}
 use Rattle.std.proofs.lemmas.Bool.Decides.{nat_tests}
 use Rattle.std.proofs.lemmas.List.Folds.{list_all-append}
-use Rattle.hdfs_types.specs.Who.{is_who, is_who_byte}
-use Rattle.hdfs_types.specs.Rights.{rights, rights_text}
-use Rattle.hdfs_types.specs.Entry.{entry_text, scope_text, kind_text, name_text}
-use Rattle.hdfs_types.specs.Spec.{IsSpec}
-use Rattle.hdfs_types.proofs.RightsText.{read_again}
-use Rattle.hdfs_types.specs.declared.entry.Scope.{Scope}
-use Rattle.hdfs_types.specs.declared.entry.Scope.TheVariants.{Access, Default}
-use Rattle.hdfs_types.specs.declared.entry.EntryKind.{EntryKind}
-use Rattle.hdfs_types.specs.declared.entry.EntryKind.TheVariants.{User, Group, Mask, Other}
-use Rattle.hdfs_types.specs.declared.entry.Entry.{Entry}
+use Rattle.principal_names.specs.Who.{is_who, is_who_byte}
+use Rattle.permission_bits.specs.Rights.{rights, rights_text}
+use Rattle.acl_specs.specs.Entry.{entry_text, scope_text, kind_text, name_text}
+use Rattle.acl_specs.specs.Spec.{IsSpec}
+use Rattle.permission_bits.proofs.RightsText.{read_again}
+use Rattle.acl_specs.specs.declared.entry.Scope.{Scope}
+use Rattle.acl_specs.specs.declared.entry.Scope.TheVariants.{Access, Default}
+use Rattle.acl_specs.specs.declared.entry.EntryKind.{EntryKind}
+use Rattle.acl_specs.specs.declared.entry.EntryKind.TheVariants.{User, Group, Mask, Other}
+use Rattle.acl_specs.specs.declared.entry.Entry.{Entry}
 use Rattle.acl_entries.specs.SpecText.{pieces_at, kind_of, name_of, granting_entry, entry_of, entries_of, spec_of, spec_text, is_printable}
 
 -- ── cutting at a byte ──

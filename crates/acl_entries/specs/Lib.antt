@@ -1,5 +1,2 @@
-pub mod AccessControlList
-pub mod JudgedEntry
-pub mod Kept
 pub mod Printed
 pub mod SpecText

@@ -1,12 +1,12 @@
 -- The text of a list, entry by entry: the first, and each of the others behind a comma.
 use Rattle.std.specs.Prelude.{ℕ, List, [], ◌∷◌, ◌++◌, Option, Some, None}
 use Rattle.std.specs.List.{flat_map}
-use Rattle.hdfs_types.specs.Entry.{entry_text}
-use Rattle.hdfs_types.specs.declared.entry.Entry.{Entry}
-use Rattle.hdfs_types.specs.declared.entry.EntryKind.TheVariants.{User, Group, Other}
-use Rattle.hdfs_types.specs.declared.entry.Scope.{Scope}
-use Rattle.hdfs_types.specs.declared.entry.Scope.TheVariants.{Access, Default}
-use Rattle.acl_entries.specs.AccessControlList.{AccessControlList, EntryList, base_entry, named_entry, mask_entries}
+use Rattle.acl_specs.specs.Entry.{entry_text}
+use Rattle.acl_specs.specs.declared.entry.Entry.{Entry}
+use Rattle.acl_specs.specs.declared.entry.EntryKind.TheVariants.{User, Group, Other}
+use Rattle.acl_specs.specs.declared.entry.Scope.{Scope}
+use Rattle.acl_specs.specs.declared.entry.Scope.TheVariants.{Access, Default}
+use Rattle.access_lists.specs.AccessControlList.{AccessControlList, EntryList, base_entry, named_entry, mask_entries}
 
 abbrev pub behind_comma : Entry → List ℕ
 behind_comma entry = 44 ∷ entry_text entry

@@ -4,19 +4,19 @@
 use Rattle.std.specs.Prelude.{ℕ, Bool, true, false, ◌==◌, ◌&&◌, nat_lt, List, [], ◌∷◌, map, if◌then◌else◌, Option, Some, None, Result, Err, codes}
 use Rattle.std.specs.List.{join_with_byte, slice_split}
 use Rattle.std.specs.Option.{option_map, option_map_or}
-use Rattle.hdfs_types.specs.Text.{same}
-use Rattle.hdfs_types.specs.Who.{is_who, who_of}
-use Rattle.hdfs_types.specs.Rights.{rights, rights_of}
-use Rattle.hdfs_types.specs.Entry.{entry_text, kind_text}
-use Rattle.hdfs_types.specs.Spec.{spec_of_entries}
-use Rattle.hdfs_types.specs.declared.rights.Rights.{Rights}
-use Rattle.hdfs_types.specs.declared.entry.Scope.{Scope}
-use Rattle.hdfs_types.specs.declared.entry.Scope.TheVariants.{Access, Default}
-use Rattle.hdfs_types.specs.declared.entry.EntryKind.{EntryKind}
-use Rattle.hdfs_types.specs.declared.entry.EntryKind.TheVariants.{User, Group, Mask, Other}
-use Rattle.hdfs_types.specs.declared.entry.Entry.{Entry}
-use Rattle.hdfs_types.specs.declared.fault.AclFault.{AclFault}
-use Rattle.hdfs_types.specs.declared.fault.AclFault.TheVariants.{Form}
+use Rattle.hdfs_texts.specs.Text.{same}
+use Rattle.principal_names.specs.Who.{is_who, who_of}
+use Rattle.permission_bits.specs.Rights.{rights, rights_of}
+use Rattle.acl_specs.specs.Entry.{entry_text, kind_text}
+use Rattle.acl_specs.specs.Spec.{spec_of_entries}
+use Rattle.permission_bits.specs.declared.rights.Rights.{Rights}
+use Rattle.acl_specs.specs.declared.entry.Scope.{Scope}
+use Rattle.acl_specs.specs.declared.entry.Scope.TheVariants.{Access, Default}
+use Rattle.acl_specs.specs.declared.entry.EntryKind.{EntryKind}
+use Rattle.acl_specs.specs.declared.entry.EntryKind.TheVariants.{User, Group, Mask, Other}
+use Rattle.acl_specs.specs.declared.entry.Entry.{Entry}
+use Rattle.hdfs_texts.specs.declared.fault.AclFault.{AclFault}
+use Rattle.hdfs_texts.specs.declared.fault.AclFault.TheVariants.{Form}
 
 -- as it is printed
 abbrev pub spec_text : List Entry → List ℕ

@@ -2,9 +2,7 @@
 //! Lists)").
 #![tactic(auto)]
 
-pub mod access_check;
-pub mod acl;
-pub mod deciding_entry;
-pub mod entry_list;
 pub mod print;
 pub mod spec_text;
+
+pub use access_lists::{access_check, acl, deciding_entry, entry_list};

@@ -1,14 +1,14 @@
 ghost use Rattle.std.specs.Prelude.{◌≡◌, ◌∷◌, map, Some, IfOk};
 ghost use Rattle.std.specs.List.{flat_map, join_with_byte};
 ghost use Rattle.std.specs.String.{string_bytes};
-ghost use Rattle.hdfs_types.specs.Entry.{entry_text};
-ghost use Rattle.acl_entries.specs.AccessControlList.{entries, base_entry, named_entry, mask_entries};
+ghost use Rattle.acl_specs.specs.Entry.{entry_text};
+ghost use Rattle.access_lists.specs.AccessControlList.{entries, base_entry, named_entry, mask_entries};
 ghost use Rattle.acl_entries.specs.Printed.{text_in, text_of};
 
-use crate::acl::Acl;
-use crate::entry_list::{EntryList, NamedEntry};
-use hdfs_types::entry::{EntryKind, Scope};
-use hdfs_types::rights::Rights;
+use access_lists::acl::Acl;
+use access_lists::entry_list::{EntryList, NamedEntry};
+use acl_specs::entry::{EntryKind, Scope};
+use permission_bits::rights::Rights;
 use std::alloc::{AllocError, Global};
 use std::fmt;
 

@@ -1,18 +1,18 @@
 ghost use Rattle.std.specs.Prelude.{◌≡◌, ◌<◌, ℕ, true, List, [], ◌∷◌, IfOk, IsTrue, Ok, map};
 ghost use Rattle.std.specs.List.{list_all};
-ghost use Rattle.hdfs_types.specs.Parsed.{Parses, ParsesBy};
-ghost use Rattle.hdfs_types.specs.Rights.{rights};
-ghost use Rattle.hdfs_types.specs.Spec.{IsSpec, MakesSpec};
-ghost use Rattle.hdfs_types.specs.Text.{same};
-ghost use Rattle.hdfs_types.specs.Who.{who_of};
+ghost use Rattle.hdfs_texts.specs.Parsed.{Parses, ParsesBy};
+ghost use Rattle.permission_bits.specs.Rights.{rights};
+ghost use Rattle.acl_specs.specs.Spec.{IsSpec, MakesSpec};
+ghost use Rattle.hdfs_texts.specs.Text.{same};
+ghost use Rattle.principal_names.specs.Who.{who_of};
 ghost use Rattle.acl_entries.specs.SpecText.{is_printable, pieces_at, spec_of, spec_text};
 ghost use Rattle.acl_entries.specs.SpecText as grammar;
 
-use hdfs_types::entry::{Entry, EntryKind, Scope};
-use hdfs_types::fault::{AclFault, IllFormed, ParseFault};
-use hdfs_types::rights::{Rights, rights_have_one_spelling};
-use hdfs_types::spec::Spec;
-use hdfs_types::who::Who;
+use acl_specs::entry::{Entry, EntryKind, Scope};
+use acl_specs::spec::Spec;
+use hdfs_texts::fault::{AclFault, IllFormed, ParseFault};
+use permission_bits::rights::{Rights, rights_have_one_spelling};
+use principal_names::who::Who;
 use std::alloc::{AllocError, Global};
 
 const NO_SPEC: ParseFault = ParseFault::IllFormed(IllFormed::BadAcl(AclFault::Form));

@@ -1,8 +1,8 @@
 -- Laws about tokens and keys, which follow from their definitions.
 use Rattle.std.specs.Prelude.{◌≡◌, ℕ, ◌+◌, ◌<◌, ◌≤◌, ◌^◌, true, List, [], ◌++◌, Some, None, fold, IsTrue, slice_index}
-use Rattle.hdfs_types.specs.Modes.{is_modes, covers}
-use Rattle.hdfs_types.specs.Who.{IsWho}
-use Rattle.hdfs_types.specs.declared.modes.Modes.{Modes}
+use Rattle.permission_bits.specs.Modes.{is_modes, covers}
+use Rattle.principal_names.specs.Who.{IsWho}
+use Rattle.permission_bits.specs.declared.modes.Modes.{Modes}
 use Rattle.block_tokens.specs.Hmac.{hmac_sha1}
 use Rattle.block_tokens.specs.Keys.{Keys, AreKeys, key_with, usable_keys, merged}
 use Rattle.block_tokens.specs.Ring.{Ring, IsRing, update_of, grant_of}

@@ -1,5 +1,5 @@
 ghost use Rattle.std.specs.Prelude.{◌≡◌, ◌+◌, [], Some, None, length, OnOk, OnErr, option_copied};
-ghost use Rattle.hdfs_types.specs.Text.{same};
+ghost use Rattle.hdfs_texts.specs.Text.{same};
 ghost use Rattle.block_tokens.specs.Keys as spec;
 ghost use Rattle.block_tokens.specs.TokenTest.{Answers, access_test, token_test};
 
@@ -7,10 +7,10 @@ use crate::code::has_code;
 use crate::key::{HeldKey, KeyList};
 use crate::refusal::TokenRefusal;
 use crate::token::{Body, decode};
-use hdfs_types::ids::{BlockId, Serial};
-use hdfs_types::modes::Modes;
-use hdfs_types::moment::Moment;
-use hdfs_types::who::Who;
+use block_numbers::ids::{BlockId, Serial};
+use permission_bits::modes::Modes;
+use block_numbers::moment::Moment;
+use principal_names::who::Who;
 use std::alloc::{AllocError, Global};
 use std::collections::BTreeMap;
 use std::marker::Model;

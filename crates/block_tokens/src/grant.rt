@@ -1,7 +1,7 @@
 use crate::token::TokenBytes;
-use hdfs_types::ids::{BlockId, Serial};
-use hdfs_types::modes::Modes;
-use hdfs_types::who::Who;
+use block_numbers::ids::{BlockId, Serial};
+use permission_bits::modes::Modes;
+use principal_names::who::Who;
 
 /// What a token grants: these modes of a block to a user, before the expiry in milliseconds, under the key with this serial.
 #[derive(Debug, Drop)]

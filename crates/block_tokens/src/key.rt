@@ -1,8 +1,8 @@
 ghost use Rattle.std.specs.Prelude.{◌≡◌, ◌++◌, [], ◌∷◌, length, OnOk, OnErr};
 ghost use Rattle.block_tokens.specs.Keys as spec;
 
-use hdfs_types::ids::Serial;
-use hdfs_types::moment::Moment;
+use block_numbers::ids::Serial;
+use block_numbers::moment::Moment;
 use std::alloc::{AllocError, Global};
 use std::fmt;
 use std::marker::Model;

@@ -1,5 +1,5 @@
 ghost use Rattle.std.specs.Prelude.{◌≡◌, ◌+◌, ◌↔◌, Err, [], Some, None, IfOk, OnErr, IsTrue};
-ghost use Rattle.hdfs_types.specs.Modes.{is_modes};
+ghost use Rattle.permission_bits.specs.Modes.{is_modes};
 ghost use Rattle.block_tokens.specs.Keys.{AreKeys};
 ghost use Rattle.block_tokens.specs.Ring as spec;
 ghost use Rattle.block_tokens.specs.declared.ring.RollFault.TheVariants.{OutOfMemory};
@@ -8,10 +8,10 @@ use crate::grant::Grant;
 use crate::hmac::hmac_sha1;
 use crate::key::{HeldKey, Key, KeyList};
 use crate::token::{Body, TokenBytes, coded};
-use hdfs_types::ids::{BlockId, Serial};
-use hdfs_types::modes::Modes;
-use hdfs_types::moment::Moment;
-use hdfs_types::who::Who;
+use block_numbers::ids::{BlockId, Serial};
+use permission_bits::modes::Modes;
+use block_numbers::moment::Moment;
+use principal_names::who::Who;
 use std::alloc::{AllocError, Global};
 use std::marker::Model;
 

@@ -1,21 +1,21 @@
 -- A change as a whole: its faults, and that its lists make an access control list again.
 use Rattle.std.proofs.Common.{◌≡◌, ◌<◌, Bool, true, false, ◌&&◌, cond, Option, Some, None, Ok, Err, refl, sym, ap, subst, ◌∙◌}
 use Rattle.std.specs.Option.{option_map_or, is_some, is_none}
-use Rattle.hdfs_types.specs.declared.entry.Scope.TheVariants.{Access, Default}
-use Rattle.hdfs_types.specs.declared.entry.EntryKind.TheVariants.{Mask}
-use Rattle.hdfs_types.specs.declared.rights.Rights.{Rights}
-use Rattle.hdfs_types.specs.declared.acl_change.AclChange.{AclChange}
-use Rattle.hdfs_types.specs.declared.acl_change.AclChange.TheVariants.{Set, Modify, Remove, RemoveDefault, Clear}
-use Rattle.hdfs_types.specs.declared.fault.AclFault.{AclFault}
+use Rattle.acl_specs.specs.declared.entry.Scope.TheVariants.{Access, Default}
+use Rattle.acl_specs.specs.declared.entry.EntryKind.TheVariants.{Mask}
+use Rattle.permission_bits.specs.declared.rights.Rights.{Rights}
+use Rattle.acl_specs.specs.declared.acl_change.AclChange.{AclChange}
+use Rattle.acl_specs.specs.declared.acl_change.AclChange.TheVariants.{Set, Modify, Remove, RemoveDefault, Clear}
+use Rattle.hdfs_texts.specs.declared.fault.AclFault.{AclFault}
 use Rattle.hdfs_types.specs.declared.reply.ObjectKind.{ObjectKind}
 use Rattle.hdfs_types.specs.declared.reply.Refusal.TheVariants.{BadAcl, TooManyEntries}
-use Rattle.acl_entries.specs.AccessControlList.{AccessControlList, EntryList, IsEntryList, IsAccessControlList, base_entries, common, has_named, fits, is_access_list}
-use Rattle.default_acl.specs.AclChange.{PartialList, completed, as_kept, touches, given, all_of, no_entries, has_no_entry, after_addition, after_removal, access_where, access_after, default_where, default_after, acl_after, first_acl_fault, unless_fault, acl_change}
-use Rattle.default_acl.specs.Answers.{Changes, IfRefused, Makes, MakesAny, named_count}
-use Rattle.default_acl.specs.declared.fault.AclChangeFault.{AclChangeFault}
-use Rattle.default_acl.specs.declared.fault.AclChangeFault.TheVariants.{Refused, OutOfMemory}
-use Rattle.default_acl.proofs.Tests.{both, and, and_false}
-use Rattle.default_acl.proofs.Completing.{good, too_many, too_many_kept}
+use Rattle.access_lists.specs.AccessControlList.{AccessControlList, EntryList, IsEntryList, IsAccessControlList, base_entries, common, has_named, fits, is_access_list}
+use Rattle.partial_acl.specs.AclChange.{PartialList, completed, as_kept, touches, given, all_of, no_entries, has_no_entry, after_addition, after_removal, access_where, access_after, default_where, default_after, acl_after, first_acl_fault, unless_fault, acl_change}
+use Rattle.partial_acl.specs.Answers.{Changes, IfRefused, Makes, MakesAny, named_count}
+use Rattle.partial_acl.specs.declared.fault.AclChangeFault.{AclChangeFault}
+use Rattle.partial_acl.specs.declared.fault.AclChangeFault.TheVariants.{Refused, OutOfMemory}
+use Rattle.partial_acl.proofs.Tests.{both, and, and_false}
+use Rattle.partial_acl.proofs.Completing.{good, too_many, too_many_kept}
 
 -- ---- too many named entries
 

@@ -3,21 +3,21 @@ use Rattle.std.proofs.Common.{◌≡◌, ℕ, Bool, true, false, ◌&&◌, ◌||
 use Rattle.std.specs.List.{list_any}
 use Rattle.std.specs.Option.{option_eq}
 use Rattle.std.specs.Ordering.{is_lt}
-use Rattle.hdfs_types.specs.Text.{same, text_cmp}
-use Rattle.hdfs_types.specs.Spec.{IsSpec, has_duplicate, is_named_base, same_key, same_kind, same_scope}
-use Rattle.hdfs_types.specs.declared.rights.Rights.{Rights}
-use Rattle.hdfs_types.specs.declared.entry.Entry.{Entry}
-use Rattle.hdfs_types.specs.declared.entry.EntryKind.{EntryKind}
-use Rattle.hdfs_types.specs.declared.entry.EntryKind.TheVariants.{User, Group, Mask, Other}
-use Rattle.hdfs_types.specs.declared.entry.Scope.{Scope}
-use Rattle.hdfs_types.specs.declared.entry.Scope.TheVariants.{Access, Default}
-use Rattle.hdfs_types.specs.declared.fault.AclFault.TheVariants.{Duplicate, NamedBase}
-use Rattle.acl_entries.specs.declared.entry_list.NamedEntry.{NamedEntry}
-use Rattle.acl_entries.specs.AccessControlList.{EntryList, ascend, base_entry, mask_entries, named_entry}
-use Rattle.default_acl.specs.AclChange.{touches}
-use Rattle.default_acl.proofs.Tests.{both, and_false}
-use Rattle.default_acl.proofs.NamedLists.{ascend_tail, ascend_past}
-use Rattle.default_acl.proofs.Completing.{Good}
+use Rattle.hdfs_texts.specs.Text.{same, text_cmp}
+use Rattle.acl_specs.specs.Spec.{IsSpec, has_duplicate, is_named_base, same_key, same_kind, same_scope}
+use Rattle.permission_bits.specs.declared.rights.Rights.{Rights}
+use Rattle.acl_specs.specs.declared.entry.Entry.{Entry}
+use Rattle.acl_specs.specs.declared.entry.EntryKind.{EntryKind}
+use Rattle.acl_specs.specs.declared.entry.EntryKind.TheVariants.{User, Group, Mask, Other}
+use Rattle.acl_specs.specs.declared.entry.Scope.{Scope}
+use Rattle.acl_specs.specs.declared.entry.Scope.TheVariants.{Access, Default}
+use Rattle.hdfs_texts.specs.declared.fault.AclFault.TheVariants.{Duplicate, NamedBase}
+use Rattle.access_lists.specs.declared.entry_list.NamedEntry.{NamedEntry}
+use Rattle.access_lists.specs.AccessControlList.{EntryList, ascend, base_entry, mask_entries, named_entry}
+use Rattle.partial_acl.specs.AclChange.{touches}
+use Rattle.partial_acl.proofs.Tests.{both, and_false}
+use Rattle.partial_acl.proofs.NamedLists.{ascend_tail, ascend_past}
+use Rattle.partial_acl.proofs.Completing.{Good}
 use Rattle.default_acl.proofs.Repeating.{or_false}
 use Rattle.default_acl.proofs.Listed.{before}
 

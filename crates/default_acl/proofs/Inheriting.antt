@@ -1,19 +1,19 @@
 -- What a default list leaves to what is made below it.
 use Rattle.std.proofs.Common.{◌≡◌, ℕ, Bool, List, true, Option, Some, None, refl, ◌∙◌}
 use Rattle.std.specs.Option.{option_map, option_map_or, is_some}
-use Rattle.hdfs_types.specs.Mode.{user_bits, group_bits, other_bits}
-use Rattle.hdfs_types.specs.Rights.{rights}
-use Rattle.hdfs_types.specs.declared.rights.Rights.{Rights}
+use Rattle.permission_bits.specs.Mode.{user_bits, group_bits, other_bits}
+use Rattle.permission_bits.specs.Rights.{rights}
+use Rattle.permission_bits.specs.declared.rights.Rights.{Rights}
 use Rattle.hdfs_types.specs.declared.reply.ObjectKind.{ObjectKind}
 use Rattle.hdfs_types.specs.declared.reply.ObjectKind.TheVariants.{File, Directory}
-use Rattle.acl_entries.specs.declared.entry_list.Bases.{Bases}
-use Rattle.acl_entries.specs.declared.entry_list.NamedEntry.{NamedEntry}
-use Rattle.acl_entries.specs.Kept.{list_of_parts}
-use Rattle.acl_entries.specs.AccessControlList.{EntryList, IsEntryList, IsAccessControlList, are_rights, common}
-use Rattle.default_acl.specs.AclChange.{as_kept}
+use Rattle.access_lists.specs.declared.entry_list.Bases.{Bases}
+use Rattle.access_lists.specs.declared.entry_list.NamedEntry.{NamedEntry}
+use Rattle.access_lists.specs.Kept.{list_of_parts}
+use Rattle.access_lists.specs.AccessControlList.{EntryList, IsEntryList, IsAccessControlList, are_rights, common}
+use Rattle.partial_acl.specs.AclChange.{as_kept}
 use Rattle.default_acl.specs.Inheritance.{cut_to, passed_on}
-use Rattle.default_acl.proofs.Tests.{and}
-use Rattle.default_acl.proofs.Completing.{Good, good, common_good, remasked_good}
+use Rattle.partial_acl.proofs.Tests.{and}
+use Rattle.partial_acl.proofs.Completing.{Good, good, common_good, remasked_good}
 use Rattle.default_acl.proofs.Changing.{kept_masked}
 
 mask_stays : (mask : Option Rights) (granted : Rights) → is_some (option_map (λ own. common own granted) mask) ≡ is_some mask

@@ -1,6 +1,3 @@
-pub mod Tests
-pub mod NamedLists
-pub mod Completing
 pub mod Partials
 pub mod Changing
 pub mod Inheriting

@@ -4,18 +4,18 @@ use Rattle.std.specs.Prelude.{filter}
 use Rattle.std.specs.List.{list_any, find, filter_map}
 use Rattle.std.specs.Option.{is_some, option_map, option_map_or}
 use Rattle.std.proofs.lemmas.Bool.Decides.{nat_tests}
-use Rattle.hdfs_types.specs.Rights.{rights}
-use Rattle.hdfs_types.specs.Spec.{same_kind, same_scope}
-use Rattle.hdfs_types.specs.declared.rights.Rights.{Rights}
-use Rattle.hdfs_types.specs.declared.entry.Entry.{Entry}
-use Rattle.hdfs_types.specs.declared.entry.EntryKind.{EntryKind}
-use Rattle.hdfs_types.specs.declared.entry.EntryKind.TheVariants.{User, Group, Mask, Other}
-use Rattle.hdfs_types.specs.declared.entry.Scope.{Scope}
-use Rattle.acl_entries.specs.declared.entry_list.NamedEntry.{NamedEntry}
-use Rattle.acl_entries.specs.AccessControlList.{EntryList, are_rights, base_entry, entries_in, grant_rights, mask_entries, named_entry}
-use Rattle.default_acl.specs.AclChange.{given, granted_by, has_base, is_base_of, is_for, named_in, touches, with_name}
-use Rattle.default_acl.proofs.Tests.{both, and, and_false}
-use Rattle.default_acl.proofs.Completing.{Good}
+use Rattle.permission_bits.specs.Rights.{rights}
+use Rattle.acl_specs.specs.Spec.{same_kind, same_scope}
+use Rattle.permission_bits.specs.declared.rights.Rights.{Rights}
+use Rattle.acl_specs.specs.declared.entry.Entry.{Entry}
+use Rattle.acl_specs.specs.declared.entry.EntryKind.{EntryKind}
+use Rattle.acl_specs.specs.declared.entry.EntryKind.TheVariants.{User, Group, Mask, Other}
+use Rattle.acl_specs.specs.declared.entry.Scope.{Scope}
+use Rattle.access_lists.specs.declared.entry_list.NamedEntry.{NamedEntry}
+use Rattle.access_lists.specs.AccessControlList.{EntryList, are_rights, base_entry, entries_in, grant_rights, mask_entries, named_entry}
+use Rattle.partial_acl.specs.AclChange.{given, granted_by, has_base, is_base_of, is_for, named_in, touches, with_name}
+use Rattle.partial_acl.proofs.Tests.{both, and, and_false}
+use Rattle.partial_acl.proofs.Completing.{Good}
 use Rattle.default_acl.proofs.Repeating.{scope_self, kind_self}
 
 -- the entries of a list, before others

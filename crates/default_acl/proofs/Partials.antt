@@ -4,19 +4,19 @@ use Rattle.std.specs.Prelude.{filter}
 use Rattle.std.specs.List.{list_any, find, filter_map, cons_option}
 use Rattle.std.specs.Option.{option_map_or, option_map, option_or}
 use Rattle.std.proofs.lemmas.Bool.Decides.{nat_tests}
-use Rattle.hdfs_types.specs.Text.{same}
-use Rattle.hdfs_types.specs.declared.rights.Rights.{Rights}
-use Rattle.hdfs_types.specs.declared.entry.Entry.{Entry}
-use Rattle.hdfs_types.specs.declared.entry.Scope.{Scope}
-use Rattle.hdfs_types.specs.declared.entry.EntryKind.{EntryKind}
-use Rattle.hdfs_types.specs.declared.entry.EntryKind.TheVariants.{User, Group, Other}
-use Rattle.acl_entries.specs.declared.entry_list.NamedEntry.{NamedEntry}
-use Rattle.acl_entries.specs.AccessControlList.{EntryList, IsEntryList, grant_rights, are_rights}
-use Rattle.default_acl.specs.AclChange.{PartialList, all_of, after_addition, after_removal, given, granted_by, has_base, is_base_of, is_for, named_in, unless, with_name}
-use Rattle.default_acl.specs.Answers.{IsPartialList}
-use Rattle.default_acl.proofs.Tests.{and, all_filter}
-use Rattle.default_acl.proofs.NamedLists.{with_each_ascends, with_each_grants, filter_ascends}
-use Rattle.default_acl.proofs.Completing.{Good, good, GoodParts, good_parts, are_good_parts}
+use Rattle.hdfs_texts.specs.Text.{same}
+use Rattle.permission_bits.specs.declared.rights.Rights.{Rights}
+use Rattle.acl_specs.specs.declared.entry.Entry.{Entry}
+use Rattle.acl_specs.specs.declared.entry.Scope.{Scope}
+use Rattle.acl_specs.specs.declared.entry.EntryKind.{EntryKind}
+use Rattle.acl_specs.specs.declared.entry.EntryKind.TheVariants.{User, Group, Other}
+use Rattle.access_lists.specs.declared.entry_list.NamedEntry.{NamedEntry}
+use Rattle.access_lists.specs.AccessControlList.{EntryList, IsEntryList, grant_rights, are_rights}
+use Rattle.partial_acl.specs.AclChange.{PartialList, all_of, after_addition, after_removal, given, granted_by, has_base, is_base_of, is_for, named_in, unless, with_name}
+use Rattle.partial_acl.specs.Answers.{IsPartialList}
+use Rattle.partial_acl.proofs.Tests.{and, all_filter}
+use Rattle.partial_acl.proofs.NamedLists.{with_each_ascends, with_each_grants, filter_ascends}
+use Rattle.partial_acl.proofs.Completing.{Good, good, GoodParts, good_parts, are_good_parts}
 
 granted_good : (entry : Entry) → are_rights (granted_by entry) ≡ true
 granted_good entry = let below : entry.rights.0 % 8 < 8 = omega arith in grind (arith, nat_tests)

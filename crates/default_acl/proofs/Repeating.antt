@@ -9,28 +9,28 @@ use Rattle.std.specs.Int.Bits.{and_self}
 use Rattle.std.proofs.lemmas.Cmp.{nat_list_cmp_total}
 use Rattle.std.proofs.lemmas.Nat.{and_assoc}
 use Rattle.std.proofs.lemmas.Bool.Decides.{nat_tests}
-use Rattle.hdfs_types.specs.Text.{same, text_cmp}
-use Rattle.hdfs_types.proofs.Texts.{same_is, same_self, same_symm}
-use Rattle.hdfs_types.specs.Rights.{rights}
-use Rattle.hdfs_types.specs.Spec.{IsSpec, has_duplicate, is_named_base, same_key, same_kind, same_scope}
-use Rattle.hdfs_types.specs.declared.rights.Rights.{Rights}
-use Rattle.hdfs_types.specs.declared.entry.Entry.{Entry}
-use Rattle.hdfs_types.specs.declared.entry.EntryKind.{EntryKind}
-use Rattle.hdfs_types.specs.declared.entry.EntryKind.TheVariants.{User, Group, Mask, Other}
-use Rattle.hdfs_types.specs.declared.entry.Scope.{Scope}
-use Rattle.hdfs_types.specs.declared.entry.Scope.TheVariants.{Access, Default}
-use Rattle.hdfs_types.specs.declared.fault.AclFault.{AclFault}
-use Rattle.hdfs_types.specs.declared.fault.AclFault.TheVariants.{Duplicate, NamedBase}
-use Rattle.hdfs_types.specs.declared.acl_change.AclChange.TheVariants.{Modify}
+use Rattle.hdfs_texts.specs.Text.{same, text_cmp}
+use Rattle.hdfs_texts.proofs.Texts.{same_is, same_self, same_symm}
+use Rattle.permission_bits.specs.Rights.{rights}
+use Rattle.acl_specs.specs.Spec.{IsSpec, has_duplicate, is_named_base, same_key, same_kind, same_scope}
+use Rattle.permission_bits.specs.declared.rights.Rights.{Rights}
+use Rattle.acl_specs.specs.declared.entry.Entry.{Entry}
+use Rattle.acl_specs.specs.declared.entry.EntryKind.{EntryKind}
+use Rattle.acl_specs.specs.declared.entry.EntryKind.TheVariants.{User, Group, Mask, Other}
+use Rattle.acl_specs.specs.declared.entry.Scope.{Scope}
+use Rattle.acl_specs.specs.declared.entry.Scope.TheVariants.{Access, Default}
+use Rattle.hdfs_texts.specs.declared.fault.AclFault.{AclFault}
+use Rattle.hdfs_texts.specs.declared.fault.AclFault.TheVariants.{Duplicate, NamedBase}
+use Rattle.acl_specs.specs.declared.acl_change.AclChange.TheVariants.{Modify}
 use Rattle.hdfs_types.specs.declared.reply.Refusal.TheVariants.{TooManyEntries}
-use Rattle.acl_entries.specs.declared.entry_list.NamedEntry.{NamedEntry}
-use Rattle.acl_entries.specs.AccessControlList.{AccessControlList, EntryList, base_entries, common, fits}
-use Rattle.default_acl.specs.AclChange.{PartialList, access_after, access_where, acl_after, after_addition, all_of, as_kept, completed, default_after, default_where, first_acl_fault, given, granted_by, is_for, mask_after, named_in, no_entries, put, touches, unless_fault, with_each, with_name}
-use Rattle.default_acl.specs.Answers.{named_count}
+use Rattle.access_lists.specs.declared.entry_list.NamedEntry.{NamedEntry}
+use Rattle.access_lists.specs.AccessControlList.{AccessControlList, EntryList, base_entries, common, fits}
+use Rattle.partial_acl.specs.AclChange.{PartialList, access_after, access_where, acl_after, after_addition, all_of, as_kept, completed, default_after, default_where, first_acl_fault, given, granted_by, is_for, mask_after, named_in, no_entries, put, touches, unless_fault, with_each, with_name}
+use Rattle.partial_acl.specs.Answers.{named_count}
 use Rattle.default_acl.specs.Laws.{ModifyingAgainChangesNothing}
-use Rattle.default_acl.proofs.Tests.{both}
-use Rattle.default_acl.proofs.NamedLists.{put_grows, with_each_grows}
-use Rattle.default_acl.proofs.Completing.{kept_bases, kept_is_bases, kept_named}
+use Rattle.partial_acl.proofs.Tests.{both}
+use Rattle.partial_acl.proofs.NamedLists.{put_grows, with_each_grows}
+use Rattle.partial_acl.proofs.Completing.{kept_bases, kept_is_bases, kept_named}
 
 -- ---- what was put in stands there
 

@@ -7,27 +7,27 @@ use Rattle.std.specs.Ordering.{is_lt, ordering_reverse}
 use Rattle.std.specs.Int.Bits.{and_self}
 use Rattle.std.proofs.lemmas.Bool.Decides.{nat_tests}
 use Rattle.std.proofs.lemmas.Cmp.{nat_list_cmp_total}
-use Rattle.hdfs_types.specs.Text.{text_cmp}
-use Rattle.hdfs_types.specs.Rights.{rights}
-use Rattle.hdfs_types.specs.Spec.{IsSpec, has_duplicate, is_named_base}
-use Rattle.hdfs_types.specs.declared.rights.Rights.{Rights}
-use Rattle.hdfs_types.specs.declared.entry.Entry.{Entry}
-use Rattle.hdfs_types.specs.declared.entry.EntryKind.TheVariants.{User, Group, Mask, Other}
-use Rattle.hdfs_types.specs.declared.entry.Scope.{Scope}
-use Rattle.hdfs_types.specs.declared.entry.Scope.TheVariants.{Access, Default}
-use Rattle.hdfs_types.specs.declared.acl_change.AclChange.TheVariants.{Set}
-use Rattle.hdfs_types.specs.declared.fault.AclFault.{AclFault}
-use Rattle.hdfs_types.specs.declared.fault.AclFault.TheVariants.{NoBase}
+use Rattle.hdfs_texts.specs.Text.{text_cmp}
+use Rattle.permission_bits.specs.Rights.{rights}
+use Rattle.acl_specs.specs.Spec.{IsSpec, has_duplicate, is_named_base}
+use Rattle.permission_bits.specs.declared.rights.Rights.{Rights}
+use Rattle.acl_specs.specs.declared.entry.Entry.{Entry}
+use Rattle.acl_specs.specs.declared.entry.EntryKind.TheVariants.{User, Group, Mask, Other}
+use Rattle.acl_specs.specs.declared.entry.Scope.{Scope}
+use Rattle.acl_specs.specs.declared.entry.Scope.TheVariants.{Access, Default}
+use Rattle.acl_specs.specs.declared.acl_change.AclChange.TheVariants.{Set}
+use Rattle.hdfs_texts.specs.declared.fault.AclFault.{AclFault}
+use Rattle.hdfs_texts.specs.declared.fault.AclFault.TheVariants.{NoBase}
 use Rattle.hdfs_types.specs.declared.reply.ObjectKind.TheVariants.{Directory}
 use Rattle.hdfs_types.specs.declared.reply.Refusal.TheVariants.{TooManyEntries}
-use Rattle.acl_entries.specs.declared.entry_list.NamedEntry.{NamedEntry}
-use Rattle.acl_entries.specs.AccessControlList.{AccessControlList, EntryList, IsEntryList, ascend, base_entries, common, entries, entries_in, fits, has_named, is_access_list, is_entry_list}
+use Rattle.access_lists.specs.declared.entry_list.NamedEntry.{NamedEntry}
+use Rattle.access_lists.specs.AccessControlList.{AccessControlList, EntryList, IsEntryList, ascend, base_entries, common, entries, entries_in, fits, has_named, is_access_list, is_entry_list}
 use Rattle.acl_entries.specs.SpecText.{is_printable, spec_of, spec_text}
-use Rattle.default_acl.specs.AclChange.{acl_after, access_after, after_addition, all_of, as_kept, completed, default_after, default_where, first_acl_fault, given, has_base, named_in, no_entries, put, touches, unless_fault, acl_change, with_each}
+use Rattle.partial_acl.specs.AclChange.{acl_after, access_after, after_addition, all_of, as_kept, completed, default_after, default_where, first_acl_fault, given, has_base, named_in, no_entries, put, touches, unless_fault, acl_change, with_each}
 use Rattle.default_acl.specs.Laws.{SettingToEntriesCopies, WhatIsPrintedIsSetAgain, with_entries_of}
-use Rattle.default_acl.proofs.Tests.{both, and}
-use Rattle.default_acl.proofs.NamedLists.{ascend_tail, less_through, less_is}
-use Rattle.default_acl.proofs.Completing.{Good, good, empty_is, kept_is_bases, kept_named}
+use Rattle.partial_acl.proofs.Tests.{both, and}
+use Rattle.partial_acl.proofs.NamedLists.{ascend_tail, less_through, less_is}
+use Rattle.partial_acl.proofs.Completing.{Good, good, empty_is, kept_is_bases, kept_named}
 use Rattle.default_acl.proofs.Changing.{masked_where_named}
 use Rattle.default_acl.proofs.Listed.{before, before_is, IsSilent, Says, has_given, says, says_beside, silent_beside, touches_beside}
 use Rattle.default_acl.proofs.Distinct.{is_spec, named_right_before, once_before}

@@ -2,22 +2,22 @@
 use Rattle.std.specs.Prelude.{◌≡◌, ℕ, Bool, true, false, ◌||◌, List, None, Ok, IsTrue}
 use Rattle.std.specs.List.{list_all, list_any}
 use Rattle.std.specs.Option.{is_some, option_map_or, option_or}
-use Rattle.hdfs_types.specs.Text.{same}
-use Rattle.hdfs_types.specs.Groups.{has_group}
-use Rattle.hdfs_types.specs.Mode.{is_mode, without_sticky}
-use Rattle.hdfs_types.specs.Rights.{covers}
-use Rattle.hdfs_types.specs.Spec.{IsSpec, same_kind}
-use Rattle.hdfs_types.specs.declared.rights.Rights.{Rights}
-use Rattle.hdfs_types.specs.declared.entry.Entry.{Entry}
-use Rattle.hdfs_types.specs.declared.entry.EntryKind.TheVariants.{Group, Other}
-use Rattle.hdfs_types.specs.declared.entry.Scope.TheVariants.{Access}
-use Rattle.hdfs_types.specs.declared.acl_change.AclChange.TheVariants.{Set, Modify, Clear}
+use Rattle.hdfs_texts.specs.Text.{same}
+use Rattle.principal_names.specs.Groups.{has_group}
+use Rattle.permission_bits.specs.Mode.{is_mode, without_sticky}
+use Rattle.permission_bits.specs.Rights.{covers}
+use Rattle.acl_specs.specs.Spec.{IsSpec, same_kind}
+use Rattle.permission_bits.specs.declared.rights.Rights.{Rights}
+use Rattle.acl_specs.specs.declared.entry.Entry.{Entry}
+use Rattle.acl_specs.specs.declared.entry.EntryKind.TheVariants.{Group, Other}
+use Rattle.acl_specs.specs.declared.entry.Scope.TheVariants.{Access}
+use Rattle.acl_specs.specs.declared.acl_change.AclChange.TheVariants.{Set, Modify, Clear}
 use Rattle.hdfs_types.specs.declared.reply.ObjectKind.{ObjectKind}
 use Rattle.hdfs_types.specs.declared.reply.ObjectKind.TheVariants.{File, Directory}
-use Rattle.acl_entries.specs.AccessControlList.{AccessControlList, IsAccessControlList, IsEntryList, base_entry, entries, fits, has_acl, is_entry_list, shown_mode}
-use Rattle.acl_entries.specs.JudgedEntry.{judged_by, judged_entry}
+use Rattle.access_lists.specs.AccessControlList.{AccessControlList, IsAccessControlList, IsEntryList, base_entry, entries, fits, has_acl, is_entry_list, shown_mode}
+use Rattle.access_lists.specs.JudgedEntry.{judged_by, judged_entry}
 use Rattle.acl_entries.specs.SpecText.{is_printable, spec_of, spec_text}
-use Rattle.default_acl.specs.AclChange.{acl_after, acl_change, with_mode}
+use Rattle.partial_acl.specs.AclChange.{acl_after, acl_change, with_mode}
 use Rattle.default_acl.specs.Inheritance.{inherited}
 
 -- ---- modes

@@ -1,24 +1,24 @@
 ghost use Rattle.std.specs.Prelude.{◌≡◌, ◌&&◌, false, None, OnOk, OnErr, IsOk, Ok};
 ghost use Rattle.std.specs.Option.{option_copied};
 ghost use Rattle.hdfs_types.specs.declared.reply.ObjectKind.{ObjectKind};
-ghost use Rattle.hdfs_types.specs.declared.acl_change.AclChange.TheVariants.{Set, Modify, Remove, RemoveDefault, Clear};
-ghost use Rattle.hdfs_types.specs.declared.entry.Scope.TheVariants.{Access, Default};
-ghost use Rattle.hdfs_types.specs.declared.entry.EntryKind.TheVariants.{Mask};
-ghost use Rattle.acl_entries.specs.AccessControlList.{AccessControlList, IsAccessControlList};
-ghost use Rattle.default_acl.specs.Answers.{Changes, Makes, MakesAny, IsPartialList};
-ghost use Rattle.default_acl.specs.AclChange as definition;
+ghost use Rattle.acl_specs.specs.declared.acl_change.AclChange.TheVariants.{Set, Modify, Remove, RemoveDefault, Clear};
+ghost use Rattle.acl_specs.specs.declared.entry.Scope.TheVariants.{Access, Default};
+ghost use Rattle.acl_specs.specs.declared.entry.EntryKind.TheVariants.{Mask};
+ghost use Rattle.access_lists.specs.AccessControlList.{AccessControlList, IsAccessControlList};
+ghost use Rattle.partial_acl.specs.Answers.{Changes, Makes, MakesAny, IsPartialList};
+ghost use Rattle.partial_acl.specs.AclChange as definition;
 
-use crate::completed::{completed, copy_of, kept};
-use crate::fault::AclChangeFault;
-use crate::partial::PartialList;
-use crate::scope::{given, has_base, touches};
-use acl_entries::acl::Acl;
-use acl_entries::entry_list::{Bases, EntryList};
-use hdfs_types::acl_change::AclChange;
-use hdfs_types::entry::{Entry, EntryKind, Scope};
-use hdfs_types::fault::AclFault;
+use access_lists::acl::Acl;
+use access_lists::entry_list::{Bases, EntryList};
+use acl_specs::acl_change::AclChange;
+use acl_specs::entry::{Entry, EntryKind, Scope};
+use acl_specs::spec::Spec;
+use hdfs_texts::fault::AclFault;
 use hdfs_types::reply::{ObjectKind, Refusal};
-use hdfs_types::spec::Spec;
+use partial_acl::completed::{completed, copy_of, kept};
+use partial_acl::fault::AclChangeFault;
+use partial_acl::partial::PartialList;
+use partial_acl::scope::{given, has_base, touches};
 use std::alloc::{AllocError, Global};
 
 // ---- refusals

@@ -1,19 +1,19 @@
 ghost use Rattle.std.specs.Prelude.{◌≡◌, None, IfOk, IsOk};
 ghost use Rattle.std.specs.Option.{option_map};
-ghost use Rattle.hdfs_types.specs.Mode.{group_bits};
-ghost use Rattle.hdfs_types.specs.Rights.{rights};
-ghost use Rattle.acl_entries.specs.AccessControlList.{common};
-ghost use Rattle.default_acl.specs.AclChange.{as_kept};
+ghost use Rattle.permission_bits.specs.Mode.{group_bits};
+ghost use Rattle.permission_bits.specs.Rights.{rights};
+ghost use Rattle.access_lists.specs.AccessControlList.{common};
+ghost use Rattle.partial_acl.specs.AclChange.{as_kept};
 ghost use Rattle.default_acl.specs.Inheritance as definition;
 
-use crate::completed::copy_of;
-use crate::named::copies;
-use acl_entries::acl::Acl;
-use acl_entries::entry_list::{Bases, EntryList};
+use access_lists::acl::Acl;
+use access_lists::entry_list::{Bases, EntryList};
 use bitflags::Flags;
-use hdfs_types::mode::Mode;
 use hdfs_types::reply::ObjectKind;
-use hdfs_types::rights::Rights;
+use partial_acl::completed::copy_of;
+use partial_acl::named::copies;
+use permission_bits::mode::Mode;
+use permission_bits::rights::Rights;
 use std::alloc::{AllocError, Global};
 
 /// A mask of which a mode leaves what it grants the group.

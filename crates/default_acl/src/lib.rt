@@ -4,10 +4,7 @@
 
 pub mod change;
 pub mod chmod;
-mod completed;
-pub mod fault;
 pub mod inherit;
 pub mod laws;
-mod named;
-mod partial;
-mod scope;
+
+pub use partial_acl::{completed, fault, named, partial, scope};

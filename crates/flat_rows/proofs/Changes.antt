@@ -6,27 +6,27 @@ use Rattle.std.specs.Prelude.{filter, not}
 use Rattle.std.specs.List.{list_all, list_any}
 use Rattle.std.specs.Cmp.{tied_itself}
 use Rattle.std.specs.Ordering.{is_lt, is_eq}
-use Rattle.hdfs_types.specs.Path.{is_path, is_prefix}
-use Rattle.hdfs_types.specs.PathOrder.{path_cmp, same_path, paths_total}
-use Rattle.hdfs_types.proofs.Fronts.{front_path}
-use Rattle.acl_entries.specs.AccessControlList.{AccessControlList}
-use Rattle.flat_rows.specs.declared.file_row.FileRow.{FileRow}
-use Rattle.flat_rows.specs.declared.row.Row.{Row}
-use Rattle.flat_rows.specs.declared.row.Change.{Change}
-use Rattle.flat_rows.specs.declared.row.Change.TheVariants as change
+use Rattle.file_paths.specs.Path.{is_path, is_prefix}
+use Rattle.file_paths.specs.PathOrder.{path_cmp, same_path, paths_total}
+use Rattle.file_paths.proofs.Fronts.{front_path}
+use Rattle.access_lists.specs.AccessControlList.{AccessControlList}
+use Rattle.namespace_rows.specs.declared.file_row.FileRow.{FileRow}
+use Rattle.namespace_rows.specs.declared.row.Row.{Row}
+use Rattle.namespace_rows.specs.declared.row.Change.{Change}
+use Rattle.namespace_rows.specs.declared.row.Change.TheVariants as change
 use Rattle.hdfs_types.specs.declared.file.FileState.{FileState}
 use Rattle.std.specs.Option.{option_map}
-use Rattle.acl_entries.specs.AccessControlList.{suits_file}
-use Rattle.flat_rows.specs.Files.{with_state, with_replication}
-use Rattle.flat_rows.specs.First.{first}
-use Rattle.flat_rows.specs.Rows.{is_directory, row_at, ancestor, is_before, is_beyond, replaced, with_sub_tree}
-use Rattle.flat_rows.specs.Namespace.{IsNamespace, is_ascending, is_before_all, is_child, has_parent, is_root, is_rooted, have_parents, suits_parts, suits_kind, fits}
+use Rattle.access_lists.specs.AccessControlList.{suits_file}
+use Rattle.namespace_rows.specs.Files.{with_state, with_replication}
+use Rattle.namespace_rows.specs.First.{first}
+use Rattle.namespace_rows.specs.Rows.{is_directory, row_at, ancestor, is_before, is_beyond, replaced, with_sub_tree}
+use Rattle.namespace_rows.specs.Namespace.{IsNamespace, is_ascending, is_before_all, is_child, has_parent, is_root, is_rooted, have_parents, suits_parts, suits_kind, fits}
 use Rattle.flat_rows.specs.Outcome.{mode_of_new, file_of_new, new_row, new_rows}
 use Rattle.flat_rows.specs.Changes.{without, changed, rewritten, suits_row, suits_change, are_paths}
-use Rattle.flat_rows.proofs.Tests.{both, and, or_left, or_right, all_imp, all_both, all_append, all_filtered, all_kept}
-use Rattle.flat_rows.proofs.PathOrders.{less_is, child_starts, same_path_is}
+use Rattle.namespace_rows.proofs.Tests.{both, and, or_left, or_right, all_imp, all_both, all_append, all_filtered, all_kept}
+use Rattle.namespace_rows.proofs.PathOrders.{less_is, child_starts, same_path_is}
 use Rattle.flat_rows.proofs.NewDirectories.{starts_self, beneath_parts, ancestor_above}
-use Rattle.flat_rows.proofs.Namespaces.{Namespace, namespace_tests, ascending_filter}
+use Rattle.namespace_rows.proofs.Namespaces.{Namespace, namespace_tests, ascending_filter}
 
 pub namespace_of : (rows : List Row) → Namespace rows → IsNamespace rows
 namespace_of rows tests = and _ _ (and _ _ (and _ _ tests.rooted tests.ascending) tests.held) tests.suit

@@ -4,16 +4,16 @@ use Rattle.std.specs.List.{last_or, flat_map}
 use Rattle.std.specs.Option.{is_some, option_or}
 use Rattle.hdfs_types.specs.declared.op.Op.{Op}
 use Rattle.principals.specs.Principals.{Principals, Asking, caller_of}
-use Rattle.flat_rows.specs.declared.row.Row.{Row}
-use Rattle.flat_rows.specs.declared.need.By.{By}
-use Rattle.flat_rows.specs.declared.need.By.TheVariants.{Superuser}
+use Rattle.namespace_rows.specs.declared.row.Row.{Row}
+use Rattle.required_rights.specs.declared.need.By.{By}
+use Rattle.required_rights.specs.declared.need.By.TheVariants.{Superuser}
 use Rattle.flat_rows.specs.declared.trail.Judged.{Judged}
-use Rattle.flat_rows.specs.First.{first_answer}
-use Rattle.flat_rows.specs.RequiredRights.{required_rights}
+use Rattle.namespace_rows.specs.First.{first_answer}
+use Rattle.required_rights.specs.RequiredRights.{required_rights}
 use Rattle.flat_rows.specs.Denied.{Denied, Decided, deciding, denial_at}
 use Rattle.flat_rows.specs.Decision.{Ask, asks_of, denial_of, judged, up_to_denied, decision, trail}
 use Rattle.flat_rows.specs.Laws.{are_granted, failed, ends_failed, is_failed, EndsAs}
-use Rattle.flat_rows.proofs.Tests.{both, and}
+use Rattle.namespace_rows.proofs.Tests.{both, and}
 
 -- a need as it is judged, beside its denial or none
 abbrev Judges : Judged → Option Denied → Type 0

@@ -6,22 +6,22 @@ use Rattle.std.specs.List.{list_all, list_any, last_or, flat_map}
 use Rattle.std.specs.Ordering.{is_gt, is_lt}
 use Rattle.std.proofs.lemmas.Bool.{false≢true, lt-ltb}
 use Rattle.std.proofs.lemmas.List.{take-append-drop}
-use Rattle.hdfs_types.specs.Text.{same}
-use Rattle.hdfs_types.specs.Path.{is_prefix, is_beneath}
-use Rattle.hdfs_types.specs.PathOrder.{path_cmp, same_path, paths_total}
+use Rattle.hdfs_texts.specs.Text.{same}
+use Rattle.file_paths.specs.Path.{is_prefix, is_beneath}
+use Rattle.file_paths.specs.PathOrder.{path_cmp, same_path, paths_total}
 use Rattle.hdfs_types.specs.declared.file.FileState.{FileState}
 use Rattle.hdfs_types.specs.declared.file.FileState.TheVariants.{Closed}
-use Rattle.flat_rows.specs.declared.file_row.FileRow.{FileRow}
-use Rattle.flat_rows.specs.declared.row.Row.{Row}
-use Rattle.flat_rows.specs.declared.row.Change.{Change}
-use Rattle.flat_rows.specs.declared.row.Change.TheVariants as change
-use Rattle.flat_rows.specs.First.{first}
-use Rattle.flat_rows.specs.Rows.{row_at, is_missing, is_before, is_beyond, replaced, with_sub_tree}
-use Rattle.flat_rows.specs.Namespace.{IsNamespace, is_ascending, is_before_all}
+use Rattle.namespace_rows.specs.declared.file_row.FileRow.{FileRow}
+use Rattle.namespace_rows.specs.declared.row.Row.{Row}
+use Rattle.namespace_rows.specs.declared.row.Change.{Change}
+use Rattle.namespace_rows.specs.declared.row.Change.TheVariants as change
+use Rattle.namespace_rows.specs.First.{first}
+use Rattle.namespace_rows.specs.Rows.{row_at, is_missing, is_before, is_beyond, replaced, with_sub_tree}
+use Rattle.namespace_rows.specs.Namespace.{IsNamespace, is_ascending, is_before_all}
 use Rattle.flat_rows.specs.Changes.{rows_under, without, moved_row, moved, changed, rewritten}
-use Rattle.flat_rows.specs.Files.{with_state, is_client, holder_of_file, holders, is_open_by, open_files}
-use Rattle.flat_rows.proofs.Tests.{both, and, all_kept}
-use Rattle.flat_rows.proofs.PathOrders.{less_is, starts_upto, tied_starts, same_path_is}
+use Rattle.namespace_rows.specs.Files.{with_state, is_client, holder_of_file, holders, is_open_by, open_files}
+use Rattle.namespace_rows.proofs.Tests.{both, and, all_kept}
+use Rattle.namespace_rows.proofs.PathOrders.{less_is, starts_upto, tied_starts, same_path_is}
 use Rattle.flat_rows.proofs.Changes.{same_self}
 use Rattle.flat_rows.proofs.Missing.{missing_above, found, missing_any}
 

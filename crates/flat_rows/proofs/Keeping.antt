@@ -5,22 +5,22 @@ use Rattle.std.specs.Option.{option_or}
 use Rattle.hdfs_types.specs.Request.{keeps_leases}
 use Rattle.hdfs_types.specs.declared.op.Op.{Op}
 use Rattle.hdfs_types.specs.declared.op.Op.TheVariants as op
-use Rattle.hdfs_types.specs.declared.acl_change.AclChange.{AclChange}
+use Rattle.acl_specs.specs.declared.acl_change.AclChange.{AclChange}
 use Rattle.hdfs_types.specs.declared.reply.Refusal.{Refusal}
 use Rattle.hdfs_types.specs.declared.reply.Refusal.TheVariants.{BadPath, NotFound, IsRoot, UnderItself}
-use Rattle.hdfs_types.specs.Path.{is_prefix}
-use Rattle.acl_entries.specs.AccessControlList.{AccessControlList}
-use Rattle.default_acl.specs.AclChange.{acl_change, with_mode}
+use Rattle.file_paths.specs.Path.{is_prefix}
+use Rattle.access_lists.specs.AccessControlList.{AccessControlList}
+use Rattle.partial_acl.specs.AclChange.{acl_change, with_mode}
 use Rattle.principals.specs.Principals.{Principals}
-use Rattle.flat_rows.specs.declared.row.Row.{Row}
-use Rattle.flat_rows.specs.declared.file_row.FileRow.{FileRow}
-use Rattle.flat_rows.specs.declared.row.Change.TheVariants as change
-use Rattle.flat_rows.specs.Rows.{row_at, is_none, directory_of, ancestor}
-use Rattle.flat_rows.specs.Namespace.{IsNamespace, is_root}
+use Rattle.namespace_rows.specs.declared.row.Row.{Row}
+use Rattle.namespace_rows.specs.declared.file_row.FileRow.{FileRow}
+use Rattle.namespace_rows.specs.declared.row.Change.TheVariants as change
+use Rattle.namespace_rows.specs.Rows.{row_at, is_none, directory_of, ancestor}
+use Rattle.namespace_rows.specs.Namespace.{IsNamespace, is_root}
 use Rattle.flat_rows.specs.Changes.{changed, are_paths}
 use Rattle.flat_rows.specs.Denied as denied
 use Rattle.flat_rows.specs.Decision.{decision}
-use Rattle.flat_rows.specs.Files.{is_open_by, with_replication}
+use Rattle.namespace_rows.specs.Files.{is_open_by, with_replication}
 use Rattle.flat_rows.specs.FileOutcome.{LeaseFacts}
 use Rattle.flat_rows.specs.Outcome.{step, denied_or_outcome, refused_or_done, first_refusal, first_some, something_at, nothing_at, beneath_file, refused_where, rows_moved, rows_after, made_at, with_new, with_mode_at, with_owner_at, with_acl_at, with_list_at}
 use Rattle.flat_rows.proofs.Holders.{tally, tally_rewritten, tally_moved, kept_file}

@@ -1,7 +1,3 @@
-pub mod Tests
-pub mod Lengths
-pub mod PathOrders
-pub mod Namespaces
 pub mod NewDirectories
 pub mod Changes
 pub mod Moves

@@ -5,19 +5,19 @@ use Rattle.std.specs.List.{list_all, list_any, last_or}
 use Rattle.std.specs.Ordering.{is_lt}
 use Rattle.std.specs.Cmp.{tied_itself}
 use Rattle.std.proofs.lemmas.List.{take-append-drop}
-use Rattle.hdfs_types.specs.Path.{is_prefix, is_beneath}
-use Rattle.hdfs_types.specs.PathOrder.{path_cmp, same_path, paths_total}
-use Rattle.hdfs_types.proofs.Texts.{same_self}
-use Rattle.flat_rows.specs.declared.file_row.FileRow.{FileRow}
-use Rattle.flat_rows.specs.declared.row.Row.{Row}
-use Rattle.flat_rows.specs.Rows.{is_missing, ancestor, with_sub_tree}
-use Rattle.flat_rows.specs.Namespace.{IsNamespace, is_ascending, is_before_all, is_root}
+use Rattle.file_paths.specs.Path.{is_prefix, is_beneath}
+use Rattle.file_paths.specs.PathOrder.{path_cmp, same_path, paths_total}
+use Rattle.hdfs_texts.proofs.Texts.{same_self}
+use Rattle.namespace_rows.specs.declared.file_row.FileRow.{FileRow}
+use Rattle.namespace_rows.specs.declared.row.Row.{Row}
+use Rattle.namespace_rows.specs.Rows.{is_missing, ancestor, with_sub_tree}
+use Rattle.namespace_rows.specs.Namespace.{IsNamespace, is_ascending, is_before_all, is_root}
 use Rattle.flat_rows.specs.Outcome.{new_row, new_rows, mode_of_new, file_of_new, with_new}
 use Rattle.flat_rows.specs.Changes.{without}
-use Rattle.flat_rows.specs.Files.{is_client, holder_of_file, is_open_by}
-use Rattle.flat_rows.proofs.Tests.{both, and, or_left, or_right, all_filtered}
-use Rattle.flat_rows.proofs.PathOrders.{less_is, same_path_is}
-use Rattle.flat_rows.proofs.Namespaces.{namespace_tests, ascending_filter}
+use Rattle.namespace_rows.specs.Files.{is_client, holder_of_file, is_open_by}
+use Rattle.namespace_rows.proofs.Tests.{both, and, or_left, or_right, all_filtered}
+use Rattle.namespace_rows.proofs.PathOrders.{less_is, same_path_is}
+use Rattle.namespace_rows.proofs.Namespaces.{namespace_tests, ascending_filter}
 use Rattle.flat_rows.proofs.NewDirectories.{longer_less, starts_self, last_all, ancestor_above, Beneath, beneath_parts}
 use Rattle.flat_rows.proofs.Changes.{any_kept}
 use Rattle.flat_rows.proofs.Changes as changes

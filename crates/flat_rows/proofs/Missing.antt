@@ -3,16 +3,16 @@ use Rattle.std.proofs.Common.{◌≡◌, ℕ, zero, suc, Bool, true, false, ◌&
 use Rattle.std.specs.Prelude.{filter, not}
 use Rattle.std.specs.List.{list_all, list_any}
 use Rattle.std.proofs.lemmas.Bool.{false≢true}
-use Rattle.hdfs_types.specs.Text.{same}
-use Rattle.hdfs_types.specs.Path.{is_prefix}
-use Rattle.hdfs_types.specs.PathOrder.{same_path}
-use Rattle.flat_rows.specs.declared.row.Row.{Row}
-use Rattle.flat_rows.specs.First.{first}
-use Rattle.flat_rows.specs.Rows.{is_directory, is_missing, is_none}
-use Rattle.flat_rows.specs.Namespace.{IsNamespace, is_child, has_parent, is_root, have_parents}
-use Rattle.flat_rows.proofs.Tests.{both, or_left, or_right}
-use Rattle.flat_rows.proofs.PathOrders.{same_path_is}
-use Rattle.flat_rows.proofs.Namespaces.{namespace_tests}
+use Rattle.hdfs_texts.specs.Text.{same}
+use Rattle.file_paths.specs.Path.{is_prefix}
+use Rattle.file_paths.specs.PathOrder.{same_path}
+use Rattle.namespace_rows.specs.declared.row.Row.{Row}
+use Rattle.namespace_rows.specs.First.{first}
+use Rattle.namespace_rows.specs.Rows.{is_directory, is_missing, is_none}
+use Rattle.namespace_rows.specs.Namespace.{IsNamespace, is_child, has_parent, is_root, have_parents}
+use Rattle.namespace_rows.proofs.Tests.{both, or_left, or_right}
+use Rattle.namespace_rows.proofs.PathOrders.{same_path_is}
+use Rattle.namespace_rows.proofs.Namespaces.{namespace_tests}
 use Rattle.flat_rows.proofs.Changes.{same_self}
 use Rattle.flat_rows.proofs.Moves.{parent_inside}
 

@@ -5,17 +5,17 @@ use Rattle.std.specs.List.{list_all, list_any}
 use Rattle.std.specs.Cmp.{tied_itself}
 use Rattle.std.specs.Ordering.{is_lt, is_eq, ordering_then}
 use Rattle.std.proofs.lemmas.Cmp.{nat_list_cmp_total}
-use Rattle.hdfs_types.specs.Text.{same, text_cmp}
-use Rattle.hdfs_types.specs.Path.{is_prefix}
-use Rattle.hdfs_types.specs.PathOrder.{path_cmp, same_path}
-use Rattle.hdfs_types.proofs.Texts.{same_is, same_self}
-use Rattle.flat_rows.specs.declared.row.Row.{Row}
-use Rattle.flat_rows.specs.Rows.{is_directory}
-use Rattle.flat_rows.specs.Namespace.{IsNamespace, is_ascending, is_before_all, is_child, has_parent, is_root, have_parents, suits_kind}
+use Rattle.hdfs_texts.specs.Text.{same, text_cmp}
+use Rattle.file_paths.specs.Path.{is_prefix}
+use Rattle.file_paths.specs.PathOrder.{path_cmp, same_path}
+use Rattle.hdfs_texts.proofs.Texts.{same_is, same_self}
+use Rattle.namespace_rows.specs.declared.row.Row.{Row}
+use Rattle.namespace_rows.specs.Rows.{is_directory}
+use Rattle.namespace_rows.specs.Namespace.{IsNamespace, is_ascending, is_before_all, is_child, has_parent, is_root, have_parents, suits_kind}
 use Rattle.flat_rows.specs.Changes.{rows_under, without, moved_row, moved}
-use Rattle.flat_rows.proofs.Tests.{both, and, or_left, or_right, all_filtered, all_kept}
-use Rattle.flat_rows.proofs.PathOrders.{child_starts}
-use Rattle.flat_rows.proofs.Namespaces.{namespace_tests, ascending_filter, replaced_rooted, replaced_ascending, replaced_held, replaced_suits}
+use Rattle.namespace_rows.proofs.Tests.{both, and, or_left, or_right, all_filtered, all_kept}
+use Rattle.namespace_rows.proofs.PathOrders.{child_starts}
+use Rattle.namespace_rows.proofs.Namespaces.{namespace_tests, ascending_filter, replaced_rooted, replaced_ascending, replaced_held, replaced_suits}
 use Rattle.flat_rows.proofs.Changes.{namespace_of, any_kept, without_held, without_rooted}
 
 -- paths with a common front

@@ -3,21 +3,21 @@ use Rattle.std.proofs.Common.{◌≡◌, ℕ, Bool, true, false, ◌&&◌, ◌||
 use Rattle.std.specs.Prelude.{filter, not}
 use Rattle.std.specs.List.{list_all, list_any, last_or}
 use Rattle.std.specs.Ordering.{is_lt, ordering_then}
-use Rattle.hdfs_types.specs.Text.{same, text_cmp}
-use Rattle.hdfs_types.specs.Path.{is_prefix, is_beneath}
-use Rattle.hdfs_types.specs.PathOrder.{path_cmp, same_path, paths_total}
-use Rattle.hdfs_types.proofs.Texts.{same_is, same_self}
+use Rattle.hdfs_texts.specs.Text.{same, text_cmp}
+use Rattle.file_paths.specs.Path.{is_prefix, is_beneath}
+use Rattle.file_paths.specs.PathOrder.{path_cmp, same_path, paths_total}
+use Rattle.hdfs_texts.proofs.Texts.{same_is, same_self}
 use Rattle.hdfs_types.specs.declared.reply.ObjectKind.TheVariants.{File}
-use Rattle.acl_entries.specs.AccessControlList.{AccessControlList, EntryList, suits_file}
+use Rattle.access_lists.specs.AccessControlList.{AccessControlList, EntryList, suits_file}
 use Rattle.default_acl.specs.Inheritance.{inherited, inherited_from}
-use Rattle.flat_rows.specs.declared.file_row.FileRow.{FileRow}
-use Rattle.flat_rows.specs.declared.row.Row.{Row}
-use Rattle.flat_rows.specs.First.{first}
-use Rattle.flat_rows.specs.Rows.{is_directory, is_directory_kind, file_above, ancestor}
-use Rattle.flat_rows.specs.Namespace.{is_ascending, is_before_all, is_child, has_parent, suits_parts, suits_kind, fits}
+use Rattle.namespace_rows.specs.declared.file_row.FileRow.{FileRow}
+use Rattle.namespace_rows.specs.declared.row.Row.{Row}
+use Rattle.namespace_rows.specs.First.{first}
+use Rattle.namespace_rows.specs.Rows.{is_directory, is_directory_kind, file_above, ancestor}
+use Rattle.namespace_rows.specs.Namespace.{is_ascending, is_before_all, is_child, has_parent, suits_parts, suits_kind, fits}
 use Rattle.flat_rows.specs.Outcome.{new_at, new_row, new_rows, mode_of_new, file_of_new, kind_of_new}
-use Rattle.flat_rows.proofs.Tests.{both, and, or_left, or_right, all_imp, all_filtered}
-use Rattle.flat_rows.proofs.PathOrders.{less_is}
+use Rattle.namespace_rows.proofs.Tests.{both, and, or_left, or_right, all_imp, all_filtered}
+use Rattle.namespace_rows.proofs.PathOrders.{less_is}
 
 -- paths
 

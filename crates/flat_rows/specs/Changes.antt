@@ -3,16 +3,16 @@
 use Rattle.std.specs.Prelude.{ℕ, Bool, true, ◌||◌, not, List, [], ◌∷◌, ◌++◌, map, filter, length, drop, if◌then◌else◌, Option, Some, None}
 use Rattle.std.specs.List.{list_all}
 use Rattle.std.specs.Option.{option_map}
-use Rattle.hdfs_types.specs.Path.{is_path, is_prefix}
-use Rattle.hdfs_types.specs.PathOrder.{same_path}
-use Rattle.acl_entries.specs.AccessControlList.{suits_file}
-use Rattle.flat_rows.specs.declared.row.Row.{Row}
-use Rattle.flat_rows.specs.declared.row.Change.{Change}
-use Rattle.flat_rows.specs.declared.row.Change.TheVariants as change
-use Rattle.flat_rows.specs.declared.file_row.FileRow.{FileRow}
-use Rattle.flat_rows.specs.Files.{with_state, with_replication}
-use Rattle.flat_rows.specs.Rows.{is_directory, replaced}
-use Rattle.flat_rows.specs.Namespace.{is_child}
+use Rattle.file_paths.specs.Path.{is_path, is_prefix}
+use Rattle.file_paths.specs.PathOrder.{same_path}
+use Rattle.access_lists.specs.AccessControlList.{suits_file}
+use Rattle.namespace_rows.specs.declared.row.Row.{Row}
+use Rattle.namespace_rows.specs.declared.row.Change.{Change}
+use Rattle.namespace_rows.specs.declared.row.Change.TheVariants as change
+use Rattle.namespace_rows.specs.declared.file_row.FileRow.{FileRow}
+use Rattle.namespace_rows.specs.Files.{with_state, with_replication}
+use Rattle.namespace_rows.specs.Rows.{is_directory, replaced}
+use Rattle.namespace_rows.specs.Namespace.{is_child}
 
 -- the rows at and beneath a path
 abbrev pub rows_under : List (List ℕ) → List Row → List Row

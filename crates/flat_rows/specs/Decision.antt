@@ -6,17 +6,17 @@ use Rattle.std.specs.List.{flat_map}
 use Rattle.std.specs.Option.{option_to_list}
 use Rattle.hdfs_types.specs.declared.op.Op.{Op}
 use Rattle.principals.specs.Principals.{Principals, Asking, caller_of}
-use Rattle.flat_rows.specs.declared.row.Row.{Row}
-use Rattle.flat_rows.specs.declared.need.Need.{Need}
-use Rattle.flat_rows.specs.declared.need.By.TheVariants as by
-use Rattle.flat_rows.specs.declared.demand.Role.{Role}
-use Rattle.flat_rows.specs.declared.demand.Role.TheVariants.{Traversed, Ancestor, Parent, Final, SubTree}
-use Rattle.flat_rows.specs.declared.demand.Condition.{Condition}
-use Rattle.flat_rows.specs.declared.demand.Condition.TheVariants.{Always, WhereMissing, WhereDirectory, WhereFile, WhereSticky, WhereOwnedByAnother}
+use Rattle.namespace_rows.specs.declared.row.Row.{Row}
+use Rattle.required_rights.specs.declared.need.Need.{Need}
+use Rattle.required_rights.specs.declared.need.By.TheVariants as by
+use Rattle.required_rights.specs.declared.demand.Role.{Role}
+use Rattle.required_rights.specs.declared.demand.Role.TheVariants.{Traversed, Ancestor, Parent, Final, SubTree}
+use Rattle.required_rights.specs.declared.demand.Condition.{Condition}
+use Rattle.required_rights.specs.declared.demand.Condition.TheVariants.{Always, WhereMissing, WhereDirectory, WhereFile, WhereSticky, WhereOwnedByAnother}
 use Rattle.flat_rows.specs.declared.trail.Judged.{Judged}
-use Rattle.flat_rows.specs.First.{first_answer}
-use Rattle.flat_rows.specs.Rows.{is_missing, has_directory, has_file, has_sticky_parent, has_other_owner, row_at, directories_above, directories_beneath, ancestor, directory_of, owner_above}
-use Rattle.flat_rows.specs.RequiredRights.{Demand, required_rights}
+use Rattle.namespace_rows.specs.First.{first_answer}
+use Rattle.namespace_rows.specs.Rows.{is_missing, has_directory, has_file, has_sticky_parent, has_other_owner, row_at, directories_above, directories_beneath, ancestor, directory_of, owner_above}
+use Rattle.required_rights.specs.RequiredRights.{Demand, required_rights}
 use Rattle.flat_rows.specs.Denied.{Decided, Denied, deciding, denial_at}
 
 -- the rows of the components that have a role on a path, in path order

@@ -2,15 +2,15 @@
 -- and for whom it was judged.
 -- (HDFS Permissions Guide, "Permission Checks" and "The Sticky Bit".)
 use Rattle.std.specs.Prelude.{◌≡◌, ℕ, Bool, false, ◌||◌, List, [], if◌then◌else◌, Option, Some, None}
-use Rattle.hdfs_types.specs.Text.{same}
-use Rattle.hdfs_types.specs.Groups.{has_group}
-use Rattle.acl_entries.specs.JudgedEntry.{Judgement}
-use Rattle.flat_rows.specs.Judgement.{judgement}
-use Rattle.flat_rows.specs.declared.row.Row.{Row}
-use Rattle.flat_rows.specs.declared.need.Need.{Need}
-use Rattle.flat_rows.specs.declared.need.Need.TheVariants as need
-use Rattle.flat_rows.specs.declared.need.By.{By}
-use Rattle.flat_rows.specs.declared.need.By.TheVariants as by
+use Rattle.hdfs_texts.specs.Text.{same}
+use Rattle.principal_names.specs.Groups.{has_group}
+use Rattle.access_lists.specs.JudgedEntry.{Judgement}
+use Rattle.namespace_rows.specs.Judgement.{judgement}
+use Rattle.namespace_rows.specs.declared.row.Row.{Row}
+use Rattle.required_rights.specs.declared.need.Need.{Need}
+use Rattle.required_rights.specs.declared.need.Need.TheVariants as need
+use Rattle.required_rights.specs.declared.need.By.{By}
+use Rattle.required_rights.specs.declared.need.By.TheVariants as by
 
 -- what decides, and whether the need is met
 pub record Decided : Type 0 where

@@ -2,7 +2,7 @@
 -- may take it over.
 -- (HDFS Architecture, "The File System Namespace" and "Data Replication"; the limits of leases are this project's profile.)
 use Rattle.std.specs.Prelude.{ℕ, Bool, true, false, ◌&&◌, ◌||◌, not, List, [], ◌∷◌, length, filter, if◌then◌else◌, Option, Some, None}
-use Rattle.hdfs_types.specs.Text.{same}
+use Rattle.hdfs_texts.specs.Text.{same}
 use Rattle.hdfs_types.specs.declared.file.FileState.{FileState}
 use Rattle.hdfs_types.specs.declared.file.FileState.TheVariants.{Closed, Open, Recovering}
 use Rattle.hdfs_types.specs.declared.file.FileDetail.{FileDetail}
@@ -11,12 +11,12 @@ use Rattle.hdfs_types.specs.declared.reply.Reply.{Reply}
 use Rattle.hdfs_types.specs.declared.reply.Reply.TheVariants as reply
 use Rattle.hdfs_types.specs.declared.reply.Refusal.{Refusal}
 use Rattle.hdfs_types.specs.declared.reply.Refusal.TheVariants.{IsDirectory, Exists, LeaseHeld, RecoveryRunning, NoLease, NotOpen, NotYetReplicated, TooFewNodes}
-use Rattle.flat_rows.specs.declared.file_row.FileBlock.{FileBlock}
-use Rattle.flat_rows.specs.declared.file_row.FileRow.{FileRow}
-use Rattle.flat_rows.specs.declared.row.Row.{Row}
-use Rattle.flat_rows.specs.declared.row.Change.TheVariants as change
-use Rattle.flat_rows.specs.Rows.{is_directory}
-use Rattle.flat_rows.specs.Files.{length_of, ends_uncommitted, holder_of, holder_of_file}
+use Rattle.namespace_rows.specs.declared.file_row.FileBlock.{FileBlock}
+use Rattle.namespace_rows.specs.declared.file_row.FileRow.{FileRow}
+use Rattle.namespace_rows.specs.declared.row.Row.{Row}
+use Rattle.namespace_rows.specs.declared.row.Change.TheVariants as change
+use Rattle.namespace_rows.specs.Rows.{is_directory}
+use Rattle.namespace_rows.specs.Files.{length_of, ends_uncommitted, holder_of, holder_of_file}
 use Rattle.flat_rows.specs.Changes.{changed}
 
 -- how the leases of clients stand when a request is judged

@@ -1,10 +1,3 @@
-pub mod First
-pub mod Files
-pub mod Rows
-pub mod Namespace
-pub mod Opening
-pub mod RequiredRights
-pub mod NeedText
 pub mod Denied
 pub mod DenialText
 pub mod Decision
@@ -13,5 +6,3 @@ pub mod Kept
 pub mod Changes
 pub mod FileOutcome
 pub mod Outcome
-pub mod Demands
-pub mod Judgement

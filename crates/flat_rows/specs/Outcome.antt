@@ -4,11 +4,11 @@
 use Rattle.std.specs.Prelude.{ℕ, ◌+◌, Bool, true, false, ◌&&◌, ◌||◌, not, List, [], ◌∷◌, ◌++◌, map, filter, length, drop, if◌then◌else◌, Option, Some, None, unwrap_or, Result, Ok, Err}
 use Rattle.std.specs.Option.{option_map}
 use Rattle.std.specs.Result.{result_err}
-use Rattle.hdfs_types.specs.Mode.{for_missing_parent}
-use Rattle.hdfs_types.specs.Path.{is_prefix}
+use Rattle.permission_bits.specs.Mode.{for_missing_parent}
+use Rattle.file_paths.specs.Path.{is_prefix}
 use Rattle.hdfs_types.specs.declared.op.Op.{Op}
 use Rattle.hdfs_types.specs.declared.op.Op.TheVariants as op
-use Rattle.hdfs_types.specs.declared.acl_change.AclChange.{AclChange}
+use Rattle.acl_specs.specs.declared.acl_change.AclChange.{AclChange}
 use Rattle.hdfs_types.specs.declared.reply.ObjectKind.{ObjectKind}
 use Rattle.hdfs_types.specs.declared.reply.ObjectKind.TheVariants.{Directory, File}
 use Rattle.hdfs_types.specs.declared.file.FileState.TheVariants.{Closed}
@@ -16,21 +16,21 @@ use Rattle.hdfs_types.specs.declared.reply.Reply.{Reply}
 use Rattle.hdfs_types.specs.declared.reply.Reply.TheVariants as reply
 use Rattle.hdfs_types.specs.declared.reply.Refusal.{Refusal}
 use Rattle.hdfs_types.specs.declared.reply.Refusal.TheVariants.{BadPath, NotFound, NotDirectory, Exists, NotEmpty, IsRoot, UnderItself, NoLease, TooFewNodes}
-use Rattle.acl_entries.specs.AccessControlList.{AccessControlList, shown_mode, has_acl, entries}
+use Rattle.access_lists.specs.AccessControlList.{AccessControlList, shown_mode, has_acl, entries}
 use Rattle.acl_entries.specs.SpecText.{spec_text}
-use Rattle.default_acl.specs.AclChange.{acl_change, with_mode}
+use Rattle.partial_acl.specs.AclChange.{acl_change, with_mode}
 use Rattle.default_acl.specs.Inheritance.{inherited}
 use Rattle.principals.specs.Principals.{Principals, refusal_of_new, refusal_of_known, with_user, with_groups}
-use Rattle.flat_rows.specs.declared.row.Row.{Row}
+use Rattle.namespace_rows.specs.declared.row.Row.{Row}
 use Rattle.flat_rows.specs.declared.verdict.Verdict.{Verdict}
 use Rattle.flat_rows.specs.declared.verdict.Verdict.TheVariants.{Done, Denied, Refused}
-use Rattle.flat_rows.specs.First.{first_answer}
-use Rattle.flat_rows.specs.Rows.{is_directory, is_none, row_at, file_above, directory_of, ancestor, with_sub_tree}
-use Rattle.flat_rows.specs.Namespace.{is_root}
-use Rattle.flat_rows.specs.declared.file_row.FileRow.{FileRow}
-use Rattle.flat_rows.specs.declared.row.Change.TheVariants as change
+use Rattle.namespace_rows.specs.First.{first_answer}
+use Rattle.namespace_rows.specs.Rows.{is_directory, is_none, row_at, file_above, directory_of, ancestor, with_sub_tree}
+use Rattle.namespace_rows.specs.Namespace.{is_root}
+use Rattle.namespace_rows.specs.declared.file_row.FileRow.{FileRow}
+use Rattle.namespace_rows.specs.declared.row.Change.TheVariants as change
 use Rattle.flat_rows.specs.Changes.{rows_under, child_names, last_name, without, moved_row, moved, rewritten, are_paths}
-use Rattle.flat_rows.specs.Files.{new_file, has_open_file}
+use Rattle.namespace_rows.specs.Files.{new_file, has_open_file}
 use Rattle.flat_rows.specs.FileOutcome.{LeaseFacts, directory_there, file_there, of_file, refused_takeover, refused_write, refused_commit, detail_of_row, bytes_of, bytes_at, appended_reply, holder_at, state_after_append, is_expired, closed_where_expired}
 use Rattle.flat_rows.specs.Denied as denied
 use Rattle.flat_rows.specs.Decision.{decision}

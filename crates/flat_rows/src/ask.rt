@@ -1,16 +1,16 @@
 ghost use Rattle.std.specs.Prelude.{◌≡◌, map, IfOk, OnOk, ◌++◌};
 ghost use Rattle.std.specs.List.{flat_map};
 ghost use Rattle.std.specs.Option.{option_copied, option_to_list};
-ghost use Rattle.flat_rows.specs.Rows as rows_spec;
+ghost use Rattle.namespace_rows.specs.Rows as rows_spec;
 ghost use Rattle.flat_rows.specs.Decision as spec;
 
-use crate::demand::{Condition, Demand, Role};
-use crate::need::Need;
-use crate::row::Row;
-use crate::rows::{ancestor, directory_of, owner_above, row_at};
-use hdfs_types::name::Name;
-use hdfs_types::path::{is_prefix, is_proper_prefix};
-use hdfs_types::who::Who;
+use file_paths::name::Name;
+use file_paths::path::{is_prefix, is_proper_prefix};
+use namespace_rows::row::Row;
+use namespace_rows::rows::{ancestor, directory_of, owner_above, row_at};
+use principal_names::who::Who;
+use required_rights::demand::{Condition, Demand, Role};
+use required_rights::need::Need;
 use std::alloc::{AllocError, Global};
 use std::marker::Model;
 

@@ -1,15 +1,15 @@
 ghost use Rattle.std.specs.Prelude.{◌≡◌, IfOk};
-ghost use Rattle.flat_rows.specs.First.{first_answer};
+ghost use Rattle.namespace_rows.specs.First.{first_answer};
 ghost use Rattle.flat_rows.specs.Decision as spec;
 
 use crate::ask::{Ask, asks_of};
-use crate::demand::needs_of;
 use crate::denial::{Denial, is_met};
-use crate::rows::Rows;
 use hdfs_types::op::Op;
-use hdfs_types::who::Who;
+use namespace_rows::rows::Rows;
+use principal_names::who::Who;
 use principals::caller::Caller;
 use principals::users::Users;
+use required_rights::demand::needs_of;
 use std::alloc::{AllocError, Global};
 
 fn denial_of(alloc: Global, caller: &Caller, ask: &Ask) -> Result<Option<Denial>, AllocError>

@@ -1,11 +1,11 @@
 ghost use Rattle.std.specs.Prelude.{◌≡◌, false, Some, IfOk};
 ghost use Rattle.flat_rows.specs.Denied.{IsDenied, deciding, denial_at};
 
-use crate::need::{By, Need};
-use crate::row::Row;
-use hdfs_types::groups::{Groups, has_group};
-use hdfs_types::path::Path;
-use hdfs_types::who::Who;
+use file_paths::path::Path;
+use namespace_rows::row::Row;
+use principal_names::groups::{Groups, has_group};
+use principal_names::who::Who;
+use required_rights::need::{By, Need};
 use std::alloc::{AllocError, Global};
 use std::fmt;
 use std::marker::Model;

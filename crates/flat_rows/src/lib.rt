@@ -4,11 +4,9 @@
 
 pub mod ask;
 pub mod decision;
-pub mod demand;
 pub mod denial;
-pub mod file_row;
-pub mod need;
-pub mod row;
-pub mod rows;
 pub mod trail;
 pub mod verdict;
+
+pub use namespace_rows::{file_row, row, rows};
+pub use required_rights::{demand, need};

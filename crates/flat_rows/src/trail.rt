@@ -2,21 +2,21 @@ ghost use Rattle.std.specs.Prelude.{◌≡◌, ℕ, true, List, Some, None, IfOk
 ghost use Rattle.std.specs.Option.{is_some};
 ghost use Rattle.hdfs_types.specs.declared.op.Op as asked;
 ghost use Rattle.principals.specs.Principals.{Principals};
-ghost use Rattle.flat_rows.specs.declared.row.Row.{Row};
+ghost use Rattle.namespace_rows.specs.declared.row.Row.{Row};
 ghost use Rattle.flat_rows.specs.Denied.{Denied};
 ghost use Rattle.flat_rows.specs.Decision as spec;
 ghost use Rattle.flat_rows.specs.Laws as law;
 
 use crate::ask::{Ask, asks_of};
-use crate::demand::needs_of;
 use crate::denial::{by_of, is_met};
-use crate::need::{By, Need};
-use crate::rows::Rows;
+use file_paths::path::Path;
 use hdfs_types::op::Op;
-use hdfs_types::path::Path;
-use hdfs_types::who::Who;
+use namespace_rows::rows::Rows;
+use principal_names::who::Who;
 use principals::caller::Caller;
 use principals::users::Users;
+use required_rights::demand::needs_of;
+use required_rights::need::{By, Need};
 use std::alloc::{AllocError, Global};
 use std::fmt;
 

@@ -4,15 +4,15 @@ use Rattle.std.specs.Prelude.{filter, not}
 use Rattle.std.specs.List.{slice_get}
 use Rattle.std.specs.Option.{option_to_list}
 use Rattle.std.proofs.lemmas.Option.{slice_get-get_or}
-use Rattle.hdfs_types.specs.Path.{is_prefix}
-use Rattle.hdfs_types.specs.PathOrder.{same_path}
-use Rattle.hdfs_types.proofs.Texts.{same_self}
-use Rattle.flat_rows.specs.declared.row.Row.{Row}
-use Rattle.flat_rows.specs.First.{first}
-use Rattle.flat_rows.specs.Rows.{is_missing, is_none}
+use Rattle.file_paths.specs.Path.{is_prefix}
+use Rattle.file_paths.specs.PathOrder.{same_path}
+use Rattle.hdfs_texts.proofs.Texts.{same_self}
+use Rattle.namespace_rows.specs.declared.row.Row.{Row}
+use Rattle.namespace_rows.specs.First.{first}
+use Rattle.namespace_rows.specs.Rows.{is_missing, is_none}
 use Rattle.flat_rows.specs.Changes.{last_name, rows_under}
 use Rattle.flat_rows.specs.Outcome.{own_name, is_alone}
-use Rattle.flat_rows.proofs.PathOrders.{same_path_is}
+use Rattle.namespace_rows.proofs.PathOrders.{same_path_is}
 
 pub parted : {X : Type 0} (p : X → Bool) (xs : List X) → length (filter p xs) + length (filter (λ x. not (p x)) xs) ≡ length xs
 parted p [] = refl

@@ -7,11 +7,11 @@ use Rattle.hdfs_types.specs.declared.reply.Refusal.{Refusal}
 use Rattle.hdfs_types.specs.declared.reply.Refusal.TheVariants.{NotDirectory, IsRoot}
 use Rattle.hdfs_types.specs.declared.reply.Reply.{Reply}
 use Rattle.principals.specs.Principals.{Principals}
-use Rattle.flat_rows.specs.declared.row.Row.{Row}
+use Rattle.namespace_rows.specs.declared.row.Row.{Row}
 use Rattle.flat_rows.specs.declared.verdict.Verdict.TheVariants.{Done}
 use Rattle.flat_rows.specs.Denied.{Denied}
-use Rattle.flat_rows.specs.Rows.{row_at, file_above}
-use Rattle.flat_rows.specs.Namespace.{is_root}
+use Rattle.namespace_rows.specs.Rows.{row_at, file_above}
+use Rattle.namespace_rows.specs.Namespace.{is_root}
 use Rattle.flat_rows.specs.FileOutcome.{LeaseFacts, directory_there}
 use Rattle.flat_rows.specs.Decision.{decision}
 use Rattle.flat_rows.specs.Outcome.{step, beneath_file, refused_where, first_refusal, reply_of, rows_after, users_after, refused_or_done, denied_or_outcome}

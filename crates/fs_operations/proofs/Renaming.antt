@@ -3,21 +3,21 @@ use Rattle.std.proofs.Common.{◌≡◌, ℕ, Bool, true, false, ◌&&◌, ◌||
 use Rattle.std.specs.Prelude.{filter, not}
 use Rattle.std.specs.List.{list_all}
 use Rattle.std.specs.Option.{option_or}
-use Rattle.hdfs_types.specs.Path.{is_prefix}
-use Rattle.hdfs_types.specs.PathOrder.{same_path}
-use Rattle.hdfs_types.proofs.Texts.{same_self}
+use Rattle.file_paths.specs.Path.{is_prefix}
+use Rattle.file_paths.specs.PathOrder.{same_path}
+use Rattle.hdfs_texts.proofs.Texts.{same_self}
 use Rattle.hdfs_types.specs.declared.op.Op.TheVariants.{Rename}
 use Rattle.hdfs_types.specs.declared.reply.Refusal.{Refusal}
 use Rattle.principals.specs.Principals.{Principals}
-use Rattle.flat_rows.specs.declared.row.Row.{Row}
-use Rattle.flat_rows.specs.First.{first}
-use Rattle.flat_rows.specs.Rows.{is_directory, is_none, is_missing, row_at, if_directory, directory_of}
-use Rattle.flat_rows.specs.Namespace.{is_child, has_parent}
+use Rattle.namespace_rows.specs.declared.row.Row.{Row}
+use Rattle.namespace_rows.specs.First.{first}
+use Rattle.namespace_rows.specs.Rows.{is_directory, is_none, is_missing, row_at, if_directory, directory_of}
+use Rattle.namespace_rows.specs.Namespace.{is_child, has_parent}
 use Rattle.flat_rows.specs.Changes.{are_paths}
 use Rattle.flat_rows.specs.FileOutcome.{LeaseFacts}
 use Rattle.flat_rows.specs.Outcome.{refused_where, nothing_at, something_at, beneath_file, first_refusal, rows_moved}
-use Rattle.flat_rows.proofs.Tests.{both, or_right}
-use Rattle.flat_rows.proofs.PathOrders.{same_path_is}
+use Rattle.namespace_rows.proofs.Tests.{both, or_right}
+use Rattle.namespace_rows.proofs.PathOrders.{same_path_is}
 
 -- none of two is none of either
 pub neither : {X : Type 0} (a b : Option X) → option_or a b ≡ None → (a ≡ None) × (b ≡ None)

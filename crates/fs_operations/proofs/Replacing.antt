@@ -5,27 +5,27 @@ use Rattle.std.specs.List.{last_or}
 use Rattle.std.specs.Option.{option_map}
 use Rattle.std.specs.Ordering.{is_gt, is_lt, ordering_reverse}
 use Rattle.std.specs.declared.cmp.Ordering.TheVariants.{Less, Greater}
-use Rattle.hdfs_types.specs.Path.{is_beneath, is_prefix, parent_of}
-use Rattle.hdfs_types.specs.PathOrder.{path_cmp, same_path, paths_total}
-use Rattle.hdfs_types.specs.Text.{same}
-use Rattle.hdfs_types.proofs.Texts.{same_is, same_self}
+use Rattle.file_paths.specs.Path.{is_beneath, is_prefix, parent_of}
+use Rattle.file_paths.specs.PathOrder.{path_cmp, same_path, paths_total}
+use Rattle.hdfs_texts.specs.Text.{same}
+use Rattle.hdfs_texts.proofs.Texts.{same_is, same_self}
 use Rattle.hdfs_types.specs.declared.reply.ObjectKind.TheVariants.{File}
 use Rattle.hdfs_types.specs.declared.reply.Refusal.TheVariants.{IsDirectory}
-use Rattle.acl_entries.specs.AccessControlList.{AccessControlList}
+use Rattle.access_lists.specs.AccessControlList.{AccessControlList}
 use Rattle.default_acl.specs.Inheritance.{inherited}
-use Rattle.flat_rows.specs.declared.file_row.FileRow.{FileRow}
-use Rattle.flat_rows.specs.declared.row.Row.{Row}
-use Rattle.flat_rows.specs.First.{first}
-use Rattle.flat_rows.specs.Rows.{is_directory, is_none, is_missing, row_at, ancestor, with_sub_tree}
-use Rattle.flat_rows.specs.Namespace.{is_root, is_rooted, is_child, has_parent, have_parents, is_before_all, is_ascending}
+use Rattle.namespace_rows.specs.declared.file_row.FileRow.{FileRow}
+use Rattle.namespace_rows.specs.declared.row.Row.{Row}
+use Rattle.namespace_rows.specs.First.{first}
+use Rattle.namespace_rows.specs.Rows.{is_directory, is_none, is_missing, row_at, ancestor, with_sub_tree}
+use Rattle.namespace_rows.specs.Namespace.{is_root, is_rooted, is_child, has_parent, have_parents, is_before_all, is_ascending}
 use Rattle.flat_rows.specs.Changes.{last_name}
 use Rattle.flat_rows.specs.FileOutcome.{directory_there}
 use Rattle.flat_rows.specs.Outcome.{new_at, new_rows, with_new}
-use Rattle.flat_rows.proofs.Tests.{both, and}
-use Rattle.flat_rows.proofs.PathOrders.{same_path_is, less_is, starts_upto}
+use Rattle.namespace_rows.proofs.Tests.{both, and}
+use Rattle.namespace_rows.proofs.PathOrders.{same_path_is, less_is, starts_upto}
 use Rattle.flat_rows.proofs.Changes.{same_self as same_path_self}
-use Rattle.flat_rows.proofs.Namespaces.{namespace_tests}
-use Rattle.inode_tree.specs.Tree.{IsTree}
+use Rattle.namespace_rows.proofs.Namespaces.{namespace_tests}
+use Rattle.inode_visits.specs.Tree.{IsTree}
 use Rattle.fs_operations.proofs.Renaming.{first_passes, first_found}
 
 -- the path without its last name

@@ -6,10 +6,10 @@ use Rattle.hdfs_types.specs.declared.op.Op.{Op}
 use Rattle.hdfs_types.specs.declared.op.Op.TheVariants.{Delete}
 use Rattle.hdfs_types.specs.declared.reply.Refusal.{Refusal}
 use Rattle.principals.specs.Principals.{Principals, Asking, caller_of}
-use Rattle.flat_rows.specs.declared.row.Row.{Row}
-use Rattle.flat_rows.specs.RequiredRights.{Demand, required_rights}
-use Rattle.flat_rows.specs.Rows.{row_at}
-use Rattle.flat_rows.specs.Namespace.{is_root}
+use Rattle.namespace_rows.specs.declared.row.Row.{Row}
+use Rattle.required_rights.specs.RequiredRights.{Demand, required_rights}
+use Rattle.namespace_rows.specs.Rows.{row_at}
+use Rattle.namespace_rows.specs.Namespace.{is_root}
 use Rattle.flat_rows.specs.FileOutcome.{LeaseFacts}
 use Rattle.flat_rows.specs.Outcome.{step, beneath_file, nothing_at, refusal_of_missing, first_refusal}
 use Rattle.fs_operations.specs.Judged.{judged_step}

@@ -6,15 +6,15 @@ use Rattle.hdfs_types.specs.declared.op.Op.TheVariants.{Append}
 use Rattle.hdfs_types.specs.declared.reply.Refusal.{Refusal}
 use Rattle.hdfs_types.specs.declared.reply.Refusal.TheVariants.{IsDirectory}
 use Rattle.principals.specs.Principals.{Principals, Asking}
-use Rattle.flat_rows.specs.declared.file_row.FileRow.{FileRow}
-use Rattle.flat_rows.specs.declared.row.Row.{Row}
-use Rattle.flat_rows.specs.Rows.{row_at}
-use Rattle.flat_rows.specs.Files.{holder_of, holder_of_file}
+use Rattle.namespace_rows.specs.declared.file_row.FileRow.{FileRow}
+use Rattle.namespace_rows.specs.declared.row.Row.{Row}
+use Rattle.namespace_rows.specs.Rows.{row_at}
+use Rattle.namespace_rows.specs.Files.{holder_of, holder_of_file}
 use Rattle.flat_rows.specs.FileOutcome.{LeaseFacts, directory_there, of_file, if_some_file, refused_takeover, appended_reply, holder_at}
-use Rattle.flat_rows.specs.RequiredRights.{Demand}
+use Rattle.required_rights.specs.RequiredRights.{Demand}
 use Rattle.flat_rows.specs.Decision.{denial_among}
 use Rattle.flat_rows.specs.Outcome.{first_some, beneath_file, nothing_at, refusal_of_missing, refusals_of_file, first_refusal, reply_of, refused_or_done, denied_or_outcome}
-use Rattle.inode_tree.specs.Tree.{IsTree}
+use Rattle.inode_visits.specs.Tree.{IsTree}
 use Rattle.fs_operations.specs.Found.{file_at_row, IsFileThere}
 use Rattle.fs_operations.specs.Judged.{judged_step, refused_or}
 use Rattle.fs_operations.proofs.Suiting.{row_suits, no_directory, is_directory_without}

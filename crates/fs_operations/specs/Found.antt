@@ -1,8 +1,8 @@
 -- What has a path, or the refusal of one that nothing has; and the same of a file.
 use Rattle.std.specs.Prelude.{◌≡◌, ℕ, List, Option, Some, None}
-use Rattle.flat_rows.specs.declared.file_row.FileRow.{FileRow}
-use Rattle.flat_rows.specs.declared.row.Row.{Row}
-use Rattle.flat_rows.specs.Rows.{row_at}
+use Rattle.namespace_rows.specs.declared.file_row.FileRow.{FileRow}
+use Rattle.namespace_rows.specs.declared.row.Row.{Row}
+use Rattle.namespace_rows.specs.Rows.{row_at}
 use Rattle.flat_rows.specs.Outcome.{first_some, refusal_of_missing, refusals_of_file}
 use Rattle.fs_operations.specs.declared.found.Found.{Found}
 use Rattle.fs_operations.specs.declared.found.Found.TheVariants.{There, Refused}

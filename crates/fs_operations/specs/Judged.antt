@@ -8,10 +8,10 @@ use Rattle.hdfs_types.specs.declared.reply.Refusal.TheVariants.{LeaseHeld}
 use Rattle.hdfs_types.specs.declared.reply.Reply.{Reply}
 use Rattle.hdfs_types.specs.declared.reply.Reply.TheVariants.{Released}
 use Rattle.principals.specs.Principals.{Principals, Asking}
-use Rattle.flat_rows.specs.declared.row.Row.{Row}
+use Rattle.namespace_rows.specs.declared.row.Row.{Row}
 use Rattle.flat_rows.specs.declared.verdict.Verdict as answer
 use Rattle.flat_rows.specs.declared.verdict.Verdict.TheVariants.{Done, Refused}
-use Rattle.flat_rows.specs.RequiredRights.{Demand}
+use Rattle.required_rights.specs.RequiredRights.{Demand}
 use Rattle.flat_rows.specs.Decision.{denial_among}
 use Rattle.flat_rows.specs.FileOutcome.{LeaseFacts, refused_recovery}
 use Rattle.flat_rows.specs.Outcome.{Step, denied_or_outcome, step}

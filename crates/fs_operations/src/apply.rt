@@ -1,17 +1,17 @@
 ghost use Rattle.std.specs.Prelude.{◌≡◌, true, IfOk, OnErr};
 ghost use Rattle.hdfs_types.specs.Request.{is_look, keeps_leases};
 ghost use Rattle.flat_rows.specs.FileOutcome.{LeaseFacts};
-ghost use Rattle.flat_rows.specs.RequiredRights.{required_rights};
+ghost use Rattle.required_rights.specs.RequiredRights.{required_rights};
 ghost use Rattle.flat_rows.specs.Outcome as spec;
 
 use crate::change::{
     add_user, mkdirs, rename, set_acl, set_groups, set_mode, set_owner, set_replication,
 };
 use crate::look::{get_acl, list, open, stat, summary};
-use flat_rows::demand::{Needs, needs_of};
+use required_rights::demand::{Needs, needs_of};
 use flat_rows::verdict::Verdict;
 use hdfs_types::op::{Op, Request};
-use hdfs_types::who::Who;
+use principal_names::who::Who;
 use inode_tree::tree::Tree;
 use principals::users::Users;
 use std::alloc::{AllocError, Global};

@@ -1,9 +1,9 @@
 ghost use Rattle.std.specs.Prelude.{ℕ, List, IfOk};
-ghost use Rattle.flat_rows.specs.declared.row.Row.{Row};
+ghost use Rattle.namespace_rows.specs.declared.row.Row.{Row};
 ghost use Rattle.perm_walk.specs.Reached.{IsReach};
 ghost use Rattle.fs_operations.specs.Found.{IsFound, IsFoundFile};
 
-use flat_rows::file_row::FileRow;
+use namespace_rows::file_row::FileRow;
 use hdfs_types::reply::Refusal;
 use perm_walk::component::Component;
 use perm_walk::reach::Reach;

@@ -3,10 +3,10 @@ use crate::paths::{parsed, path_of};
 use crate::requests::{MAKER, SUPERUSER, request};
 use acl_entries::spec_text::parse_spec;
 use anyhow::{Context, Result};
-use hdfs_types::acl_change::AclChange;
+use acl_specs::acl_change::AclChange;
 use hdfs_types::op::Op;
-use hdfs_types::path::Path;
-use hdfs_types::spec::Spec;
+use file_paths::path::Path;
+use acl_specs::spec::Spec;
 use std::alloc::Global;
 
 /// Eight entries. Only that of the named user lets the reader through. The maker is let through as the owner, and by the named

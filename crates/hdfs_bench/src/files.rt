@@ -3,7 +3,7 @@ use crate::paths::path_of;
 use crate::requests::{READER, adding_user, mode, request, request_at};
 use anyhow::{Context, Result};
 use hdfs_types::op::{Op, Request};
-use hdfs_types::replication::Repl;
+use block_numbers::replication::Repl;
 use std::alloc::Global;
 
 /// How many clients write files, by turns.

@@ -1,7 +1,7 @@
 ghost use Rattle.std.specs.Prelude.{◌<◌};
 
 use anyhow::{Context, Result};
-use hdfs_types::path::Path;
+use file_paths::path::Path;
 use std::alloc::Global;
 
 pub fn parsed(alloc: Global, text: &str) -> Result<Path> {

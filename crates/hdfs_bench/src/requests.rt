@@ -1,11 +1,11 @@
 use crate::paths::{parsed, path_of};
 use crate::timed::Timed;
 use anyhow::{Context, Result};
-use hdfs_types::groups::Groups;
-use hdfs_types::mode::Mode;
-use hdfs_types::moment::Moment;
+use principal_names::groups::Groups;
+use permission_bits::mode::Mode;
+use block_numbers::moment::Moment;
 use hdfs_types::op::{Op, Request};
-use hdfs_types::who::Who;
+use principal_names::who::Who;
 use std::alloc::Global;
 use std::time::{Clock, Duration, Instant};
 

@@ -4,7 +4,7 @@ use crate::paths::{jumping, path_of};
 use crate::requests::{MAKER, Requests, request, time_requests};
 use crate::timed::Timed;
 use anyhow::Result;
-use hdfs_types::acl_change::AclChange;
+use acl_specs::acl_change::AclChange;
 use hdfs_types::op::{Op, Request};
 use std::alloc::Global;
 use std::time::Clock;

@@ -10,7 +10,7 @@ use crate::timed::Timed;
 use crate::workload::Workload;
 use flat_rows::verdict::Verdict;
 use hdfs_cli::script::run_script;
-use hdfs_types::acl_change::AclChange;
+use acl_specs::acl_change::AclChange;
 use hdfs_types::op::{Op, Request};
 use hdfs_types::reply::Reply;
 use history::entry::Answer;

@@ -4,10 +4,10 @@ use block_tokens::cache::KeyCache;
 use block_tokens::grant::Grant;
 use block_tokens::key::Key;
 use block_tokens::ring::KeyRing;
-use hdfs_types::ids::{BlockId, Serial};
-use hdfs_types::modes::Modes;
-use hdfs_types::moment::Moment;
-use hdfs_types::who::Who;
+use block_numbers::ids::{BlockId, Serial};
+use permission_bits::modes::Modes;
+use block_numbers::moment::Moment;
+use principal_names::who::Who;
 use std::alloc::Global;
 use std::time::{Clock, Instant};
 

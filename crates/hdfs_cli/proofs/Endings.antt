@@ -5,7 +5,7 @@ use Rattle.std.specs.List.{flat_map, slice_split}
 use Rattle.std.specs.Io.KnownBytes.{Appends}
 use Rattle.std.proofs.lemmas.List.Splits.{length-slice_split}
 use Rattle.std.proofs.lemmas.List.Concat.{flat_map-append}
-use Rattle.hdfs_types.specs.declared.fault.IllFormed.{IllFormed}
+use Rattle.hdfs_texts.specs.declared.fault.IllFormed.{IllFormed}
 use Rattle.hdfs_types.specs.declared.op.Request.{Request}
 use Rattle.history.specs.Config.{standard}
 use Rattle.hdfs_cli.specs.Words.{lines_of, is_skipped, words_of, without_return}

@@ -2,7 +2,7 @@
 use Rattle.std.proofs.Common.{◌≡◌, ℕ, List, [], ◌∷◌, refl, Bor, length, map, take, drop, sym, ap, ◌∙◌, min, Option, Some}
 use Rattle.std.proofs.lemmas.List.{take-map, drop-map, take_min, drop_min}
 use Rattle.hdfs_types.specs.declared.op.Request.{Request}
-use Rattle.flat_rows.specs.declared.row.Row.{Row}
+use Rattle.namespace_rows.specs.declared.row.Row.{Row}
 use Rattle.flat_rows.specs.Changes.{rows_under}
 use Rattle.hdfs_cli.specs.declared.explain.Explained.TheVariants.{Trail}
 use Rattle.hdfs_cli.specs.Output.{after_lines, status_of}

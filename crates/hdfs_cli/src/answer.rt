@@ -1,7 +1,7 @@
 ghost use Rattle.std.specs.Prelude.{◌≡◌, Some};
 
 use flat_rows::verdict::Verdict;
-use hdfs_types::fault::IllFormed;
+use hdfs_texts::fault::IllFormed;
 use hdfs_types::reply::Reply;
 use std::fmt;
 

@@ -1,12 +1,12 @@
 ghost use Rattle.std.specs.Prelude.{◌≡◌, map};
-ghost use Rattle.hdfs_types.specs.Parsed.{Parses};
+ghost use Rattle.hdfs_texts.specs.Parsed.{Parses};
 ghost use Rattle.hdfs_cli.specs.LineForms.{Forms};
 ghost use Rattle.hdfs_cli.specs.Script as spec;
 
 use crate::words::{is_word, pieces_between};
-use hdfs_types::fault::{IllFormed, ParseFault};
-use hdfs_types::groups::Groups;
-use hdfs_types::who::Who;
+use hdfs_texts::fault::{IllFormed, ParseFault};
+use principal_names::groups::Groups;
+use principal_names::who::Who;
 use std::alloc::Global;
 
 /// The groups that pieces name, in their order.

@@ -6,16 +6,16 @@ ghost use Rattle.hdfs_cli.specs.Words.{words_of};
 use crate::acl_words::{bare_change, change_by, wants_none, wants_spec};
 use crate::groups_word::groups_word;
 use crate::words::{is_word, words_in};
-use hdfs_types::fault::{IllFormed, ParseFault};
+use hdfs_texts::fault::{IllFormed, ParseFault};
 use hdfs_types::file::LastBlock;
-use hdfs_types::ids::BlockId;
-use hdfs_types::mode::Mode;
-use hdfs_types::moment::Moment;
-use hdfs_types::number::number_of;
+use block_numbers::ids::BlockId;
+use permission_bits::mode::Mode;
+use block_numbers::moment::Moment;
+use hdfs_texts::number::number_of;
 use hdfs_types::op::{Op, Request};
-use hdfs_types::path::Path;
-use hdfs_types::replication::Repl;
-use hdfs_types::who::Who;
+use file_paths::path::Path;
+use block_numbers::replication::Repl;
+use principal_names::who::Who;
 use std::alloc::{AllocError, Global};
 
 fn moment_word(word: &str) -> Result<Moment, ParseFault>

@@ -1,9 +1,9 @@
 ghost use Rattle.std.specs.Prelude.{◌≡◌, Some};
 
-use crate::ids::{BlockId, Stamp};
-use crate::moment::Moment;
-use crate::replication::Repl;
-use crate::who::Who;
+use block_numbers::ids::{BlockId, Stamp};
+use block_numbers::moment::Moment;
+use block_numbers::replication::Repl;
+use principal_names::who::Who;
 use std::alloc::AllocError;
 use std::fmt;
 

@@ -2,22 +2,13 @@
 //! moments, requests and replies. Each text that is read has one grammar with the text that is printed.
 #![tactic(auto)]
 
-pub mod acl_change;
-pub mod entry;
-pub mod fault;
 pub mod file;
-pub mod groups;
-pub mod ids;
-pub mod mode;
-pub mod modes;
-pub mod moment;
-pub mod name;
-pub mod node_id;
-pub mod number;
 pub mod op;
-pub mod path;
-pub mod replication;
 pub mod reply;
-pub mod rights;
-pub mod spec;
-pub mod who;
+
+pub use acl_specs::{acl_change, entry, spec};
+pub use block_numbers::{ids, moment, replication};
+pub use file_paths::{name, path};
+pub use hdfs_texts::{fault, number};
+pub use permission_bits::{mode, modes, rights};
+pub use principal_names::{groups, node_id, who};

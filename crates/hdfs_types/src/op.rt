@@ -1,14 +1,14 @@
 ghost use Rattle.std.specs.Prelude.{◌≡◌, IfOk};
 ghost use Rattle.hdfs_types.specs.Request as spec;
 
-use crate::acl_change::AclChange;
 use crate::file::LastBlock;
-use crate::groups::Groups;
-use crate::mode::Mode;
-use crate::moment::Moment;
-use crate::path::Path;
-use crate::replication::Repl;
-use crate::who::Who;
+use acl_specs::acl_change::AclChange;
+use block_numbers::moment::Moment;
+use block_numbers::replication::Repl;
+use file_paths::path::Path;
+use permission_bits::mode::Mode;
+use principal_names::groups::Groups;
+use principal_names::who::Who;
 use std::alloc::AllocError;
 
 /// What a request to the NameNode asks for, one variant a verb.

@@ -1,12 +1,12 @@
 ghost use Rattle.std.specs.Prelude.{◌≡◌, Some, IfOk};
 ghost use Rattle.std.specs.String.{string_bytes};
 
-use crate::fault::AclFault;
 use crate::file::FileDetail;
-use crate::mode::Mode;
-use crate::name::Name;
-use crate::path::Path;
-use crate::who::Who;
+use file_paths::name::Name;
+use file_paths::path::Path;
+use hdfs_texts::fault::AclFault;
+use permission_bits::mode::Mode;
+use principal_names::who::Who;
 use std::alloc::AllocError;
 use std::fmt;
 use std::marker::Model;

@@ -3,19 +3,19 @@ use Rattle.std.proofs.Common.{◌≡◌, ℕ, Bool, true, false, ◌||◌, List,
 use Rattle.std.specs.List.{list_all, list_any, last_or}
 use Rattle.std.specs.Ordering.{is_lt, ordering_reverse}
 use Rattle.std.specs.Cmp.{tied_itself}
-use Rattle.hdfs_types.proofs.Texts.{same_self as name_self}
-use Rattle.hdfs_types.specs.Path.{is_prefix, is_beneath}
-use Rattle.hdfs_types.specs.PathOrder.{path_cmp, same_path, paths_total}
+use Rattle.hdfs_texts.proofs.Texts.{same_self as name_self}
+use Rattle.file_paths.specs.Path.{is_prefix, is_beneath}
+use Rattle.file_paths.specs.PathOrder.{path_cmp, same_path, paths_total}
 use Rattle.hdfs_types.specs.declared.reply.Refusal.TheVariants.{IsDirectory}
-use Rattle.flat_rows.specs.declared.row.Row.{Row}
-use Rattle.flat_rows.specs.First.{first}
-use Rattle.flat_rows.specs.Rows.{is_missing, is_none, is_directory, row_at, ancestor}
-use Rattle.flat_rows.specs.Namespace.{IsNamespace, is_ascending, is_before_all, is_root}
+use Rattle.namespace_rows.specs.declared.row.Row.{Row}
+use Rattle.namespace_rows.specs.First.{first}
+use Rattle.namespace_rows.specs.Rows.{is_missing, is_none, is_directory, row_at, ancestor}
+use Rattle.namespace_rows.specs.Namespace.{IsNamespace, is_ascending, is_before_all, is_root}
 use Rattle.flat_rows.specs.Changes.{rows_under}
 use Rattle.flat_rows.specs.FileOutcome.{directory_there}
-use Rattle.flat_rows.proofs.Tests.{both, and, or_left, or_right, all_imp}
-use Rattle.flat_rows.proofs.PathOrders.{same_path_is, less_is}
-use Rattle.flat_rows.proofs.Namespaces.{namespace_tests, ascending_filter}
+use Rattle.namespace_rows.proofs.Tests.{both, and, or_left, or_right, all_imp}
+use Rattle.namespace_rows.proofs.PathOrders.{same_path_is, less_is}
+use Rattle.namespace_rows.proofs.Namespaces.{namespace_tests, ascending_filter}
 use Rattle.flat_rows.proofs.Changes.{same_self}
 use Rattle.flat_rows.proofs.Missing.{missing_above}
 use Rattle.flat_rows.proofs.NewDirectories.{longer_less, starts_onward}

@@ -4,13 +4,13 @@ use Rattle.std.proofs.lemmas.List.Elements.{filter-append}
 use Rattle.std.proofs.lemmas.List.{length-append}
 use Rattle.std.specs.List.{list_all}
 use Rattle.std.specs.Ordering.{is_lt, is_gt}
-use Rattle.hdfs_types.specs.Path.{is_prefix}
-use Rattle.hdfs_types.specs.PathOrder.{path_cmp}
-use Rattle.flat_rows.specs.declared.row.Row.{Row}
-use Rattle.flat_rows.specs.Rows.{is_before, is_beyond, replaced}
+use Rattle.file_paths.specs.Path.{is_prefix}
+use Rattle.file_paths.specs.PathOrder.{path_cmp}
+use Rattle.namespace_rows.specs.declared.row.Row.{Row}
+use Rattle.namespace_rows.specs.Rows.{is_before, is_beyond, replaced}
 use Rattle.flat_rows.specs.Changes.{rows_under, without}
-use Rattle.flat_rows.proofs.Tests.{both}
-use Rattle.flat_rows.proofs.PathOrders.{starts_upto, tied_starts}
+use Rattle.namespace_rows.proofs.Tests.{both}
+use Rattle.namespace_rows.proofs.PathOrders.{starts_upto, tied_starts}
 
 abbrev pub count : (Row → Bool) → List Row → ℕ
 count p rows = length (filter p rows)

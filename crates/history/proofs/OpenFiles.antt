@@ -4,24 +4,24 @@ use Rattle.std.proofs.lemmas.List.{take-append-drop}
 use Rattle.std.specs.Option.{option_map, option_to_list}
 use Rattle.std.proofs.lemmas.Bool.{lt-ltb}
 use Rattle.std.specs.Ordering.{is_lt, is_eq}
-use Rattle.hdfs_types.specs.Text.{same}
-use Rattle.hdfs_types.specs.Path.{is_prefix}
-use Rattle.hdfs_types.specs.PathOrder.{path_cmp, same_path}
+use Rattle.hdfs_texts.specs.Text.{same}
+use Rattle.file_paths.specs.Path.{is_prefix}
+use Rattle.file_paths.specs.PathOrder.{path_cmp, same_path}
 use Rattle.hdfs_types.specs.declared.file.FileState.{FileState}
 use Rattle.hdfs_types.specs.declared.file.FileState.TheVariants.{Closed}
-use Rattle.flat_rows.specs.declared.file_row.FileRow.{FileRow}
-use Rattle.flat_rows.specs.declared.row.Row.{Row}
-use Rattle.flat_rows.specs.declared.row.Change.{Change}
-use Rattle.flat_rows.specs.declared.row.Change.TheVariants as change
-use Rattle.flat_rows.specs.First.{first}
-use Rattle.flat_rows.specs.Rows.{is_missing, row_at, ancestor, replaced}
-use Rattle.flat_rows.specs.Namespace.{IsNamespace, is_ascending, is_before_all}
-use Rattle.flat_rows.specs.Files.{holder_of, holder_of_file, is_client, is_open_by, has_open_file, holders, with_state, with_replication}
+use Rattle.namespace_rows.specs.declared.file_row.FileRow.{FileRow}
+use Rattle.namespace_rows.specs.declared.row.Row.{Row}
+use Rattle.namespace_rows.specs.declared.row.Change.{Change}
+use Rattle.namespace_rows.specs.declared.row.Change.TheVariants as change
+use Rattle.namespace_rows.specs.First.{first}
+use Rattle.namespace_rows.specs.Rows.{is_missing, row_at, ancestor, replaced}
+use Rattle.namespace_rows.specs.Namespace.{IsNamespace, is_ascending, is_before_all}
+use Rattle.namespace_rows.specs.Files.{holder_of, holder_of_file, is_client, is_open_by, has_open_file, holders, with_state, with_replication}
 use Rattle.flat_rows.specs.FileOutcome.{LeaseFacts, is_expired, closed_where_expired}
 use Rattle.flat_rows.specs.Outcome.{new_rows, new_row, mode_of_new, with_new}
 use Rattle.flat_rows.specs.Changes.{rows_under, without, moved_row, moved, changed, rewritten}
-use Rattle.flat_rows.proofs.Tests.{both, all_kept}
-use Rattle.flat_rows.proofs.PathOrders.{same_path_is, less_is}
+use Rattle.namespace_rows.proofs.Tests.{both, all_kept}
+use Rattle.namespace_rows.proofs.PathOrders.{same_path_is, less_is}
 use Rattle.flat_rows.proofs.NewDirectories.{beneath_parts, ancestor_above}
 use Rattle.history.proofs.Counting.{count, bit, count_head, count_map, count_kept, count_replaced, count_without}
 use Rattle.history.proofs.Apart.{missing_apart, none_under, under_top}

@@ -1,12 +1,12 @@
 -- Entries that change nothing but the clock.
 use Rattle.std.proofs.Common.{◌≡◌, ℕ, true, false, ◌&&◌, List, ◌∷◌, Some, refl, ap, cond}
-use Rattle.hdfs_types.specs.Text.{same}
+use Rattle.hdfs_texts.specs.Text.{same}
 use Rattle.hdfs_types.specs.Request.{is_look}
 use Rattle.hdfs_types.specs.declared.op.Op.{Op}
 use Rattle.hdfs_types.specs.declared.op.Op.TheVariants.{Mkdirs, Stat, List as Lists, Summary, GetAcl, Delete, Rename, SetMode, SetOwner, SetAcl, AddUser, SetGroups, Create, Append, AddBlock, Complete, Open, SetReplication, Renew, Tick}
 use Rattle.hdfs_types.specs.declared.reply.Reply.{Reply}
 use Rattle.principals.specs.Principals.{Principals}
-use Rattle.flat_rows.specs.declared.row.Row.{Row}
+use Rattle.namespace_rows.specs.declared.row.Row.{Row}
 use Rattle.flat_rows.specs.declared.verdict.Verdict.{Verdict}
 use Rattle.flat_rows.specs.declared.verdict.Verdict.TheVariants.{Done, Denied, Refused}
 use Rattle.flat_rows.specs.FileOutcome.{LeaseFacts}

@@ -2,9 +2,9 @@
 use Rattle.std.proofs.Common.{◌≡◌, ℕ, Bool, true, false, ◌&&◌, ◌||◌, List, [], ◌∷◌, Option, Some, None, refl, sym, ap, ◌∙◌, cond}
 use Rattle.std.specs.Option.{option_map}
 use Rattle.std.specs.Ordering.{is_lt, is_eq}
-use Rattle.hdfs_types.specs.Text.{same}
-use Rattle.hdfs_types.proofs.Texts.{same_is}
-use Rattle.hdfs_types.specs.PathOrder.{path_cmp, same_path}
+use Rattle.hdfs_texts.specs.Text.{same}
+use Rattle.hdfs_texts.proofs.Texts.{same_is}
+use Rattle.file_paths.specs.PathOrder.{path_cmp, same_path}
 use Rattle.hdfs_types.specs.declared.op.Op.{Op}
 use Rattle.hdfs_types.specs.declared.op.Op.TheVariants as op
 use Rattle.hdfs_types.specs.declared.file.FileState.{FileState}
@@ -12,20 +12,20 @@ use Rattle.hdfs_types.specs.declared.file.FileState.TheVariants.{Closed, Open, R
 use Rattle.hdfs_types.specs.declared.reply.Refusal.{Refusal}
 use Rattle.hdfs_types.specs.declared.reply.Refusal.TheVariants.{LeaseHeld, NotDirectory, IsDirectory}
 use Rattle.principals.specs.Principals.{Principals}
-use Rattle.flat_rows.specs.declared.file_row.FileBlock.{FileBlock}
-use Rattle.flat_rows.specs.declared.file_row.FileRow.{FileRow}
-use Rattle.flat_rows.specs.declared.row.Row.{Row}
+use Rattle.namespace_rows.specs.declared.file_row.FileBlock.{FileBlock}
+use Rattle.namespace_rows.specs.declared.file_row.FileRow.{FileRow}
+use Rattle.namespace_rows.specs.declared.row.Row.{Row}
 use Rattle.flat_rows.specs.declared.verdict.Verdict.{Verdict}
 use Rattle.flat_rows.specs.declared.verdict.Verdict.TheVariants.{Refused}
 use Rattle.flat_rows.specs.Denied as denied
 use Rattle.flat_rows.specs.Decision.{decision}
-use Rattle.flat_rows.specs.Rows.{row_at, file_above, is_directory}
-use Rattle.flat_rows.specs.Namespace.{is_ascending, is_before_all}
-use Rattle.flat_rows.specs.Files.{holder_of, holder_of_file, is_open_by, is_client, ends_uncommitted}
+use Rattle.namespace_rows.specs.Rows.{row_at, file_above, is_directory}
+use Rattle.namespace_rows.specs.Namespace.{is_ascending, is_before_all}
+use Rattle.namespace_rows.specs.Files.{holder_of, holder_of_file, is_open_by, is_client, ends_uncommitted}
 use Rattle.flat_rows.specs.FileOutcome.{LeaseFacts, directory_there, if_some_file, of_file, refused_append, refused_recovery, refused_takeover, holder_at}
 use Rattle.flat_rows.specs.Outcome.{beneath_file, nothing_at, first_some, denied_or_outcome, refused_or_done, step}
-use Rattle.flat_rows.proofs.Tests.{both}
-use Rattle.flat_rows.proofs.PathOrders.{same_path_is, less_is}
+use Rattle.namespace_rows.proofs.Tests.{both}
+use Rattle.namespace_rows.proofs.PathOrders.{same_path_is, less_is}
 use Rattle.history.specs.Laws.{is_done, writes}
 
 -- ---- one writer

@@ -3,15 +3,15 @@
 -- (HDFS Architecture, the single-writer model; that a client is a user is this project's profile.)
 use Rattle.std.specs.Prelude.{ℕ, Bool, true, false, ◌&&◌, max, List, [], ◌∷◌, if◌then◌else◌, Option, Some, None}
 use Rattle.std.specs.Option.{option_map}
-use Rattle.hdfs_types.specs.Text.{same}
+use Rattle.hdfs_texts.specs.Text.{same}
 use Rattle.hdfs_types.specs.declared.op.Op.{Op}
 use Rattle.hdfs_types.specs.declared.op.Op.TheVariants as op
 use Rattle.hdfs_types.specs.declared.reply.Reply.{Reply}
 use Rattle.hdfs_types.specs.declared.reply.Reply.TheVariants as reply
-use Rattle.flat_rows.specs.declared.row.Row.{Row}
+use Rattle.namespace_rows.specs.declared.row.Row.{Row}
 use Rattle.flat_rows.specs.declared.verdict.Verdict.{Verdict}
 use Rattle.flat_rows.specs.declared.verdict.Verdict.TheVariants.{Done, Denied, Refused}
-use Rattle.flat_rows.specs.Files.{has_open_file}
+use Rattle.namespace_rows.specs.Files.{has_open_file}
 use Rattle.flat_rows.specs.FileOutcome.{LeaseFacts}
 use Rattle.lease_manager.specs.Lease.{Limits, lease_state}
 use Rattle.lease_manager.specs.declared.leases.LeaseState.{LeaseState}

@@ -1,17 +1,17 @@
 -- Laws about histories, which follow from their definitions.
 use Rattle.std.specs.Prelude.{◌≡◌, ℕ, Bool, true, false, ◌&&◌, List, ◌∷◌, Some, None}
 use Rattle.std.specs.List.{list_any}
-use Rattle.hdfs_types.specs.PathOrder.{same_path}
+use Rattle.file_paths.specs.PathOrder.{same_path}
 use Rattle.hdfs_types.specs.Request.{is_look}
 use Rattle.hdfs_types.specs.declared.op.Op.TheVariants as op
 use Rattle.hdfs_types.specs.declared.op.Request.{Request}
 use Rattle.hdfs_types.specs.declared.reply.Refusal.TheVariants.{LeaseHeld}
-use Rattle.flat_rows.specs.declared.row.Row.{Row}
+use Rattle.namespace_rows.specs.declared.row.Row.{Row}
 use Rattle.flat_rows.specs.declared.verdict.Verdict.{Verdict}
 use Rattle.flat_rows.specs.declared.verdict.Verdict.TheVariants.{Done, Denied, Refused}
-use Rattle.flat_rows.specs.Rows.{row_at, file_above, is_directory}
-use Rattle.flat_rows.specs.Namespace.{IsNamespace}
-use Rattle.flat_rows.specs.Files.{is_open_by}
+use Rattle.namespace_rows.specs.Rows.{row_at, file_above, is_directory}
+use Rattle.namespace_rows.specs.Namespace.{IsNamespace}
+use Rattle.namespace_rows.specs.Files.{is_open_by}
 use Rattle.flat_rows.specs.FileOutcome.{holder_at}
 use Rattle.flat_rows.specs.Decision.{decision}
 use Rattle.history.specs.declared.entry.HistoryEntry.{HistoryEntry}

@@ -2,11 +2,11 @@
 use Rattle.std.specs.Prelude.{ℕ, Bool, List, [], ◌∷◌, codes, Option}
 use Rattle.hdfs_types.specs.declared.op.Op.{Op}
 use Rattle.principals.specs.Principals.{Principals}
-use Rattle.flat_rows.specs.declared.row.Row.{Row}
+use Rattle.namespace_rows.specs.declared.row.Row.{Row}
 use Rattle.flat_rows.specs.declared.verdict.Verdict.{Verdict}
 use Rattle.flat_rows.specs.declared.verdict.Verdict.TheVariants.{Done, Denied, Refused}
-use Rattle.flat_rows.specs.Opening.{root_row}
-use Rattle.flat_rows.specs.Files.{has_open_file}
+use Rattle.namespace_rows.specs.Opening.{root_row}
+use Rattle.namespace_rows.specs.Files.{has_open_file}
 use Rattle.flat_rows.specs.FileOutcome.{LeaseFacts}
 use Rattle.flat_rows.specs.Outcome.{rows_after, users_after}
 use Rattle.history.specs.declared.entry.HistoryEntry.{HistoryEntry}

@@ -3,24 +3,24 @@ use Rattle.std.proofs.Common.{◌≡◌, ℕ, Bool, true, not, List, [], ◌∷�
 use Rattle.std.proofs.lemmas.List.{length-map}
 use Rattle.std.specs.List.{filter, list_all}
 use Rattle.std.specs.Option.{option_map}
-use Rattle.hdfs_types.specs.Path.{is_path, IsPath}
-use Rattle.flat_rows.specs.declared.row.Row.{Row}
-use Rattle.flat_rows.specs.Files.{told_length, holders}
+use Rattle.file_paths.specs.Path.{is_path, IsPath}
+use Rattle.namespace_rows.specs.declared.row.Row.{Row}
+use Rattle.namespace_rows.specs.Files.{told_length, holders}
 use Rattle.flat_rows.specs.Outcome.{bytes_in}
-use Rattle.flat_rows.specs.First.{first}
-use Rattle.flat_rows.specs.Rows.{is_directory}
-use Rattle.flat_rows.specs.Namespace.{is_ascending}
+use Rattle.namespace_rows.specs.First.{first}
+use Rattle.namespace_rows.specs.Rows.{is_directory}
+use Rattle.namespace_rows.specs.Namespace.{is_ascending}
 use Rattle.flat_rows.specs.Changes.{rows_under, child_names, are_paths}
-use Rattle.flat_rows.proofs.Tests.{both, all_kept}
-use Rattle.flat_rows.proofs.Namespaces.{namespace_tests}
-use Rattle.inode_tree.specs.Branch.{Branch, rows, rows_or, placed}
-use Rattle.inode_tree.specs.Part.{IsWhole}
-use Rattle.inode_tree.specs.Tree.{IsTree}
-use Rattle.inode_tree.specs.Visits.{told, counts_of}
-use Rattle.inode_tree.specs.declared.visit.Counts.{Counts}
-use Rattle.inode_tree.proofs.Filters.{filter-map, inside}
-use Rattle.inode_tree.proofs.Visits.{bytes_map, holders_map}
-use Rattle.inode_tree.proofs.Children.{part_ascending, child_names_whole}
+use Rattle.namespace_rows.proofs.Tests.{both, all_kept}
+use Rattle.namespace_rows.proofs.Namespaces.{namespace_tests}
+use Rattle.inode_nodes.specs.Branch.{Branch, rows, rows_or, placed}
+use Rattle.inode_nodes.specs.Part.{IsWhole}
+use Rattle.inode_visits.specs.Tree.{IsTree}
+use Rattle.inode_visits.specs.Visits.{told, counts_of}
+use Rattle.inode_visits.specs.declared.visit.Counts.{Counts}
+use Rattle.inode_nodes.proofs.Filters.{filter-map, inside}
+use Rattle.inode_visits.proofs.Visits.{bytes_map, holders_map}
+use Rattle.inode_nodes.proofs.Children.{part_ascending, child_names_whole}
 
 abbrev made : ℕ → ℕ → ℕ → Counts
 made directories files bytes = record { directories = told directories; files = told files; bytes = told_length bytes }

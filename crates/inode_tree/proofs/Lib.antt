@@ -1,14 +1,2 @@
-pub mod Split
-pub mod Filters
-pub mod Parts
-pub mod Wholes
-pub mod Levels
-pub mod Through
-pub mod Makes
 pub mod Trees
-pub mod Moves
-pub mod Visits
-pub mod Closings
-pub mod Children
 pub mod Asked
-pub mod Limits

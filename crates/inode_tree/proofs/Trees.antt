@@ -3,28 +3,28 @@ use Rattle.std.proofs.Common.{◌≡◌, ℕ, Bool, true, false, ◌||◌, not, 
 use Rattle.std.proofs.lemmas.Bool.{false≢true}
 use Rattle.std.proofs.lemmas.List.{append-nil}
 use Rattle.std.specs.declared.alloc.AllocError.{AllocError}
-use Rattle.hdfs_types.specs.Path.{IsPath, is_prefix}
+use Rattle.file_paths.specs.Path.{IsPath, is_prefix}
 use Rattle.hdfs_types.specs.declared.file.FileState.TheVariants.{Closed}
-use Rattle.acl_entries.specs.AccessControlList.{AccessControlList, suits_file}
-use Rattle.flat_rows.specs.declared.file_row.FileRow.{FileRow}
-use Rattle.flat_rows.specs.declared.row.Change.{Change}
-use Rattle.flat_rows.specs.declared.row.Row.{Row}
-use Rattle.flat_rows.specs.Rows.{is_directory_kind, is_missing, row_at, file_above, ancestor, replaced, with_sub_tree}
-use Rattle.flat_rows.specs.Namespace.{has_parent, is_root, suits_parts, suits_kind, fits}
+use Rattle.access_lists.specs.AccessControlList.{AccessControlList, suits_file}
+use Rattle.namespace_rows.specs.declared.file_row.FileRow.{FileRow}
+use Rattle.namespace_rows.specs.declared.row.Change.{Change}
+use Rattle.namespace_rows.specs.declared.row.Row.{Row}
+use Rattle.namespace_rows.specs.Rows.{is_directory_kind, is_missing, row_at, file_above, ancestor, replaced, with_sub_tree}
+use Rattle.namespace_rows.specs.Namespace.{has_parent, is_root, suits_parts, suits_kind, fits}
 use Rattle.flat_rows.specs.FileOutcome.{is_expired, closed_where_expired}
 use Rattle.flat_rows.specs.Outcome.{kind_of_new, with_new}
 use Rattle.flat_rows.specs.Changes.{are_paths, rows_under, without, moved_row, moved, rewritten, suits_change}
-use Rattle.flat_rows.proofs.Tests.{and}
-use Rattle.flat_rows.proofs.Namespaces.{with_sub_tree_namespace}
+use Rattle.namespace_rows.proofs.Tests.{and}
+use Rattle.namespace_rows.proofs.Namespaces.{with_sub_tree_namespace}
 use Rattle.flat_rows.proofs.NewDirectories.{missing_fit}
 use Rattle.flat_rows.proofs.Moves.{moved_namespace}
 use Rattle.flat_rows.proofs.Missing.{missing_above}
 use Rattle.flat_rows.proofs.Changes.{without_namespace, without_paths, replaced_paths, with_sub_tree_paths, row_fits, missing_paths, rewritten_namespace, rewritten_paths, closed_namespace, closed_paths}
-use Rattle.inode_tree.specs.Branch.{Branch, rows, row_of, placed, with_rows}
-use Rattle.inode_tree.specs.Change.{grafted}
-use Rattle.inode_tree.specs.Expired.{past_hard}
-use Rattle.inode_tree.specs.Tree.{IsTree}
-use Rattle.inode_tree.proofs.Through.{put_top, on_ok, on_err}
+use Rattle.inode_nodes.specs.Branch.{Branch, rows, row_of, placed, with_rows}
+use Rattle.inode_nodes.specs.Change.{grafted}
+use Rattle.inode_nodes.specs.Expired.{past_hard}
+use Rattle.inode_visits.specs.Tree.{IsTree}
+use Rattle.inode_nodes.proofs.Through.{put_top, on_ok, on_err}
 
 pub sub_tree_tree : (block all : List Row) → fits all block ≡ true → are_paths block ≡ true → IsTree all → IsTree (with_sub_tree all block)
 sub_tree_tree block all fit paths tree = record { namespace = with_sub_tree_namespace all block tree.namespace fit; paths = with_sub_tree_paths block all paths tree.paths }

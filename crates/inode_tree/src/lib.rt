@@ -2,11 +2,6 @@
 //! File System Namespace").
 #![tactic(auto)]
 
-mod change;
-mod expired;
-mod expired_holders;
-pub mod inode;
-mod limit;
-mod node;
 pub mod tree;
-pub mod visit;
+
+pub use inode_visits::{inode, visit};

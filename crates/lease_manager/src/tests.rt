@@ -2,9 +2,9 @@ ghost use Rattle.std.specs.Prelude.{◌≡◌, ◌≤◌, ◌^◌, IfOk};
 ghost use Rattle.lease_manager.specs.Lease.{latest};
 
 use crate::leases::{LeaseState, Leases};
-use hdfs_types::moment::Moment;
+use block_numbers::moment::Moment;
 use hdfs_types::reply::Refusal;
-use hdfs_types::who::Who;
+use principal_names::who::Who;
 use std::alloc::Global;
 use std::process::Abort;
 use std::test::Fail;

@@ -9,26 +9,26 @@ use Rattle.std.specs.Ordering.{ordering_reverse}
 use Rattle.std.specs.BTreeMap.{BTreeMap, get}
 use Rattle.std.specs.Map.{keys_of}
 use Rattle.std.specs.Option.{option_map}
-use Rattle.hdfs_types.specs.Text.{same}
-use Rattle.hdfs_types.specs.PathOrder.{path_cmp, same_path, paths_total}
+use Rattle.hdfs_texts.specs.Text.{same}
+use Rattle.file_paths.specs.PathOrder.{path_cmp, same_path, paths_total}
 use Rattle.hdfs_types.specs.declared.file.FileState.TheVariants.{Closed}
-use Rattle.hdfs_types.proofs.Texts.{same_is, same_self}
-use Rattle.flat_rows.specs.declared.file_row.FileRow.{FileRow}
-use Rattle.flat_rows.specs.declared.row.Row.{Row}
-use Rattle.flat_rows.specs.declared.row.Change.TheVariants as change
-use Rattle.flat_rows.specs.First.{first}
-use Rattle.flat_rows.specs.Rows.{row_at}
-use Rattle.flat_rows.specs.Namespace.{IsNamespace, is_ascending, is_before_all}
-use Rattle.flat_rows.specs.Files.{holder_of, holder_of_file, is_client, is_open_by, ends_uncommitted, with_state}
+use Rattle.hdfs_texts.proofs.Texts.{same_is, same_self}
+use Rattle.namespace_rows.specs.declared.file_row.FileRow.{FileRow}
+use Rattle.namespace_rows.specs.declared.row.Row.{Row}
+use Rattle.namespace_rows.specs.declared.row.Change.TheVariants as change
+use Rattle.namespace_rows.specs.First.{first}
+use Rattle.namespace_rows.specs.Rows.{row_at}
+use Rattle.namespace_rows.specs.Namespace.{IsNamespace, is_ascending, is_before_all}
+use Rattle.namespace_rows.specs.Files.{holder_of, holder_of_file, is_client, is_open_by, ends_uncommitted, with_state}
 use Rattle.flat_rows.specs.FileOutcome.{LeaseFacts, holder_at, is_expired, is_expired_file, closed_where_expired}
 use Rattle.flat_rows.specs.FileOutcome as outcome
 use Rattle.flat_rows.specs.Changes.{changed, rewritten, suits_change}
-use Rattle.flat_rows.proofs.Tests.{both, and}
+use Rattle.namespace_rows.proofs.Tests.{both, and}
 use Rattle.flat_rows.proofs.Changes.{rewritten_namespace}
-use Rattle.flat_rows.proofs.Namespaces.{namespace_tests}
-use Rattle.flat_rows.proofs.PathOrders.{same_path_is}
-use Rattle.inode_tree.specs.Expired.{is_among}
-use Rattle.inode_tree.specs.Expired as tree
+use Rattle.namespace_rows.proofs.Namespaces.{namespace_tests}
+use Rattle.namespace_rows.proofs.PathOrders.{same_path_is}
+use Rattle.inode_nodes.specs.Expired.{is_among}
+use Rattle.inode_nodes.specs.Expired as tree
 use Rattle.history.proofs.Counting.{count, bit, count_head}
 use Rattle.history.proofs.OpenFiles.{count_rewritten, behind, opens}
 use Rattle.name_core.specs.declared.writers.Writers.{Writers}

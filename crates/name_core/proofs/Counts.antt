@@ -4,8 +4,8 @@ use Rattle.std.specs.Cmp.{IsEquivalence}
 use Rattle.std.specs.Map.{lookup, set_value}
 use Rattle.std.specs.Option.{IsSome, is_some}
 use Rattle.std.proofs.lemmas.Map.{lookup-set_value}
-use Rattle.hdfs_types.specs.Text.{same}
-use Rattle.hdfs_types.proofs.Texts.{same_is, same_self, same_symm}
+use Rattle.hdfs_texts.specs.Text.{same}
+use Rattle.hdfs_texts.proofs.Texts.{same_is, same_self, same_symm}
 use Rattle.name_core.specs.Writers.{count_of, HasRoom}
 
 same_laws : IsEquivalence same

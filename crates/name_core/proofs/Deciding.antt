@@ -2,7 +2,7 @@
 use Rattle.std.proofs.Common.{◌≡◌, ℕ, Bool, true, false, List, Option, refl, sym, ap, ◌∙◌}
 use Rattle.hdfs_types.specs.declared.op.Op.{Op}
 use Rattle.principals.specs.Principals.{Principals}
-use Rattle.flat_rows.specs.declared.row.Row.{Row}
+use Rattle.namespace_rows.specs.declared.row.Row.{Row}
 use Rattle.flat_rows.specs.declared.verdict.Verdict as answer
 use Rattle.flat_rows.specs.FileOutcome.{LeaseFacts}
 use Rattle.flat_rows.specs.Outcome.{step}

@@ -5,11 +5,11 @@ use Rattle.hdfs_types.specs.declared.file.LastBlock.{LastBlock}
 use Rattle.hdfs_types.specs.declared.file.FileState.TheVariants.{Closed, Open}
 use Rattle.lease_manager.specs.Lease.{renewed}
 use Rattle.principals.specs.Principals.{Principals}
-use Rattle.flat_rows.specs.declared.row.Row.{Row}
-use Rattle.flat_rows.specs.declared.row.Change.TheVariants as change
-use Rattle.flat_rows.specs.Rows.{row_at, ancestor}
-use Rattle.flat_rows.specs.Namespace.{IsNamespace}
-use Rattle.flat_rows.specs.Files.{new_file, holders}
+use Rattle.namespace_rows.specs.declared.row.Row.{Row}
+use Rattle.namespace_rows.specs.declared.row.Change.TheVariants as change
+use Rattle.namespace_rows.specs.Rows.{row_at, ancestor}
+use Rattle.namespace_rows.specs.Namespace.{IsNamespace}
+use Rattle.namespace_rows.specs.Files.{new_file, holders}
 use Rattle.flat_rows.specs.FileOutcome.{LeaseFacts, holder_at, state_after_append, appended_reply, is_expired, closed_where_expired}
 use Rattle.flat_rows.specs.Outcome.{with_new}
 use Rattle.flat_rows.specs.Changes.{rows_under, rewritten, without}

@@ -2,9 +2,9 @@
 use Rattle.std.proofs.Common.{◌≡◌, ℕ, ◌+◌, ◌-◌, Bool, true, false, List, [], ◌∷◌, filter, length, not, Option, Some, None, arith, refl, sym, ap, ◌∙◌, subst, cond}
 use Rattle.std.specs.List.{list_all}
 use Rattle.std.specs.Option.{option_or, option_map}
-use Rattle.hdfs_types.specs.Text.{same}
-use Rattle.hdfs_types.proofs.Texts.{same_is, same_symm}
-use Rattle.hdfs_types.specs.PathOrder.{same_path}
+use Rattle.hdfs_texts.specs.Text.{same}
+use Rattle.hdfs_texts.proofs.Texts.{same_is, same_symm}
+use Rattle.file_paths.specs.PathOrder.{same_path}
 use Rattle.hdfs_types.specs.declared.op.Op.TheVariants as op
 use Rattle.hdfs_types.specs.declared.file.FileState.{FileState}
 use Rattle.hdfs_types.specs.declared.file.FileState.TheVariants.{Closed, Open, Recovering}
@@ -12,18 +12,18 @@ use Rattle.hdfs_types.specs.declared.file.LastBlock.{LastBlock}
 use Rattle.hdfs_types.specs.declared.reply.Refusal.{Refusal}
 use Rattle.hdfs_types.specs.declared.reply.Refusal.TheVariants.{IsDirectory, IsRoot, NoLease, NotDirectory}
 use Rattle.principals.specs.Principals.{Principals}
-use Rattle.flat_rows.specs.declared.file_row.FileRow.{FileRow}
-use Rattle.flat_rows.specs.declared.row.Row.{Row}
-use Rattle.flat_rows.specs.declared.row.Change.TheVariants as change
-use Rattle.flat_rows.specs.First.{first}
-use Rattle.flat_rows.specs.Rows.{is_directory, row_at, ancestor, file_above}
-use Rattle.flat_rows.specs.Namespace.{IsNamespace, suits_kind, suits_parts, is_root}
-use Rattle.flat_rows.specs.Files.{new_file, holder_of, holder_of_file, is_client, open_files, holders}
+use Rattle.namespace_rows.specs.declared.file_row.FileRow.{FileRow}
+use Rattle.namespace_rows.specs.declared.row.Row.{Row}
+use Rattle.namespace_rows.specs.declared.row.Change.TheVariants as change
+use Rattle.namespace_rows.specs.First.{first}
+use Rattle.namespace_rows.specs.Rows.{is_directory, row_at, ancestor, file_above}
+use Rattle.namespace_rows.specs.Namespace.{IsNamespace, suits_kind, suits_parts, is_root}
+use Rattle.namespace_rows.specs.Files.{new_file, holder_of, holder_of_file, is_client, open_files, holders}
 use Rattle.flat_rows.specs.FileOutcome.{directory_there, file_there, holder_at, of_file, if_some_file, refused_write, refused_by_state}
 use Rattle.flat_rows.specs.Outcome.{beneath_file, nothing_at, with_new, refused_where}
 use Rattle.flat_rows.specs.Changes.{rows_under, without, changed, rewritten}
-use Rattle.flat_rows.proofs.Tests.{both, all_kept}
-use Rattle.flat_rows.proofs.Namespaces.{namespace_tests}
+use Rattle.namespace_rows.proofs.Tests.{both, all_kept}
+use Rattle.namespace_rows.proofs.Namespaces.{namespace_tests}
 use Rattle.history.proofs.Counting.{count, bit, count_without}
 use Rattle.history.proofs.Apart.{no_ancestor}
 use Rattle.history.proofs.OpenFiles.{count_new, count_rewritten, count_holders, with_holder, closed_row, opens}

@@ -1,23 +1,23 @@
 -- The files whose holders' leases are past the hard limit, by the list of these clients and by their last renewals.
 use Rattle.std.proofs.Common.{◌≡◌, ℕ, suc, ◌+◌, ◌-◌, Bool, true, false, ◌&&◌, ◌||◌, nat_lt, not, List, [], ◌∷◌, map, filter, length, Option, Some, None, arith, refl, sym, ap, ◌∙◌, cond}
 use Rattle.std.specs.List.{AllByRecursion, IsDistinct}
-use Rattle.hdfs_types.specs.Text.{same}
-use Rattle.hdfs_types.proofs.Texts.{same_is, same_symm}
+use Rattle.hdfs_texts.specs.Text.{same}
+use Rattle.hdfs_texts.proofs.Texts.{same_is, same_symm}
 use Rattle.hdfs_types.specs.declared.file.FileState.TheVariants.{Closed}
 use Rattle.std.specs.Option.{option_to_list}
 use Rattle.std.proofs.lemmas.List.{length-append}
 use Rattle.lease_manager.specs.Lease.{Limits, Renewal, age, past_hard, clients}
 use Rattle.lease_manager.specs.declared.leases.LeaseState.TheVariants.{Live, PastSoft, PastHard}
-use Rattle.flat_rows.specs.declared.file_row.FileRow.{FileRow}
-use Rattle.flat_rows.specs.declared.row.Row.{Row}
-use Rattle.flat_rows.specs.declared.row.Change.TheVariants as change
+use Rattle.namespace_rows.specs.declared.file_row.FileRow.{FileRow}
+use Rattle.namespace_rows.specs.declared.row.Row.{Row}
+use Rattle.namespace_rows.specs.declared.row.Change.TheVariants as change
 use Rattle.flat_rows.specs.Changes.{changed}
-use Rattle.flat_rows.proofs.Tests.{both}
-use Rattle.flat_rows.specs.Files.{holder_of, holder_of_file, holders, ends_uncommitted, open_files}
+use Rattle.namespace_rows.proofs.Tests.{both}
+use Rattle.namespace_rows.specs.Files.{holder_of, holder_of_file, holders, ends_uncommitted, open_files}
 use Rattle.flat_rows.specs.FileOutcome.{LeaseFacts, is_expired, is_expired_file, closed_where_expired}
 use Rattle.flat_rows.specs.FileOutcome as outcome
-use Rattle.inode_tree.specs.Expired.{is_among}
-use Rattle.inode_tree.specs.Expired as tree
+use Rattle.inode_nodes.specs.Expired.{is_among}
+use Rattle.inode_nodes.specs.Expired as tree
 use Rattle.history.specs.ClockAndLease.{is_past_hard, state_at}
 use Rattle.history.proofs.Counting.{count}
 use Rattle.history.proofs.OpenFiles.{count_closed, count_holders, opens}

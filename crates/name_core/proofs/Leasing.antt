@@ -3,8 +3,8 @@ use Rattle.std.proofs.Common.{◌≡◌, ℕ, ◌+◌, ◌-◌, ◌<◌, ◌≤�
 use Rattle.std.proofs.lemmas.Bool.{lt-ltb}
 use Rattle.std.proofs.lemmas.List.Elements.{filter-append}
 use Rattle.std.proofs.lemmas.List.{length-append}
-use Rattle.hdfs_types.specs.Text.{same}
-use Rattle.hdfs_types.proofs.Texts.{same_is, same_symm}
+use Rattle.hdfs_texts.specs.Text.{same}
+use Rattle.hdfs_texts.proofs.Texts.{same_is, same_symm}
 use Rattle.lease_manager.specs.Lease.{released, renewed}
 use Rattle.name_core.specs.declared.writers.Writers.{Writers}
 use Rattle.name_core.specs.Writers.{count_of, moment_of, IsLeased, renewed_at}

@@ -2,8 +2,8 @@
 use Rattle.std.proofs.Common.{append-nil, ◌≡◌, ℕ, Bool, true, false, List, [], ◌∷◌, ◌++◌, not, Option, Some, None, refl, sym, ap, ◌∙◌, cond}
 use Rattle.std.proofs.lemmas.List.Elements.{filter-append}
 use Rattle.std.specs.Option.{option_map, option_or}
-use Rattle.hdfs_types.specs.Text.{same}
-use Rattle.hdfs_types.proofs.Texts.{same_is, same_self, same_symm}
+use Rattle.hdfs_texts.specs.Text.{same}
+use Rattle.hdfs_texts.proofs.Texts.{same_is, same_self, same_symm}
 use Rattle.lease_manager.specs.Lease.{LeaseList, Renewal, released, renewed, renewal_of, after_renewal, after_release}
 use Rattle.name_core.specs.Writers.{moment_of}
 

@@ -1,7 +1,7 @@
 -- What a request leaves, from what its parts leave.
 use Rattle.std.proofs.Common.{◌≡◌, ◌≢◌, ℕ, ◌<◌, Bool, true, false, ◌&&◌, not, nat_lt, List, length, Option, Some, None, arith, refl, sym, ap, ◌∙◌, subst, cond}
 use Rattle.std.proofs.lemmas.Bool.{lt-ltb}
-use Rattle.hdfs_types.specs.Text.{same}
+use Rattle.hdfs_texts.specs.Text.{same}
 use Rattle.hdfs_types.specs.Request.{keeps_leases}
 use Rattle.hdfs_types.specs.declared.op.Op.{Op}
 use Rattle.hdfs_types.specs.declared.op.Op.TheVariants as op
@@ -11,13 +11,13 @@ use Rattle.hdfs_types.specs.declared.reply.Reply.TheVariants as reply
 use Rattle.hdfs_types.specs.declared.reply.Refusal.{Refusal}
 use Rattle.hdfs_types.specs.declared.reply.Refusal.TheVariants.{NoLease}
 use Rattle.principals.specs.Principals.{Principals}
-use Rattle.flat_rows.specs.declared.row.Row.{Row}
+use Rattle.namespace_rows.specs.declared.row.Row.{Row}
 use Rattle.flat_rows.specs.declared.verdict.Verdict.{Verdict}
 use Rattle.flat_rows.specs.declared.verdict.Verdict.TheVariants.{Done, Denied, Refused}
 use Rattle.flat_rows.specs.Denied as denied
 use Rattle.flat_rows.specs.Decision.{decision}
-use Rattle.flat_rows.specs.Files.{open_files, has_open_file}
-use Rattle.flat_rows.specs.Namespace.{IsNamespace}
+use Rattle.namespace_rows.specs.Files.{open_files, has_open_file}
+use Rattle.namespace_rows.specs.Namespace.{IsNamespace}
 use Rattle.flat_rows.specs.FileOutcome.{LeaseFacts}
 use Rattle.flat_rows.specs.Outcome.{Step, step, first_refusal, denied_or_outcome, refused_or_done, refused_where, reply_of, users_after}
 use Rattle.fs_operations.specs.Judged.{writes_or_deletes}

@@ -1,18 +1,18 @@
 -- Operations that leave leases as they are.
 use Rattle.std.proofs.Common.{◌≡◌, ℕ, true, false, ◌&&◌, List, length, nat_lt, Option, Some, None, refl, sym, ap, ◌∙◌, cond}
-use Rattle.hdfs_types.specs.Text.{same}
+use Rattle.hdfs_texts.specs.Text.{same}
 use Rattle.hdfs_types.specs.Request.{keeps_leases}
 use Rattle.hdfs_types.specs.declared.op.Op.{Op}
 use Rattle.hdfs_types.specs.declared.op.Op.TheVariants as op
 use Rattle.hdfs_types.specs.declared.reply.Refusal.{Refusal}
 use Rattle.principals.specs.Principals.{Principals}
-use Rattle.flat_rows.specs.declared.row.Row.{Row}
+use Rattle.namespace_rows.specs.declared.row.Row.{Row}
 use Rattle.flat_rows.specs.declared.verdict.Verdict.{Verdict}
 use Rattle.flat_rows.specs.declared.verdict.Verdict.TheVariants.{Done, Denied, Refused}
 use Rattle.flat_rows.specs.Denied as denied
 use Rattle.flat_rows.specs.Decision.{decision}
-use Rattle.flat_rows.specs.Namespace.{IsNamespace}
-use Rattle.flat_rows.specs.Files.{open_files}
+use Rattle.namespace_rows.specs.Namespace.{IsNamespace}
+use Rattle.namespace_rows.specs.Files.{open_files}
 use Rattle.flat_rows.specs.FileOutcome.{LeaseFacts}
 use Rattle.flat_rows.specs.Outcome.{Step, step, first_refusal, denied_or_outcome, refused_or_done, reply_of}
 use Rattle.flat_rows.proofs.Keeping.{kept_open}

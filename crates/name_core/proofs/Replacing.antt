@@ -3,11 +3,11 @@ use Rattle.std.proofs.Common.{◌≡◌, ℕ, Bool, true, false, List, [], Optio
 use Rattle.hdfs_types.specs.declared.op.Op.TheVariants as op
 use Rattle.hdfs_types.specs.declared.reply.Refusal.TheVariants.{IsDirectory, Exists}
 use Rattle.principals.specs.Principals.{Principals}
-use Rattle.flat_rows.specs.declared.row.Row.{Row}
-use Rattle.flat_rows.specs.Namespace.{IsNamespace}
-use Rattle.flat_rows.specs.Rows.{is_none, is_directory, row_at}
+use Rattle.namespace_rows.specs.declared.row.Row.{Row}
+use Rattle.namespace_rows.specs.Namespace.{IsNamespace}
+use Rattle.namespace_rows.specs.Rows.{is_none, is_directory, row_at}
 use Rattle.flat_rows.specs.Changes.{rows_under}
-use Rattle.flat_rows.specs.Files.{holders}
+use Rattle.namespace_rows.specs.Files.{holders}
 use Rattle.flat_rows.specs.FileOutcome.{directory_there, file_there}
 use Rattle.history.proofs.Apart.{missing_apart, none_under}
 use Rattle.name_core.specs.Performed.{IsFree}

@@ -4,7 +4,7 @@ use Rattle.hdfs_types.specs.declared.op.Op.{Op}
 use Rattle.hdfs_types.specs.declared.reply.Refusal.{Refusal}
 use Rattle.lease_manager.specs.Lease.{Limits}
 use Rattle.principals.specs.Principals.{Principals}
-use Rattle.flat_rows.specs.declared.row.Row.{Row}
+use Rattle.namespace_rows.specs.declared.row.Row.{Row}
 use Rattle.flat_rows.specs.Denied as denied
 use Rattle.flat_rows.specs.Decision.{decision}
 use Rattle.flat_rows.specs.FileOutcome.{LeaseFacts}

@@ -3,20 +3,20 @@ use Rattle.std.proofs.Common.{◌≡◌, ℕ, suc, List, [], ◌∷◌, map, fil
 use Rattle.std.proofs.lemmas.Bool.{eqb-true}
 use Rattle.std.proofs.Math.Dec.{eqb}
 use Rattle.std.specs.List.{IsDistinct}
-use Rattle.hdfs_types.specs.Text.{same}
+use Rattle.hdfs_texts.specs.Text.{same}
 use Rattle.hdfs_types.specs.declared.op.Op.TheVariants as op
 use Rattle.hdfs_types.specs.declared.op.Request.{Request}
 use Rattle.hdfs_types.specs.declared.reply.Reply.TheVariants as reply
 use Rattle.lease_manager.specs.Lease.{past_hard, clients}
-use Rattle.flat_rows.specs.declared.file_row.FileRow.{FileRow}
-use Rattle.flat_rows.specs.declared.row.Row.{Row}
+use Rattle.namespace_rows.specs.declared.file_row.FileRow.{FileRow}
+use Rattle.namespace_rows.specs.declared.row.Row.{Row}
 use Rattle.flat_rows.specs.declared.verdict.Verdict.TheVariants.{Done}
 use Rattle.flat_rows.specs.Decision.{decision}
-use Rattle.flat_rows.specs.Files.{holder_of, ends_uncommitted}
+use Rattle.namespace_rows.specs.Files.{holder_of, ends_uncommitted}
 use Rattle.flat_rows.specs.FileOutcome.{LeaseFacts, is_expired, is_expired_file, closed_where_expired}
 use Rattle.flat_rows.specs.FileOutcome as outcome
 use Rattle.flat_rows.specs.Outcome.{step, denied_or_outcome}
-use Rattle.inode_tree.specs.Expired as tree
+use Rattle.inode_nodes.specs.Expired as tree
 use Rattle.history.specs.ClockAndLease.{renews, is_past_hard, state_at}
 use Rattle.name_core.specs.declared.namesystem.Namesystem.{Namesystem}
 use Rattle.name_core.specs.declared.told.Told.{Told}

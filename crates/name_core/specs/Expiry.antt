@@ -1,11 +1,11 @@
 -- Which files a tick closes, where the clients are known whose leases are past the hard limit.
 use Rattle.std.specs.Prelude.{◌≡◌, ℕ, Bool, true, false, List, [], ◌∷◌, map, filter, length, sum_by, Option, Some, None}
 use Rattle.std.specs.BTreeMap.{BTreeMap, get}
-use Rattle.hdfs_types.specs.PathOrder.{path_cmp}
-use Rattle.flat_rows.specs.declared.row.Row.{Row}
+use Rattle.file_paths.specs.PathOrder.{path_cmp}
+use Rattle.namespace_rows.specs.declared.row.Row.{Row}
 use Rattle.flat_rows.specs.FileOutcome.{is_expired, closed_where_expired}
-use Rattle.flat_rows.specs.Rows.{row_at}
-use Rattle.inode_tree.specs.Expired.{is_among, past_hard}
+use Rattle.namespace_rows.specs.Rows.{row_at}
+use Rattle.inode_nodes.specs.Expired.{is_among, past_hard}
 use Rattle.name_core.specs.declared.writers.Writers.{Writers}
 use Rattle.name_core.specs.Writers.{count_of}
 use Rattle.name_core.specs.Performed.{IsExact}

@@ -1,12 +1,12 @@
 -- What a request leaves of the namespace, the users, and the clients who have files open.
 use Rattle.std.specs.Prelude.{◌≡◌, ℕ, Bool, ◌&&◌, List, length, if◌then◌else◌, Option, Some, None}
-use Rattle.hdfs_types.specs.Text.{same}
+use Rattle.hdfs_texts.specs.Text.{same}
 use Rattle.hdfs_types.specs.declared.op.Op.{Op}
 use Rattle.hdfs_types.specs.declared.op.Request.{Request}
 use Rattle.principals.specs.Principals.{Principals}
-use Rattle.flat_rows.specs.declared.row.Row.{Row}
+use Rattle.namespace_rows.specs.declared.row.Row.{Row}
 use Rattle.flat_rows.specs.declared.verdict.Verdict.TheVariants.{Done}
-use Rattle.flat_rows.specs.Files.{open_files}
+use Rattle.namespace_rows.specs.Files.{open_files}
 use Rattle.flat_rows.specs.FileOutcome.{LeaseFacts}
 use Rattle.flat_rows.specs.Outcome.{step, first_refusal, reply_of, rows_after}
 use Rattle.history.specs.ClockAndLease.{renews, lease_in, facts_at}

@@ -1,14 +1,14 @@
 ghost use Rattle.std.specs.Prelude.{◌≡◌, ◌≤◌, ◌+◌, ℕ, List, Option, None, Some, Bool, true, if◌then◌else◌, map, not, IfOk, OnOk, OnErr};
 ghost use Rattle.std.specs.Option.{IsSome};
 ghost use Rattle.flat_rows.specs.FileOutcome.{holder_at, directory_there};
-ghost use Rattle.flat_rows.specs.Files.{holders, new_file};
+ghost use Rattle.namespace_rows.specs.Files.{holders, new_file};
 ghost use Rattle.flat_rows.specs.Changes.{rows_under, rewritten};
-ghost use Rattle.flat_rows.specs.declared.row.Change.TheVariants as change;
-ghost use Rattle.flat_rows.specs.Namespace.{IsNamespace, is_root};
+ghost use Rattle.namespace_rows.specs.declared.row.Change.TheVariants as change;
+ghost use Rattle.namespace_rows.specs.Namespace.{IsNamespace, is_root};
 ghost use Rattle.flat_rows.specs.Outcome.{with_new};
-ghost use Rattle.flat_rows.specs.Rows.{row_at, file_above, ancestor};
+ghost use Rattle.namespace_rows.specs.Rows.{row_at, file_above, ancestor};
 ghost use Rattle.fs_operations.specs.Judged.{writes_or_deletes};
-ghost use Rattle.hdfs_types.specs.Text.{same};
+ghost use Rattle.hdfs_texts.specs.Text.{same};
 ghost use Rattle.hdfs_types.specs.declared.file.FileState.TheVariants.{Closed};
 ghost use Rattle.hdfs_types.specs.declared.op.Op.TheVariants as op;
 ghost use Rattle.lease_manager.specs.Lease as lease;
@@ -18,15 +18,15 @@ ghost use Rattle.name_core.specs.Writers.{count_of, moment_of, HasRoom, IsAlike}
 
 use crate::open_paths::OpenPaths;
 use crate::writers::Writers;
-use flat_rows::row::Change;
+use namespace_rows::row::Change;
 use fs_operations::write::make_file;
 use hdfs_types::file::FileState;
-use hdfs_types::mode::Mode;
-use hdfs_types::moment::Moment;
+use permission_bits::mode::Mode;
+use block_numbers::moment::Moment;
 use hdfs_types::op::Op;
-use hdfs_types::path::Path;
-use hdfs_types::replication::Repl;
-use hdfs_types::who::Who;
+use file_paths::path::Path;
+use block_numbers::replication::Repl;
+use principal_names::who::Who;
 use inode_tree::tree::Tree;
 use std::alloc::{AllocError, Global};
 

@@ -1,9 +1,9 @@
 ghost use Rattle.std.specs.Prelude.{◌≡◌, ◌+◌, ◌-◌, ℕ, [], List, if◌then◌else◌, OnOk};
 ghost use Rattle.std.specs.Map.{set_value};
-ghost use Rattle.hdfs_types.specs.Text.{same};
+ghost use Rattle.hdfs_texts.specs.Text.{same};
 ghost use Rattle.name_core.specs.Writers.{count_of, HasRoom};
 
-use hdfs_types::who::Who;
+use principal_names::who::Who;
 use std::alloc::{AllocError, Global};
 use std::collections::BTreeMap;
 use std::marker::Model;

@@ -1,5 +1,5 @@
-use hdfs_types::path::Path;
-use hdfs_types::who::Who;
+use file_paths::path::Path;
+use principal_names::who::Who;
 use std::alloc::{AllocError, Global};
 use std::collections::{BTreeMap, BTreeSet};
 use std::marker::Model;

@@ -1,11 +1,11 @@
 ghost use Rattle.std.specs.Prelude.{◌≡◌, ◌≤◌, ◌<◌, ◌+◌, ◌-◌, ℕ, [], List, Option, if◌then◌else◌, filter, length, OnOk, OnErr};
-ghost use Rattle.hdfs_types.specs.Text.{same};
+ghost use Rattle.hdfs_texts.specs.Text.{same};
 ghost use Rattle.lease_manager.specs.Lease as lease;
 ghost use Rattle.name_core.specs.Writers.{count_of, moment_of, IsLeased, IsAlike, renewed_at};
 
 use crate::open_files::OpenFiles;
-use hdfs_types::moment::Moment;
-use hdfs_types::who::Who;
+use block_numbers::moment::Moment;
+use principal_names::who::Who;
 use lease_manager::leases::Leases;
 use std::alloc::{AllocError, Global};
 

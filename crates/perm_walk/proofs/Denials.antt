@@ -3,24 +3,24 @@ use Rattle.std.proofs.Common.{◌≡◌, ℕ, Bool, true, false, ◌&&◌, List,
 use Rattle.std.specs.Prelude.{not, unwrap_or}
 use Rattle.std.specs.List.{filter, flat_map}
 use Rattle.std.specs.Option.{option_and_then, option_map, option_or, option_to_list}
-use Rattle.hdfs_types.specs.declared.rights.Rights as bits
+use Rattle.permission_bits.specs.declared.rights.Rights as bits
 use Rattle.principals.specs.Principals.{Asking}
-use Rattle.flat_rows.specs.declared.row.Row.{Row}
-use Rattle.flat_rows.specs.declared.need.Need.{Need}
-use Rattle.flat_rows.specs.declared.need.Need.TheVariants.{Rights, Sticky, Owner, Member, Superuser}
-use Rattle.hdfs_types.specs.Path.{is_path, is_prefix}
-use Rattle.hdfs_types.specs.PathOrder.{same_path}
-use Rattle.flat_rows.specs.First.{first, first_answer}
-use Rattle.flat_rows.specs.declared.demand.Role.{Role}
-use Rattle.flat_rows.specs.declared.demand.Role.TheVariants.{Final}
-use Rattle.flat_rows.specs.Rows.{is_directory, directories_above, directories_beneath, directory_of, owner_above, row_at}
-use Rattle.flat_rows.specs.Judgement.{judgement}
+use Rattle.namespace_rows.specs.declared.row.Row.{Row}
+use Rattle.required_rights.specs.declared.need.Need.{Need}
+use Rattle.required_rights.specs.declared.need.Need.TheVariants.{Rights, Sticky, Owner, Member, Superuser}
+use Rattle.file_paths.specs.Path.{is_path, is_prefix}
+use Rattle.file_paths.specs.PathOrder.{same_path}
+use Rattle.namespace_rows.specs.First.{first, first_answer}
+use Rattle.required_rights.specs.declared.demand.Role.{Role}
+use Rattle.required_rights.specs.declared.demand.Role.TheVariants.{Final}
+use Rattle.namespace_rows.specs.Rows.{is_directory, directories_above, directories_beneath, directory_of, owner_above, row_at}
+use Rattle.namespace_rows.specs.Judgement.{judgement}
 use Rattle.flat_rows.specs.Denied.{Denied, denial_at}
-use Rattle.flat_rows.specs.RequiredRights.{Demand}
+use Rattle.required_rights.specs.RequiredRights.{Demand}
 use Rattle.flat_rows.specs.Decision.{Ask, ask_at, asks_of, holds, denial_of}
-use Rattle.flat_rows.specs.Demands.{IsDemand, suits_role}
-use Rattle.flat_rows.proofs.PathOrders.{same_path_is}
-use Rattle.flat_rows.proofs.Tests.{both}
+use Rattle.required_rights.specs.Demands.{IsDemand, suits_role}
+use Rattle.namespace_rows.proofs.PathOrders.{same_path_is}
+use Rattle.namespace_rows.proofs.Tests.{both}
 use Rattle.perm_walk.specs.declared.reach.Reach.{Reach}
 use Rattle.perm_walk.specs.Closed.{is_closed, first_closed}
 use Rattle.perm_walk.specs.Reached.{IsReach}

@@ -6,15 +6,15 @@ use Rattle.std.specs.Option.{option_and_then}
 use Rattle.std.proofs.Math.Seq.{take-append-add}
 use Rattle.std.proofs.lemmas.Bool.Decides.{nat_tests}
 use Rattle.std.proofs.lemmas.List.{append-nil, drop_more, take_more}
-use Rattle.hdfs_types.specs.Path.{is_beneath, parent_of}
+use Rattle.file_paths.specs.Path.{is_beneath, parent_of}
 use Rattle.hdfs_types.specs.declared.reply.ObjectKind.TheVariants.{Directory}
-use Rattle.flat_rows.specs.declared.row.Row.{Row}
-use Rattle.flat_rows.specs.First.{first}
-use Rattle.flat_rows.specs.Rows.{is_directory, if_directory, row_at, directory_of, ancestor, file_above}
-use Rattle.inode_tree.specs.Branch.{Branch, Top, rows, row_of, under, placed}
-use Rattle.inode_tree.specs.Part.{Splits, IsPart}
-use Rattle.inode_tree.proofs.Filters.{self, standing, standing-splits}
-use Rattle.inode_tree.proofs.Parts.{placed_top}
+use Rattle.namespace_rows.specs.declared.row.Row.{Row}
+use Rattle.namespace_rows.specs.First.{first}
+use Rattle.namespace_rows.specs.Rows.{is_directory, if_directory, row_at, directory_of, ancestor, file_above}
+use Rattle.inode_nodes.specs.Branch.{Branch, Top, rows, row_of, under, placed}
+use Rattle.inode_nodes.specs.Part.{Splits, IsPart}
+use Rattle.inode_nodes.proofs.Filters.{self, standing, standing-splits}
+use Rattle.inode_nodes.proofs.Parts.{placed_top}
 use Rattle.perm_walk.specs.Reached.{if_file}
 
 -- the row is above the path

@@ -2,16 +2,16 @@
 use Rattle.std.proofs.Common.{◌≡◌, ℕ, ◌+◌, ◌<◌, Bool, true, false, ◌&&◌, List, [], ◌∷◌, ◌++◌, length, take, drop, get_or, map, cond, Option, Some, None, refl, sym, ap, ◌∙◌, subst}
 use Rattle.std.specs.List.{filter}
 use Rattle.std.proofs.lemmas.List.{append-nil}
-use Rattle.hdfs_types.specs.Path.{is_beneath}
-use Rattle.hdfs_types.specs.declared.rights.Rights.{Rights}
+use Rattle.file_paths.specs.Path.{is_beneath}
+use Rattle.permission_bits.specs.declared.rights.Rights.{Rights}
 use Rattle.principals.specs.Principals.{Asking}
-use Rattle.flat_rows.specs.declared.row.Row.{Row}
-use Rattle.flat_rows.specs.First.{first}
-use Rattle.flat_rows.specs.Rows.{is_directory, directories_above}
-use Rattle.inode_tree.specs.Branch.{Branch, rows, row_of, under, placed}
-use Rattle.inode_tree.specs.Part.{Splits, IsPart}
-use Rattle.inode_tree.proofs.Filters.{self, filter-map}
-use Rattle.inode_tree.proofs.Parts.{placed_top}
+use Rattle.namespace_rows.specs.declared.row.Row.{Row}
+use Rattle.namespace_rows.specs.First.{first}
+use Rattle.namespace_rows.specs.Rows.{is_directory, directories_above}
+use Rattle.inode_nodes.specs.Branch.{Branch, rows, row_of, under, placed}
+use Rattle.inode_nodes.specs.Part.{Splits, IsPart}
+use Rattle.inode_nodes.proofs.Filters.{self, filter-map}
+use Rattle.inode_nodes.proofs.Parts.{placed_top}
 use Rattle.perm_walk.specs.Closed.{is_shut, first_shut}
 use Rattle.perm_walk.proofs.Descents.{placed_onward, rest_on, front_on}
 

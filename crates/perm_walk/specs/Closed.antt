@@ -1,10 +1,10 @@
 -- Components that don't grant rights to a caller.
 use Rattle.std.specs.Prelude.{Bool, false, not, List, Option, Some, None, filter}
-use Rattle.hdfs_types.specs.declared.rights.Rights.{Rights}
+use Rattle.permission_bits.specs.declared.rights.Rights.{Rights}
 use Rattle.principals.specs.Principals.{Asking}
-use Rattle.flat_rows.specs.declared.row.Row.{Row}
-use Rattle.flat_rows.specs.First.{first}
-use Rattle.flat_rows.specs.Judgement.{judgement}
+use Rattle.namespace_rows.specs.declared.row.Row.{Row}
+use Rattle.namespace_rows.specs.First.{first}
+use Rattle.namespace_rows.specs.Judgement.{judgement}
 
 abbrev pub is_closed : Rights → Asking → Row → Bool
 is_closed asked caller row = not (judgement row caller.name caller.groups asked).granted

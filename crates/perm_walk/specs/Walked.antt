@@ -1,14 +1,14 @@
 -- What a walk finds: the first need that fails, or where none does how far paths lead.
 use Rattle.std.specs.Prelude.{◌≡◌, ℕ, List, Some, None, IfSome}
 use Rattle.std.specs.List.{All}
-use Rattle.hdfs_types.specs.declared.rights.Rights as bits
-use Rattle.hdfs_types.specs.Path.{IsPath}
+use Rattle.permission_bits.specs.declared.rights.Rights as bits
+use Rattle.file_paths.specs.Path.{IsPath}
 use Rattle.principals.specs.Principals.{Asking}
-use Rattle.flat_rows.specs.declared.row.Row.{Row}
-use Rattle.flat_rows.specs.declared.demand.Role.TheVariants.{Traversed}
-use Rattle.flat_rows.specs.declared.demand.Condition.TheVariants.{Always}
-use Rattle.flat_rows.specs.declared.need.Need.TheVariants.{Rights}
-use Rattle.flat_rows.specs.RequiredRights.{Demand}
+use Rattle.namespace_rows.specs.declared.row.Row.{Row}
+use Rattle.required_rights.specs.declared.demand.Role.TheVariants.{Traversed}
+use Rattle.required_rights.specs.declared.demand.Condition.TheVariants.{Always}
+use Rattle.required_rights.specs.declared.need.Need.TheVariants.{Rights}
+use Rattle.required_rights.specs.RequiredRights.{Demand}
 use Rattle.flat_rows.specs.Decision.{denial_among}
 use Rattle.perm_walk.specs.declared.reach.Reach.{Reach}
 use Rattle.perm_walk.specs.declared.judge.Descent.{Descent}

@@ -1,7 +1,7 @@
-use flat_rows::row::Row;
-use hdfs_types::name::Name;
-use hdfs_types::path::Path;
-use inode_tree::inode::Inode;
+use namespace_rows::row::Row;
+use file_paths::name::Name;
+use file_paths::path::Path;
+use inode_visits::inode::Inode;
 use std::alloc::{AllocError, Global};
 use std::marker::Model;
 
@@ -13,11 +13,11 @@ pub struct Component<'a> {
 }
 
 impl<'a> Model for Component<'a> {
-    ghost use Rattle.flat_rows.specs.declared.row.Row.{Row};
+    ghost use Rattle.namespace_rows.specs.declared.row.Row.{Row};
 
     ghost Value = { Row };
 
-    ghost use Rattle.hdfs_types.specs.Path.{IsPath};
+    ghost use Rattle.file_paths.specs.Path.{IsPath};
     ghost use Rattle.perm_walk.specs.Kept.{row_at_top};
 
     ghost view = { row_at_top };
@@ -27,9 +27,9 @@ impl<'a> Model for Component<'a> {
 
 impl<'a> Component<'a> {
     ghost use Rattle.std.specs.Prelude.{◌≡◌, IfOk};
-    ghost use Rattle.hdfs_types.specs.Path.{IsPath};
-    ghost use Rattle.inode_tree.specs.Branch.{row_of};
-    ghost use Rattle.inode_tree.specs.Tree.{branch_at};
+    ghost use Rattle.file_paths.specs.Path.{IsPath};
+    ghost use Rattle.inode_nodes.specs.Branch.{row_of};
+    ghost use Rattle.inode_visits.specs.Tree.{branch_at};
 
     pub fn new(path: &'a [Name], inode: Inode<'a>) -> Component<'a>
         requires { IsPath path.now }

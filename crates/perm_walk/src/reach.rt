@@ -1,16 +1,16 @@
 ghost use Rattle.std.specs.Prelude.{◌≡◌, ◌≤◌, ◌-◌, ◌==◌, ◌&&◌, [], if◌then◌else◌, length, take, Some, None};
-ghost use Rattle.hdfs_types.specs.Path.{IsPath};
-ghost use Rattle.inode_tree.specs.Branch.{row_of};
-ghost use Rattle.inode_tree.specs.Tree.{branch_at};
-ghost use Rattle.flat_rows.specs.Rows.{is_directory, if_directory};
+ghost use Rattle.file_paths.specs.Path.{IsPath};
+ghost use Rattle.inode_nodes.specs.Branch.{row_of};
+ghost use Rattle.inode_visits.specs.Tree.{branch_at};
+ghost use Rattle.namespace_rows.specs.Rows.{is_directory, if_directory};
 ghost use Rattle.perm_walk.specs.Closed as closed;
 ghost use Rattle.perm_walk.specs.Reached.{if_file, IsEntered};
 
 use crate::component::Component;
-use hdfs_types::name::Name;
+use file_paths::name::Name;
 use hdfs_types::reply::ObjectKind;
-use hdfs_types::rights::Rights;
-use inode_tree::inode::Inode;
+use permission_bits::rights::Rights;
+use inode_visits::inode::Inode;
 use inode_tree::tree::Tree;
 use principals::caller::Caller;
 

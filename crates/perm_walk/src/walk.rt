@@ -1,18 +1,18 @@
 ghost use Rattle.std.specs.Prelude.{◌≡◌, false, IfOk};
-ghost use Rattle.hdfs_types.specs.Path.{IsPath};
+ghost use Rattle.file_paths.specs.Path.{IsPath};
 ghost use Rattle.principals.specs.Principals.{caller_of};
-ghost use Rattle.flat_rows.specs.First.{first_answer};
+ghost use Rattle.namespace_rows.specs.First.{first_answer};
 ghost use Rattle.flat_rows.specs.Decision as spec;
 ghost use Rattle.perm_walk.specs.Reached.{IsReach};
 ghost use Rattle.perm_walk.specs.Walked.{AreOn, IsDescent, IsWalked, IsWalkedBoth};
 
 use crate::judge::{Descent, denial_by, follow};
 use crate::reach::Reach;
-use flat_rows::demand::{Demand, Needs};
+use required_rights::demand::{Demand, Needs};
 use flat_rows::denial::Denial;
-use hdfs_types::name::Name;
-use hdfs_types::path::{Path, is_same};
-use hdfs_types::who::Who;
+use file_paths::name::Name;
+use file_paths::path::{Path, is_same};
+use principal_names::who::Who;
 use inode_tree::tree::Tree;
 use principals::caller::Caller;
 use principals::users::Users;

@@ -4,10 +4,10 @@ ghost use Rattle.principals.specs.declared.users.UserFault.TheVariants.{OutOfMem
 ghost use Rattle.principals.specs.Principals as spec;
 
 use crate::caller::Caller;
-use hdfs_types::groups::{Groups, has_group};
-use hdfs_types::node_id::node_of;
+use principal_names::groups::{Groups, has_group};
+use principal_names::node_id::node_of;
 use hdfs_types::reply::Refusal;
-use hdfs_types::who::Who;
+use principal_names::who::Who;
 use std::alloc::{AllocError, AllocFailed, Global};
 use std::collections::BTreeMap;
 use std::marker::Model;

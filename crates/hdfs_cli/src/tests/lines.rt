@@ -1,11 +1,11 @@
 use crate::line::request_of;
-use hdfs_types::acl_change::AclChange;
-use hdfs_types::fault::ParseFault;
+use acl_specs::acl_change::AclChange;
+use hdfs_texts::fault::ParseFault;
 use hdfs_types::file::LastBlock;
 use hdfs_types::op::{Op, Request};
-use hdfs_types::path::Path;
-use hdfs_types::spec::Spec;
-use hdfs_types::who::Who;
+use file_paths::path::Path;
+use acl_specs::spec::Spec;
+use principal_names::who::Who;
 use std::alloc::{AllocError, Global};
 use std::test::Fail;
 

@@ -1,5 +1,5 @@
 use acl_entries::spec_text::parse_spec;
-use hdfs_types::fault::ParseFault;
+use hdfs_texts::fault::ParseFault;
 use std::alloc::Global;
 use std::test::Fail;
 

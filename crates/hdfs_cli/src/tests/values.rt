@@ -1,17 +1,17 @@
-use hdfs_types::entry::{Entry, EntryKind, Scope};
-use hdfs_types::fault::IllFormed;
-use hdfs_types::groups::Groups;
-use hdfs_types::ids::{BlockId, Serial};
-use hdfs_types::mode::Mode;
-use hdfs_types::modes::Modes;
-use hdfs_types::moment::Moment;
-use hdfs_types::name::Name;
-use hdfs_types::node_id::{NodeId, node_of};
+use acl_specs::entry::{Entry, EntryKind, Scope};
+use hdfs_texts::fault::IllFormed;
+use principal_names::groups::Groups;
+use block_numbers::ids::{BlockId, Serial};
+use permission_bits::mode::Mode;
+use permission_bits::modes::Modes;
+use block_numbers::moment::Moment;
+use file_paths::name::Name;
+use principal_names::node_id::{NodeId, node_of};
 use hdfs_types::op::{Op, Request, is_look};
-use hdfs_types::path::Path;
+use file_paths::path::Path;
 use hdfs_types::reply::{Names, Refusal};
-use hdfs_types::rights::Rights;
-use hdfs_types::who::Who;
+use permission_bits::rights::Rights;
+use principal_names::who::Who;
 use std::test::Fail;
 
 #[test]

@@ -1,5 +1,5 @@
 use Rattle.std.proofs.Common.{sym, subst}
-use Rattle.default_acl.specs.Answers.{IsPartialList}
+use Rattle.partial_acl.specs.Answers.{IsPartialList}
 use Rattle.default_acl.proofs.Partials.{all_good}
 use Rattle.default_acl.proofs.change.access_after_modify.Goals as goal
 

@@ -1,6 +1,6 @@
 use Rattle.std.proofs.Common.{sym, subst}
-use Rattle.hdfs_types.specs.declared.entry.Scope.TheVariants.{Access}
-use Rattle.default_acl.specs.Answers.{IsPartialList}
+use Rattle.acl_specs.specs.declared.entry.Scope.TheVariants.{Access}
+use Rattle.partial_acl.specs.Answers.{IsPartialList}
 use Rattle.default_acl.proofs.Partials.{added_good}
 use Rattle.default_acl.proofs.change.added_access.Goals as goal
 

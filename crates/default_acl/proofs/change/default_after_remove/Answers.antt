@@ -1,7 +1,7 @@
 use Rattle.std.proofs.Common.{sym, subst}
-use Rattle.hdfs_types.specs.declared.entry.Scope.TheVariants.{Default}
-use Rattle.default_acl.specs.AclChange.{all_of}
-use Rattle.default_acl.specs.Answers.{IsPartialList}
+use Rattle.acl_specs.specs.declared.entry.Scope.TheVariants.{Default}
+use Rattle.partial_acl.specs.AclChange.{all_of}
+use Rattle.partial_acl.specs.Answers.{IsPartialList}
 use Rattle.default_acl.proofs.Partials.{all_good, removed_good}
 use Rattle.default_acl.proofs.change.default_after_remove.Goals as goal
 

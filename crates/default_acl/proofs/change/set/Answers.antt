@@ -1,11 +1,11 @@
 use Rattle.std.proofs.Common.{◌≡◌, List, Option, Ok, Err, refl, sym, ap, subst, ◌∙◌}
 use Rattle.std.proofs.lemmas.Result.{err_from_is_err_and}
-use Rattle.hdfs_types.specs.declared.entry.Entry.{Entry}
-use Rattle.hdfs_types.specs.declared.acl_change.AclChange.TheVariants.{Set}
+use Rattle.acl_specs.specs.declared.entry.Entry.{Entry}
+use Rattle.acl_specs.specs.declared.acl_change.AclChange.TheVariants.{Set}
 use Rattle.hdfs_types.specs.declared.reply.Refusal.TheVariants.{BadAcl}
-use Rattle.acl_entries.specs.AccessControlList.{EntryList}
-use Rattle.default_acl.specs.AclChange.{access_after, acl_change, default_after}
-use Rattle.default_acl.specs.Answers.{Changes, Makes, MakesAny}
+use Rattle.access_lists.specs.AccessControlList.{EntryList}
+use Rattle.partial_acl.specs.AclChange.{access_after, acl_change, default_after}
+use Rattle.partial_acl.specs.Answers.{Changes, Makes, MakesAny}
 use Rattle.default_acl.proofs.Changing.{faulted, refused_by_access, refused_by_default, made_good, done}
 use Rattle.default_acl.proofs.change.set.Goals as goal
 

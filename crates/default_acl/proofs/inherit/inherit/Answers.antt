@@ -1,9 +1,9 @@
 use Rattle.std.proofs.Common.{◌≡◌, Bool, true, Option, sym, ap, subst, ◌∙◌}
 use Rattle.std.specs.Option.{option_copied, option_map_or, is_some}
-use Rattle.acl_entries.specs.AccessControlList.{EntryList, IsAccessControlList, is_access_list}
-use Rattle.default_acl.specs.AclChange.{as_kept}
+use Rattle.access_lists.specs.AccessControlList.{EntryList, IsAccessControlList, is_access_list}
+use Rattle.partial_acl.specs.AclChange.{as_kept}
 use Rattle.default_acl.specs.Inheritance.{cut_to}
-use Rattle.default_acl.proofs.Tests.{both}
+use Rattle.partial_acl.proofs.Tests.{both}
 use Rattle.default_acl.proofs.Inheriting.{inherited_good}
 use Rattle.default_acl.proofs.inherit.inherit.Goals as goal
 

@@ -1,5 +1,5 @@
 use Rattle.std.proofs.Common.{◌≡◌, ◌++◌, map, drop}
-use Rattle.flat_rows.specs.Rows.{directories_above}
+use Rattle.namespace_rows.specs.Rows.{directories_above}
 use Rattle.flat_rows.proofs.ask.directories_above.Given as goal
 
 abbrev pub invariant-loop-row : goal.invariant-loop-row

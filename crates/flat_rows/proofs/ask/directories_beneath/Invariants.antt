@@ -1,5 +1,5 @@
 use Rattle.std.proofs.Common.{◌≡◌, ◌++◌, map, drop}
-use Rattle.flat_rows.specs.Rows.{directories_beneath}
+use Rattle.namespace_rows.specs.Rows.{directories_beneath}
 use Rattle.flat_rows.proofs.ask.directories_beneath.Given as goal
 
 abbrev pub invariant-loop-row : goal.invariant-loop-row

@@ -1,5 +1,5 @@
 use Rattle.std.proofs.Common.{◌≡◌, drop}
-use Rattle.flat_rows.specs.First.{first_answer}
+use Rattle.namespace_rows.specs.First.{first_answer}
 use Rattle.flat_rows.specs.Decision.{denial_of}
 use Rattle.flat_rows.proofs.decision.first_denial.Given as goal
 

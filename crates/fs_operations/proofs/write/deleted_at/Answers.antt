@@ -1,5 +1,5 @@
 use Rattle.std.proofs.Common.{arith}
-use Rattle.flat_rows.specs.Rows.{is_directory}
+use Rattle.namespace_rows.specs.Rows.{is_directory}
 use Rattle.flat_rows.specs.Changes.{rows_under}
 use Rattle.fs_operations.proofs.Counting.{alone_is_one, parted}
 use Rattle.fs_operations.proofs.write.deleted_at.Goals as goal

@@ -1,6 +1,6 @@
 use Rattle.std.proofs.Common.{◌∙◌, ap, subst}
 use Rattle.flat_rows.specs.FileOutcome.{appended_reply, refused_takeover}
-use Rattle.flat_rows.specs.Files.{holder_of}
+use Rattle.namespace_rows.specs.Files.{holder_of}
 use Rattle.perm_walk.specs.Walked.{IsWalked}
 use Rattle.fs_operations.specs.Found.{IsFoundFile}
 use Rattle.fs_operations.specs.Judged.{refused_or}

@@ -1,6 +1,6 @@
 use Rattle.std.proofs.Common.{◌≡◌, ◌∙◌, sym, ap, subst}
 use Rattle.flat_rows.specs.Changes.{rows_under}
-use Rattle.flat_rows.specs.Namespace.{IsNamespace}
+use Rattle.namespace_rows.specs.Namespace.{IsNamespace}
 use Rattle.hdfs_cli.proofs.Fronts.{all_under}
 use Rattle.hdfs_cli.proofs.explain.rows_of.Goals as goal
 

@@ -1,4 +1,4 @@
-use Rattle.flat_rows.proofs.Namespaces.{namespace_tests}
+use Rattle.namespace_rows.proofs.Namespaces.{namespace_tests}
 use Rattle.history.proofs.Writers.{one_writer}
 use Rattle.history.proofs.laws.files_have_one_writer.Goals as goal
 

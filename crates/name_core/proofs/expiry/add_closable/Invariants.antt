@@ -1,5 +1,5 @@
 use Rattle.std.proofs.Common.{◌≡◌, ℕ, List, true}
-use Rattle.inode_tree.specs.Expired.{is_among}
+use Rattle.inode_nodes.specs.Expired.{is_among}
 use Rattle.name_core.specs.Expiry.{AreClosable}
 use Rattle.name_core.proofs.expiry.add_closable.Given as goal
 

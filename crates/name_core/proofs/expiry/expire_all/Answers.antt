@@ -1,5 +1,5 @@
 use Rattle.std.proofs.Common.{◌∙◌}
-use Rattle.inode_tree.specs.Expired.{past_hard}
+use Rattle.inode_nodes.specs.Expired.{past_hard}
 use Rattle.name_core.proofs.Effected.{exact_expire, expired_count}
 use Rattle.name_core.proofs.expiry.expire_all.Goals as goal
 

@@ -2,8 +2,8 @@ use Rattle.std.proofs.Common.{◌≡◌, ◌≤◌, ◌+◌, ℕ, List, Option, 
 use Rattle.std.specs.List.{AllByRecursion}
 use Rattle.std.specs.List.Sorted.{IsStrictlySortedBy}
 use Rattle.std.specs.Map.{keys_of}
-use Rattle.hdfs_types.specs.PathOrder.{path_cmp}
-use Rattle.flat_rows.specs.Namespace.{IsNamespace}
+use Rattle.file_paths.specs.PathOrder.{path_cmp}
+use Rattle.namespace_rows.specs.Namespace.{IsNamespace}
 use Rattle.lease_manager.specs.Lease.{latest}
 use Rattle.history.proofs.Counting.{count}
 use Rattle.name_core.specs.Performed.{IsExact}

@@ -1,6 +1,6 @@
 use Rattle.std.proofs.Common.{subst}
-use Rattle.flat_rows.specs.Namespace.{IsNamespace}
-use Rattle.flat_rows.proofs.Namespaces.{namespace_tests}
+use Rattle.namespace_rows.specs.Namespace.{IsNamespace}
+use Rattle.namespace_rows.proofs.Namespaces.{namespace_tests}
 use Rattle.history.specs.State.{rows_of}
 use Rattle.history.proofs.Writers.{one_writer}
 use Rattle.name_core.proofs.laws.files_have_one_writer.Goals as goal

@@ -1,7 +1,7 @@
 use Rattle.std.proofs.Common.{◌≡◌, ◌∙◌, ap, sym, subst}
 use Rattle.std.specs.Prelude.{IfOk}
 use Rattle.flat_rows.specs.Decision.{holds, denial_of}
-use Rattle.flat_rows.specs.First.{first_answer}
+use Rattle.namespace_rows.specs.First.{first_answer}
 use Rattle.perm_walk.proofs.Denials.{denied_final, is_of_final, asks_of_final}
 use Rattle.perm_walk.proofs.judge.denial_on.Goals as goal
 

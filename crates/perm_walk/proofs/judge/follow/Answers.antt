@@ -1,4 +1,4 @@
-use Rattle.flat_rows.specs.Rows.{directories_above}
+use Rattle.namespace_rows.specs.Rows.{directories_above}
 use Rattle.perm_walk.proofs.Traversals.{none_shut}
 use Rattle.perm_walk.proofs.judge.follow.Goals as goal
 

@@ -1,5 +1,5 @@
 use Rattle.std.proofs.Common.{◌∙◌, sym}
-use Rattle.flat_rows.proofs.PathOrders.{same_path_is}
+use Rattle.namespace_rows.proofs.PathOrders.{same_path_is}
 use Rattle.perm_walk.proofs.walk.denial_on_either.Goals as goal
 
 pub denial_by-requires-clause-on : goal.denial_by-requires-clause-on

@@ -1,5 +1,5 @@
 use Rattle.std.proofs.Common.{◌≡◌, drop}
-use Rattle.flat_rows.specs.First.{first_answer}
+use Rattle.namespace_rows.specs.First.{first_answer}
 use Rattle.flat_rows.specs.Decision.{asks_of, denial_of}
 use Rattle.perm_walk.specs.Walked.{IsDescent}
 use Rattle.perm_walk.proofs.walk.first_denial.Given as goal

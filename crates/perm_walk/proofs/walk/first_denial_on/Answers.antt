@@ -1,6 +1,6 @@
 use Rattle.std.proofs.Common.{◌≡◌, ◌∙◌, sym, subst}
 use Rattle.std.proofs.lemmas.List.Elements.{All-get_or}
-use Rattle.flat_rows.specs.RequiredRights.{Demand}
+use Rattle.required_rights.specs.RequiredRights.{Demand}
 use Rattle.perm_walk.proofs.walk.first_denial_on.Goals as goal
 
 pub denial_by-requires-clause-on : goal.denial_by-requires-clause-on

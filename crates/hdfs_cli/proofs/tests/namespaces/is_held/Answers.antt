@@ -1,9 +1,9 @@
 use Rattle.std.proofs.Common.{◌≡◌, ◌∙◌, sym, ap, List, ℕ, true, false, Bor, Option, Some, None}
 use Rattle.std.specs.Prelude.{is_some}
 use Rattle.std.specs.Option.{option_copied}
-use Rattle.flat_rows.specs.declared.row.Row.{Row}
-use Rattle.flat_rows.specs.Rows.{directory_of, is_none}
-use Rattle.flat_rows.specs.Namespace.{has_parent}
+use Rattle.namespace_rows.specs.declared.row.Row.{Row}
+use Rattle.namespace_rows.specs.Rows.{directory_of, is_none}
+use Rattle.namespace_rows.specs.Namespace.{has_parent}
 use Rattle.fs_operations.proofs.Renaming.{parent_there}
 use Rattle.hdfs_cli.proofs.tests.namespaces.is_held.Goals as goal
 

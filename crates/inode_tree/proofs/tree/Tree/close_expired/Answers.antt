@@ -1,7 +1,7 @@
 use Rattle.std.proofs.Common.{ap, ◌∙◌}
-use Rattle.inode_tree.specs.Branch.{rows}
-use Rattle.inode_tree.specs.Expired.{past_hard}
-use Rattle.inode_tree.proofs.Closings.{all_closed}
+use Rattle.inode_nodes.specs.Branch.{rows}
+use Rattle.inode_nodes.specs.Expired.{past_hard}
+use Rattle.inode_nodes.proofs.Closings.{all_closed}
 use Rattle.inode_tree.proofs.Trees.{closed_tree}
 use Rattle.inode_tree.proofs.tree.Tree.close_expired.Goals as goal
 

@@ -1,5 +1,5 @@
 use Rattle.std.proofs.Common.{ap, refl}
-use Rattle.hdfs_types.proofs.Texts.{same_self}
+use Rattle.hdfs_texts.proofs.Texts.{same_self}
 use Rattle.lease_manager.specs.Lease.{LeaseList}
 use Rattle.name_core.proofs.Leasing.{leased_kept, leased_ended, some_left, nothing_left}
 use Rattle.name_core.proofs.writers.Writers.close.Goals as goal

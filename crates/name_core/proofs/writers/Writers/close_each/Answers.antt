@@ -1,6 +1,6 @@
 use Rattle.std.proofs.Common.{◌≡◌, ◌+◌, ◌-◌, ◌++◌, ◌∷◌, [], filter, length, take, ap, sym, ◌∙◌, arith}
 use Rattle.std.proofs.lemmas.List.{take_more}
-use Rattle.hdfs_types.specs.Text.{same}
+use Rattle.hdfs_texts.specs.Text.{same}
 use Rattle.name_core.specs.Writers.{count_of}
 use Rattle.name_core.proofs.Leasing.{one_more, own_less}
 use Rattle.name_core.proofs.writers.Writers.close_each.Goals as goal

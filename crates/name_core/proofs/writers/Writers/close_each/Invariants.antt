@@ -1,5 +1,5 @@
 use Rattle.std.proofs.Common.{◌≡◌, ◌≤◌, ◌-◌, ℕ, List, Option, filter, length, take}
-use Rattle.hdfs_types.specs.Text.{same}
+use Rattle.hdfs_texts.specs.Text.{same}
 use Rattle.lease_manager.specs.Lease.{latest}
 use Rattle.name_core.specs.Writers.{count_of, IsLeased}
 use Rattle.name_core.proofs.writers.Writers.close_each.Given as goal

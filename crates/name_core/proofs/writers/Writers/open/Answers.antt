@@ -1,5 +1,5 @@
 use Rattle.std.proofs.Common.{ap}
-use Rattle.hdfs_types.specs.Text.{same}
+use Rattle.hdfs_texts.specs.Text.{same}
 use Rattle.lease_manager.specs.Lease.{LeaseList}
 use Rattle.name_core.proofs.Leasing.{more_after, leased_open}
 use Rattle.name_core.proofs.writers.Writers.open.Goals as goal

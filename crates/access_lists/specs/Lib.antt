@@ -1,0 +1,3 @@
+pub mod AccessControlList
+pub mod JudgedEntry
+pub mod Kept

@@ -1,6 +1,0 @@
-use Rattle.std.proofs.Common.{◌≡◌, drop}
-use Rattle.default_acl.specs.AclChange.{with_each, named_in}
-use Rattle.default_acl.proofs.named.put_each.Given as goal
-
-abbrev pub invariant-loop-entry : goal.invariant-loop-entry
-invariant-loop-entry l = with_each l.entries.items (named_in l.scope l.kind (drop l.entry-index l.spec)) ≡ with_each l.initial.entries.items (named_in l.scope l.kind l.spec)

@@ -1,6 +1,0 @@
-use Rattle.std.proofs.Common.{◌≡◌, ◌++◌, drop}
-use Rattle.default_acl.specs.AclChange.{without, named_in}
-use Rattle.default_acl.proofs.named.without.Given as goal
-
-abbrev pub invariant-loop-entry : goal.invariant-loop-entry
-invariant-loop-entry l = l.left.items ++ without (drop l.entry-index l.entries) (named_in l.scope l.kind l.spec) ≡ without l.entries (named_in l.scope l.kind l.spec)

@@ -1,6 +1,0 @@
-use Rattle.std.proofs.Common.{◌≡◌, drop}
-use Rattle.flat_rows.specs.Rows.{file_above}
-use Rattle.flat_rows.proofs.rows.file_above.Given as goal
-
-abbrev pub invariant-loop-row : goal.invariant-loop-row
-invariant-loop-row l = file_above l.path (drop l.row-index l.rows) ≡ file_above l.path l.rows

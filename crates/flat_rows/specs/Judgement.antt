@@ -1,9 +1,0 @@
--- What an entry of a row's access list says of a caller.
-use Rattle.std.specs.Prelude.{ℕ, List}
-use Rattle.hdfs_types.specs.declared.rights.Rights as bits
-use Rattle.acl_entries.specs.JudgedEntry.{Judgement, judged_entry}
-use Rattle.flat_rows.specs.declared.row.Row.{Row}
-
--- the entry of the row that decides for a caller with these groups
-abbrev pub judgement : Row → List ℕ → List (List ℕ) → bits.Rights → Judgement
-judgement row caller groups asked = judged_entry row.owner row.group row.acl caller groups asked

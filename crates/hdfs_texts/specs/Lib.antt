@@ -1,0 +1,4 @@
+pub mod Text
+pub mod Parsed
+pub mod Faults
+pub mod Number

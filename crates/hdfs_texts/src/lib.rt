@@ -1,0 +1,5 @@
+//! What reading a text answers, texts as bytes with their order, and decimal numbers.
+#![tactic(auto)]
+
+pub mod fault;
+pub mod number;

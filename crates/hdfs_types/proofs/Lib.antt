@@ -1,9 +1,0 @@
-pub mod Numbers
-pub mod Texts
-pub mod Paths
-pub mod Fronts
-pub mod Spelling
-pub mod Beneath
-pub mod Nodes
-pub mod RightsText
-pub mod SpecKeys

@@ -1,0 +1,10 @@
+pub mod Filters
+pub mod Split
+pub mod Parts
+pub mod Levels
+pub mod Makes
+pub mod Moves
+pub mod Through
+pub mod Closings
+pub mod Wholes
+pub mod Children

@@ -1,0 +1,33 @@
+-- How the types of this crate are seen.
+use Rattle.std.specs.Prelude.{List, [], Option, Some, None}
+use Rattle.std.specs.List.Sorted.{IsStrictlySortedBy}
+use Rattle.std.specs.Map.{keys_of}
+use Rattle.hdfs_texts.specs.Text.{text_cmp}
+use Rattle.hdfs_types.specs.declared.reply.ObjectKind.{ObjectKind}
+use Rattle.hdfs_types.specs.declared.reply.ObjectKind.TheVariants as kind
+use Rattle.namespace_rows.specs.declared.file_row.FileRow.{FileRow}
+use Rattle.namespace_rows.specs.declared.row.Row.{Row}
+use Rattle.inode_nodes.specs.Branch.{Branch, flatten}
+use Rattle.inode_nodes.specs.declared.node.Held.{Held}
+use Rattle.inode_nodes.specs.declared.node.Held.TheVariants.{File, Directory}
+use Rattle.inode_nodes.specs.declared.node.Node.TheInside.{Inside}
+
+abbrev pub kind_of : Held → ObjectKind
+kind_of (File file) = kind.File
+kind_of (Directory map) = kind.Directory
+
+abbrev pub file_of : Held → Option FileRow
+file_of (File file) = Some file
+file_of (Directory map) = None
+
+abbrev pub rows_in : Held → List Row
+rows_in (File file) = []
+rows_in (Directory map) = flatten map.entries
+
+abbrev pub branch_of : Inside → Branch
+branch_of node = record { top = record { kind = kind_of node.held; owner = node.owner; group = node.group; acl = node.acl; file = file_of node.held }; beneath = rows_in node.held }
+
+-- the names of a directory ascend
+abbrev pub IsSorted : Held → Type 0
+IsSorted (File file) = Unit {0}
+IsSorted (Directory map) = IsStrictlySortedBy text_cmp (keys_of map.entries)

@@ -1,0 +1,6 @@
+pub mod Branch
+pub mod Kept
+pub mod Falls
+pub mod Part
+pub mod Change
+pub mod Expired

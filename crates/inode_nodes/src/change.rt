@@ -1,0 +1,431 @@
+ghost use Rattle.std.specs.Prelude.{◌≡◌, ◌∷◌, [], ◌++◌, true, false, None, Some, option_map, map, if◌then◌else◌, IfOk, OnOk, OnErr, IsTrue};
+ghost use Rattle.std.specs.List.Sorted.{IsStrictlySortedBy};
+ghost use Rattle.std.specs.Map.{keys_of};
+ghost use Rattle.file_paths.specs.Path.{is_prefix};
+ghost use Rattle.hdfs_texts.specs.Text.{text_cmp};
+ghost use Rattle.namespace_rows.specs.Rows.{is_missing, file_above, ancestor};
+ghost use Rattle.namespace_rows.specs.Namespace.{has_parent};
+ghost use Rattle.namespace_rows.specs.Files.{with_state, with_replication};
+ghost use Rattle.flat_rows.specs.FileOutcome.{is_expired_file, closed_where_expired};
+ghost use Rattle.flat_rows.specs.Outcome.{kind_of_new, with_new};
+ghost use Rattle.flat_rows.specs.Changes.{without, moved, rewritten};
+ghost use Rattle.inode_nodes.specs.Branch.{Top, rows, row_of, under, flatten, with_rows};
+ghost use Rattle.inode_nodes.specs.Part.{IsWhole};
+ghost use Rattle.inode_nodes.specs.Change.{grafted, holds_parent, chain, changed_top};
+ghost use Rattle.inode_nodes.specs.Expired.{past_hard, closed_branch};
+ghost use Rattle.inode_nodes.specs.Kept.{kind_of as kind_of_held, file_of, rows_in, IsSorted};
+
+use crate::expired;
+use crate::node::{Held, Node};
+use access_lists::acl::Acl;
+use block_numbers::replication::Repl;
+use default_acl::inherit::inherit;
+use file_paths::name::Name;
+use hdfs_types::file::FileState;
+use hdfs_types::reply::ObjectKind;
+use namespace_rows::file_row::FileRow;
+use namespace_rows::row::Change;
+use permission_bits::mode::Mode;
+use principal_names::who::Who;
+use std::alloc::{AllocError, Global};
+use std::collections::BTreeMap;
+
+impl Node {
+    /// Puts a node by its name into the directory at the path.
+    #[cycle(put)]
+    pub fn put(&mut self, above: &[Name], name: Name, new: Node) -> Result<(), AllocError>
+        requires { IsTrue (has_parent (above.now ++ name ∷ []) (rows self.old)) }
+        ensures ok { OnOk result (self.new ≡ with_rows self.old (grafted (above.now ++ name ∷ []) new self.old.beneath)) }
+        ensures err { OnErr result (self.new ≡ self.old) }
+    {
+        match &mut self.held {
+            Held::Directory(map) => put_in(map, above, name, new),
+            Held::File(_) => unreachable!(),
+        }
+    }
+
+    /// Puts a node in the place of what stands by this name in the directory at the path.
+    #[cycle(fill)]
+    pub fn fill(&mut self, above: &[Name], name: &Name, new: Node)
+        requires { is_missing (above.now ++ name.now ∷ []) self.old.beneath ≡ false }
+        ensures { self.new ≡ with_rows self.old (grafted (above.now ++ name.now ∷ []) new self.old.beneath) }
+    {
+        match &mut self.held {
+            Held::Directory(map) => fill_in(map, above, name, new),
+            Held::File(_) => unreachable!(),
+        }
+    }
+
+    /// Takes out what stands at the path of these names, with all that is beneath it.
+    #[cycle(take)]
+    pub fn take(&mut self, first: &Name, rest: &[Name]) -> Option<Node>
+        ensures whole { IsWhole (first.now ∷ rest.now) self.old.beneath result }
+        ensures rows { self.new ≡ with_rows self.old (without (first.now ∷ rest.now) self.old.beneath) }
+    {
+        match &mut self.held {
+            Held::Directory(map) => take_in(map, first, rest),
+            Held::File(_) => None,
+        }
+    }
+
+    /// An empty directory that stands for another node while that is on its way.
+    fn stand_in(&self, alloc: Global) -> Result<Node, AllocError>
+        ensures { IfOk result (λ node. node.beneath ≡ []) }
+    {
+        let acl = Acl::from_mode(Mode::root(), ObjectKind::Directory);
+        let owner = self.owner().clone()?;
+        let group = self.group().clone()?;
+        Ok(Node::new(alloc, owner, group, acl, None))
+    }
+
+    /// Moves what stands at the path of these names, to stand by a name in the directory at another path. A stand-in is put
+    /// there first, since that alone may fail.
+    pub fn move_to(
+        &mut self,
+        alloc: Global,
+        first: &Name,
+        rest: &[Name],
+        above: &[Name],
+        name: &Name,
+    ) -> Result<(), AllocError>
+        requires there { is_missing (first.now ∷ rest.now) (rows self.old) ≡ false }
+        requires parent { IsTrue (has_parent (above.now ++ name.now ∷ []) (rows self.old)) }
+        requires beside { is_prefix (first.now ∷ rest.now) (above.now ++ name.now ∷ []) ≡ false }
+        requires apart { is_prefix (above.now ++ name.now ∷ []) (first.now ∷ rest.now) ≡ false }
+        ensures ok { OnOk result (rows self.new ≡ moved (first.now ∷ rest.now) (above.now ++ name.now ∷ []) (rows self.old)) }
+        ensures err { OnErr result (self.new ≡ self.old) }
+    {
+        let stand_in = self.stand_in(alloc)?;
+        self.put(above, name.clone()?, stand_in)?;
+        let Some(moved) = self.take(first, rest) else {
+            unreachable!()
+        };
+        self.fill(above, name, moved);
+        Ok(())
+    }
+
+    /// Gives the node what the change says.
+    #[tactic(auto, using(crate::proofs::Through::untouched_beneath))]
+    fn give(&mut self, change: Change)
+        ensures given { self.new ≡ record { top = changed_top change self.old.top; beneath = self.old.beneath } }
+        ensures beneath { rewritten [] change self.old.beneath ≡ self.old.beneath }
+    {
+        match change {
+            Change::Owner(owner, group) => {
+                self.owner = owner;
+                self.group = group;
+            }
+            Change::List(acl) => replace_list(&mut self.acl, acl),
+            Change::State(state) => self.held.give_state(state),
+            Change::Replication(replication) => self.held.give_replication(replication),
+        }
+    }
+
+    /// Gives what stands at the path what the change says.
+    #[cycle(rewrite)]
+    pub fn rewrite(&mut self, path: &[Name], change: Change)
+        ensures { rows self.new ≡ rewritten path.now change (rows self.old) }
+    {
+        match path.split_first() {
+            None => self.give(change),
+            Some((first, rest)) => match &mut self.held {
+                Held::Directory(map) => rewrite_in(map, first, rest, change),
+                Held::File(_) => (),
+            },
+        }
+    }
+
+    /// A new file, or a directory that holds nothing, which inherits from a directory's list.
+    fn made(
+        alloc: Global,
+        mode: Mode,
+        file: Option<FileRow>,
+        owner: &Who,
+        group: &Who,
+        above: &Acl,
+    ) -> Result<Node, AllocError>
+        ensures { IfOk result (λ node. rows node ≡ chain above.now group.now owner.now mode file []) }
+    {
+        let acl = inherit(alloc, above, mode, kind_of(&file))?;
+        Ok(Node::new(alloc, owner.clone()?, group.clone()?, acl, file))
+    }
+
+    /// A new directory, and beneath it one for each name, built aside; the last is a file where one is given.
+    pub fn chain(
+        alloc: Global,
+        names: &[Name],
+        mode: Mode,
+        file: Option<FileRow>,
+        owner: &Who,
+        group: &Who,
+        above: &Acl,
+    ) -> Result<Node, AllocError>
+        ensures { IfOk result (λ node. rows node ≡ chain above.now group.now owner.now mode file names.now) }
+    {
+        let Some((first, rest)) = names.split_first() else {
+            return Node::made(alloc, mode, file, owner, group, above);
+        };
+        let acl = inherit(
+            alloc,
+            above,
+            mode.for_missing_parent(),
+            ObjectKind::Directory,
+        )?;
+        let inner = Node::chain(alloc, rest, mode, file, owner, group, &acl)?;
+        Node::holding(alloc, first, inner, owner, group, acl)
+    }
+
+    /// A new directory that holds a node by a name. It stands apart from `chain`, which keeps what that takes of the stack small.
+    fn holding(
+        alloc: Global,
+        name: &Name,
+        inner: Node,
+        owner: &Who,
+        group: &Who,
+        acl: Acl,
+    ) -> Result<Node, AllocError>
+        ensures { IfOk result (λ node. rows node ≡ row_of [] (record { kind = ObjectKind.Directory; owner = owner.now; group = group.now; acl = acl; file = None }) ∷ map (under name.now) (rows inner)) }
+    {
+        let mut map = BTreeMap::new(alloc);
+        map.insert(name.clone()?, inner)?;
+        new_directory(map, acl, owner, group)
+    }
+
+    /// Makes what is missing of the path, all directories but a file that is given for the last, or nothing.
+    #[cycle(make)]
+    pub fn make(
+        &mut self,
+        alloc: Global,
+        path: &[Name],
+        mode: Mode,
+        file: Option<FileRow>,
+        owner: &Who,
+    ) -> Result<(), AllocError>
+        requires missing { is_missing path.now (rows self.old) ≡ true }
+        requires clear { file_above path.now (rows self.old) ≡ None }
+        ensures ok { OnOk result (rows self.new ≡ with_new path.now mode file owner.now (ancestor path.now (rows self.old)) (rows self.old)) }
+        ensures err { OnErr result (self.new ≡ self.old) }
+    {
+        let Some((first, rest)) = path.split_first() else {
+            unreachable!()
+        };
+        match &mut self.held {
+            Held::Directory(map) => make_in(
+                alloc,
+                map,
+                first,
+                rest,
+                mode,
+                file,
+                owner,
+                &self.group,
+                &self.acl,
+            ),
+            Held::File(_) => unreachable!(),
+        }
+    }
+
+    /// Closes the files whose holders are among these clients, but where the length of the last block isn't committed.
+    #[cycle(close)]
+    pub fn close_expired(&mut self, past: &[Who])
+        ensures { self.new ≡ closed_branch past.now self.old }
+    {
+        match &mut self.held {
+            Held::Directory(map) => close_in(map, past),
+            Held::File(file) => close_file(file, past),
+        }
+    }
+}
+
+impl Held {
+    /// Gives a file another state.
+    fn give_state(&mut self, state: FileState)
+        requires { IsSorted self.old }
+        ensures sorted { IsSorted self.new }
+        ensures kind { kind_of_held self.new ≡ kind_of_held self.old }
+        ensures file { file_of self.new ≡ option_map (with_state state) (file_of self.old) }
+        ensures rows { rows_in self.new ≡ rows_in self.old }
+    {
+        match self {
+            Held::File(file) => file.state = state,
+            Held::Directory(_) => (),
+        }
+    }
+
+    /// Gives a file another replication.
+    fn give_replication(&mut self, replication: Repl)
+        requires { IsSorted self.old }
+        ensures sorted { IsSorted self.new }
+        ensures kind { kind_of_held self.new ≡ kind_of_held self.old }
+        ensures file { file_of self.new ≡ option_map (with_replication replication) (file_of self.old) }
+        ensures rows { rows_in self.new ≡ rows_in self.old }
+    {
+        match self {
+            Held::File(file) => file.replication = replication,
+            Held::Directory(_) => (),
+        }
+    }
+}
+
+/// A file where what it has is given, else a directory.
+fn kind_of(file: &Option<FileRow>) -> ObjectKind
+    ensures { result ≡ kind_of_new file.now }
+{
+    match file {
+        Some(_) => ObjectKind::File,
+        None => ObjectKind::Directory,
+    }
+}
+
+/// Closes the file where its holder is among these clients and the length of its last block is committed.
+fn close_file(file: &mut FileRow, past: &[Who])
+    ensures { file.new ≡ (if is_expired_file (past_hard past.now) (Some file.old) then with_state FileState.Closed file.old else file.old) }
+{
+    if expired::is_expired(file, past) {
+        file.state = FileState::Closed;
+    }
+}
+
+/// Puts a list in the place of another.
+fn replace_list(place: &mut Acl, acl: Acl)
+    ensures { place.new ≡ acl }
+{
+    *place = acl;
+}
+
+/// A directory that holds these nodes.
+fn new_directory(
+    map: BTreeMap<Name, Node>,
+    acl: Acl,
+    owner: &Who,
+    group: &Who,
+) -> Result<Node, AllocError>
+    requires { IsStrictlySortedBy text_cmp (keys_of map.entries) }
+    ensures { IfOk result (λ node. rows node ≡ row_of [] (record { kind = ObjectKind.Directory; owner = owner.now; group = group.now; acl = acl; file = None }) ∷ flatten map.entries) }
+{
+    Ok(Node {
+        owner: owner.clone()?,
+        group: group.clone()?,
+        acl,
+        held: Held::Directory(map),
+    })
+}
+
+#[cycle(put)]
+fn put_in(
+    map: &mut BTreeMap<Name, Node>,
+    above: &[Name],
+    name: Name,
+    new: Node,
+) -> Result<(), AllocError>
+    requires sorted { IsStrictlySortedBy text_cmp (keys_of map.old.entries) }
+    requires parent { IsTrue (holds_parent above.now name (flatten map.old.entries)) }
+    ensures sorted { IsStrictlySortedBy text_cmp (keys_of map.new.entries) }
+    ensures ok { OnOk result (flatten map.new.entries ≡ grafted (above.now ++ name ∷ []) new (flatten map.old.entries)) }
+    ensures err { OnErr result (flatten map.new.entries ≡ flatten map.old.entries) }
+{
+    match above.split_first() {
+        None => {
+            map.insert(name, new)?;
+            Ok(())
+        }
+        Some((first, rest)) => match map.get_mut(first) {
+            Some(child) => child.put(rest, name, new),
+            None => unreachable!(),
+        },
+    }
+}
+
+#[cycle(fill)]
+fn fill_in(map: &mut BTreeMap<Name, Node>, above: &[Name], name: &Name, new: Node)
+    requires sorted { IsStrictlySortedBy text_cmp (keys_of map.old.entries) }
+    requires there { is_missing (above.now ++ name.now ∷ []) (flatten map.old.entries) ≡ false }
+    ensures sorted { IsStrictlySortedBy text_cmp (keys_of map.new.entries) }
+    ensures rows { flatten map.new.entries ≡ grafted (above.now ++ name.now ∷ []) new (flatten map.old.entries) }
+{
+    match above.split_first() {
+        None => match map.get_mut(name) {
+            Some(place) => *place = new,
+            None => unreachable!(),
+        },
+        Some((first, rest)) => match map.get_mut(first) {
+            Some(child) => child.fill(rest, name, new),
+            None => unreachable!(),
+        },
+    }
+}
+
+#[cycle(take)]
+fn take_in(map: &mut BTreeMap<Name, Node>, first: &Name, rest: &[Name]) -> Option<Node>
+    requires { IsStrictlySortedBy text_cmp (keys_of map.old.entries) }
+    ensures whole { IsWhole (first.now ∷ rest.now) (flatten map.old.entries) result }
+    ensures sorted { IsStrictlySortedBy text_cmp (keys_of map.new.entries) }
+    ensures rows { flatten map.new.entries ≡ without (first.now ∷ rest.now) (flatten map.old.entries) }
+{
+    match rest.split_first() {
+        None => map.remove(first),
+        Some((next, more)) => match map.get_mut(first) {
+            Some(child) => child.take(next, more),
+            None => None,
+        },
+    }
+}
+
+#[cycle(rewrite)]
+fn rewrite_in(map: &mut BTreeMap<Name, Node>, first: &Name, rest: &[Name], change: Change)
+    requires { IsStrictlySortedBy text_cmp (keys_of map.old.entries) }
+    ensures sorted { IsStrictlySortedBy text_cmp (keys_of map.new.entries) }
+    ensures rows { flatten map.new.entries ≡ rewritten (first.now ∷ rest.now) change (flatten map.old.entries) }
+{
+    match map.get_mut(first) {
+        Some(child) => child.rewrite(rest, change),
+        None => (),
+    }
+}
+
+#[cycle(make)]
+fn make_in(
+    alloc: Global,
+    map: &mut BTreeMap<Name, Node>,
+    first: &Name,
+    rest: &[Name],
+    mode: Mode,
+    file: Option<FileRow>,
+    owner: &Who,
+    group: &Who,
+    above: &Acl,
+) -> Result<(), AllocError>
+    requires sorted { IsStrictlySortedBy text_cmp (keys_of map.old.entries) }
+    requires missing { is_missing (first.now ∷ rest.now) (flatten map.old.entries) ≡ true }
+    requires clear { file_above (first.now ∷ rest.now) (flatten map.old.entries) ≡ None }
+    ensures sorted { IsStrictlySortedBy text_cmp (keys_of map.new.entries) }
+    ensures ok { OnOk result ((top : Top) → top.group ≡ group.now → top.acl ≡ above.now → row_of [] top ∷ flatten map.new.entries ≡ with_new (first.now ∷ rest.now) mode file owner.now (ancestor (first.now ∷ rest.now) (row_of [] top ∷ flatten map.old.entries)) (row_of [] top ∷ flatten map.old.entries)) }
+    ensures err { OnErr result (flatten map.new.entries ≡ flatten map.old.entries) }
+{
+    match map.get_mut(first) {
+        Some(child) => child.make(alloc, rest, mode, file, owner),
+        None => {
+            let chain = Node::chain(alloc, rest, mode, file, owner, group, above)?;
+            map.insert(first.clone()?, chain)?;
+            Ok(())
+        }
+    }
+}
+
+#[cycle(close)]
+fn close_in(nodes: &mut BTreeMap<Name, Node>, past: &[Who])
+    requires { IsStrictlySortedBy text_cmp (keys_of nodes.old.entries) }
+    ensures sorted { IsStrictlySortedBy text_cmp (keys_of nodes.new.entries) }
+    ensures rows { flatten nodes.new.entries ≡ map (closed_where_expired (past_hard past.now)) (flatten nodes.old.entries) }
+{
+    nodes.retain(
+        |_name, child|
+            ensures kept { result ≡ true }
+            ensures closed { child.new ≡ closed_branch past.entry.now child.old }
+            ensures past { past.exit ≡ past.entry }
+        {
+            child.close_expired(past);
+            true
+        },
+    );
+}

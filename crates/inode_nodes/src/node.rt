@@ -1,0 +1,174 @@
+ghost use Rattle.std.specs.Prelude.{◌≡◌, [], IfOk, IfSome};
+ghost use Rattle.std.specs.Option.{option_copied};
+ghost use Rattle.access_lists.specs.JudgedEntry.{judged_entry};
+ghost use Rattle.namespace_rows.specs.Files.{holder_of_file};
+ghost use Rattle.flat_rows.specs.Outcome.{is_alone, kind_of_new};
+ghost use Rattle.inode_nodes.specs.Branch.{rows};
+ghost use Rattle.inode_nodes.specs.Part.{IsPart, IsWhole};
+
+use access_lists::access_check::chosen;
+use access_lists::acl::Acl;
+use access_lists::deciding_entry::Chosen;
+use file_paths::name::Name;
+use hdfs_types::file::FileState;
+use hdfs_types::reply::ObjectKind;
+use namespace_rows::file_row::FileRow;
+use permission_bits::rights::Rights;
+use principal_names::who::Who;
+use std::alloc::{AllocError, Global};
+use std::collections::BTreeMap;
+use std::marker::Model;
+
+/// A file, or a directory with what it holds.
+#[cycle(node)]
+#[derive(Drop)]
+pub struct Node {
+    pub owner: Who,
+    pub group: Who,
+    pub acl: Acl,
+    pub held: Held,
+}
+
+#[cycle(node)]
+#[derive(Drop)]
+pub enum Held {
+    File(FileRow),
+    Directory(BTreeMap<Name, Node>),
+}
+
+impl Model for Node {
+    ghost use Rattle.inode_nodes.specs.Branch.{Branch};
+
+    ghost Value = { Branch };
+
+    ghost use Rattle.std.specs.Prelude.{length};
+    ghost use Rattle.inode_nodes.specs.Kept.{branch_of, IsSorted};
+
+    ghost view = { branch_of };
+
+    ghost invariant = { λ node. IsSorted node.held };
+
+    ghost size = { λ branch. length branch.beneath };
+
+    ghost use Rattle.inode_nodes.specs.Falls.{falls};
+
+    ghost size_decreases = { λ node sorted. falls node.held };
+}
+
+impl Node {
+    /// A file, or a directory that holds nothing.
+    pub fn new(alloc: Global, owner: Who, group: Who, acl: Acl, file: Option<FileRow>) -> Node
+        ensures { result ≡ record { top = record { kind = kind_of_new file; owner = owner; group = group; acl = acl; file = file }; beneath = [] } }
+    {
+        let held = match file {
+            Some(file) => Held::File(file),
+            None => Held::Directory(BTreeMap::new(alloc)),
+        };
+        Node {
+            owner,
+            group,
+            acl,
+            held,
+        }
+    }
+
+    pub fn kind(&self) -> ObjectKind
+        ensures { result ≡ self.now.top.kind }
+    {
+        match &self.held {
+            Held::File(_) => ObjectKind::File,
+            Held::Directory(_) => ObjectKind::Directory,
+        }
+    }
+
+    pub fn owner(&self) -> &Who
+        ensures { result.now ≡ self.now.top.owner }
+    {
+        &self.owner
+    }
+
+    pub fn group(&self) -> &Who
+        ensures { result.now ≡ self.now.top.group }
+    {
+        &self.group
+    }
+
+    pub fn acl(&self) -> &Acl
+        ensures { result.now ≡ self.now.top.acl }
+    {
+        &self.acl
+    }
+
+    /// What a file has beside what a directory has.
+    pub fn file(&self) -> Option<&FileRow>
+        ensures { option_copied result ≡ self.now.top.file }
+    {
+        match &self.held {
+            Held::File(file) => Some(file),
+            Held::Directory(_) => None,
+        }
+    }
+
+    /// A copy of it.
+    pub fn file_copy(&self) -> Result<Option<FileRow>, AllocError>
+        ensures { IfOk result (λ file. file ≡ self.now.top.file) }
+    {
+        match self.file() {
+            Some(file) => Ok(Some(file.clone()?)),
+            None => Ok(None),
+        }
+    }
+
+    /// The client who has the file open.
+    pub fn holder(&self) -> Option<&Who>
+        ensures { option_copied result ≡ holder_of_file self.now.top.file }
+    {
+        match &self.file()?.state {
+            FileState::Open(client) => Some(client),
+            FileState::Closed => None,
+            FileState::Recovering(_, _, _) => None,
+        }
+    }
+
+    /// The entry that decides for a caller with these groups.
+    pub fn judged<'a>(&'a self, caller: &Who, groups: &[Who], need: Rights) -> Chosen<'a>
+        ensures { result ≡ judged_entry self.now.top.owner self.now.top.group self.now.top.acl caller.now groups.now need }
+    {
+        chosen(&self.owner, &self.group, &self.acl, caller, groups, need)
+    }
+
+    /// What the directory holds by this name.
+    pub fn child(&self, name: &Name) -> Option<&Node>
+        ensures part { IsPart name.now self.now.beneath (option_copied result) }
+        ensures directory { IfSome result (λ _. self.now.top.kind ≡ ObjectKind.Directory) }
+    {
+        match &self.held {
+            Held::File(_) => None,
+            Held::Directory(map) => map.get(name),
+        }
+    }
+
+    /// Whether nothing is beneath.
+    pub fn is_alone(&self) -> bool
+        ensures { result ≡ is_alone (rows self.now) }
+    {
+        match &self.held {
+            Held::File(_) => true,
+            Held::Directory(map) => map.is_empty(),
+        }
+    }
+
+    /// What stands at the path.
+    pub fn find(&self, path: &[Name]) -> Option<&Node>
+        ensures { IsWhole path.now (rows self.now) (option_copied result) }
+    {
+        let mut node = self;
+        for name in path {
+            match node.child(name) {
+                Some(child) => node = child,
+                None => return None,
+            }
+        }
+        Some(node)
+    }
+}

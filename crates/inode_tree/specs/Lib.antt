@@ -1,9 +1,0 @@
-pub mod Branch
-pub mod Part
-pub mod Kept
-pub mod Falls
-pub mod Change
-pub mod Expired
-pub mod Visits
-pub mod Limits
-pub mod Tree

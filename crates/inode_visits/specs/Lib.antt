@@ -1,0 +1,3 @@
+pub mod Visits
+pub mod Limits
+pub mod Tree

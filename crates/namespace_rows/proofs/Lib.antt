@@ -1,0 +1,4 @@
+pub mod Lengths
+pub mod PathOrders
+pub mod Namespaces
+pub mod Tests

@@ -1,0 +1,80 @@
+ghost use Rattle.std.specs.Prelude.{◌≡◌, IfOk};
+ghost use Rattle.namespace_rows.specs.Rows as spec;
+ghost use Rattle.namespace_rows.specs.Judgement.{judgement};
+
+use crate::file_row::FileRow;
+use access_lists::access_check::chosen;
+use access_lists::acl::Acl;
+use access_lists::deciding_entry::Chosen;
+use block_numbers::replication::Repl;
+use file_paths::path::Path;
+use hdfs_types::file::FileState;
+use hdfs_types::reply::ObjectKind;
+use permission_bits::rights::Rights;
+use principal_names::who::Who;
+use std::alloc::AllocError;
+
+/// A file or a directory, by its path (HDFS Architecture, "The File System Namespace").
+#[derive(Debug, Drop)]
+pub struct Row {
+    pub path: Path,
+    pub kind: ObjectKind,
+    pub owner: Who,
+    pub group: Who,
+    pub acl: Acl,
+    /// What a file has beside what a directory has; `None` for a directory.
+    pub file: Option<FileRow>,
+}
+
+impl Row {
+    pub fn is_directory(&self) -> bool
+        ensures { result ≡ spec.is_directory self.now }
+    {
+        self.kind == ObjectKind::Directory
+    }
+
+    /// The entry of the row that decides for a caller with these groups.
+    pub fn judged<'a>(&'a self, caller: &Who, groups: &[Who], need: Rights) -> Chosen<'a>
+        ensures { result ≡ judgement self.now caller.now groups.now need }
+    {
+        chosen(&self.owner, &self.group, &self.acl, caller, groups, need)
+    }
+}
+
+/// A copy of what a file has; a directory has none.
+fn copied(file: &Option<FileRow>) -> Result<Option<FileRow>, AllocError>
+    ensures { IfOk result (λ copy. copy ≡ file.now) }
+{
+    match file {
+        Some(file) => Ok(Some(file.clone()?)),
+        None => Ok(None),
+    }
+}
+
+impl Clone for Row {
+    ghost is_clone = { λ row copy. copy ≡ row };
+
+    fn clone(&self) -> Result<Row, AllocError> {
+        Ok(Row {
+            path: self.path.clone()?,
+            kind: self.kind,
+            owner: self.owner.clone()?,
+            group: self.group.clone()?,
+            acl: self.acl.clone()?,
+            file: copied(&self.file)?,
+        })
+    }
+}
+
+/// What is given to a file or a directory, in the place of what it has.
+#[derive(Debug, Drop)]
+pub enum Change {
+    /// This owner and this group.
+    Owner(Who, Who),
+    /// This access control list.
+    List(Acl),
+    /// Where it is a file, this state.
+    State(FileState),
+    /// Where it is a file, this replication.
+    Replication(Repl),
+}

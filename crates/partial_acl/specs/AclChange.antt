@@ -1,0 +1,264 @@
+-- What a change leaves of an access control list, or why it is refused: set, modify, remove, remove the default list, clear, and the
+-- change of a mode.
+-- (HDFS Permissions Guide, "ACLs (Access Control Lists)" and "ACLs Shell Commands". Which lists are emptied or completed, the order of
+-- refusals, and the masks that clear and remove leave are this project's own choice.)
+use Rattle.std.specs.Prelude.{ℕ, ◌%◌, Bool, true, false, not, ◌&&◌, ◌||◌, List, [], ◌∷◌, filter, if◌then◌else◌, Option, Some, None, unwrap_or, Result, Ok, Err}
+use Rattle.std.specs.List.{list_any, find, fold, filter_map}
+use Rattle.std.specs.Option.{is_some, is_none, option_map, option_map_or, option_or}
+use Rattle.std.specs.Ordering.{is_lt}
+use Rattle.hdfs_texts.specs.Text.{same, text_cmp}
+use Rattle.permission_bits.specs.Mode.{user_bits, group_bits, other_bits}
+use Rattle.permission_bits.specs.Rights.{rights}
+use Rattle.acl_specs.specs.Spec.{same_scope, same_kind}
+use Rattle.permission_bits.specs.declared.rights.Rights.{Rights}
+use Rattle.acl_specs.specs.declared.entry.Entry.{Entry}
+use Rattle.acl_specs.specs.declared.entry.EntryKind.{EntryKind}
+use Rattle.acl_specs.specs.declared.entry.EntryKind.TheVariants.{User, Group, Mask, Other}
+use Rattle.acl_specs.specs.declared.entry.Scope.{Scope}
+use Rattle.acl_specs.specs.declared.entry.Scope.TheVariants.{Access, Default}
+use Rattle.acl_specs.specs.declared.acl_change.AclChange.{AclChange}
+use Rattle.acl_specs.specs.declared.acl_change.AclChange.TheVariants.{Set, Modify, Remove, RemoveDefault, Clear}
+use Rattle.hdfs_texts.specs.declared.fault.AclFault.{AclFault}
+use Rattle.hdfs_texts.specs.declared.fault.AclFault.TheVariants.{DefaultOnFile, NoBase, BaseRemoved, MaskRemoved}
+use Rattle.hdfs_types.specs.declared.reply.ObjectKind.{ObjectKind}
+use Rattle.hdfs_types.specs.declared.reply.ObjectKind.TheVariants.{File, Directory}
+use Rattle.hdfs_types.specs.declared.reply.Refusal.{Refusal}
+use Rattle.hdfs_types.specs.declared.reply.Refusal.TheVariants.{BadAcl, TooManyEntries}
+use Rattle.access_lists.specs.declared.entry_list.NamedEntry.{NamedEntry}
+use Rattle.access_lists.specs.AccessControlList.{AccessControlList, EntryList, base_entries, common, union_of_group_class, has_named, fits, sticky_bit}
+
+-- ── what a spec says of a scope ──
+
+abbrev pub is_base_of : Scope → EntryKind → Entry → Bool
+is_base_of scope kind entry = same_scope entry.scope scope && (same_kind entry.kind kind && is_none entry.name)
+
+-- it has an entry for the owner, the owning group, the mask or all others
+abbrev pub has_base : Scope → EntryKind → List Entry → Bool
+has_base scope kind spec = list_any (is_base_of scope kind) spec
+
+-- the rights that an entry grants: rights have three bits, and any further ones grant nothing
+abbrev pub granted_by : Entry → Rights
+granted_by entry = rights (entry.rights.0 % 8)
+
+-- the rights that this entry grants
+abbrev pub given : Scope → EntryKind → List Entry → Option Rights
+given scope kind spec = option_map granted_by (find (is_base_of scope kind) spec)
+
+abbrev pub is_for : Scope → EntryKind → Entry → Bool
+is_for scope kind entry = same_scope entry.scope scope && same_kind entry.kind kind
+
+abbrev pub with_name : Entry → Option NamedEntry
+with_name entry = option_map (λ name. record { name = name; rights = granted_by entry }) entry.name
+
+-- its entries for named users, or for named groups
+abbrev pub named_in : Scope → EntryKind → List Entry → List NamedEntry
+named_in scope kind spec = filter_map with_name (filter (is_for scope kind) spec)
+
+-- it has an entry in the scope
+abbrev pub touches : Scope → List Entry → Bool
+touches scope spec = list_any (λ entry. same_scope entry.scope scope) spec
+
+-- ── lists of named entries, in the order of their names ──
+
+-- with an entry in its place, instead of one of the same name
+abbrev pub put : NamedEntry → List NamedEntry → List NamedEntry
+put new [] = new ∷ []
+put new (entry ∷ entries) =
+    if same new.name entry.name then new ∷ entries
+    else (if is_lt (text_cmp new.name entry.name) then new ∷ entry ∷ entries else entry ∷ put new entries)
+
+-- with each of other entries put in
+abbrev pub with_each : List NamedEntry → List NamedEntry → List NamedEntry
+with_each entries others = fold (λ list entry. put entry list) entries others
+
+-- without those whose names others have
+abbrev pub without : List NamedEntry → List NamedEntry → List NamedEntry
+without entries others = filter (λ entry. not (list_any (λ other. same other.name entry.name) others)) entries
+
+-- ── the entries of a scope without its mask, while they change: bases may be missing ──
+
+pub record PartialList : Type 0 where
+  pub user : Option Rights
+  pub users : List NamedEntry
+  pub group : Option Rights
+  pub groups : List NamedEntry
+  pub other : Option Rights
+
+abbrev pub no_entries : PartialList
+no_entries = record { user = None; users = []; group = None; groups = []; other = None }
+
+abbrev pub all_of : EntryList → PartialList
+all_of list = record { user = Some list.user; users = list.users; group = Some list.group; groups = list.groups; other = Some list.other }
+
+-- with each entry that the spec has in the scope, instead of one that stands there
+abbrev pub after_addition : Scope → List Entry → PartialList → PartialList
+after_addition scope spec old = record {
+  user = option_or (given scope User spec) old.user;
+  users = with_each old.users (named_in scope User spec);
+  group = option_or (given scope Group spec) old.group;
+  groups = with_each old.groups (named_in scope Group spec);
+  other = option_or (given scope Other spec) old.other;
+}
+
+abbrev pub unless : Bool → Option Rights → Option Rights
+unless true granted = None
+unless false granted = granted
+
+-- without the entries that the spec has in the scope
+abbrev pub after_removal : Scope → List Entry → PartialList → PartialList
+after_removal scope spec old = record {
+  user = unless (has_base scope User spec) old.user;
+  users = without old.users (named_in scope User spec);
+  group = unless (has_base scope Group spec) old.group;
+  groups = without old.groups (named_in scope Group spec);
+  other = unless (has_base scope Other spec) old.other;
+}
+
+abbrev pub is_empty : List NamedEntry → Bool
+is_empty [] = true
+is_empty (entry ∷ entries) = false
+
+abbrev pub has_no_entry : PartialList → Bool
+has_no_entry list = is_none list.user && (is_none list.group && (is_none list.other && (is_empty list.users && is_empty list.groups)))
+
+-- ── a list again: missing bases from another list, and a mask ──
+
+abbrev pub with_bases_of : EntryList → PartialList → EntryList
+with_bases_of other list = record {
+  user = unwrap_or list.user other.user;
+  users = list.users;
+  group = unwrap_or list.group other.group;
+  groups = list.groups;
+  mask = None;
+  other = unwrap_or list.other other.other;
+}
+
+-- the mask that a spec names, else the union of the group class
+abbrev pub mask_after : Option Rights → EntryList → EntryList
+mask_after named list = record {
+  user = list.user;
+  users = list.users;
+  group = list.group;
+  groups = list.groups;
+  mask = Some (unwrap_or named (union_of_group_class list));
+  other = list.other;
+}
+
+abbrev pub completed : Option Rights → EntryList → PartialList → EntryList
+completed named_mask other list = mask_after named_mask (with_bases_of other list)
+
+-- an access list without named entries is kept as mode bits, its group behind the mask
+abbrev pub as_kept : EntryList → EntryList
+as_kept list =
+    if has_named list then list
+    else base_entries list.user (option_map_or (common list.group) list.mask list.group) list.other
+
+-- ── the lists after a change: an untouched scope stays ──
+
+-- missing bases are the old ones; that matters for `clear` alone, since `set` and `remove` without a base are refused
+abbrev pub access_where : Bool → Option Rights → EntryList → PartialList → EntryList
+access_where touched named_mask old list = if touched then as_kept (completed named_mask old list) else old
+
+abbrev pub access_after : AclChange → EntryList → EntryList
+access_after (Set spec) old = access_where (touches Access spec) (given Access Mask spec) old (after_addition Access spec no_entries)
+access_after (Modify spec) old = access_where (touches Access spec) (given Access Mask spec) old (after_addition Access spec (all_of old))
+access_after (Remove spec) old = access_where (touches Access spec) None old (after_removal Access spec (all_of old))
+access_after RemoveDefault old = old
+access_after Clear old = access_where true None old no_entries
+
+-- missing bases are those of the access list after the change
+abbrev pub default_where : Bool → Option Rights → Option EntryList → EntryList → PartialList → Option EntryList
+default_where touched named_mask old access list = if touched then Some (completed named_mask access list) else old
+
+-- a list of which at most a mask is left is empty
+abbrev pub default_left : Bool → Option EntryList → EntryList → PartialList → Option EntryList
+default_left touched old access list = if touched && has_no_entry list then None else default_where touched None old access list
+
+abbrev pub default_after : AclChange → EntryList → Option EntryList → Option EntryList
+default_after (Set spec) access old = default_where (touches Default spec) (given Default Mask spec) old access (after_addition Default spec no_entries)
+default_after (Modify spec) access old =
+    default_where (touches Default spec) (given Default Mask spec) old access (after_addition Default spec (option_map_or all_of old no_entries))
+default_after (Remove spec) access old = default_left (touches Default spec) old access (after_removal Default spec (option_map_or all_of old no_entries))
+default_after RemoveDefault access old = None
+default_after Clear access old = None
+
+abbrev pub acl_after : AclChange → AccessControlList → AccessControlList
+acl_after change old =
+    let access = access_after change old.access in
+    record { sticky = old.sticky; access = access; default = default_after change access old.default }
+
+-- ── refusals ──
+
+abbrev pub spec_in : AclChange → List Entry
+spec_in (Set spec) = spec
+spec_in (Modify spec) = spec
+spec_in (Remove spec) = spec
+spec_in RemoveDefault = []
+spec_in Clear = []
+
+-- the change names entries
+abbrev pub has_spec : AclChange → Bool
+has_spec (Set spec) = true
+has_spec (Modify spec) = true
+has_spec (Remove spec) = true
+has_spec RemoveDefault = false
+has_spec Clear = false
+
+abbrev pub is_file : ObjectKind → Bool
+is_file File = true
+is_file Directory = false
+
+-- a default entry of a file
+abbrev pub default_on_file : AclChange → ObjectKind → Bool
+default_on_file change kind = is_file kind && touches Default (spec_in change)
+
+-- the access scope is set without owner, owning group or others
+abbrev pub lacks_base : AclChange → Bool
+lacks_base (Set spec) = touches Access spec && not (has_base Access User spec && (has_base Access Group spec && has_base Access Other spec))
+lacks_base _ = false
+
+-- the access entry of owner, owning group or others is taken away
+abbrev pub removes_base : AclChange → Bool
+removes_base (Remove spec) = has_base Access User spec || (has_base Access Group spec || has_base Access Other spec)
+removes_base _ = false
+
+-- the mask of an extended access list is taken away
+abbrev pub removes_mask : AclChange → EntryList → Bool
+removes_mask (Remove spec) access = has_base Access Mask spec && has_named access
+removes_mask _ access = false
+
+-- the first that applies
+abbrev pub first_acl_fault : AclChange → ObjectKind → AccessControlList → Option AclFault
+first_acl_fault change kind acl =
+    if default_on_file change kind then Some DefaultOnFile else
+    if lacks_base change then Some NoBase else
+    if removes_base change then Some BaseRemoved else
+    if removes_mask change acl.access then Some MaskRemoved else None
+
+-- no scope has more entries than may stand in one
+abbrev pub if_it_fits : AccessControlList → Result AccessControlList Refusal
+if_it_fits acl = if fits acl.access && option_map_or fits acl.default true then Ok acl else Err TooManyEntries
+
+abbrev pub unless_fault : Option AclFault → AccessControlList → Result AccessControlList Refusal
+unless_fault (Some fault) acl = Err (BadAcl fault)
+unless_fault None acl = if_it_fits acl
+
+-- the list after a change, or why it is refused
+abbrev pub acl_change : AclChange → ObjectKind → AccessControlList → Result AccessControlList Refusal
+acl_change change kind acl = unless_fault (first_acl_fault change kind acl) (acl_after change acl)
+
+-- ── the change of a mode ──
+
+abbrev pub access_with_mode : ℕ → EntryList → EntryList
+access_with_mode mode list = record {
+  user = rights (user_bits mode);
+  users = list.users;
+  group = if is_some list.mask then list.group else rights (group_bits mode);
+  groups = list.groups;
+  mask = option_map (λ mask. rights (group_bits mode)) list.mask;
+  other = rights (other_bits mode);
+}
+
+-- a mode sets owner, others, and the mask where there is one, else the group; and the sticky bit of a directory
+abbrev pub with_mode : ℕ → ObjectKind → AccessControlList → AccessControlList
+with_mode mode kind acl = record { sticky = sticky_bit mode kind; access = access_with_mode mode acl.access; default = acl.default }

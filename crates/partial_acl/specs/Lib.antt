@@ -1,0 +1,3 @@
+pub mod AclChange
+pub mod Answers
+pub mod Seen

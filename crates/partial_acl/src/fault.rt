@@ -1,0 +1,28 @@
+ghost use Rattle.std.specs.Prelude.{◌≡◌};
+ghost use Rattle.partial_acl.specs.declared.fault.AclChangeFault.TheVariants.{OutOfMemory};
+
+use hdfs_types::reply::Refusal;
+use std::alloc::{AllocError, AllocFailed};
+
+/// Why an access control list was not changed.
+#[derive(Debug, Drop)]
+pub enum AclChangeFault {
+    Refused(Refusal),
+    OutOfMemory,
+}
+
+impl From<AllocError> for AclChangeFault {
+    ghost from_gives = { λ _ fault. fault ≡ OutOfMemory };
+
+    fn from(_error: AllocError) -> AclChangeFault {
+        AclChangeFault::OutOfMemory
+    }
+}
+
+impl<T: Drop> From<AllocFailed<T>> for AclChangeFault {
+    ghost from_gives = { λ _ fault. fault ≡ OutOfMemory };
+
+    fn from(_error: AllocFailed<T>) -> AclChangeFault {
+        AclChangeFault::OutOfMemory
+    }
+}

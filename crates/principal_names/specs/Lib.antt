@@ -1,0 +1,3 @@
+pub mod Who
+pub mod Groups
+pub mod NodeId

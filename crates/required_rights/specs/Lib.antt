@@ -1,0 +1,3 @@
+pub mod NeedText
+pub mod RequiredRights
+pub mod Demands

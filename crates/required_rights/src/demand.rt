@@ -1,0 +1,382 @@
+ghost use Rattle.std.specs.Prelude.{◌≡◌, ◌∷◌, ◌++◌, [], Some, IfOk};
+ghost use Rattle.file_paths.specs.Path.{IsPath};
+ghost use Rattle.required_rights.specs.RequiredRights as spec;
+
+use crate::need::Need;
+use file_paths::name::Name;
+use file_paths::path::Path;
+use hdfs_types::op::Op;
+use permission_bits::rights::Rights;
+use principal_names::who::Who;
+use std::alloc::{AllocError, Global};
+use std::marker::Model;
+
+/// Which components a need on a path is of.
+#[derive(Clone, Copy, Debug, PartialEq, Eq)]
+pub enum Role {
+    /// Each existing directory above the path, from the root down.
+    Traversed,
+    /// The last existing component above the path.
+    Ancestor,
+    /// The directory that holds the path.
+    Parent,
+    /// What has the path.
+    Final,
+    /// The directory at the path and all directories beneath it.
+    SubTree,
+}
+
+/// When a need on a path is judged.
+#[derive(Debug, Drop)]
+pub enum Condition {
+    Always,
+    /// Where nothing has the path.
+    WhereMissing,
+    /// Where a directory has the path.
+    WhereDirectory,
+    /// Where a file has the path.
+    WhereFile,
+    /// Where the directory that holds the path has the sticky bit.
+    WhereSticky,
+    /// Where another than this user owns what has the path.
+    WhereOwnedByAnother(Who),
+}
+
+/// Whether a need is judged also while permission checking is switched off (`dfs.permissions.enabled`).
+#[derive(Clone, Copy, Debug, PartialEq, Eq)]
+pub enum Enforcement {
+    WhileChecking,
+    Always,
+}
+
+/// A need of the components that have a role on a path.
+#[derive(Debug, Drop)]
+pub struct Demand<'a> {
+    role: Role,
+    path: &'a [Name],
+    condition: Condition,
+    need: Need,
+    enforcement: Enforcement,
+}
+
+impl<'a> Model for Demand<'a> {
+    ghost use Rattle.required_rights.specs.RequiredRights as spec;
+
+    ghost Value = { spec.Demand };
+
+    ghost use Rattle.required_rights.specs.Demands.{IsDemand, demand_of};
+
+    ghost view = { demand_of };
+
+    ghost invariant = { λ demand. IsDemand (demand_of demand) };
+}
+
+impl<'a> Demand<'a> {
+    ghost use Rattle.std.specs.Prelude.{◌≡◌, IfOk};
+    ghost use Rattle.required_rights.specs.RequiredRights as spec;
+    ghost use Rattle.required_rights.specs.Demands.{IsDemand};
+
+    /// Rights on the components of a path, while permission checking is on.
+    fn rights(role: Role, path: &'a Path, condition: Condition, rights: Rights) -> Demand<'a>
+        ensures { result ≡ spec.rights_demand role path.now condition rights }
+    {
+        Demand {
+            role,
+            path: path.names(),
+            condition,
+            need: Need::Rights(rights),
+            enforcement: Enforcement::WhileChecking,
+        }
+    }
+
+    /// A need other than rights, on a path itself.
+    fn on(path: &'a Path, condition: Condition, need: Need, enforcement: Enforcement) -> Demand<'a>
+        ensures { result ≡ spec.demand_on path.now condition need enforcement }
+    {
+        Demand {
+            role: Role::Final,
+            path: path.names(),
+            condition,
+            need,
+            enforcement,
+        }
+    }
+
+    /// To traverse each directory above the path.
+    pub fn traversal(path: &'a Path) -> Demand<'a>
+        ensures { result ≡ spec.traversal path.now }
+    {
+        Demand::rights(Role::Traversed, path, Condition::Always, Rights::EXECUTE)
+    }
+
+    /// To traverse each directory above the path, also while permission checking is off.
+    pub fn strict_traversal(path: &'a Path) -> Demand<'a>
+        ensures { result ≡ spec.strict_traversal path.now }
+    {
+        Demand {
+            role: Role::Traversed,
+            path: path.names(),
+            condition: Condition::Always,
+            need: Need::Rights(Rights::EXECUTE),
+            enforcement: Enforcement::Always,
+        }
+    }
+
+    /// In a directory with the sticky bit, to own what has the path, or that directory.
+    pub fn sticky_bit(path: &'a Path) -> Demand<'a>
+        ensures { result ≡ spec.sticky_bit path.now }
+    {
+        Demand::on(
+            path,
+            Condition::WhereSticky,
+            Need::Sticky,
+            Enforcement::WhileChecking,
+        )
+    }
+
+    /// To write in the last existing component above a path that is missing.
+    pub fn creation(path: &'a Path) -> Demand<'a>
+        ensures { result ≡ spec.creation path.now }
+    {
+        Demand::rights(Role::Ancestor, path, Condition::WhereMissing, Rights::WRITE)
+    }
+
+    /// To write in the last existing component above the path.
+    pub fn write_above(path: &'a Path) -> Demand<'a>
+        ensures { result ≡ spec.write_above path.now }
+    {
+        Demand::rights(Role::Ancestor, path, Condition::Always, Rights::WRITE)
+    }
+
+    /// To write in the directory that holds the path.
+    pub fn removal(path: &'a Path) -> Demand<'a>
+        ensures { result ≡ spec.removal path.now }
+    {
+        Demand::rights(Role::Parent, path, Condition::Always, Rights::WRITE)
+    }
+
+    /// Rights on what has the path.
+    pub fn access(rights: Rights, path: &'a Path) -> Demand<'a>
+        ensures { result ≡ spec.access rights path.now }
+    {
+        Demand::rights(Role::Final, path, Condition::Always, rights)
+    }
+
+    /// To write the file that is to be replaced.
+    pub fn overwriting(path: &'a Path) -> Demand<'a>
+        ensures { result ≡ spec.overwriting path.now }
+    {
+        Demand::rights(Role::Final, path, Condition::WhereFile, Rights::WRITE)
+    }
+
+    /// To read and to traverse the directory itself.
+    pub fn listing(path: &'a Path) -> Demand<'a>
+        ensures { result ≡ spec.listing path.now }
+    {
+        Demand::rights(
+            Role::Final,
+            path,
+            Condition::WhereDirectory,
+            Rights::of_low_bits(0o5),
+        )
+    }
+
+    /// Rights on the directory at the path and on all directories beneath it.
+    pub fn sub_tree(rights: Rights, path: &'a Path) -> Demand<'a>
+        ensures { result ≡ spec.sub_tree rights path.now }
+    {
+        Demand::rights(Role::SubTree, path, Condition::Always, rights)
+    }
+
+    /// To own what has the path.
+    pub fn ownership(path: &'a Path) -> Demand<'a>
+        ensures { result ≡ spec.ownership path.now }
+    {
+        Demand::on(path, Condition::Always, Need::Owner, Enforcement::Always)
+    }
+
+    /// To be a superuser where another than this user owns the path.
+    pub fn giving_away(path: &'a Path, user: &Who) -> Result<Demand<'a>, AllocError>
+        ensures { IfOk result (λ demand. demand ≡ spec.giving_away path.now user.now) }
+    {
+        Ok(Demand::on(
+            path,
+            Condition::WhereOwnedByAnother(user.clone()?),
+            Need::Superuser,
+            Enforcement::Always,
+        ))
+    }
+
+    /// To be among the members of a group.
+    pub fn membership(path: &'a Path, group: &Who) -> Result<Demand<'a>, AllocError>
+        ensures { IfOk result (λ demand. demand ≡ spec.membership path.now group.now) }
+    {
+        Ok(Demand::on(
+            path,
+            Condition::Always,
+            Need::Member(group.clone()?),
+            Enforcement::Always,
+        ))
+    }
+
+    /// To be a superuser, at the root.
+    pub fn administration() -> Demand<'a>
+        ensures { result ≡ spec.administration }
+    {
+        Demand {
+            role: Role::Final,
+            path: &[],
+            condition: Condition::Always,
+            need: Need::Superuser,
+            enforcement: Enforcement::Always,
+        }
+    }
+
+    pub fn role(&self) -> Role
+        ensures { result ≡ self.now.role }
+    {
+        self.role
+    }
+
+    /// The names of the path from the root down.
+    pub fn path(&self) -> &'a [Name]
+        ensures path { result.now ≡ self.now.path }
+        ensures demand { IsDemand self.now }
+    {
+        self.path
+    }
+
+    pub fn condition(&self) -> &Condition
+        ensures { result.now ≡ self.now.condition }
+    {
+        &self.condition
+    }
+
+    pub fn need(&self) -> &Need
+        ensures { result.now ≡ self.now.need }
+    {
+        &self.need
+    }
+
+    /// Whether the need is judged also while permission checking is off.
+    pub fn enforcement(&self) -> Enforcement
+        ensures { result ≡ self.now.enforcement }
+    {
+        self.enforcement
+    }
+}
+
+/// The needs of an operation, in the order in which they are judged.
+#[derive(Debug, Drop)]
+pub struct Needs<'a> {
+    demands: Vec<Demand<'a>>,
+}
+
+impl<'a> Model for Needs<'a> {
+    ghost use Rattle.std.specs.Prelude.{List};
+    ghost use Rattle.required_rights.specs.RequiredRights as spec;
+
+    ghost Value = { List spec.Demand };
+
+    ghost view = { λ needs. needs.demands.items };
+}
+
+impl<'a> Needs<'a> {
+    pub fn as_slice(&self) -> &[Demand<'a>]
+        ensures { result.now ≡ self.now }
+    {
+        &self.demands
+    }
+}
+
+/// What giving a path another owner and another group needs.
+fn needs_of_owner<'a>(
+    alloc: Global,
+    path: &'a Path,
+    owner: &Option<Who>,
+    group: &Option<Who>,
+) -> Result<Vec<Demand<'a>>, AllocError>
+    ensures { IfOk result (λ demands. demands.items ≡ spec.strict_traversal path.now ∷ spec.ownership path.now ∷ (spec.owner_demands path.now owner.now ++ spec.group_demands path.now group.now)) }
+{
+    let mut demands = vec![in alloc; Demand::strict_traversal(path), Demand::ownership(path)]?;
+    if let Some(user) = owner {
+        demands.push(Demand::giving_away(path, user)?)?;
+    }
+    if let Some(group) = group {
+        demands.push(Demand::membership(path, group)?)?;
+    }
+    Ok(demands)
+}
+
+/// What making a file needs, and also replacing one where that is asked.
+fn needs_of_file<'a>(
+    alloc: Global,
+    path: &'a Path,
+    over: bool,
+) -> Result<Vec<Demand<'a>>, AllocError>
+    ensures { IfOk result (λ demands. demands.items ≡ spec.traversal path.now ∷ spec.write_above path.now ∷ spec.over_demands path.now over) }
+{
+    let mut demands = vec![in alloc; Demand::traversal(path), Demand::write_above(path)]?;
+    if over {
+        demands.push(Demand::overwriting(path))?;
+    }
+    Ok(demands)
+}
+
+/// The needs of an operation, with its paths borrowed: the one table of required rights.
+pub fn needs_of<'a>(alloc: Global, op: &'a Op) -> Result<Needs<'a>, AllocError>
+    ensures { IfOk result (λ needs. needs ≡ spec.required_rights op.now) }
+{
+    let demands = match op {
+        Op::Mkdirs(path, _) => vec![in alloc; Demand::traversal(path), Demand::creation(path)]?,
+        Op::Stat(path) => vec![in alloc; Demand::traversal(path)]?,
+        Op::List(path) => vec![in alloc; Demand::traversal(path), Demand::listing(path)]?,
+        Op::Summary(path) => {
+            vec![in alloc;
+                Demand::traversal(path),
+                Demand::sub_tree(Rights::of_low_bits(0o5), path),
+            ]?
+        }
+        Op::Delete(path, _) => {
+            vec![in alloc;
+                Demand::traversal(path),
+                Demand::sticky_bit(path),
+                Demand::removal(path),
+                Demand::sub_tree(Rights::of_low_bits(0o7), path),
+            ]?
+        }
+        Op::Rename(from, to) => {
+            vec![in alloc;
+                Demand::traversal(from),
+                Demand::traversal(to),
+                Demand::sticky_bit(from),
+                Demand::write_above(to),
+                Demand::removal(from),
+            ]?
+        }
+        Op::SetMode(path, _) => {
+            vec![in alloc; Demand::strict_traversal(path), Demand::ownership(path)]?
+        }
+        Op::GetAcl(path) => vec![in alloc; Demand::traversal(path)]?,
+        Op::SetAcl(path, _) => vec![in alloc;
+            Demand::strict_traversal(path),
+            Demand::ownership(path),
+        ]?,
+        Op::SetOwner(path, owner, group) => needs_of_owner(alloc, path, owner, group)?,
+        Op::Create(path, _, _, over) => needs_of_file(alloc, path, *over)?,
+        Op::Append(path) | Op::SetReplication(path, _) => vec![in alloc;
+            Demand::traversal(path),
+            Demand::access(Rights::WRITE, path),
+        ]?,
+        Op::Open(path) => vec![in alloc;
+            Demand::traversal(path),
+            Demand::access(Rights::READ, path),
+        ]?,
+        Op::AddBlock(path, _) | Op::Complete(path, _) => vec![in alloc; Demand::traversal(path)]?,
+        Op::Renew => Vec::new(alloc),
+        Op::AddUser(_, _) | Op::SetGroups(_, _) | Op::Tick => {
+            vec![in alloc; Demand::administration()]?
+        }
+    };
+    Ok(Needs { demands })
+}
