@@ -1,3 +1,4 @@
 pub mod AccessControlList
 pub mod JudgedEntry
 pub mod Kept
+pub mod Printed

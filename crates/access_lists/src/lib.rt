@@ -5,3 +5,4 @@ pub mod access_check;
 pub mod acl;
 pub mod deciding_entry;
 pub mod entry_list;
+pub mod print;

@@ -2,7 +2,6 @@
 //! Lists)").
 #![tactic(auto)]
 
-pub mod print;
 pub mod spec_text;
 
-pub use access_lists::{access_check, acl, deciding_entry, entry_list};
+pub use access_lists::{access_check, acl, deciding_entry, entry_list, print};

@@ -10,7 +10,7 @@ ghost use Rattle.perm_walk.specs.Walked.{AreOn};
 ghost use Rattle.fs_operations.specs.Judged.{judged_step};
 
 use crate::found::{Found, FoundFile, standing, standing_file};
-use acl_entries::print::print;
+use access_lists::print::print;
 use required_rights::demand::Needs;
 use namespace_rows::file_row::FileRow;
 use flat_rows::verdict::Verdict;

@@ -3,7 +3,7 @@ use Rattle.std.specs.List.{flat_map}
 use Rattle.std.specs.Fmt.{HasWritten, IsPlainFormatter}
 use Rattle.acl_specs.specs.Entry.{entry_text}
 use Rattle.access_lists.specs.AccessControlList.{named_entry}
-use Rattle.acl_entries.proofs.print.FollowingDisplay.fmt.Given as goal
+use Rattle.access_lists.proofs.print.FollowingDisplay.fmt.Given as goal
 
 abbrev pub invariant-loop-entry : goal.invariant-loop-entry
 invariant-loop-entry g l =

@@ -8,7 +8,7 @@ use Rattle.acl_specs.specs.declared.entry.EntryKind.TheVariants.{User, Group, Ot
 use Rattle.acl_specs.specs.declared.entry.Scope.{Scope}
 use Rattle.acl_specs.specs.declared.entry.Scope.TheVariants.{Access, Default}
 use Rattle.access_lists.specs.AccessControlList.{AccessControlList, EntryList, base_entry, named_entry, mask_entries, entries_in, entries}
-use Rattle.acl_entries.specs.Printed.{behind_comma, text_in, default_text, text_of}
+use Rattle.access_lists.specs.Printed.{behind_comma, text_in, default_text, text_of}
 
 no_more : (xs : List ℕ) → xs ++ [] ≡ xs
 no_more [] = refl

@@ -3,10 +3,10 @@ ghost use Rattle.std.specs.List.{flat_map, join_with_byte};
 ghost use Rattle.std.specs.String.{string_bytes};
 ghost use Rattle.acl_specs.specs.Entry.{entry_text};
 ghost use Rattle.access_lists.specs.AccessControlList.{entries, base_entry, named_entry, mask_entries};
-ghost use Rattle.acl_entries.specs.Printed.{text_in, text_of};
+ghost use Rattle.access_lists.specs.Printed.{text_in, text_of};
 
-use access_lists::acl::Acl;
-use access_lists::entry_list::{EntryList, NamedEntry};
+use crate::acl::Acl;
+use crate::entry_list::{EntryList, NamedEntry};
 use acl_specs::entry::{EntryKind, Scope};
 use permission_bits::rights::Rights;
 use std::alloc::{AllocError, Global};
