@@ -12,7 +12,7 @@ use std::marker::Model;
 
 /// The access control list of a file or a directory: the sticky bit, the entries that are judged, and the default entries that
 /// what is made in a directory inherits (HDFS Permissions Guide, "Overview" and "ACLs (Access Control Lists)").
-#[derive(Debug, Drop)]
+#[derive(Drop)]
 pub struct Acl {
     sticky: bool,
     access: EntryList,

@@ -13,7 +13,7 @@ use std::marker::Model;
 
 /// The entry that decides for a caller, its name borrowed from the list, the mask where one filters it, and whether they
 /// grant what is needed.
-#[derive(Debug, Drop)]
+#[derive(Drop)]
 pub struct Chosen<'a> {
     kind: EntryKind,
     name: Option<&'a Who>,

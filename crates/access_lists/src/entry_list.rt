@@ -8,7 +8,7 @@ use std::alloc::{AllocError, Global};
 use std::marker::Model;
 
 /// What a named user or a named group is granted.
-#[derive(Debug, Drop)]
+#[derive(Drop)]
 pub struct NamedEntry {
     pub name: Who,
     pub rights: Rights,
@@ -26,7 +26,7 @@ impl Clone for NamedEntry {
 }
 
 /// What owner, owning group and all others are granted.
-#[derive(Clone, Copy, Debug, PartialEq, Eq)]
+#[derive(Clone, Copy, PartialEq, Eq)]
 pub struct Bases {
     pub user: Rights,
     pub group: Rights,
@@ -34,7 +34,7 @@ pub struct Bases {
 }
 
 /// The entries that most lists don't have.
-#[derive(Debug, Drop)]
+#[derive(Drop)]
 struct NamedEntries {
     users: Vec<NamedEntry>,
     groups: Vec<NamedEntry>,
@@ -43,7 +43,7 @@ struct NamedEntries {
 /// The entries of one scope of an access control list: those of the owner, the owning group and all others, those of named
 /// users and named groups in the order of their names, and the mask, where there is one; at most 32 (HDFS Permissions Guide,
 /// "ACLs (Access Control Lists)").
-#[derive(Debug, Drop)]
+#[derive(Drop)]
 pub struct EntryList {
     user: Rights,
     group: Rights,

@@ -4,7 +4,7 @@ use crate::spec::Spec;
 use std::alloc::AllocError;
 
 /// How an access control list is to be changed, one variant a form of `setfacl` (HDFS Permissions Guide, "ACLs Shell Commands").
-#[derive(Debug, Drop)]
+#[derive(Drop)]
 pub enum AclChange {
     /// These entries, instead of all that stand in the scopes that they name.
     Set(Spec),

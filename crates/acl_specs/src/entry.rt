@@ -7,7 +7,7 @@ use std::fmt;
 
 /// Which list of an object an entry stands in: the one that is judged, or the one that what is made beneath inherits
 /// (HDFS Permissions Guide, "ACLs (Access Control Lists)").
-#[derive(Clone, Copy, Debug, PartialEq, Eq, PartialOrd, Ord)]
+#[derive(Clone, Copy, PartialEq, Eq, PartialOrd, Ord)]
 pub enum Scope {
     Access,
     Default,
@@ -15,7 +15,7 @@ pub enum Scope {
 
 /// Whom an entry is for: the owner or a named user, the owning group or a named group, the mask of the named entries and
 /// the owning group, or all others.
-#[derive(Clone, Copy, Debug, PartialEq, Eq, PartialOrd, Ord)]
+#[derive(Clone, Copy, PartialEq, Eq, PartialOrd, Ord)]
 pub enum EntryKind {
     User,
     Group,
@@ -24,7 +24,7 @@ pub enum EntryKind {
 }
 
 /// An entry of an access control list. Only a user's or a group's entry has a name.
-#[derive(Debug, Drop)]
+#[derive(Drop)]
 pub struct Entry {
     pub scope: Scope,
     pub kind: EntryKind,

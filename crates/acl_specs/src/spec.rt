@@ -13,7 +13,7 @@ use std::marker::Model;
 
 /// The entries that a change of an access control list names, in the order in which they were given. No two have the same scope,
 /// kind and name, and no mask and no entry of all others has a name (HDFS Permissions Guide, "ACLs Shell Commands").
-#[derive(Debug, Drop)]
+#[derive(Drop)]
 pub struct Spec {
     entries: Vec<Entry>,
 }

@@ -3,7 +3,7 @@ ghost use Rattle.std.specs.Prelude.{◌≡◌, ◌+◌, nat_lt, if◌then◌else
 use std::marker::Model;
 
 /// The id of a block (HDFS Architecture, "Data Blocks").
-#[derive(Clone, Copy, Debug, PartialEq, Eq, PartialOrd, Ord)]
+#[derive(Clone, Copy, PartialEq, Eq, PartialOrd, Ord)]
 pub struct BlockId {
     id: u64,
 }
@@ -34,7 +34,7 @@ impl BlockId {
 
 /// The generation stamp of a block: the newest is that of the last time that the block was begun or recovered (HDFS
 /// Architecture, "Data Blocks").
-#[derive(Clone, Copy, Debug, PartialEq, Eq, PartialOrd, Ord)]
+#[derive(Clone, Copy, PartialEq, Eq, PartialOrd, Ord)]
 pub struct Stamp {
     number: u64,
 }

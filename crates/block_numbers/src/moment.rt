@@ -4,7 +4,7 @@ ghost use Rattle.block_numbers.specs.Moment.{moment_of};
 use std::marker::Model;
 
 /// A moment in milliseconds, at most 2^62.
-#[derive(Clone, Copy, Debug, PartialEq, Eq, PartialOrd, Ord)]
+#[derive(Clone, Copy, PartialEq, Eq, PartialOrd, Ord)]
 pub struct Moment {
     milliseconds: u64,
 }

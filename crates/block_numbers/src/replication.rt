@@ -6,7 +6,7 @@ use std::fmt;
 use std::marker::Model;
 
 /// How many replicas of each of its blocks a file is to have: 1 to 16 (HDFS Architecture, "Data Replication").
-#[derive(Clone, Copy, Debug, PartialEq, Eq)]
+#[derive(Clone, Copy, PartialEq, Eq)]
 pub struct Repl {
     replicas: u8,
 }

@@ -8,15 +8,15 @@ use crate::key::{HeldKey, KeyList};
 use crate::refusal::TokenRefusal;
 use crate::token::{Body, decode};
 use block_numbers::ids::{BlockId, Serial};
-use permission_bits::modes::Modes;
 use block_numbers::moment::Moment;
+use permission_bits::modes::Modes;
 use principal_names::who::Who;
 use std::alloc::{AllocError, Global};
 use std::collections::BTreeMap;
 use std::marker::Model;
 
 /// The keys that a DataNode holds, by their serials.
-#[derive(Debug, Drop)]
+#[derive(Drop)]
 pub struct KeyCache {
     keys: BTreeMap<u32, HeldKey>,
 }

@@ -4,7 +4,7 @@ use permission_bits::modes::Modes;
 use principal_names::who::Who;
 
 /// What a token grants: these modes of a block to a user, before the expiry in milliseconds, under the key with this serial.
-#[derive(Debug, Drop)]
+#[derive(Drop)]
 pub struct Grant {
     pub user: Who,
     pub block: BlockId,

@@ -45,7 +45,7 @@ impl fmt::Debug for Key {
 }
 
 /// A key, and the moment in milliseconds from which it serves no more, where that is known.
-#[derive(Clone, Copy, Debug)]
+#[derive(Clone, Copy)]
 pub struct HeldKey {
     pub key: Key,
     pub expiry: Option<u64>,
@@ -64,7 +64,7 @@ impl HeldKey {
 }
 
 /// Keys with their serials, as a NameNode sends them.
-#[derive(Debug, Drop)]
+#[derive(Drop)]
 pub struct KeyList {
     keys: Vec<(Serial, HeldKey)>,
 }

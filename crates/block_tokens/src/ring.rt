@@ -9,8 +9,8 @@ use crate::hmac::hmac_sha1;
 use crate::key::{HeldKey, Key, KeyList};
 use crate::token::{Body, TokenBytes, coded};
 use block_numbers::ids::{BlockId, Serial};
-use permission_bits::modes::Modes;
 use block_numbers::moment::Moment;
+use permission_bits::modes::Modes;
 use principal_names::who::Who;
 use std::alloc::{AllocError, Global};
 use std::marker::Model;
@@ -33,7 +33,7 @@ impl From<AllocError> for RollFault {
 
 /// The keys under which a NameNode issues tokens: the current one, and those before it. Each has its serial, and serials
 /// ascend.
-#[derive(Debug, Drop)]
+#[derive(Drop)]
 pub struct KeyRing {
     older: KeyList,
     serial: Serial,

@@ -44,7 +44,7 @@ impl<'a> Model for Body<'a> {
 }
 
 /// The bytes of a token's text.
-#[derive(Debug, Drop)]
+#[derive(Drop)]
 pub struct TokenBytes {
     bytes: Vec<u8>,
 }

@@ -17,7 +17,7 @@ use std::marker::Model;
 
 /// A component of a path: 1 to 255 bytes of UTF-8 without `/`, `:`, NUL and line feed, and neither `.` nor `..`
 /// (HDFS Architecture, "The File System Namespace"). Names are ordered by their bytes.
-#[derive(Debug, Drop)]
+#[derive(Drop)]
 pub struct Name {
     text: String,
 }

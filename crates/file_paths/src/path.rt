@@ -18,7 +18,7 @@ use std::marker::Model;
 /// An absolute path: the names from the root down, at most 1,000 of them, and at most 8,000 bytes as a text (HDFS
 /// Architecture, "The File System Namespace"). Paths are ordered by component, and each component by its bytes, so
 /// `/a/c` stands before `/a-b`.
-#[derive(Debug, Drop)]
+#[derive(Drop)]
 pub struct Path {
     names: Vec<Name>,
 }

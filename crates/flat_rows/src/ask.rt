@@ -15,7 +15,7 @@ use std::alloc::{AllocError, Global};
 use std::marker::Model;
 
 /// A need at a component, and the owner of the directory that holds it.
-#[derive(Debug, Drop)]
+#[derive(Drop)]
 pub struct Ask<'a> {
     need: &'a Need,
     row: &'a Row,

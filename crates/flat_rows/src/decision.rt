@@ -33,9 +33,8 @@ fn first_denial(alloc: Global, caller: &Caller, asks: &[Ask]) -> Result<Option<D
     ensures { IfOk result (λ denial. denial ≡ first_answer (spec.denial_of caller.now) asks.now) }
 {
     for ask in asks {
-        let denial = denial_of(alloc, caller, ask)?;
-        if denial.is_some() {
-            return Ok(denial);
+        if let Some(denial) = denial_of(alloc, caller, ask)? {
+            return Ok(Some(denial));
         }
     }
     Ok(None)

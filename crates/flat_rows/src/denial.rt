@@ -13,7 +13,7 @@ use std::marker::Model;
 /// A need that failed: what was needed, what decided, the row of the component, and for whom it was judged. The row,
 /// judged for the caller with these groups, is what denies the need, so a denial carries its own evidence (HDFS Permissions
 /// Guide, "Permission Checks").
-#[derive(Debug, Drop)]
+#[derive(Drop)]
 pub struct Denial {
     need: Need,
     by: By,
@@ -70,6 +70,34 @@ pub fn by_of(
     }
 }
 
+/// What a denial says beside the row.
+#[derive(Drop)]
+struct Cause {
+    need: Need,
+    by: By,
+    caller: Who,
+    groups: Groups,
+}
+
+/// What the denial of the need at the row says beside it, for a caller with these groups who is no superuser.
+fn cause_at(
+    alloc: Global,
+    need: &Need,
+    row: &Row,
+    above: &Who,
+    caller: &Who,
+    groups: &[Who],
+) -> Result<Cause, AllocError>
+    ensures { IfOk result (λ cause. cause ≡ record { need = need.now; by = (deciding need.now row.now above.now caller.now groups.now).by; caller = caller.now; groups = groups.now }) }
+{
+    Ok(Cause {
+        caller: caller.clone()?,
+        groups: Groups::from_slice(alloc, groups)?,
+        need: need.clone()?,
+        by: by_of(need, row, above, caller, groups)?,
+    })
+}
+
 impl Denial {
     /// The denial of the need at the row, for a caller with these groups who is no superuser; `None` where it is met. `above`
     /// is the owner of the directory that holds the row.
@@ -86,13 +114,26 @@ impl Denial {
         if is_met(need, &row, above, caller, groups) {
             return Ok(None);
         }
+        let cause = cause_at(alloc, need, &row, above, caller, groups)?;
         Ok(Some(Denial {
-            need: need.clone()?,
-            by: by_of(need, &row, above, caller, groups)?,
+            need: cause.need,
+            by: cause.by,
             row,
-            caller: caller.clone()?,
-            groups: Groups::from_slice(alloc, groups)?,
+            caller: cause.caller,
+            groups: cause.groups,
         }))
+    }
+
+    /// A copy of what the denial says beside the row.
+    fn cause(&self) -> Result<Cause, AllocError>
+        ensures { IfOk result (λ cause. cause ≡ record { need = self.now.need; by = self.now.by; caller = self.now.caller; groups = self.now.groups }) }
+    {
+        Ok(Cause {
+            caller: self.caller.clone()?,
+            groups: self.groups.clone()?,
+            need: self.need.clone()?,
+            by: self.by.clone()?,
+        })
     }
 
     /// The path of the component at which the need failed.
@@ -158,12 +199,14 @@ impl Clone for Denial {
     ghost is_clone = { λ denial copy. copy ≡ denial };
 
     fn clone(&self) -> Result<Denial, AllocError> {
+        let cause = self.cause()?;
+        let row = self.row.clone()?;
         Ok(Denial {
-            need: self.need.clone()?,
-            by: self.by.clone()?,
-            row: self.row.clone()?,
-            caller: self.caller.clone()?,
-            groups: self.groups.clone()?,
+            need: cause.need,
+            by: cause.by,
+            row,
+            caller: cause.caller,
+            groups: cause.groups,
         })
     }
 }

@@ -21,7 +21,7 @@ use std::alloc::{AllocError, Global};
 use std::fmt;
 
 /// A need that was judged at a component: what decided, and whether it is met.
-#[derive(Debug, Drop)]
+#[derive(Drop)]
 pub struct Judged {
     pub path: Path,
     pub need: Need,
@@ -48,21 +48,28 @@ impl fmt::Display for Judged {
     }
 }
 
+/// What decided about a need, and whether it is met.
+fn decided(caller: &Caller, ask: &Ask) -> Result<(By, bool), AllocError>
+    ensures { IfOk result (λ what. spec.decided caller.now ask.now ≡ record { by = what.0; granted = what.1 }) }
+{
+    if caller.is_superuser() {
+        return Ok((By::Superuser, true));
+    }
+    let (need, row, above) = (ask.need(), ask.row(), ask.above());
+    let granted = is_met(need, row, above, caller.name(), caller.groups());
+    let by = by_of(need, row, above, caller.name(), caller.groups())?;
+    Ok((by, granted))
+}
+
 fn judge(caller: &Caller, ask: &Ask) -> Result<Judged, AllocError>
     ensures { IfOk result (λ judged. judged ≡ spec.judged caller.now ask.now) }
 {
-    let (need, row, above) = (ask.need(), ask.row(), ask.above());
-    let (by, granted) = if caller.is_superuser() {
-        (By::Superuser, true)
-    } else {
-        (
-            by_of(need, row, above, caller.name(), caller.groups())?,
-            is_met(need, row, above, caller.name(), caller.groups()),
-        )
-    };
+    let path = ask.row().path.clone()?;
+    let need = ask.need().clone()?;
+    let (by, granted) = decided(caller, ask)?;
     Ok(Judged {
-        path: row.path.clone()?,
-        need: need.clone()?,
+        path,
+        need,
         by,
         granted,
     })

@@ -5,7 +5,7 @@ use hdfs_types::reply::{Refusal, Reply};
 use std::alloc::AllocError;
 
 /// The answer of the NameNode to a request.
-#[derive(Debug, Drop)]
+#[derive(Drop)]
 pub enum Verdict {
     Done(Reply),
     Denied(Denial),

@@ -8,12 +8,12 @@ use crate::change::{
     add_user, mkdirs, rename, set_acl, set_groups, set_mode, set_owner, set_replication,
 };
 use crate::look::{get_acl, list, open, stat, summary};
-use required_rights::demand::{Needs, needs_of};
 use flat_rows::verdict::Verdict;
 use hdfs_types::op::{Op, Request};
-use principal_names::who::Who;
 use inode_tree::tree::Tree;
+use principal_names::who::Who;
 use principals::users::Users;
+use required_rights::demand::{Needs, needs_of};
 use std::alloc::{AllocError, Global};
 
 /// The needs of an operation, in the order in which they are judged (HDFS Permissions Guide, "Permission Checks").

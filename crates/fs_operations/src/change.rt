@@ -9,25 +9,25 @@ ghost use Rattle.fs_operations.specs.Judged.{judged_step};
 
 use crate::found::{Found, FoundFile, standing, standing_file};
 use access_lists::acl::Acl;
+use acl_specs::acl_change::AclChange;
+use block_numbers::replication::Repl;
 use default_acl::change::change as change_list;
 use default_acl::chmod::chmod;
-use partial_acl::fault::AclChangeFault;
-use required_rights::demand::Needs;
-use namespace_rows::row::Change;
-use flat_rows::verdict::Verdict;
-use acl_specs::acl_change::AclChange;
-use principal_names::groups::Groups;
-use permission_bits::mode::Mode;
-use hdfs_types::op::Op;
 use file_paths::path::Path;
-use block_numbers::replication::Repl;
+use flat_rows::verdict::Verdict;
+use hdfs_types::op::Op;
 use hdfs_types::reply::{ObjectKind, Refusal, Reply};
-use principal_names::who::Who;
 use inode_tree::tree::Tree;
+use namespace_rows::row::Change;
+use partial_acl::fault::AclChangeFault;
 use perm_walk::reach::Reach;
 use perm_walk::walk::{Walked, WalkedBoth, walk, walk_along, walk_along_both};
+use permission_bits::mode::Mode;
+use principal_names::groups::Groups;
+use principal_names::who::Who;
 use principals::caller::Caller;
 use principals::users::{UserFault, Users};
+use required_rights::demand::Needs;
 use std::alloc::{AllocError, Global};
 
 /// Makes a directory and the missing ones above it.

@@ -3,8 +3,8 @@ ghost use Rattle.namespace_rows.specs.declared.row.Row.{Row};
 ghost use Rattle.perm_walk.specs.Reached.{IsReach};
 ghost use Rattle.fs_operations.specs.Found.{IsFound, IsFoundFile};
 
-use namespace_rows::file_row::FileRow;
 use hdfs_types::reply::Refusal;
+use namespace_rows::file_row::FileRow;
 use perm_walk::component::Component;
 use perm_walk::reach::Reach;
 use std::alloc::{AllocError, Global};

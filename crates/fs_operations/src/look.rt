@@ -11,19 +11,19 @@ ghost use Rattle.fs_operations.specs.Judged.{judged_step};
 
 use crate::found::{Found, FoundFile, standing, standing_file};
 use access_lists::print::print;
-use required_rights::demand::Needs;
-use namespace_rows::file_row::FileRow;
+use file_paths::name::Name;
+use file_paths::path::Path;
 use flat_rows::verdict::Verdict;
 use hdfs_types::file::FileDetail;
-use file_paths::name::Name;
 use hdfs_types::op::Op;
-use file_paths::path::Path;
 use hdfs_types::reply::{AclStatus, ContentSummary, FileStatus, Names, ObjectKind, Reply};
 use inode_tree::tree::Tree;
 use inode_visits::visit::Counts;
+use namespace_rows::file_row::FileRow;
 use perm_walk::component::Component;
 use perm_walk::walk::{Walked, walk_along};
 use principals::caller::Caller;
+use required_rights::demand::Needs;
 use std::alloc::{AllocError, Global};
 
 /// The bytes of a file; a number that can't be told counts as want of memory. Costs its blocks.

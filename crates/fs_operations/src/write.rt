@@ -16,23 +16,23 @@ ghost use Rattle.fs_operations.specs.Judged.{judged_step, refused_or, verdict_un
 
 use crate::found::{Found, FoundFile, standing, standing_file};
 use crate::look::{counts_at, length_told};
+use block_numbers::replication::Repl;
 use default_acl::inherit::inherit;
-use required_rights::demand::{Needs, needs_of};
+use file_paths::path::Path;
 use flat_rows::denial::Denial;
-use namespace_rows::file_row::FileRow;
 use flat_rows::verdict::Verdict;
 use hdfs_types::file::{FileState, LastBlock};
-use permission_bits::mode::Mode;
 use hdfs_types::op::Op;
-use file_paths::path::Path;
-use block_numbers::replication::Repl;
 use hdfs_types::reply::{ObjectKind, Refusal, Reply};
-use principal_names::who::Who;
 use inode_tree::tree::Tree;
+use namespace_rows::file_row::FileRow;
 use perm_walk::reach::Reach;
 use perm_walk::walk::{Walked, walk, walk_along};
+use permission_bits::mode::Mode;
+use principal_names::who::Who;
 use principals::caller::Caller;
 use principals::users::Users;
+use required_rights::demand::{Needs, needs_of};
 use std::alloc::{AllocError, Global};
 
 /// What is judged of a verb that writes files, before anything changes.

@@ -2,11 +2,11 @@ use crate::namespace::Namespace;
 use crate::paths::{parsed, path_of};
 use crate::requests::{MAKER, SUPERUSER, request};
 use acl_entries::spec_text::parse_spec;
-use anyhow::{Context, Result};
 use acl_specs::acl_change::AclChange;
-use hdfs_types::op::Op;
-use file_paths::path::Path;
 use acl_specs::spec::Spec;
+use anyhow::{Context, Result};
+use file_paths::path::Path;
+use hdfs_types::op::Op;
 use std::alloc::Global;
 
 /// Eight entries. Only that of the named user lets the reader through. The maker is let through as the owner, and by the named

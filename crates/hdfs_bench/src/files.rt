@@ -2,8 +2,8 @@ use crate::name_node::NameNode;
 use crate::paths::path_of;
 use crate::requests::{READER, adding_user, mode, request, request_at};
 use anyhow::{Context, Result};
-use hdfs_types::op::{Op, Request};
 use block_numbers::replication::Repl;
+use hdfs_types::op::{Op, Request};
 use std::alloc::Global;
 
 /// How many clients write files, by turns.

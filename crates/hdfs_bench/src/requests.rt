@@ -1,10 +1,10 @@
 use crate::paths::{parsed, path_of};
 use crate::timed::Timed;
 use anyhow::{Context, Result};
-use principal_names::groups::Groups;
-use permission_bits::mode::Mode;
 use block_numbers::moment::Moment;
 use hdfs_types::op::{Op, Request};
+use permission_bits::mode::Mode;
+use principal_names::groups::Groups;
 use principal_names::who::Who;
 use std::alloc::Global;
 use std::time::{Clock, Duration, Instant};

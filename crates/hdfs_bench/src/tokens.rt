@@ -1,12 +1,12 @@
 use crate::timed::Timed;
 use anyhow::{Context, Result, bail};
+use block_numbers::ids::{BlockId, Serial};
+use block_numbers::moment::Moment;
 use block_tokens::cache::KeyCache;
 use block_tokens::grant::Grant;
 use block_tokens::key::Key;
 use block_tokens::ring::KeyRing;
-use block_numbers::ids::{BlockId, Serial};
 use permission_bits::modes::Modes;
-use block_numbers::moment::Moment;
 use principal_names::who::Who;
 use std::alloc::Global;
 use std::time::{Clock, Instant};

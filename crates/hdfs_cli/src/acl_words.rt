@@ -5,8 +5,8 @@ ghost use Rattle.hdfs_cli.specs.Script as spec;
 use crate::words::is_word;
 use acl_entries::spec_text::parse_spec;
 use acl_specs::acl_change::AclChange;
-use hdfs_texts::fault::{IllFormed, ParseFault};
 use acl_specs::spec::Spec;
+use hdfs_texts::fault::{IllFormed, ParseFault};
 use std::alloc::Global;
 
 /// Entries of an access control list, with their rights or without.

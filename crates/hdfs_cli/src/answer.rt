@@ -6,7 +6,7 @@ use hdfs_types::reply::Reply;
 use std::fmt;
 
 /// What is printed for a line of a script.
-#[derive(Debug, Drop)]
+#[derive(Drop)]
 pub enum Answer {
     /// The line is no request.
     Bad(IllFormed),

@@ -6,7 +6,7 @@ use std::alloc::Global;
 use std::io::{ErrorKind, Read, Write};
 
 /// Why not all was read.
-#[derive(Clone, Copy, Debug, PartialEq, Eq)]
+#[derive(Clone, Copy, PartialEq, Eq)]
 pub enum ReadFault {
     OutOfMemory,
     CannotRead,
@@ -33,7 +33,7 @@ pub fn read_all<R: Read>(alloc: Global, reader: &mut R) -> Result<Vec<u8>, ReadF
 }
 
 /// The writer didn't take all.
-#[derive(Clone, Copy, Debug, PartialEq, Eq)]
+#[derive(Clone, Copy, PartialEq, Eq)]
 pub struct WriteFault;
 
 /// Writes some bytes, and none where the call was interrupted.

@@ -14,17 +14,17 @@ use crate::channel::write_text;
 use crate::line::read_line;
 use crate::script::{ScriptFault, Session, Status, read_script, run_lines};
 use crate::words::{is_skipped, pieces_between, without_return};
-use namespace_rows::rows::Rows;
+use file_paths::path::Path;
 use flat_rows::trail::{Judged, trail};
 use hdfs_types::op::Request;
-use file_paths::path::Path;
 use inode_tree::tree::Tree;
 use name_core::namenode::NameCore;
+use namespace_rows::rows::Rows;
 use std::alloc::{AllocError, Global};
 use std::io::{Read, Write};
 
 /// What was found at the line that was to be explained.
-#[derive(Clone, Copy, Debug, PartialEq, Eq)]
+#[derive(Clone, Copy, PartialEq, Eq)]
 pub enum Explained {
     /// A request, whose needs were printed; and how the lines before it ended.
     Trail(Status),
@@ -67,7 +67,7 @@ fn text_of(alloc: Global, needs: &[Judged]) -> Result<String, AllocError>
 }
 
 /// What is printed of a line, and what was found there.
-#[derive(Debug, Drop)]
+#[derive(Drop)]
 struct Explanation {
     found: Explained,
     text: String,

@@ -172,7 +172,7 @@ fn run_text(alloc: Global, session: &mut Session, script: &str) -> Result<Status
 }
 
 /// What a script prints, and how it ended. Where memory ran out, the text is what the lines before print.
-#[derive(Debug, Drop)]
+#[derive(Drop)]
 struct ScriptRun {
     text: String,
     ended: Result<Status, AllocError>,

@@ -10,7 +10,7 @@ use hex::FromHexError;
 use std::alloc::{AllocError, Global};
 
 /// What is printed of a block access token (HADOOP-4359 says what one holds).
-#[derive(Debug, Drop)]
+#[derive(Drop)]
 pub struct TokenLine {
     /// Without a line feed.
     pub text: String,

@@ -61,6 +61,26 @@ refusal_code NotYetReplicated = 15
 refusal_code TooFewNodes = 16
 refusal_code BadName = 19
 
+-- the code and the name, without what is told behind them
+abbrev pub refusal_title : Refusal → List ℕ
+refusal_title BadPath = codes "1 BadPath"
+refusal_title NotFound = codes "2 NotFound"
+refusal_title (NotDirectory file) = codes "3 NotDirectory"
+refusal_title IsDirectory = codes "4 IsDirectory"
+refusal_title Exists = codes "5 Exists"
+refusal_title NotEmpty = codes "6 NotEmpty"
+refusal_title IsRoot = codes "7 IsRoot"
+refusal_title UnderItself = codes "8 UnderItself"
+refusal_title (BadAcl fault) = codes "9 BadAcl"
+refusal_title TooManyEntries = codes "10 TooManyEntries"
+refusal_title (LeaseHeld client) = codes "11 LeaseHeld"
+refusal_title RecoveryRunning = codes "12 RecoveryRunning"
+refusal_title NoLease = codes "13 NoLease"
+refusal_title NotOpen = codes "14 NotOpen"
+refusal_title NotYetReplicated = codes "15 NotYetReplicated"
+refusal_title TooFewNodes = codes "16 TooFewNodes"
+refusal_title BadName = codes "19 BadName"
+
 abbrev pub refusal_text : Refusal → List ℕ
 refusal_text BadPath = codes "1 BadPath"
 refusal_text NotFound = codes "2 NotFound"

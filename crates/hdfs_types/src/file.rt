@@ -9,7 +9,7 @@ use std::fmt;
 
 /// Who may write a file: one client at a time, and none while its last block is recovered (HDFS Architecture, "The File System
 /// Namespace": files are write-once and have strictly one writer at any time).
-#[derive(Debug, Drop)]
+#[derive(Drop)]
 pub enum FileState {
     Closed,
     /// Open for writing by this client.
@@ -48,7 +48,7 @@ impl fmt::Display for FileState {
 }
 
 /// What `stat` tells of a file beside what it tells of a directory.
-#[derive(Debug, Drop)]
+#[derive(Drop)]
 pub struct FileDetail {
     pub replication: Repl,
     /// The bytes of the blocks whose length is committed.
@@ -83,7 +83,7 @@ impl fmt::Display for FileDetail {
 }
 
 /// What a writer states of the last block of a file: which one it is, and the bytes that it has written there.
-#[derive(Clone, Copy, Debug, PartialEq, Eq)]
+#[derive(Clone, Copy, PartialEq, Eq)]
 pub struct LastBlock {
     pub block: BlockId,
     pub length: u64,

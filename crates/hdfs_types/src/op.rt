@@ -1,5 +1,6 @@
 ghost use Rattle.std.specs.Prelude.{◌≡◌, IfOk};
 ghost use Rattle.hdfs_types.specs.Request as spec;
+ghost use Rattle.hdfs_types.specs.declared.op.Op.TheVariants as made;
 
 use crate::file::LastBlock;
 use acl_specs::acl_change::AclChange;
@@ -12,7 +13,7 @@ use principal_names::who::Who;
 use std::alloc::AllocError;
 
 /// What a request to the NameNode asks for, one variant a verb.
-#[derive(Debug, Drop)]
+#[derive(Drop)]
 pub enum Op {
     /// Makes a directory of this mode, and the missing ones above it.
     Mkdirs(Path, Mode),
@@ -67,37 +68,140 @@ fn copied(who: &Option<Who>) -> Result<Option<Who>, AllocError>
     }
 }
 
+fn clone_mkdirs(path: &Path, mode: Mode) -> Result<Op, AllocError>
+    ensures { IfOk result (λ op. op ≡ made.Mkdirs path.now mode) }
+{
+    Ok(Op::Mkdirs(path.clone()?, mode))
+}
+
+fn clone_stat(path: &Path) -> Result<Op, AllocError>
+    ensures { IfOk result (λ op. op ≡ made.Stat path.now) }
+{
+    Ok(Op::Stat(path.clone()?))
+}
+
+fn clone_list(path: &Path) -> Result<Op, AllocError>
+    ensures { IfOk result (λ op. op ≡ made.List path.now) }
+{
+    Ok(Op::List(path.clone()?))
+}
+
+fn clone_summary(path: &Path) -> Result<Op, AllocError>
+    ensures { IfOk result (λ op. op ≡ made.Summary path.now) }
+{
+    Ok(Op::Summary(path.clone()?))
+}
+
+fn clone_get_acl(path: &Path) -> Result<Op, AllocError>
+    ensures { IfOk result (λ op. op ≡ made.GetAcl path.now) }
+{
+    Ok(Op::GetAcl(path.clone()?))
+}
+
+fn clone_delete(path: &Path, recursive: bool) -> Result<Op, AllocError>
+    ensures { IfOk result (λ op. op ≡ made.Delete path.now recursive) }
+{
+    Ok(Op::Delete(path.clone()?, recursive))
+}
+
+fn clone_rename(from: &Path, to: &Path) -> Result<Op, AllocError>
+    ensures { IfOk result (λ op. op ≡ made.Rename from.now to.now) }
+{
+    Ok(Op::Rename(from.clone()?, to.clone()?))
+}
+
+fn clone_set_mode(path: &Path, mode: Mode) -> Result<Op, AllocError>
+    ensures { IfOk result (λ op. op ≡ made.SetMode path.now mode) }
+{
+    Ok(Op::SetMode(path.clone()?, mode))
+}
+
+fn clone_set_owner(path: &Path, owner: &Option<Who>, group: &Option<Who>) -> Result<Op, AllocError>
+    ensures { IfOk result (λ op. op ≡ made.SetOwner path.now owner.now group.now) }
+{
+    Ok(Op::SetOwner(path.clone()?, copied(owner)?, copied(group)?))
+}
+
+fn clone_set_acl(path: &Path, change: &AclChange) -> Result<Op, AllocError>
+    ensures { IfOk result (λ op. op ≡ made.SetAcl path.now change.now) }
+{
+    Ok(Op::SetAcl(path.clone()?, change.clone()?))
+}
+
+fn clone_add_user(user: &Who, groups: &Groups) -> Result<Op, AllocError>
+    ensures { IfOk result (λ op. op ≡ made.AddUser user.now groups.now) }
+{
+    Ok(Op::AddUser(user.clone()?, groups.clone()?))
+}
+
+fn clone_set_groups(user: &Who, groups: &Groups) -> Result<Op, AllocError>
+    ensures { IfOk result (λ op. op ≡ made.SetGroups user.now groups.now) }
+{
+    Ok(Op::SetGroups(user.clone()?, groups.clone()?))
+}
+
+fn clone_create(path: &Path, mode: Mode, replication: Repl, over: bool) -> Result<Op, AllocError>
+    ensures { IfOk result (λ op. op ≡ made.Create path.now mode replication over) }
+{
+    Ok(Op::Create(path.clone()?, mode, replication, over))
+}
+
+fn clone_append(path: &Path) -> Result<Op, AllocError>
+    ensures { IfOk result (λ op. op ≡ made.Append path.now) }
+{
+    Ok(Op::Append(path.clone()?))
+}
+
+fn clone_add_block(path: &Path, last: Option<LastBlock>) -> Result<Op, AllocError>
+    ensures { IfOk result (λ op. op ≡ made.AddBlock path.now last) }
+{
+    Ok(Op::AddBlock(path.clone()?, last))
+}
+
+fn clone_complete(path: &Path, last: Option<LastBlock>) -> Result<Op, AllocError>
+    ensures { IfOk result (λ op. op ≡ made.Complete path.now last) }
+{
+    Ok(Op::Complete(path.clone()?, last))
+}
+
+fn clone_open(path: &Path) -> Result<Op, AllocError>
+    ensures { IfOk result (λ op. op ≡ made.Open path.now) }
+{
+    Ok(Op::Open(path.clone()?))
+}
+
+fn clone_set_replication(path: &Path, replication: Repl) -> Result<Op, AllocError>
+    ensures { IfOk result (λ op. op ≡ made.SetReplication path.now replication) }
+{
+    Ok(Op::SetReplication(path.clone()?, replication))
+}
+
+/// One small function a variant: a function in which each variant is made between two `?` takes far longer to prove.
 impl Clone for Op {
     ghost is_clone = { λ op copy. copy ≡ op };
 
     fn clone(&self) -> Result<Op, AllocError> {
         match self {
-            Op::Mkdirs(path, mode) => Ok(Op::Mkdirs(path.clone()?, *mode)),
-            Op::Stat(path) => Ok(Op::Stat(path.clone()?)),
-            Op::List(path) => Ok(Op::List(path.clone()?)),
-            Op::Summary(path) => Ok(Op::Summary(path.clone()?)),
-            Op::GetAcl(path) => Ok(Op::GetAcl(path.clone()?)),
-            Op::Delete(path, recursive) => Ok(Op::Delete(path.clone()?, *recursive)),
-            Op::Rename(from, to) => Ok(Op::Rename(from.clone()?, to.clone()?)),
-            Op::SetMode(path, mode) => Ok(Op::SetMode(path.clone()?, *mode)),
-            Op::SetOwner(path, owner, group) => Ok(Op::SetOwner(
-                path.clone()?,
-                copied(owner)?,
-                copied(group)?,
-            )),
-            Op::SetAcl(path, change) => Ok(Op::SetAcl(path.clone()?, change.clone()?)),
-            Op::AddUser(user, groups) => Ok(Op::AddUser(user.clone()?, groups.clone()?)),
-            Op::SetGroups(user, groups) => Ok(Op::SetGroups(user.clone()?, groups.clone()?)),
+            Op::Mkdirs(path, mode) => clone_mkdirs(path, *mode),
+            Op::Stat(path) => clone_stat(path),
+            Op::List(path) => clone_list(path),
+            Op::Summary(path) => clone_summary(path),
+            Op::GetAcl(path) => clone_get_acl(path),
+            Op::Delete(path, recursive) => clone_delete(path, *recursive),
+            Op::Rename(from, to) => clone_rename(from, to),
+            Op::SetMode(path, mode) => clone_set_mode(path, *mode),
+            Op::SetOwner(path, owner, group) => clone_set_owner(path, owner, group),
+            Op::SetAcl(path, change) => clone_set_acl(path, change),
+            Op::AddUser(user, groups) => clone_add_user(user, groups),
+            Op::SetGroups(user, groups) => clone_set_groups(user, groups),
             Op::Create(path, mode, replication, over) => {
-                Ok(Op::Create(path.clone()?, *mode, *replication, *over))
+                clone_create(path, *mode, *replication, *over)
             }
-            Op::Append(path) => Ok(Op::Append(path.clone()?)),
-            Op::AddBlock(path, last) => Ok(Op::AddBlock(path.clone()?, *last)),
-            Op::Complete(path, last) => Ok(Op::Complete(path.clone()?, *last)),
-            Op::Open(path) => Ok(Op::Open(path.clone()?)),
-            Op::SetReplication(path, replication) => {
-                Ok(Op::SetReplication(path.clone()?, *replication))
-            }
+            Op::Append(path) => clone_append(path),
+            Op::AddBlock(path, last) => clone_add_block(path, *last),
+            Op::Complete(path, last) => clone_complete(path, *last),
+            Op::Open(path) => clone_open(path),
+            Op::SetReplication(path, replication) => clone_set_replication(path, *replication),
             Op::Renew => Ok(Op::Renew),
             Op::Tick => Ok(Op::Tick),
         }
@@ -105,7 +209,7 @@ impl Clone for Op {
 }
 
 /// A request: who asks, when, and for what.
-#[derive(Debug, Drop)]
+#[derive(Drop)]
 pub struct Request {
     pub caller: Who,
     /// The moment of the request, in milliseconds.

@@ -11,14 +11,14 @@ use std::alloc::AllocError;
 use std::fmt;
 use std::marker::Model;
 
-#[derive(Clone, Copy, Debug, PartialEq, Eq)]
+#[derive(Clone, Copy, PartialEq, Eq)]
 pub enum ObjectKind {
     File,
     Directory,
 }
 
 /// What `stat` tells of a file or a directory.
-#[derive(Debug, Drop)]
+#[derive(Drop)]
 pub struct FileStatus {
     pub kind: ObjectKind,
     pub mode: Mode,
@@ -79,7 +79,7 @@ impl fmt::Display for FileStatus {
 }
 
 /// Names in an order.
-#[derive(Debug, Drop)]
+#[derive(Drop)]
 pub struct Names {
     list: Vec<Name>,
 }
@@ -132,7 +132,7 @@ impl fmt::Display for Names {
 }
 
 /// What there is at a path and beneath it.
-#[derive(Clone, Copy, Debug, PartialEq, Eq)]
+#[derive(Clone, Copy, PartialEq, Eq)]
 pub struct ContentSummary {
     pub directories: u64,
     pub files: u64,
@@ -155,7 +155,7 @@ impl fmt::Display for ContentSummary {
 }
 
 /// What `getfacl` tells of a file or a directory: the owner, the owning group, and the entries of its access control list.
-#[derive(Debug, Drop)]
+#[derive(Drop)]
 pub struct AclStatus {
     owner: Who,
     group: Who,
@@ -226,14 +226,14 @@ impl fmt::Display for AclStatus {
 }
 
 /// How many files `tick` has closed, and of how many it has begun to recover the last block.
-#[derive(Clone, Copy, Debug, PartialEq, Eq)]
+#[derive(Clone, Copy, PartialEq, Eq)]
 pub struct Expired {
     pub closed: u64,
     pub recovering: u64,
 }
 
 /// What the NameNode answers to a request that it has done.
-#[derive(Debug, Drop)]
+#[derive(Drop)]
 pub enum Reply {
     /// It is done, and there is nothing to tell.
     Empty,
@@ -273,7 +273,7 @@ impl Clone for Reply {
 }
 
 /// Why the NameNode doesn't do what no missing right forbids: the state of the namespace stands against it.
-#[derive(Debug, Drop)]
+#[derive(Drop)]
 pub enum Refusal {
     /// A path would pass the limits: code 1.
     BadPath,
@@ -338,7 +338,7 @@ impl Clone for Refusal {
 }
 
 impl Refusal {
-    ghost use Rattle.hdfs_types.specs.Reply.{refusal_code};
+    ghost use Rattle.hdfs_types.specs.Reply.{refusal_code, refusal_title};
 
     /// The number that answers print for the refusal.
     pub fn code(&self) -> u8
@@ -364,6 +364,31 @@ impl Refusal {
             Refusal::BadName => 19,
         }
     }
+
+    /// The code and the name, without the detail.
+    fn title(&self) -> &'static str
+        ensures { result.now ≡ refusal_title self.now }
+    {
+        match self {
+            Refusal::BadPath => "1 BadPath",
+            Refusal::NotFound => "2 NotFound",
+            Refusal::NotDirectory(_) => "3 NotDirectory",
+            Refusal::IsDirectory => "4 IsDirectory",
+            Refusal::Exists => "5 Exists",
+            Refusal::NotEmpty => "6 NotEmpty",
+            Refusal::IsRoot => "7 IsRoot",
+            Refusal::UnderItself => "8 UnderItself",
+            Refusal::BadAcl(_) => "9 BadAcl",
+            Refusal::TooManyEntries => "10 TooManyEntries",
+            Refusal::LeaseHeld(_) => "11 LeaseHeld",
+            Refusal::RecoveryRunning => "12 RecoveryRunning",
+            Refusal::NoLease => "13 NoLease",
+            Refusal::NotOpen => "14 NotOpen",
+            Refusal::NotYetReplicated => "15 NotYetReplicated",
+            Refusal::TooFewNodes => "16 TooFewNodes",
+            Refusal::BadName => "19 BadName",
+        }
+    }
 }
 
 /// Prints the code, the name and the detail, as `3 NotDirectory /d/f`.
@@ -373,24 +398,12 @@ impl fmt::Display for Refusal {
     ghost output = { λ refusal. Some (refusal_text refusal) };
 
     fn fmt<W: fmt::Write>(&self, f: &mut fmt::Formatter<W>) -> fmt::Result {
+        let title = self.title();
         match self {
-            Refusal::BadPath => write!(f, "1 BadPath"),
-            Refusal::NotFound => write!(f, "2 NotFound"),
-            Refusal::NotDirectory(file) => write!(f, "3 NotDirectory {file}"),
-            Refusal::IsDirectory => write!(f, "4 IsDirectory"),
-            Refusal::Exists => write!(f, "5 Exists"),
-            Refusal::NotEmpty => write!(f, "6 NotEmpty"),
-            Refusal::IsRoot => write!(f, "7 IsRoot"),
-            Refusal::UnderItself => write!(f, "8 UnderItself"),
-            Refusal::BadAcl(fault) => write!(f, "9 BadAcl {fault}"),
-            Refusal::TooManyEntries => write!(f, "10 TooManyEntries"),
-            Refusal::LeaseHeld(client) => write!(f, "11 LeaseHeld {client}"),
-            Refusal::RecoveryRunning => write!(f, "12 RecoveryRunning"),
-            Refusal::NoLease => write!(f, "13 NoLease"),
-            Refusal::NotOpen => write!(f, "14 NotOpen"),
-            Refusal::NotYetReplicated => write!(f, "15 NotYetReplicated"),
-            Refusal::TooFewNodes => write!(f, "16 TooFewNodes"),
-            Refusal::BadName => write!(f, "19 BadName"),
+            Refusal::NotDirectory(file) => write!(f, "{title} {file}"),
+            Refusal::BadAcl(fault) => write!(f, "{title} {fault}"),
+            Refusal::LeaseHeld(client) => write!(f, "{title} {client}"),
+            _ => f.write_str(title),
         }
     }
 }

@@ -4,7 +4,7 @@ ghost use Rattle.history.specs.Config as spec;
 use std::marker::Model;
 
 /// Limits of time, in milliseconds.
-#[derive(Clone, Copy, Debug, PartialEq, Eq)]
+#[derive(Clone, Copy, PartialEq, Eq)]
 pub struct Durations {
     /// The greatest age of a lease at which no other client may take over its files.
     pub soft_limit: u32,
@@ -19,7 +19,7 @@ pub struct Durations {
 }
 
 /// The first numbers that a NameNode gives.
-#[derive(Clone, Copy, Debug, PartialEq, Eq)]
+#[derive(Clone, Copy, PartialEq, Eq)]
 pub struct Counters {
     /// Of a block.
     pub block: u64,
@@ -31,7 +31,7 @@ pub struct Counters {
 
 /// What a NameNode opens with: limits, and the first numbers that it gives. The first serial of a key is less than the greatest
 /// that there is.
-#[derive(Clone, Copy, Debug, PartialEq, Eq)]
+#[derive(Clone, Copy, PartialEq, Eq)]
 pub struct Config {
     durations: Durations,
     // in bytes

@@ -2,7 +2,7 @@ use flat_rows::verdict::Verdict;
 use hdfs_types::op::Request;
 
 /// One step of a NameNode's history: a request, and the verdict on it.
-#[derive(Debug, Drop)]
+#[derive(Drop)]
 pub struct HistoryEntry {
     /// Which entry it is, counted from 1.
     pub place: u64,
@@ -14,7 +14,7 @@ pub struct HistoryEntry {
 }
 
 /// What a caller is told: the request, the verdict on it, and the place of the last entry that the verdict rests on.
-#[derive(Debug, Drop)]
+#[derive(Drop)]
 pub struct Answer {
     pub place: u64,
     pub request: Request,

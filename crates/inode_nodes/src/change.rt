@@ -95,8 +95,9 @@ impl Node {
         ensures ok { OnOk result (rows self.new ≡ moved (first.now ∷ rest.now) (above.now ++ name.now ∷ []) (rows self.old)) }
         ensures err { OnErr result (self.new ≡ self.old) }
     {
+        let own_name = name.clone()?;
         let stand_in = self.stand_in(alloc)?;
-        self.put(above, name.clone()?, stand_in)?;
+        self.put(above, own_name, stand_in)?;
         let Some(moved) = self.take(first, rest) else {
             unreachable!()
         };
@@ -146,8 +147,10 @@ impl Node {
     ) -> Result<Node, AllocError>
         ensures { IfOk result (λ node. rows node ≡ chain above.now group.now owner.now mode file []) }
     {
+        let owner = owner.clone()?;
+        let group = group.clone()?;
         let acl = inherit(alloc, above, mode, kind_of(&file))?;
-        Ok(Node::new(alloc, owner.clone()?, group.clone()?, acl, file))
+        Ok(Node::new(alloc, owner, group, acl, file))
     }
 
     /// A new directory, and beneath it one for each name, built aside; the last is a file where one is given.
@@ -186,8 +189,7 @@ impl Node {
     ) -> Result<Node, AllocError>
         ensures { IfOk result (λ node. rows node ≡ row_of [] (record { kind = ObjectKind.Directory; owner = owner.now; group = group.now; acl = acl; file = None }) ∷ map (under name.now) (rows inner)) }
     {
-        let mut map = BTreeMap::new(alloc);
-        map.insert(name.clone()?, inner)?;
+        let map = map_of_one(alloc, name, inner)?;
         new_directory(map, acl, owner, group)
     }
 
@@ -291,6 +293,17 @@ fn replace_list(place: &mut Acl, acl: Acl)
     ensures { place.new ≡ acl }
 {
     *place = acl;
+}
+
+/// One node by its name.
+fn map_of_one(alloc: Global, name: &Name, inner: Node) -> Result<BTreeMap<Name, Node>, AllocError>
+    ensures sorted { IfOk result (λ nodes. IsStrictlySortedBy text_cmp (keys_of nodes.entries)) }
+    ensures one { IfOk result (λ nodes. nodes.entries ≡ (name.now, inner) ∷ []) }
+{
+    let name = name.clone()?;
+    let mut nodes = BTreeMap::new(alloc);
+    nodes.insert(name, inner)?;
+    Ok(nodes)
 }
 
 /// A directory that holds these nodes.

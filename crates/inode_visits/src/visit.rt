@@ -21,7 +21,7 @@ use std::alloc::{AllocError, Global};
 use std::collections::BTreeMap;
 
 /// How many directories and files there are, and how many bytes the files hold.
-#[derive(Clone, Copy, Debug, PartialEq, Eq)]
+#[derive(Clone, Copy, PartialEq, Eq)]
 pub struct Counts {
     /// At most the greatest number, which stands for all above it.
     pub directories: u64,
@@ -183,17 +183,28 @@ fn push_rows_in(
     Ok(())
 }
 
+/// Copies of the owner and the group.
+fn owners_of(node: &Node) -> Result<(Who, Who), AllocError>
+    ensures owner { IfOk result (λ both. both.0 ≡ node.now.top.owner) }
+    ensures group { IfOk result (λ both. both.1 ≡ node.now.top.group) }
+{
+    Ok((node.owner().clone()?, node.group().clone()?))
+}
+
 /// The row of a node that stands at the path.
 fn row_at(node: &Node, path: Path) -> Result<Row, AllocError>
     ensures { IfOk result (λ row. row ≡ row_of path node.now.top) }
 {
+    let (owner, group) = owners_of(node)?;
+    let acl = node.acl().clone()?;
+    let file = node.file_copy()?;
     Ok(Row {
         path,
         kind: node.kind(),
-        owner: node.owner().clone()?,
-        group: node.group().clone()?,
-        acl: node.acl().clone()?,
-        file: node.file_copy()?,
+        owner,
+        group,
+        acl,
+        file,
     })
 }
 

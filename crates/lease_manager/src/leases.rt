@@ -9,8 +9,8 @@ ghost use Rattle.lease_manager.specs.Shown.{renewals_of};
 
 use block_numbers::moment::Moment;
 use hdfs_types::reply::Refusal;
-use principal_names::who::Who;
 use indexmap::IndexMap;
+use principal_names::who::Who;
 use std::alloc::{AllocError, Global};
 use std::marker::Model;
 
@@ -27,7 +27,7 @@ pub enum LeaseState {
 
 /// The leases of clients, each by its last renewal, the oldest first, and the limits of their ages. A lease covers all files
 /// that its client has open (HDFS Architecture, the single-writer model).
-#[derive(Debug, Drop)]
+#[derive(Drop)]
 pub struct Leases {
     // in milliseconds
     soft: u32,

@@ -18,16 +18,16 @@ ghost use Rattle.name_core.specs.Writers.{count_of, moment_of, HasRoom, IsAlike}
 
 use crate::open_paths::OpenPaths;
 use crate::writers::Writers;
-use namespace_rows::row::Change;
+use block_numbers::moment::Moment;
+use block_numbers::replication::Repl;
+use file_paths::path::Path;
 use fs_operations::write::make_file;
 use hdfs_types::file::FileState;
-use permission_bits::mode::Mode;
-use block_numbers::moment::Moment;
 use hdfs_types::op::Op;
-use file_paths::path::Path;
-use block_numbers::replication::Repl;
-use principal_names::who::Who;
 use inode_tree::tree::Tree;
+use namespace_rows::row::Change;
+use permission_bits::mode::Mode;
+use principal_names::who::Who;
 use std::alloc::{AllocError, Global};
 
 // ---- questions

@@ -13,8 +13,8 @@ use crate::effect::{close, copies};
 use crate::open_paths::OpenPaths;
 use crate::writers::Writers;
 use file_paths::path::Path;
-use principal_names::who::Who;
 use inode_tree::tree::Tree;
+use principal_names::who::Who;
 use std::alloc::{AllocError, Global};
 use std::collections::BTreeMap;
 

@@ -17,15 +17,15 @@ use crate::expiry::expire;
 use crate::open_paths::OpenPaths;
 use crate::told::{Told, is_done, is_plain, told_done, told_expired, told_plain, with_copy};
 use crate::writers::Writers;
+use block_numbers::moment::Moment;
 use flat_rows::verdict::Verdict;
 use fs_operations::apply::apply;
 use fs_operations::write::{Judged, judge, judge_tick};
-use block_numbers::moment::Moment;
 use hdfs_types::op::{Op, Request, keeps_leases};
 use hdfs_types::reply::{ObjectKind, Refusal, Reply};
-use principal_names::who::Who;
 use inode_tree::tree::Tree;
 use lease_manager::leases::LeaseState;
+use principal_names::who::Who;
 use principals::users::Users;
 use std::alloc::{AllocError, Global};
 

@@ -9,7 +9,7 @@ use std::collections::BTreeMap;
 use std::marker::Model;
 
 /// How many files each client has open. A call costs a look-up.
-#[derive(Debug, Drop)]
+#[derive(Drop)]
 pub struct OpenFiles {
     counts: BTreeMap<Who, u64>,
 }

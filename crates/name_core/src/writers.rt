@@ -5,13 +5,13 @@ ghost use Rattle.name_core.specs.Writers.{count_of, moment_of, IsLeased, IsAlike
 
 use crate::open_files::OpenFiles;
 use block_numbers::moment::Moment;
-use principal_names::who::Who;
 use lease_manager::leases::Leases;
+use principal_names::who::Who;
 use std::alloc::{AllocError, Global};
 
 /// The clients who have files open: how many, and the lease of each, which ends with its last open file (HDFS Architecture, the
 /// single-writer model). A call that changes leases costs the clients that have one.
-#[derive(Debug, Drop)]
+#[derive(Drop)]
 pub struct Writers {
     pub leases: Leases,
     pub files: OpenFiles,

@@ -9,7 +9,7 @@ use std::alloc::{AllocError, Global};
 use std::marker::Model;
 
 /// A block of a file (HDFS Architecture, "Data Replication").
-#[derive(Clone, Copy, Debug, PartialEq, Eq)]
+#[derive(Clone, Copy, PartialEq, Eq)]
 pub struct FileBlock {
     pub id: BlockId,
     /// The bytes that it holds, where that is committed.
@@ -17,7 +17,7 @@ pub struct FileBlock {
 }
 
 /// The blocks of a file, in the order of the file.
-#[derive(Debug, Drop)]
+#[derive(Drop)]
 pub struct FileBlocks {
     list: Vec<FileBlock>,
 }
@@ -89,7 +89,7 @@ impl Clone for FileBlocks {
 }
 
 /// What a file has beside what a directory has.
-#[derive(Debug, Drop)]
+#[derive(Drop)]
 pub struct FileRow {
     pub replication: Repl,
     pub blocks: FileBlocks,

@@ -15,7 +15,7 @@ use principal_names::who::Who;
 use std::alloc::AllocError;
 
 /// A file or a directory, by its path (HDFS Architecture, "The File System Namespace").
-#[derive(Debug, Drop)]
+#[derive(Drop)]
 pub struct Row {
     pub path: Path,
     pub kind: ObjectKind,
@@ -67,7 +67,7 @@ impl Clone for Row {
 }
 
 /// What is given to a file or a directory, in the place of what it has.
-#[derive(Debug, Drop)]
+#[derive(Drop)]
 pub enum Change {
     /// This owner and this group.
     Owner(Who, Who),

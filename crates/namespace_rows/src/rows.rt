@@ -16,7 +16,7 @@ use std::marker::Model;
 
 /// The rows of a namespace in ascending path order: the root first, the parent of each other row a directory, and
 /// no file with the sticky bit (HDFS Architecture, "The File System Namespace"). This is the plain form, whose calls scan the list.
-#[derive(Debug, Drop)]
+#[derive(Drop)]
 pub struct Rows {
     list: Vec<Row>,
 }

@@ -5,7 +5,7 @@ use hdfs_types::reply::Refusal;
 use std::alloc::{AllocError, AllocFailed};
 
 /// Why an access control list was not changed.
-#[derive(Debug, Drop)]
+#[derive(Drop)]
 pub enum AclChangeFault {
     Refused(Refusal),
     OutOfMemory,

@@ -14,7 +14,7 @@ use std::alloc::{AllocError, Global};
 use std::marker::Model;
 
 /// The entries of a scope without its mask, while they change: those of owner, owning group and others may be missing.
-#[derive(Debug, Drop)]
+#[derive(Drop)]
 pub struct PartialList {
     pub user: Option<Rights>,
     pub users: Vec<NamedEntry>,

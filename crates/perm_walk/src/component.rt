@@ -1,7 +1,7 @@
-use namespace_rows::row::Row;
-use file_paths::name::Name;
 use file_paths::path::Path;
 use inode_visits::inode::Inode;
+use namespace_rows::row::{Row, Row};
+use principal_names::who::Who;
 use std::alloc::{AllocError, Global};
 use std::marker::Model;
 
@@ -67,17 +67,29 @@ impl<'a> Component<'a> {
         Path::copied(alloc, self.path)
     }
 
+    /// Copies of the owner and the group.
+    fn owners(&self) -> Result<(Who, Who), AllocError>
+        ensures owner { IfOk result (λ both. both.0 ≡ self.now.owner) }
+        ensures group { IfOk result (λ both. both.1 ≡ self.now.group) }
+    {
+        Ok((self.inode.owner().clone()?, self.inode.group().clone()?))
+    }
+
     /// A copy, as a row of the namespace. Costs the path, and the blocks of a file.
     pub fn to_row(&self, alloc: Global) -> Result<Row, AllocError>
         ensures { IfOk result (λ row. row ≡ self.now) }
     {
+        let (owner, group) = self.owners()?;
+        let path = self.to_path(alloc)?;
+        let acl = self.inode.acl().clone()?;
+        let file = self.inode.file_copy()?;
         Ok(Row {
-            path: self.to_path(alloc)?,
+            path,
             kind: self.inode.kind(),
-            owner: self.inode.owner().clone()?,
-            group: self.inode.group().clone()?,
-            acl: self.inode.acl().clone()?,
-            file: self.inode.file_copy()?,
+            owner,
+            group,
+            acl,
+            file,
         })
     }
 }

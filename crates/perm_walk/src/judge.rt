@@ -12,17 +12,17 @@ ghost use Rattle.perm_walk.specs.Walked.{IsTraversal, IsDescent};
 
 use crate::component::Component;
 use crate::reach::{Entered, Reach, enter};
-use required_rights::demand::{Condition, Demand, Role};
-use flat_rows::denial::Denial;
-use required_rights::need::Need;
-use namespace_rows::row::Row;
-use principal_names::groups::has_group;
 use file_paths::name::Name;
+use flat_rows::denial::Denial;
 use hdfs_types::reply::ObjectKind;
-use permission_bits::rights::Rights;
-use principal_names::who::Who;
 use inode_tree::tree::Tree;
+use namespace_rows::row::Row;
+use permission_bits::rights::Rights;
+use principal_names::groups::has_group;
+use principal_names::who::Who;
 use principals::caller::Caller;
+use required_rights::demand::{Condition, Demand, Role};
+use required_rights::need::Need;
 use std::alloc::{AllocError, Global};
 
 /// A path that needs are on, with how far it leads once that is known.

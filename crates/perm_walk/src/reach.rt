@@ -9,9 +9,9 @@ ghost use Rattle.perm_walk.specs.Reached.{if_file, IsEntered};
 use crate::component::Component;
 use file_paths::name::Name;
 use hdfs_types::reply::ObjectKind;
-use permission_bits::rights::Rights;
-use inode_visits::inode::Inode;
 use inode_tree::tree::Tree;
+use inode_visits::inode::Inode;
+use permission_bits::rights::Rights;
 use principals::caller::Caller;
 
 /// How far a path leads into a tree: what has it, the directory that holds it, the last existing component above it, and the

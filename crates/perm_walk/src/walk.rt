@@ -8,14 +8,14 @@ ghost use Rattle.perm_walk.specs.Walked.{AreOn, IsDescent, IsWalked, IsWalkedBot
 
 use crate::judge::{Descent, denial_by, follow};
 use crate::reach::Reach;
-use required_rights::demand::{Demand, Needs};
-use flat_rows::denial::Denial;
 use file_paths::name::Name;
 use file_paths::path::{Path, is_same};
-use principal_names::who::Who;
+use flat_rows::denial::Denial;
 use inode_tree::tree::Tree;
+use principal_names::who::Who;
 use principals::caller::Caller;
 use principals::users::Users;
+use required_rights::demand::{Demand, Needs};
 use std::alloc::{AllocError, Global};
 
 /// What a walk finds: the first denial, or where nothing is denied how far the path leads.
@@ -59,9 +59,8 @@ fn first_denial_on<'a>(
     ensures descent { IsDescent tree.now descent.new }
 {
     for demand in demands {
-        let denial = denial_by(alloc, tree, demand, caller, descent)?;
-        if denial.is_some() {
-            return Ok(denial);
+        if let Some(denial) = denial_by(alloc, tree, demand, caller, descent)? {
+            return Ok(Some(denial));
         }
     }
     Ok(None)
@@ -135,9 +134,8 @@ fn first_denial<'a>(
     ensures to { IsDescent tree.now to.new }
 {
     for demand in demands {
-        let denial = denial_on_either(alloc, tree, demand, caller, from, to)?;
-        if denial.is_some() {
-            return Ok(denial);
+        if let Some(denial) = denial_on_either(alloc, tree, demand, caller, from, to)? {
+            return Ok(Some(denial));
         }
     }
     Ok(None)

@@ -6,7 +6,7 @@ use std::fmt;
 
 /// Rights on an object: to read, to write, and to execute, which on a directory is to traverse it (HDFS Permissions
 /// Guide, "Overview"). `contains`, `union` and `intersection` come from `Flags`.
-#[derive(Clone, Copy, Debug, PartialEq, Eq)]
+#[derive(Clone, Copy, PartialEq, Eq)]
 pub struct Rights(u8);
 
 bitflag_items! {

@@ -7,7 +7,7 @@ use std::marker::Model;
 
 /// The groups of a user, in the order in which they were given; a group may stand twice (HDFS Permissions Guide, "Group
 /// Mapping").
-#[derive(Debug, Drop)]
+#[derive(Drop)]
 pub struct Groups {
     list: Vec<Who>,
 }

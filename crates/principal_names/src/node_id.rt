@@ -7,7 +7,7 @@ use hdfs_texts::number::number_of;
 use std::marker::Model;
 
 /// The id of a DataNode: 1 to 2^32 - 1.
-#[derive(Clone, Copy, Debug, PartialEq, Eq, PartialOrd, Ord)]
+#[derive(Clone, Copy, PartialEq, Eq, PartialOrd, Ord)]
 pub struct NodeId {
     id: u32,
 }

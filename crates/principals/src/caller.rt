@@ -5,7 +5,7 @@ use std::marker::Model;
 
 /// Who asks: the name, the groups that it has, and whether it is a superuser (HDFS Permissions Guide, "User Identity" and
 /// "The Super-User").
-#[derive(Debug, Drop)]
+#[derive(Drop)]
 pub struct Caller<'a> {
     name: &'a Who,
     groups: &'a [Who],

@@ -4,16 +4,16 @@ ghost use Rattle.principals.specs.declared.users.UserFault.TheVariants.{OutOfMem
 ghost use Rattle.principals.specs.Principals as spec;
 
 use crate::caller::Caller;
+use hdfs_types::reply::Refusal;
 use principal_names::groups::{Groups, has_group};
 use principal_names::node_id::node_of;
-use hdfs_types::reply::Refusal;
 use principal_names::who::Who;
 use std::alloc::{AllocError, AllocFailed, Global};
 use std::collections::BTreeMap;
 use std::marker::Model;
 
 /// Why a user was not made known, or its groups not set.
-#[derive(Debug, Drop)]
+#[derive(Drop)]
 pub enum UserFault {
     Refused(Refusal),
     OutOfMemory,
@@ -37,7 +37,7 @@ impl<T: Drop> From<AllocFailed<T>> for UserFault {
 
 /// The known users with their groups, the superuser and the supergroup (HDFS Permissions Guide, "Group Mapping" and "The
 /// Super-User").
-#[derive(Debug, Drop)]
+#[derive(Drop)]
 pub struct Users {
     known: BTreeMap<Who, Groups>,
     superuser: Who,

@@ -1,5 +1,6 @@
 ghost use Rattle.std.specs.Prelude.{◌≡◌, ◌∷◌, ◌++◌, [], Some, IfOk};
 ghost use Rattle.file_paths.specs.Path.{IsPath};
+ghost use Rattle.permission_bits.specs.Rights.{rights};
 ghost use Rattle.required_rights.specs.RequiredRights as spec;
 
 use crate::need::Need;
@@ -12,7 +13,7 @@ use std::alloc::{AllocError, Global};
 use std::marker::Model;
 
 /// Which components a need on a path is of.
-#[derive(Clone, Copy, Debug, PartialEq, Eq)]
+#[derive(Clone, Copy, PartialEq, Eq)]
 pub enum Role {
     /// Each existing directory above the path, from the root down.
     Traversed,
@@ -27,7 +28,7 @@ pub enum Role {
 }
 
 /// When a need on a path is judged.
-#[derive(Debug, Drop)]
+#[derive(Drop)]
 pub enum Condition {
     Always,
     /// Where nothing has the path.
@@ -50,7 +51,7 @@ pub enum Enforcement {
 }
 
 /// A need of the components that have a role on a path.
-#[derive(Debug, Drop)]
+#[derive(Drop)]
 pub struct Demand<'a> {
     role: Role,
     path: &'a [Name],
@@ -267,7 +268,7 @@ impl<'a> Demand<'a> {
 }
 
 /// The needs of an operation, in the order in which they are judged.
-#[derive(Debug, Drop)]
+#[derive(Drop)]
 pub struct Needs<'a> {
     demands: Vec<Demand<'a>>,
 }
@@ -323,60 +324,120 @@ fn needs_of_file<'a>(
     Ok(demands)
 }
 
-/// The needs of an operation, with its paths borrowed: the one table of required rights.
+/// What only needs to get to the path.
+fn needs_of_traversal<'a>(alloc: Global, path: &'a Path) -> Result<Vec<Demand<'a>>, AllocError>
+    ensures { IfOk result (λ demands. demands.items ≡ spec.traversal path.now ∷ []) }
+{
+    Ok(vec![in alloc; Demand::traversal(path)]?)
+}
+
+fn needs_of_mkdirs<'a>(alloc: Global, path: &'a Path) -> Result<Vec<Demand<'a>>, AllocError>
+    ensures { IfOk result (λ demands. demands.items ≡ spec.traversal path.now ∷ spec.creation path.now ∷ []) }
+{
+    Ok(vec![in alloc; Demand::traversal(path), Demand::creation(path)]?)
+}
+
+fn needs_of_list<'a>(alloc: Global, path: &'a Path) -> Result<Vec<Demand<'a>>, AllocError>
+    ensures { IfOk result (λ demands. demands.items ≡ spec.traversal path.now ∷ spec.listing path.now ∷ []) }
+{
+    Ok(vec![in alloc; Demand::traversal(path), Demand::listing(path)]?)
+}
+
+fn needs_of_summary<'a>(alloc: Global, path: &'a Path) -> Result<Vec<Demand<'a>>, AllocError>
+    ensures { IfOk result (λ demands. demands.items ≡ spec.traversal path.now ∷ spec.sub_tree (rights 5) path.now ∷ []) }
+{
+    Ok(vec![in alloc;
+        Demand::traversal(path),
+        Demand::sub_tree(Rights::of_low_bits(0o5), path),
+    ]?)
+}
+
+fn needs_of_delete<'a>(alloc: Global, path: &'a Path) -> Result<Vec<Demand<'a>>, AllocError>
+    ensures { IfOk result (λ demands. demands.items ≡ spec.traversal path.now ∷ spec.sticky_bit path.now ∷ spec.removal path.now ∷ spec.sub_tree (rights 7) path.now ∷ []) }
+{
+    Ok(vec![in alloc;
+        Demand::traversal(path),
+        Demand::sticky_bit(path),
+        Demand::removal(path),
+        Demand::sub_tree(Rights::of_low_bits(0o7), path),
+    ]?)
+}
+
+fn needs_of_rename<'a>(
+    alloc: Global,
+    from: &'a Path,
+    to: &'a Path,
+) -> Result<Vec<Demand<'a>>, AllocError>
+    ensures { IfOk result (λ demands. demands.items ≡ spec.traversal from.now ∷ spec.traversal to.now ∷ spec.sticky_bit from.now ∷ spec.write_above to.now ∷ spec.removal from.now ∷ []) }
+{
+    Ok(vec![in alloc;
+        Demand::traversal(from),
+        Demand::traversal(to),
+        Demand::sticky_bit(from),
+        Demand::write_above(to),
+        Demand::removal(from),
+    ]?)
+}
+
+/// What only the owner does.
+fn needs_of_ownership<'a>(alloc: Global, path: &'a Path) -> Result<Vec<Demand<'a>>, AllocError>
+    ensures { IfOk result (λ demands. demands.items ≡ spec.strict_traversal path.now ∷ spec.ownership path.now ∷ []) }
+{
+    Ok(vec![in alloc; Demand::strict_traversal(path), Demand::ownership(path)]?)
+}
+
+/// What needs rights on what has the path.
+fn needs_of_access<'a>(
+    alloc: Global,
+    rights: Rights,
+    path: &'a Path,
+) -> Result<Vec<Demand<'a>>, AllocError>
+    ensures { IfOk result (λ demands. demands.items ≡ spec.traversal path.now ∷ spec.access rights path.now ∷ []) }
+{
+    Ok(vec![in alloc; Demand::traversal(path), Demand::access(rights, path)]?)
+}
+
+/// What only a superuser does.
+fn needs_of_administration<'a>(alloc: Global) -> Result<Vec<Demand<'a>>, AllocError>
+    ensures { IfOk result (λ demands. demands.items ≡ spec.administration ∷ []) }
+{
+    Ok(vec![in alloc; Demand::administration()]?)
+}
+
+/// The one table of required rights. Each line is one call: a function in which the needs themselves are made takes far longer
+/// to prove.
+fn demands_of<'a>(alloc: Global, op: &'a Op) -> Result<Vec<Demand<'a>>, AllocError>
+    ensures { IfOk result (λ demands. demands.items ≡ spec.required_rights op.now) }
+{
+    match op {
+        Op::Mkdirs(path, _) => needs_of_mkdirs(alloc, path),
+        Op::Stat(path) => needs_of_traversal(alloc, path),
+        Op::List(path) => needs_of_list(alloc, path),
+        Op::Summary(path) => needs_of_summary(alloc, path),
+        Op::Delete(path, _) => needs_of_delete(alloc, path),
+        Op::Rename(from, to) => needs_of_rename(alloc, from, to),
+        Op::SetMode(path, _) => needs_of_ownership(alloc, path),
+        Op::GetAcl(path) => needs_of_traversal(alloc, path),
+        Op::SetAcl(path, _) => needs_of_ownership(alloc, path),
+        Op::SetOwner(path, owner, group) => needs_of_owner(alloc, path, owner, group),
+        Op::Create(path, _, _, over) => needs_of_file(alloc, path, *over),
+        Op::Append(path) => needs_of_access(alloc, Rights::WRITE, path),
+        Op::SetReplication(path, _) => needs_of_access(alloc, Rights::WRITE, path),
+        Op::Open(path) => needs_of_access(alloc, Rights::READ, path),
+        Op::AddBlock(path, _) => needs_of_traversal(alloc, path),
+        Op::Complete(path, _) => needs_of_traversal(alloc, path),
+        Op::Renew => Ok(Vec::new(alloc)),
+        Op::AddUser(_, _) => needs_of_administration(alloc),
+        Op::SetGroups(_, _) => needs_of_administration(alloc),
+        Op::Tick => needs_of_administration(alloc),
+    }
+}
+
+/// The needs of an operation, with its paths borrowed.
 pub fn needs_of<'a>(alloc: Global, op: &'a Op) -> Result<Needs<'a>, AllocError>
     ensures { IfOk result (λ needs. needs ≡ spec.required_rights op.now) }
 {
-    let demands = match op {
-        Op::Mkdirs(path, _) => vec![in alloc; Demand::traversal(path), Demand::creation(path)]?,
-        Op::Stat(path) => vec![in alloc; Demand::traversal(path)]?,
-        Op::List(path) => vec![in alloc; Demand::traversal(path), Demand::listing(path)]?,
-        Op::Summary(path) => {
-            vec![in alloc;
-                Demand::traversal(path),
-                Demand::sub_tree(Rights::of_low_bits(0o5), path),
-            ]?
-        }
-        Op::Delete(path, _) => {
-            vec![in alloc;
-                Demand::traversal(path),
-                Demand::sticky_bit(path),
-                Demand::removal(path),
-                Demand::sub_tree(Rights::of_low_bits(0o7), path),
-            ]?
-        }
-        Op::Rename(from, to) => {
-            vec![in alloc;
-                Demand::traversal(from),
-                Demand::traversal(to),
-                Demand::sticky_bit(from),
-                Demand::write_above(to),
-                Demand::removal(from),
-            ]?
-        }
-        Op::SetMode(path, _) => {
-            vec![in alloc; Demand::strict_traversal(path), Demand::ownership(path)]?
-        }
-        Op::GetAcl(path) => vec![in alloc; Demand::traversal(path)]?,
-        Op::SetAcl(path, _) => vec![in alloc;
-            Demand::strict_traversal(path),
-            Demand::ownership(path),
-        ]?,
-        Op::SetOwner(path, owner, group) => needs_of_owner(alloc, path, owner, group)?,
-        Op::Create(path, _, _, over) => needs_of_file(alloc, path, *over)?,
-        Op::Append(path) | Op::SetReplication(path, _) => vec![in alloc;
-            Demand::traversal(path),
-            Demand::access(Rights::WRITE, path),
-        ]?,
-        Op::Open(path) => vec![in alloc;
-            Demand::traversal(path),
-            Demand::access(Rights::READ, path),
-        ]?,
-        Op::AddBlock(path, _) | Op::Complete(path, _) => vec![in alloc; Demand::traversal(path)]?,
-        Op::Renew => Vec::new(alloc),
-        Op::AddUser(_, _) | Op::SetGroups(_, _) | Op::Tick => {
-            vec![in alloc; Demand::administration()]?
-        }
-    };
-    Ok(Needs { demands })
+    Ok(Needs {
+        demands: demands_of(alloc, op)?,
+    })
 }

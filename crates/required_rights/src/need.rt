@@ -7,7 +7,7 @@ use std::alloc::AllocError;
 use std::fmt;
 
 /// What a caller needs at a component of the namespace (HDFS Permissions Guide, "Permission Checks").
-#[derive(Debug, Drop)]
+#[derive(Drop)]
 pub enum Need {
     Rights(Rights),
     /// In a directory with the sticky bit, to own the component or that directory.
@@ -52,7 +52,7 @@ impl fmt::Display for Need {
 }
 
 /// What decided about a need.
-#[derive(Debug, Drop)]
+#[derive(Drop)]
 pub enum By {
     /// For rights the entry, and the mask where one filters it.
     Entry(Entry, Option<Rights>),

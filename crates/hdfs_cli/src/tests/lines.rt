@@ -1,10 +1,10 @@
 use crate::line::request_of;
 use acl_specs::acl_change::AclChange;
+use acl_specs::spec::Spec;
+use file_paths::path::Path;
 use hdfs_texts::fault::ParseFault;
 use hdfs_types::file::LastBlock;
 use hdfs_types::op::{Op, Request};
-use file_paths::path::Path;
-use acl_specs::spec::Spec;
 use principal_names::who::Who;
 use std::alloc::{AllocError, Global};
 use std::test::Fail;

@@ -5,23 +5,23 @@ ghost use Rattle.hdfs_types.specs.Request.{is_look};
 use crate::explain::rows_of;
 use crate::tests::lines::read;
 use access_lists::acl::Acl;
+use block_numbers::replication::Repl;
+use file_paths::path::Path;
 use flat_rows::decision::verdict;
-use required_rights::demand::{Demand, Enforcement};
 use flat_rows::denial::{Denial, granted};
+use flat_rows::verdict::Verdict;
+use fs_operations::apply::answer_look;
+use hdfs_types::op::Op;
+use hdfs_types::reply::{ObjectKind, Reply};
+use inode_tree::tree::Tree;
 use namespace_rows::file_row::FileRow;
 use namespace_rows::row::Row;
 use namespace_rows::rows::{Rows, directory_of, file_above};
-use flat_rows::verdict::Verdict;
-use fs_operations::apply::answer_look;
-use principal_names::groups::Groups;
 use permission_bits::mode::Mode;
-use hdfs_types::op::Op;
-use file_paths::path::Path;
-use block_numbers::replication::Repl;
-use hdfs_types::reply::{ObjectKind, Reply};
+use principal_names::groups::Groups;
 use principal_names::who::Who;
-use inode_tree::tree::Tree;
 use principals::users::Users;
+use required_rights::demand::{Demand, Enforcement};
 use std::alloc::{AllocError, Global};
 use std::test::Fail;
 
@@ -193,7 +193,10 @@ fn trees_take_files(rt: HostRuntime) -> Result<(), Fail> {
 fn users_with_bob(alloc: Global) -> Result<Users, Fail> {
     let mut users = Users::new(alloc, who_of(alloc, "hdfs")?, who_of(alloc, "supergroup")?);
     let group = who_of(alloc, "g1")?;
-    users.add(who_of(alloc, "bob")?, Groups::new(vec![in alloc; group]?))?;
+    users
+        .add(who_of(alloc, "bob")?, Groups::new(vec![in alloc; group]?))
+        .ok()
+        .ok_or("bob is not added")?;
     Ok(users)
 }
 

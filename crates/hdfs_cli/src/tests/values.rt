@@ -1,16 +1,16 @@
 use acl_specs::entry::{Entry, EntryKind, Scope};
-use hdfs_texts::fault::IllFormed;
-use principal_names::groups::Groups;
 use block_numbers::ids::{BlockId, Serial};
-use permission_bits::mode::Mode;
-use permission_bits::modes::Modes;
 use block_numbers::moment::Moment;
 use file_paths::name::Name;
-use principal_names::node_id::{NodeId, node_of};
-use hdfs_types::op::{Op, Request, is_look};
 use file_paths::path::Path;
+use hdfs_texts::fault::IllFormed;
+use hdfs_types::op::{Op, Request, is_look};
 use hdfs_types::reply::{Names, Refusal};
+use permission_bits::mode::Mode;
+use permission_bits::modes::Modes;
 use permission_bits::rights::Rights;
+use principal_names::groups::Groups;
+use principal_names::node_id::{NodeId, node_of};
 use principal_names::who::Who;
 use std::test::Fail;
 
