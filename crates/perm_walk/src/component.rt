@@ -1,6 +1,6 @@
 use file_paths::path::Path;
 use inode_visits::inode::Inode;
-use namespace_rows::row::{Row, Row};
+use namespace_rows::row::Row;
 use principal_names::who::Who;
 use std::alloc::{AllocError, Global};
 use std::marker::Model;
