@@ -3,6 +3,7 @@ ghost use Rattle.principals.specs.Principals.{Principals, caller_of};
 ghost use Rattle.partial_acl.specs.AclChange.{acl_change};
 ghost use Rattle.flat_rows.specs.FileOutcome.{LeaseFacts};
 ghost use Rattle.flat_rows.specs.Outcome as spec;
+ghost use Rattle.inode_visits.specs.Tree.{branch_at};
 ghost use Rattle.perm_walk.specs.Reached.{IsReach};
 ghost use Rattle.perm_walk.specs.Walked.{AreOn};
 ghost use Rattle.fs_operations.specs.Judged.{judged_step};
@@ -18,6 +19,7 @@ use flat_rows::verdict::Verdict;
 use hdfs_types::op::Op;
 use hdfs_types::reply::{ObjectKind, Refusal, Reply};
 use inode_tree::tree::Tree;
+use inode_visits::inode::Inode;
 use namespace_rows::row::Change;
 use partial_acl::fault::AclChangeFault;
 use perm_walk::reach::Reach;
@@ -143,6 +145,20 @@ fn given_or(given: &Option<Who>, own: &Who) -> Result<Who, AllocError>
     }
 }
 
+/// Copies of the owner and the group that are given, or else of those that there are.
+fn owners_due(
+    inode: Inode<'_>,
+    owner: &Option<Who>,
+    group: &Option<Who>,
+) -> Result<(Who, Who), AllocError>
+    ensures owner { IfOk result (λ due. due.0 ≡ unwrap_or owner.now (branch_at inode).top.owner) }
+    ensures group { IfOk result (λ due. due.1 ≡ unwrap_or group.now (branch_at inode).top.group) }
+{
+    let owner = given_or(owner, inode.owner())?;
+    let group = given_or(group, inode.group())?;
+    Ok((owner, group))
+}
+
 /// Gives what has a path another owner and another group.
 pub(crate) fn set_owner(
     alloc: Global,
@@ -165,10 +181,7 @@ pub(crate) fn set_owner(
         Found::There(component) => component.inode(),
         Found::Refused(refusal) => return Ok(Verdict::Refused(refusal)),
     };
-    let (owner, group) = (
-        given_or(owner, inode.owner())?,
-        given_or(group, inode.group())?,
-    );
+    let (owner, group) = owners_due(inode, owner, group)?;
     tree.rewrite(path, Change::Owner(owner, group));
     Ok(Verdict::Done(Reply::Empty))
 }

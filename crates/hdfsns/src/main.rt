@@ -25,32 +25,58 @@ fn script<'a>(alloc: Global) -> Arg<'a> {
         .required(true)
 }
 
-fn command<'a>(alloc: Global) -> Result<Command<'a>, AllocError> {
-    let run = Command::new(alloc, "run")
+fn run_command<'a>(alloc: Global) -> Result<Command<'a>, AllocError> {
+    Command::new(alloc, "run")
         .about("Runs a script of requests, and prints an answer for each line")
-        .arg(script(alloc))?;
-    let line = Arg::new(alloc, "LINE")
+        .arg(script(alloc))
+}
+
+fn line<'a>(alloc: Global) -> Arg<'a> {
+    Arg::new(alloc, "LINE")
         .help("The line's number; all lines count, from 1 on")
         .required(true)
-        .value_parser(value_parser!(u32).range(1..));
-    let explain = Command::new(alloc, "explain")
+        .value_parser(value_parser!(u32).range(1..))
+}
+
+fn explain_command<'a>(alloc: Global) -> Result<Command<'a>, AllocError> {
+    Command::new(alloc, "explain")
         .about(
             "Runs the lines before a line, and prints each need of its request up to the first that fails",
         )
         .arg(script(alloc))?
-        .arg(line)?;
-    let digits = Arg::new(alloc, "HEX")
+        .arg(line(alloc))
+}
+
+fn digits<'a>(alloc: Global) -> Arg<'a> {
+    Arg::new(alloc, "HEX")
         .help("The token's bytes in hexadecimal digits")
-        .required(true);
-    let token = Command::new(alloc, "token")
+        .required(true)
+}
+
+fn token_command<'a>(alloc: Global) -> Result<Command<'a>, AllocError> {
+    Command::new(alloc, "token")
         .about("Prints what a block access token says")
-        .arg(digits)?;
+        .arg(digits(alloc))
+}
+
+/// The command line with the first of the subcommands. Each of the three is added in a function of its own: a function that has
+/// them all at once takes far longer to prove.
+fn with_run<'a>(alloc: Global) -> Result<Command<'a>, AllocError> {
+    let run = run_command(alloc)?;
     Command::new(alloc, "hdfsns")
         .about("The namesystem of HDFS, proved")
         .subcommand_required(true)
-        .subcommand(run)?
-        .subcommand(explain)?
-        .subcommand(token)
+        .subcommand(run)
+}
+
+fn with_explain<'a>(alloc: Global) -> Result<Command<'a>, AllocError> {
+    let explain = explain_command(alloc)?;
+    with_run(alloc)?.subcommand(explain)
+}
+
+fn command<'a>(alloc: Global) -> Result<Command<'a>, AllocError> {
+    let token = token_command(alloc)?;
+    with_explain(alloc)?.subcommand(token)
 }
 
 /// Runs the script that a path or `-` names.
@@ -179,8 +205,17 @@ fn refuse(rt: &HostRuntime, error: &Error) -> ExitCode {
     }
 }
 
+fn answer(rt: &HostRuntime, words: &[String]) -> ExitCode {
+    let Ok(command) = command(rt.alloc()) else {
+        return no_memory(rt);
+    };
+    match command.try_get_matches_from(words) {
+        Ok(matches) => run_matches(rt, &matches),
+        Err(error) => refuse(rt, &error),
+    }
+}
+
 fn main(rt: HostRuntime) -> ExitCode {
-    let alloc = rt.alloc();
     let words = match env::args(&rt) {
         Ok(words) => words,
         Err(error) if error.kind() == io::ErrorKind::OutOfMemory => return no_memory(&rt),
@@ -189,11 +224,8 @@ fn main(rt: HostRuntime) -> ExitCode {
             return ExitCode::from(BAD_COMMAND_LINE);
         }
     };
-    let (Ok(words), Ok(command)) = (words.collect::<Vec<String>>(alloc), command(alloc)) else {
-        return no_memory(&rt);
-    };
-    match command.try_get_matches_from(words.as_slice()) {
-        Ok(matches) => run_matches(&rt, &matches),
-        Err(error) => refuse(&rt, &error),
+    match words.collect::<Vec<String>>(rt.alloc()) {
+        Ok(words) => answer(&rt, words.as_slice()),
+        Err(_) => no_memory(&rt),
     }
 }

@@ -147,8 +147,7 @@ impl Node {
     ) -> Result<Node, AllocError>
         ensures { IfOk result (λ node. rows node ≡ chain above.now group.now owner.now mode file []) }
     {
-        let owner = owner.clone()?;
-        let group = group.clone()?;
+        let (owner, group) = copied_owners(owner, group)?;
         let acl = inherit(alloc, above, mode, kind_of(&file))?;
         Ok(Node::new(alloc, owner, group, acl, file))
     }
@@ -269,6 +268,14 @@ impl Held {
     }
 }
 
+/// Copies of an owner and a group.
+fn copied_owners(owner: &Who, group: &Who) -> Result<(Who, Who), AllocError>
+    ensures owner { IfOk result (λ both. both.0 ≡ owner.now) }
+    ensures group { IfOk result (λ both. both.1 ≡ group.now) }
+{
+    Ok((owner.clone()?, group.clone()?))
+}
+
 /// A file where what it has is given, else a directory.
 fn kind_of(file: &Option<FileRow>) -> ObjectKind
     ensures { result ≡ kind_of_new file.now }
@@ -316,9 +323,10 @@ fn new_directory(
     requires { IsStrictlySortedBy text_cmp (keys_of map.entries) }
     ensures { IfOk result (λ node. rows node ≡ row_of [] (record { kind = ObjectKind.Directory; owner = owner.now; group = group.now; acl = acl; file = None }) ∷ flatten map.entries) }
 {
+    let (owner, group) = copied_owners(owner, group)?;
     Ok(Node {
-        owner: owner.clone()?,
-        group: group.clone()?,
+        owner,
+        group,
         acl,
         held: Held::Directory(map),
     })

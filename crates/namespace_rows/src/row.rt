@@ -39,6 +39,15 @@ impl Row {
     {
         chosen(&self.owner, &self.group, &self.acl, caller, groups, need)
     }
+
+    /// Copies of path, owner and group.
+    fn copied_names(&self) -> Result<(Path, Who, Who), AllocError>
+        ensures path { IfOk result (λ names. names.0 ≡ self.now.path) }
+        ensures owner { IfOk result (λ names. names.1 ≡ self.now.owner) }
+        ensures group { IfOk result (λ names. names.2 ≡ self.now.group) }
+    {
+        Ok((self.path.clone()?, self.owner.clone()?, self.group.clone()?))
+    }
 }
 
 /// A copy of what a file has; a directory has none.
@@ -55,13 +64,16 @@ impl Clone for Row {
     ghost is_clone = { λ row copy. copy ≡ row };
 
     fn clone(&self) -> Result<Row, AllocError> {
+        let (path, owner, group) = self.copied_names()?;
+        let acl = self.acl.clone()?;
+        let file = copied(&self.file)?;
         Ok(Row {
-            path: self.path.clone()?,
+            path,
             kind: self.kind,
-            owner: self.owner.clone()?,
-            group: self.group.clone()?,
-            acl: self.acl.clone()?,
-            file: copied(&self.file)?,
+            owner,
+            group,
+            acl,
+            file,
         })
     }
 }

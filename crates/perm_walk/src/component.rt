@@ -67,20 +67,23 @@ impl<'a> Component<'a> {
         Path::copied(alloc, self.path)
     }
 
-    /// Copies of the owner and the group.
-    fn owners(&self) -> Result<(Who, Who), AllocError>
-        ensures owner { IfOk result (λ both. both.0 ≡ self.now.owner) }
-        ensures group { IfOk result (λ both. both.1 ≡ self.now.group) }
+    /// Copies of path, owner and group.
+    fn copied_names(&self, alloc: Global) -> Result<(Path, Who, Who), AllocError>
+        ensures path { IfOk result (λ names. names.0 ≡ self.now.path) }
+        ensures owner { IfOk result (λ names. names.1 ≡ self.now.owner) }
+        ensures group { IfOk result (λ names. names.2 ≡ self.now.group) }
     {
-        Ok((self.inode.owner().clone()?, self.inode.group().clone()?))
+        let path = self.to_path(alloc)?;
+        let owner = self.inode.owner().clone()?;
+        let group = self.inode.group().clone()?;
+        Ok((path, owner, group))
     }
 
     /// A copy, as a row of the namespace. Costs the path, and the blocks of a file.
     pub fn to_row(&self, alloc: Global) -> Result<Row, AllocError>
         ensures { IfOk result (λ row. row ≡ self.now) }
     {
-        let (owner, group) = self.owners()?;
-        let path = self.to_path(alloc)?;
+        let (path, owner, group) = self.copied_names(alloc)?;
         let acl = self.inode.acl().clone()?;
         let file = self.inode.file_copy()?;
         Ok(Row {

@@ -1,4 +1,4 @@
-ghost use Rattle.std.specs.Prelude.{◌≡◌, ◌∷◌, ◌++◌, [], Some, IfOk};
+ghost use Rattle.std.specs.Prelude.{◌≡◌, ◌∷◌, ◌++◌, [], Some, IfOk, OnOk};
 ghost use Rattle.file_paths.specs.Path.{IsPath};
 ghost use Rattle.permission_bits.specs.Rights.{rights};
 ghost use Rattle.required_rights.specs.RequiredRights as spec;
@@ -290,6 +290,34 @@ impl<'a> Needs<'a> {
     }
 }
 
+/// Adds what giving a path another owner needs.
+fn add_owner_needs<'a>(
+    demands: &mut Vec<Demand<'a>>,
+    path: &'a Path,
+    owner: &Option<Who>,
+) -> Result<(), AllocError>
+    ensures { OnOk result (demands.new.items ≡ demands.old.items ++ spec.owner_demands path.now owner.now) }
+{
+    if let Some(user) = owner {
+        demands.push(Demand::giving_away(path, user)?)?;
+    }
+    Ok(())
+}
+
+/// Adds what giving a path another group needs.
+fn add_group_needs<'a>(
+    demands: &mut Vec<Demand<'a>>,
+    path: &'a Path,
+    group: &Option<Who>,
+) -> Result<(), AllocError>
+    ensures { OnOk result (demands.new.items ≡ demands.old.items ++ spec.group_demands path.now group.now) }
+{
+    if let Some(group) = group {
+        demands.push(Demand::membership(path, group)?)?;
+    }
+    Ok(())
+}
+
 /// What giving a path another owner and another group needs.
 fn needs_of_owner<'a>(
     alloc: Global,
@@ -300,12 +328,8 @@ fn needs_of_owner<'a>(
     ensures { IfOk result (λ demands. demands.items ≡ spec.strict_traversal path.now ∷ spec.ownership path.now ∷ (spec.owner_demands path.now owner.now ++ spec.group_demands path.now group.now)) }
 {
     let mut demands = vec![in alloc; Demand::strict_traversal(path), Demand::ownership(path)]?;
-    if let Some(user) = owner {
-        demands.push(Demand::giving_away(path, user)?)?;
-    }
-    if let Some(group) = group {
-        demands.push(Demand::membership(path, group)?)?;
-    }
+    add_owner_needs(&mut demands, path, owner)?;
+    add_group_needs(&mut demands, path, group)?;
     Ok(demands)
 }
 
