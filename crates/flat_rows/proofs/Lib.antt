@@ -6,3 +6,4 @@ pub mod Holders
 pub mod Making
 pub mod Keeping
 pub mod Endings
+pub mod Firsts

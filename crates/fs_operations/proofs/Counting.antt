@@ -14,16 +14,6 @@ use Rattle.flat_rows.specs.Changes.{last_name, rows_under}
 use Rattle.flat_rows.specs.Outcome.{own_name, is_alone}
 use Rattle.namespace_rows.proofs.PathOrders.{same_path_is}
 
-pub parted : {X : Type 0} (p : X → Bool) (xs : List X) → length (filter p xs) + length (filter (λ x. not (p x)) xs) ≡ length xs
-parted p [] = refl
-parted p (x ∷ xs) = by (p x) (parted p xs)
-  where
-    by : (b : Bool) → length (filter p xs) + length (filter (λ y. not (p y)) xs) ≡ length xs
-        → length (cond b (x ∷ filter p xs) (filter p xs)) + length (cond (not b) (x ∷ filter (λ y. not (p y)) xs) (filter (λ y. not (p y)) xs)) ≡ length (x ∷ xs)
-    by true h = omega (arith, h)
-    by false h = omega (arith, h)
-
--- the last of the names
 last_is : (name : List ℕ) (names : List (List ℕ)) → get_or (name ∷ names) (length names) [] ≡ last_name (name ∷ names)
 last_is name [] = refl
 last_is name (other ∷ names) = last_is other names
@@ -35,32 +25,3 @@ last_got (name ∷ names) =
   where
     before : (n : ℕ) → suc n - 1 ≡ n
     before n = omega arith
-
--- what stands alone at a path is one row
-at_or_under : (path : List (List ℕ)) (row : Row) → same_path path row.path ≡ true → is_prefix path row.path ≡ true
-at_or_under path row at = subst (λ other. is_prefix path other ≡ true) (same_path_is path row.path at) (at_itself path)
-  where
-    at_itself : (names : List (List ℕ)) → is_prefix names names ≡ true
-    at_itself [] = refl
-    at_itself (name ∷ names) = rw (same_self name) (at_itself names)
-
-some_under : (path : List (List ℕ)) (rows : List Row) → is_missing path rows ≡ false → rows_under path rows ≡ [] → ⊥
-some_under path [] there none = cc
-some_under path (row ∷ rows) there none = by (same_path path row.path) refl there none (some_under path rows)
-  where
-    by : (b : Bool) → same_path path row.path ≡ b → is_none (first (cond b (row ∷ filter (λ other. same_path path other.path) rows) (filter (λ other. same_path path other.path) rows))) ≡ false
-        → cond (is_prefix path row.path) (row ∷ rows_under path rows) (rows_under path rows) ≡ [] → (is_missing path rows ≡ false → rows_under path rows ≡ [] → ⊥) → ⊥
-    by true at h none others = cc (subst (λ b. cond b (row ∷ rows_under path rows) (rows_under path rows) ≡ []) (at_or_under path row at) none)
-    by false at h none others = under (is_prefix path row.path) none (others h)
-      where
-        under : (b : Bool) → cond b (row ∷ rows_under path rows) (rows_under path rows) ≡ [] → (rows_under path rows ≡ [] → ⊥) → ⊥
-        under true e go = cc
-        under false e go = go e
-
-one_row : (rows : List Row) → is_alone rows ≡ true → (rows ≡ [] → ⊥) → 1 ≡ length rows
-one_row [] alone some = absurd (some refl)
-one_row (row ∷ []) alone some = refl
-one_row (row ∷ other ∷ rows) alone some = cc
-
-pub alone_is_one : (path : List (List ℕ)) (rows : List Row) → is_missing path rows ≡ false → is_alone (rows_under path rows) ≡ true → 1 ≡ length (rows_under path rows)
-alone_is_one path rows there alone = one_row (rows_under path rows) alone (some_under path rows there)

@@ -93,27 +93,3 @@ module _ (path above : List (List ℕ)) (child : is_child path above ≡ true) w
 pub parent_there : (path : List (List ℕ)) (rows : List Row) → is_none (directory_of path rows) ≡ false → has_parent path rows ≡ true
 parent_there [] rows h = cc
 parent_there (name ∷ names) rows h = held_by (name ∷ names) (take (length names) (name ∷ names)) (child_of_parent name names) rows h
-
--- the first that a test finds passes it, and any that all pass
-abbrev passes : (Row → Bool) → Option Row → Bool
-passes q None = true
-passes q (Some row) = q row
-
-pub first_passes : (p q : Row → Bool) (rows : List Row) (row : Row) → list_all q rows ≡ true → first (filter p rows) ≡ Some row → q row ≡ true
-first_passes p q [] row h is = cc
-first_passes p q (other ∷ rows) row h is = by (p other) is (first_passes p q rows row)
-  where
-    parts : (q other ≡ true) × (list_all q rows ≡ true)
-    parts = both (q other) (list_all q rows) h
-
-    by : (b : Bool) → first (cond b (other ∷ filter p rows) (filter p rows)) ≡ Some row → (list_all q rows ≡ true → first (filter p rows) ≡ Some row → q row ≡ true) → q row ≡ true
-    by true k others = subst (λ o. passes q o ≡ true) k parts.0
-    by false k others = others parts.1 k
-
-pub first_found : (p : Row → Bool) (rows : List Row) (row : Row) → first (filter p rows) ≡ Some row → p row ≡ true
-first_found p [] row is = cc
-first_found p (other ∷ rows) row is = by (p other) refl is (first_found p rows row)
-  where
-    by : (b : Bool) → p other ≡ b → first (cond b (other ∷ filter p rows) (filter p rows)) ≡ Some row → (first (filter p rows) ≡ Some row → p row ≡ true) → p row ≡ true
-    by true e k others = subst (λ o. passes p o ≡ true) k e
-    by false e k others = others k

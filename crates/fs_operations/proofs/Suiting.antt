@@ -22,7 +22,7 @@ use Rattle.flat_rows.specs.Changes.{suits_change}
 use Rattle.namespace_rows.proofs.Tests.{both, and}
 use Rattle.namespace_rows.proofs.Namespaces.{namespace_tests}
 use Rattle.inode_visits.specs.Tree.{IsTree}
-use Rattle.fs_operations.proofs.Renaming.{first_passes}
+use Rattle.perm_walk.proofs.Standing.{row_suits}
 
 -- a list suits a file or a directory
 abbrev suits : ObjectKind → AccessControlList → Bool
@@ -43,23 +43,6 @@ suited_list row acl h = by row.kind h
     by : (kind : ObjectKind) → suits kind acl ≡ true → (is_directory_kind kind || suits_file acl) ≡ true
     by File h = h
     by Directory h = refl
-
--- a file and no directory has what files alone have
-pub no_directory : (row : Row) (file : FileRow) → suits_kind row ≡ true → row.file ≡ Some file → is_directory row ≡ false
-no_directory row file h is = by row.kind row.file is h
-  where
-    by : (kind : ObjectKind) (held : Option FileRow) → held ≡ Some file → suits_parts (is_directory_kind kind) row.acl held ≡ true → is_directory_kind kind ≡ false
-    by File held is h = refl
-    by Directory None is h = cc
-    by Directory (Some other) is h = cc
-
-pub is_directory_without : (row : Row) → suits_kind row ≡ true → row.file ≡ None → is_directory row ≡ true
-is_directory_without row h is = by row.kind row.file is h
-  where
-    by : (kind : ObjectKind) (held : Option FileRow) → held ≡ None → suits_parts (is_directory_kind kind) row.acl held ≡ true → is_directory_kind kind ≡ true
-    by Directory held is h = refl
-    by File None is h = cc
-    by File (Some other) is h = cc
 
 mode_suits : (mode : ℕ) (kind : ObjectKind) (acl : AccessControlList) → suits kind acl ≡ true → suits kind (with_mode mode kind acl) ≡ true
 mode_suits mode File acl h = (both (not acl.sticky) (is_none acl.default) h).1
@@ -100,9 +83,6 @@ change_suits change File acl new h is = by (touches Default (spec_in change)) re
     by true e = refused DefaultOnFile (acl_after change acl) new (subst (λ t. unless_fault (cond t (Some DefaultOnFile) (other_fault change acl)) (acl_after change acl) ≡ Ok new) e is)
     by false e = subst (λ a. suits_file a ≡ true) (accepted (first_acl_fault change File acl) (acl_after change acl) new is)
         (and _ _ parts.0 (untouched change (access_after change acl.access) acl.default e parts.1))
-
-pub row_suits : (path : List (List ℕ)) (rows : List Row) (row : Row) → IsTree rows → row_at path rows ≡ Some row → suits_kind row ≡ true
-row_suits path rows row tree is = first_passes (λ other. same_path path other.path) suits_kind rows row (namespace_tests rows tree.namespace).suit is
 
 pub list_of_mode_suits : (mode : ℕ) (path : List (List ℕ)) (rows : List Row) (row : Row) (acl : AccessControlList) → IsTree rows → row_at path rows ≡ Some row → acl ≡ with_mode mode row.kind row.acl
     → suits_change (given.List acl) (row_at path rows) ≡ true

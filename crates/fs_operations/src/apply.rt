@@ -23,6 +23,29 @@ pub fn needs<'a>(alloc: Global, op: &'a Op) -> Result<Needs<'a>, AllocError>
     needs_of(alloc, op)
 }
 
+/// Answers a look with its needs, over what is lent.
+fn tell(
+    alloc: Global,
+    tree: &Tree,
+    users: &Users,
+    caller: &Who,
+    needs: &Needs,
+    op: &Op,
+) -> Result<Verdict, AllocError>
+    requires look { is_look op.now ≡ true }
+    requires needs { needs.now ≡ required_rights op.now }
+    ensures { (leases : LeaseFacts) → IfOk result (λ verdict. record { verdict = verdict; rows = tree.now; users = users.now } ≡ spec.step leases tree.now users.now caller.now op.now) }
+{
+    let asking = users.caller(caller);
+    match op {
+        Op::Stat(path) => stat(alloc, tree, &asking, needs, path),
+        Op::GetAcl(path) => get_acl(alloc, tree, &asking, needs, path),
+        Op::List(path) => list(alloc, tree, &asking, needs, path),
+        Op::Summary(path) => summary(alloc, tree, &asking, needs, path),
+        _ => unreachable!(),
+    }
+}
+
 /// Decides an operation with its needs, and does it where no need fails and nothing stands against it.
 fn perform(
     alloc: Global,
@@ -48,10 +71,9 @@ fn perform(
         Op::SetAcl(path, change) => set_acl(alloc, tree, &asking, needs, path, change),
         Op::AddUser(user, groups) => add_user(alloc, tree, users, caller, needs, user, groups),
         Op::SetGroups(user, groups) => set_groups(alloc, tree, users, caller, needs, user, groups),
-        Op::Stat(path) => stat(alloc, tree, &asking, needs, path),
-        Op::GetAcl(path) => get_acl(alloc, tree, &asking, needs, path),
-        Op::List(path) => list(alloc, tree, &asking, needs, path),
-        Op::Summary(path) => summary(alloc, tree, &asking, needs, path),
+        Op::Stat(_) | Op::GetAcl(_) | Op::List(_) | Op::Summary(_) => {
+            tell(alloc, tree, users, caller, needs, op)
+        }
         Op::Open(path) => open(alloc, tree, &asking, needs, path),
         Op::SetReplication(path, replication) => {
             set_replication(alloc, tree, &asking, needs, path, *replication)
@@ -80,29 +102,6 @@ pub fn apply(
 {
     let needs = needs(alloc, &request.op)?;
     perform(alloc, tree, users, &request.caller, &needs, &request.op)
-}
-
-/// Answers a look with its needs, over what is lent.
-fn tell(
-    alloc: Global,
-    tree: &Tree,
-    users: &Users,
-    caller: &Who,
-    needs: &Needs,
-    op: &Op,
-) -> Result<Verdict, AllocError>
-    requires look { is_look op.now ≡ true }
-    requires needs { needs.now ≡ required_rights op.now }
-    ensures { (leases : LeaseFacts) → IfOk result (λ verdict. verdict ≡ (spec.step leases tree.now users.now caller.now op.now).verdict) }
-{
-    let asking = users.caller(caller);
-    match op {
-        Op::Stat(path) => stat(alloc, tree, &asking, needs, path),
-        Op::GetAcl(path) => get_acl(alloc, tree, &asking, needs, path),
-        Op::List(path) => list(alloc, tree, &asking, needs, path),
-        Op::Summary(path) => summary(alloc, tree, &asking, needs, path),
-        _ => unreachable!(),
-    }
 }
 
 /// Answers a look, which changes nothing, over what is lent: as `apply` does.

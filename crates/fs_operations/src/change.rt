@@ -6,9 +6,8 @@ ghost use Rattle.flat_rows.specs.Outcome as spec;
 ghost use Rattle.inode_visits.specs.Tree.{branch_at};
 ghost use Rattle.perm_walk.specs.Reached.{IsReach};
 ghost use Rattle.perm_walk.specs.Walked.{AreOn};
-ghost use Rattle.fs_operations.specs.Judged.{judged_step};
+ghost use Rattle.perm_walk.specs.JudgedStep.{judged_step};
 
-use crate::found::{Found, FoundFile, standing, standing_file};
 use access_lists::acl::Acl;
 use acl_specs::acl_change::AclChange;
 use block_numbers::replication::Repl;
@@ -22,6 +21,7 @@ use inode_tree::tree::Tree;
 use inode_visits::inode::Inode;
 use namespace_rows::row::Change;
 use partial_acl::fault::AclChangeFault;
+use perm_walk::found::{Found, FoundFile, standing, standing_file};
 use perm_walk::reach::Reach;
 use perm_walk::walk::{Walked, WalkedBoth, walk, walk_along, walk_along_both};
 use permission_bits::mode::Mode;

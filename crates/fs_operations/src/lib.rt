@@ -5,6 +5,4 @@
 
 pub mod apply;
 mod change;
-mod found;
 mod look;
-pub mod write;

@@ -1,15 +1,12 @@
-ghost use Rattle.std.specs.Prelude.{◌≡◌, ◌<◌, ◌^◌, ◌-◌, ℕ, List, Some, None, IfOk, map, length, filter, not};
+ghost use Rattle.std.specs.Prelude.{◌≡◌, ◌<◌, ◌^◌, ◌-◌, ℕ, List, Some, None, IfOk, map};
 ghost use Rattle.std.specs.Option.{option_copied};
 ghost use Rattle.principals.specs.Principals.{Principals};
 ghost use Rattle.flat_rows.specs.FileOutcome.{LeaseFacts, detail_of_row};
-ghost use Rattle.namespace_rows.specs.Files.{length_of, told_length};
-ghost use Rattle.namespace_rows.specs.Rows as rows_spec;
 ghost use Rattle.flat_rows.specs.Changes as changes;
 ghost use Rattle.flat_rows.specs.Outcome as spec;
 ghost use Rattle.perm_walk.specs.Walked.{AreOn};
-ghost use Rattle.fs_operations.specs.Judged.{judged_step};
+ghost use Rattle.perm_walk.specs.JudgedStep.{judged_step};
 
-use crate::found::{Found, FoundFile, standing, standing_file};
 use access_lists::print::print;
 use file_paths::name::Name;
 use file_paths::path::Path;
@@ -18,23 +15,13 @@ use hdfs_types::file::FileDetail;
 use hdfs_types::op::Op;
 use hdfs_types::reply::{AclStatus, ContentSummary, FileStatus, Names, ObjectKind, Reply};
 use inode_tree::tree::Tree;
-use inode_visits::visit::Counts;
 use namespace_rows::file_row::FileRow;
 use perm_walk::component::Component;
+use perm_walk::found::{Found, FoundFile, counts_at, length_told, standing, standing_file};
 use perm_walk::walk::{Walked, walk_along};
 use principals::caller::Caller;
 use required_rights::demand::Needs;
 use std::alloc::{AllocError, Global};
-
-/// The bytes of a file; a number that can't be told counts as want of memory. Costs its blocks.
-pub(crate) fn length_told(file: &FileRow) -> Result<u64, AllocError>
-    ensures { IfOk result (λ length. length ≡ length_of file.now.blocks) }
-{
-    match file.blocks.length() {
-        Some(length) => Ok(length),
-        None => Err(AllocError),
-    }
-}
 
 /// What is told of a file alone.
 fn detail_of(file: Option<&FileRow>) -> Result<Option<FileDetail>, AllocError>
@@ -173,19 +160,6 @@ pub(crate) fn list(
         }
         Found::Refused(refusal) => Ok(Verdict::Refused(refusal)),
     }
-}
-
-/// How many directories and files there are; a number that can't be told counts as want of memory.
-pub(crate) fn counts_at(tree: &Tree, path: &Path) -> Result<Counts, AllocError>
-    ensures directories { IfOk result (λ counts. counts.directories ≡ length (filter rows_spec.is_directory (changes.rows_under path.now tree.now))) }
-    ensures files { IfOk result (λ counts. counts.files ≡ length (filter (λ row. not (rows_spec.is_directory row)) (changes.rows_under path.now tree.now))) }
-    ensures bytes { IfOk result (λ counts. counts.bytes ≡ told_length (spec.bytes_in (changes.rows_under path.now tree.now))) }
-{
-    let counts = tree.count(path);
-    if counts.directories == u64::MAX || counts.files == u64::MAX {
-        return Err(AllocError);
-    }
-    Ok(counts)
 }
 
 /// What there is at a path and beneath it; a number that can't be told counts as want of memory.

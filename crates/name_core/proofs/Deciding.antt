@@ -6,13 +6,14 @@ use Rattle.namespace_rows.specs.declared.row.Row.{Row}
 use Rattle.flat_rows.specs.declared.verdict.Verdict as answer
 use Rattle.flat_rows.specs.FileOutcome.{LeaseFacts}
 use Rattle.flat_rows.specs.Outcome.{step}
-use Rattle.fs_operations.specs.declared.write.Judged.{Judged}
-use Rattle.fs_operations.specs.Judged.{verdict_under, takeover, IsJudged}
+use Rattle.write_rules.specs.declared.write.Judged.{Judged}
+use Rattle.write_rules.specs.Judged.{verdict_under, takeover, IsJudged}
 use Rattle.history.specs.ClockAndLease.{is_live, state_at}
 use Rattle.history.specs.Laws.{is_done}
 use Rattle.name_core.specs.declared.namesystem.Namesystem.{Namesystem}
-use Rattle.name_core.specs.Writers.{moment_of}
-use Rattle.name_core.specs.Performed.{IsExact, IsFree, facts_of}
+use Rattle.file_writers.specs.Writers.{moment_of}
+use Rattle.file_effects.specs.Effected.{IsExact, IsFree}
+use Rattle.name_core.specs.Performed.{facts_of}
 use Rattle.name_core.proofs.Performing.{done_free, lease_is}
 
 pub free_of : (leases : LeaseFacts) (rows : List Row) (users : Principals) (caller : List ℕ) (what : Op) (verdict : answer.Verdict) → verdict ≡ (step leases rows users caller what).verdict → is_done verdict ≡ true → IsFree what caller rows users

@@ -15,7 +15,8 @@ use Rattle.history.specs.LegalHistory.{IsLegal, verdict_of}
 use Rattle.name_core.specs.declared.namenode.NameCore.TheInside.{Inside}
 use Rattle.name_core.specs.Core.{Steps, entry_of}
 use Rattle.name_core.specs.Kept.{IsKept, core_of, entries_of}
-use Rattle.name_core.specs.Performed.{IsExact, facts_of, renewed_where}
+use Rattle.file_effects.specs.Effected.{IsExact, renewed_where}
+use Rattle.name_core.specs.Performed.{facts_of}
 use Rattle.name_core.proofs.Stepping.{stepped_rows, stepped_users, same_facts, same_step}
 
 -- what a step does to the fields

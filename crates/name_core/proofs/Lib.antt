@@ -1,16 +1,8 @@
-pub mod Counts
-pub mod Moments
-pub mod Leasing
 pub mod Stepping
 pub mod Keeping
-pub mod Effects
-pub mod Expiring
-pub mod Closing
 pub mod Plain
 pub mod Performing
 pub mod Ticking
-pub mod Effected
-pub mod Replacing
 pub mod Deciding
 pub mod Looking
 pub mod Recording

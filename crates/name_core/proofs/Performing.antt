@@ -20,17 +20,19 @@ use Rattle.namespace_rows.specs.Files.{open_files, has_open_file}
 use Rattle.namespace_rows.specs.Namespace.{IsNamespace}
 use Rattle.flat_rows.specs.FileOutcome.{LeaseFacts}
 use Rattle.flat_rows.specs.Outcome.{Step, step, first_refusal, denied_or_outcome, refused_or_done, refused_where, reply_of, users_after}
-use Rattle.fs_operations.specs.Judged.{writes_or_deletes}
+use Rattle.hdfs_types.specs.WritingVerbs.{writes_or_deletes}
 use Rattle.history.specs.ClockAndLease.{renews, lease_in}
 use Rattle.history.specs.Laws.{is_done}
 use Rattle.history.specs.State.{rows_by, users_by}
 use Rattle.history.proofs.OpenFiles.{any_counted}
+use Rattle.file_effects.proofs.Effects.{no_facts}
 use Rattle.name_core.specs.declared.namesystem.Namesystem.{Namesystem}
 use Rattle.name_core.specs.declared.told.Told.{Told}
-use Rattle.name_core.specs.declared.writers.Writers.{Writers}
-use Rattle.name_core.specs.Writers.{count_of, moment_of, IsLeased, renewed_at}
+use Rattle.file_writers.specs.declared.writers.Writers.{Writers}
+use Rattle.file_writers.specs.Writers.{count_of, moment_of, IsLeased, renewed_at}
 use Rattle.name_core.specs.Told.{IsTold, is_empty, is_plain}
-use Rattle.name_core.specs.Performed.{IsExact, IsPerformed, IsUndone, IsEffected, facts_of, renewed_where}
+use Rattle.file_effects.specs.Effected.{IsExact, IsEffected, renewed_where}
+use Rattle.name_core.specs.Performed.{IsPerformed, IsUndone, facts_of}
 use Rattle.name_core.proofs.Stepping.{stepped_rows, stepped_users}
 use Rattle.name_core.proofs.Plain.{plain_or_stays, exact_kept}
 
@@ -79,9 +81,6 @@ performed_plain last now request old new told verdict keeps namespace same_write
       exact = subst (λ w. IsExact (renewed_where (renews request.op told.verdict) request.caller now last) new.tree w) (sym same_writers)
           (exact_kept last now facts old.tree old.users request.caller request.op told.verdict new.tree old.writers keeps namespace (ap (λ (s : Step). s.rows) (applied facts)) exact);
     }
-
-pub no_facts : LeaseFacts
-no_facts = record { is_live = λ client. false; is_past_hard = λ client. false }
 
 pub undone_plain : (request : Request) (old new : Namesystem) (verdict : Verdict) → keeps_leases request.op ≡ true → is_plain verdict ≡ false → new.writers ≡ old.writers → Applied old request verdict new → IsUndone old new
 undone_plain request old new verdict keeps plain same_writers applied =

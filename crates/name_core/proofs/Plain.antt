@@ -17,10 +17,10 @@ use Rattle.flat_rows.specs.FileOutcome.{LeaseFacts}
 use Rattle.flat_rows.specs.Outcome.{Step, step, first_refusal, denied_or_outcome, refused_or_done, reply_of}
 use Rattle.flat_rows.proofs.Keeping.{kept_open}
 use Rattle.history.specs.ClockAndLease.{renews}
-use Rattle.name_core.specs.declared.writers.Writers.{Writers}
-use Rattle.name_core.specs.Writers.{count_of}
+use Rattle.file_writers.specs.declared.writers.Writers.{Writers}
+use Rattle.file_writers.specs.Writers.{count_of}
 use Rattle.name_core.specs.Told.{is_plain}
-use Rattle.name_core.specs.Performed.{IsExact, renewed_where}
+use Rattle.file_effects.specs.Effected.{IsExact, renewed_where}
 
 -- none renews a lease
 pub renews_not : (what : Op) (verdict : Verdict) → keeps_leases what ≡ true → renews what verdict ≡ false

@@ -11,8 +11,9 @@ use Rattle.name_core.specs.declared.namenode.NameCore.TheInside.{Inside}
 use Rattle.name_core.specs.declared.told.Told.{Told}
 use Rattle.name_core.specs.Core.{Steps}
 use Rattle.name_core.specs.Kept.{IsKept, core_of, entries_of}
-use Rattle.name_core.specs.Writers.{moment_of}
-use Rattle.name_core.specs.Performed.{IsExact, IsPerformed, IsUndone}
+use Rattle.file_writers.specs.Writers.{moment_of}
+use Rattle.file_effects.specs.Effected.{IsExact}
+use Rattle.name_core.specs.Performed.{IsPerformed, IsUndone}
 use Rattle.name_core.proofs.Keeping.{Adds, steps_is}
 
 pub on_err : {T E P : Type 0} (r : Result T E) → P → OnErr r P

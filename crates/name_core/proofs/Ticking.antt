@@ -21,8 +21,9 @@ use Rattle.history.specs.ClockAndLease.{renews, is_past_hard, state_at}
 use Rattle.name_core.specs.declared.namesystem.Namesystem.{Namesystem}
 use Rattle.name_core.specs.declared.told.Told.{Told}
 use Rattle.name_core.specs.Told.{IsTold}
-use Rattle.name_core.specs.Performed.{IsExact, IsPerformed, facts_of, renewed_where}
-use Rattle.name_core.proofs.Expiring.{among_is, same_closed, same_filtered, none_closed}
+use Rattle.file_effects.specs.Effected.{IsExact, renewed_where}
+use Rattle.name_core.specs.Performed.{IsPerformed, facts_of}
+use Rattle.file_effects.proofs.Expiring.{among_is, same_closed, same_filtered, none_closed}
 use Rattle.name_core.proofs.Performing.{step_of, lease_is}
 
 pub performed_tick : (last : List ℕ → Option ℕ) (now : ℕ) (request : Request) (old new : Namesystem) (told : Told) (past : List (List ℕ)) (closed : ℕ) → request.op ≡ op.Tick → decision old.tree old.users request.caller op.Tick ≡ None

@@ -8,7 +8,7 @@ use Rattle.history.specs.State.{rows_of, users_of}
 use Rattle.history.specs.LegalHistory.{IsLegal}
 use Rattle.name_core.specs.declared.namenode.NameCore.TheInside.{Inside}
 use Rattle.name_core.specs.Core.{Core}
-use Rattle.name_core.specs.Performed.{IsExact}
+use Rattle.file_effects.specs.Effected.{IsExact}
 
 abbrev pub entries_of : Inside → List HistoryEntry
 entries_of core = reverse core.history.items

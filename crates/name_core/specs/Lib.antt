@@ -1,6 +1,4 @@
-pub mod Writers
 pub mod Told
 pub mod Performed
 pub mod Core
 pub mod Kept
-pub mod Expiry

@@ -6,9 +6,10 @@ ghost use Rattle.history.specs.State.{rows_of, users_of};
 ghost use Rattle.name_core.specs.Core.{Steps, Looks};
 
 use crate::namesystem::{Namesystem, perform};
-use crate::open_paths::OpenPaths;
-use crate::writers::Writers;
+use crate::told::Told;
 use block_numbers::moment::Moment;
+use file_writers::open_paths::OpenPaths;
+use file_writers::writers::Writers;
 use fs_operations::apply::answer_look;
 use hdfs_texts::fault::ParseFault;
 use hdfs_types::op::Request;
@@ -42,14 +43,62 @@ fn known_who(alloc: Global, text: &str) -> Result<Who, AllocError>
     }
 }
 
-// Puts an entry where there is room for it.
-fn append(history: &mut Vec<HistoryEntry>, entry: HistoryEntry)
-    requires { vec_len history.old < vec_capacity history.old }
-    ensures { history.new.items ≡ history.old.items ++ entry ∷ [] }
+// Puts an item where there is room for it.
+fn append<T: Drop>(items: &mut Vec<T>, item: T)
+    requires { vec_len items.old < vec_capacity items.old }
+    ensures { items.new.items ≡ items.old.items ++ item ∷ [] }
 {
-    let Ok(()) = history.push(entry) else {
+    let Ok(()) = items.push(item) else {
         unreachable!()
     };
+}
+
+// Copies of a request, for the history and for the answer.
+#[derive(Drop)]
+struct RequestCopies {
+    kept: Request,
+    answered: Request,
+}
+
+// What is owned is dropped by a call wherever it isn't moved, since each part of it is a step of the proof else.
+fn copies(request: &Request) -> Result<RequestCopies, AllocError>
+    ensures kept { IfOk result (λ copies. copies.kept ≡ request.now) }
+    ensures answered { IfOk result (λ copies. copies.answered ≡ request.now) }
+{
+    let kept = request.clone()?;
+    let Ok(answered) = request.clone() else {
+        drop(kept);
+        return Err(AllocError);
+    };
+    Ok(RequestCopies { kept, answered })
+}
+
+// Records a request where there is room for it, and answers it. Takes no memory.
+fn record(
+    history: &mut Vec<HistoryEntry>,
+    place: u64,
+    pass: u64,
+    index: u64,
+    copies: RequestCopies,
+    told: Told,
+) -> Answer
+    requires { vec_len history.old < vec_capacity history.old }
+    ensures history { history.new.items ≡ history.old.items ++ record { place = place; pass = pass; index = index; request = copies.kept; verdict = told.verdict } ∷ [] }
+    ensures answer { result ≡ record { place = place; request = copies.answered; verdict = told.copy } }
+{
+    let entry = HistoryEntry {
+        place,
+        pass,
+        index,
+        request: copies.kept,
+        verdict: told.verdict,
+    };
+    append(history, entry);
+    Answer {
+        place,
+        request: copies.answered,
+        verdict: told.copy,
+    }
 }
 
 /// A NameNode's core: what it opened with, and its history, which is legal. Its namespace, its users and its leases are what the
@@ -144,16 +193,20 @@ impl NameCore {
         requires { is_look request.now.op ≡ true }
         ensures { IfOk result (λ answer. Looks self.now request.now answer) }
     {
-        let verdict = answer_look(
+        let request_copy = request.clone()?;
+        let Ok(verdict) = answer_look(
             self.alloc,
             &self.system.tree,
             &self.system.users,
             &request.caller,
             &request.op,
-        )?;
+        ) else {
+            drop(request_copy);
+            return Err(AllocError);
+        };
         Ok(Answer {
             place: self.place(),
-            request: request.clone()?,
+            request: request_copy,
             verdict,
         })
     }
@@ -173,30 +226,20 @@ impl NameCore {
         }
         let place = entries + 1;
         let now = self.clock.later(request.moment);
-        let kept = request.clone()?;
-        let answered = request.clone()?;
         self.history.reserve(1)?;
+        let copies = copies(request)?;
         let _root = self.system.tree.root();
-        let told = perform(
+        let Ok(told) = perform(
             self.alloc,
             &mut self.system,
             &mut self.open_paths,
             request,
             now,
-        )?;
-        let entry = HistoryEntry {
-            place,
-            pass,
-            index,
-            request: kept,
-            verdict: told.verdict,
+        ) else {
+            drop(copies);
+            return Err(AllocError);
         };
-        append(&mut self.history, entry);
         self.clock = now;
-        Ok(Answer {
-            place,
-            request: answered,
-            verdict: told.copy,
-        })
+        Ok(record(&mut self.history, place, pass, index, copies, told))
     }
 }

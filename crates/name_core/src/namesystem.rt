@@ -2,25 +2,26 @@ ghost use Rattle.std.specs.Prelude.{◌≡◌, ◌≤◌, ℕ, List, Option, tru
 ghost use Rattle.namespace_rows.specs.Namespace.{IsNamespace};
 ghost use Rattle.flat_rows.specs.FileOutcome.{LeaseFacts};
 ghost use Rattle.flat_rows.specs.Outcome.{step};
-ghost use Rattle.fs_operations.specs.Judged.{writes_or_deletes, takeover};
+ghost use Rattle.hdfs_types.specs.WritingVerbs.{writes_or_deletes};
+ghost use Rattle.write_rules.specs.Judged.{takeover};
 ghost use Rattle.hdfs_types.specs.Request.{keeps_leases};
 ghost use Rattle.hdfs_types.specs.declared.op.Op.TheVariants as op;
 ghost use Rattle.history.specs.ClockAndLease as spec;
 ghost use Rattle.history.specs.Laws.{is_done};
 ghost use Rattle.lease_manager.specs.Lease as lease;
 ghost use Rattle.lease_manager.specs.Lease.{latest};
-ghost use Rattle.name_core.specs.Writers.{moment_of};
-ghost use Rattle.name_core.specs.Performed.{IsExact, IsFree, IsPerformed, IsUndone, facts_of};
+ghost use Rattle.file_writers.specs.Writers.{moment_of};
+ghost use Rattle.file_effects.specs.Effected.{IsExact, IsFree};
+ghost use Rattle.name_core.specs.Performed.{IsPerformed, IsUndone, facts_of};
 
-use crate::effect::effect;
-use crate::expiry::expire;
-use crate::open_paths::OpenPaths;
 use crate::told::{Told, is_done, is_plain, told_done, told_expired, told_plain, with_copy};
-use crate::writers::Writers;
 use block_numbers::moment::Moment;
+use file_effects::effect::effect;
+use file_effects::expiry::expire;
+use file_writers::open_paths::OpenPaths;
+use file_writers::writers::Writers;
 use flat_rows::verdict::Verdict;
 use fs_operations::apply::apply;
-use fs_operations::write::{Judged, judge, judge_tick};
 use hdfs_types::op::{Op, Request, keeps_leases};
 use hdfs_types::reply::{ObjectKind, Refusal, Reply};
 use inode_tree::tree::Tree;
@@ -28,6 +29,7 @@ use lease_manager::leases::LeaseState;
 use principal_names::who::Who;
 use principals::users::Users;
 use std::alloc::{AllocError, Global};
+use write_rules::write::{Judged, judge, judge_tick};
 
 /// The namespace, the users, and the clients who have files open.
 #[derive(Drop)]
@@ -175,7 +177,7 @@ fn perform_write(
     if !is_done(&told.verdict) {
         return Ok(told);
     }
-    effect(
+    let Ok(()) = effect(
         alloc,
         &mut system.tree,
         &mut system.writers,
@@ -183,7 +185,10 @@ fn perform_write(
         &request.op,
         &request.caller,
         now,
-    )?;
+    ) else {
+        drop(told);
+        return Err(AllocError);
+    };
     Ok(told)
 }
 

@@ -36,7 +36,10 @@ pub fn is_plain(verdict: &Verdict) -> bool
 pub fn with_copy(verdict: Verdict) -> Result<Told, AllocError>
     ensures { IfOk result (IsTold verdict) }
 {
-    let copy = verdict.clone()?;
+    let Ok(copy) = verdict.clone() else {
+        drop(verdict);
+        return Err(AllocError);
+    };
     Ok(Told { verdict, copy })
 }
 

@@ -1,3 +1,5 @@
 pub mod Descents
 pub mod Traversals
 pub mod Denials
+pub mod Standing
+pub mod Steps

@@ -3,6 +3,7 @@
 #![tactic(auto)]
 
 pub mod component;
+pub mod found;
 mod judge;
 pub mod reach;
 pub mod walk;

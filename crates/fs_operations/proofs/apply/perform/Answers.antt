@@ -2,7 +2,7 @@ use Rattle.std.proofs.Common.{◌≡◌, refl, subst}
 use Rattle.std.specs.Prelude.{IfOk}
 use Rattle.hdfs_types.specs.declared.op.Op.TheVariants as op
 use Rattle.principals.specs.Principals.{caller_of}
-use Rattle.fs_operations.proofs.Steps.{as_step}
+use Rattle.perm_walk.proofs.Steps.{as_step}
 use Rattle.fs_operations.proofs.apply.perform.Goals as goal
 
 pub returns-in-Mkdirs-clause-ok : goal.returns-in-Mkdirs-clause-ok
@@ -40,30 +40,6 @@ returns-in-SetReplication-clause-ok c = λ leases.
     subst (λ step. IfOk c.set_replication.result (λ verdict. record { verdict = verdict; rows = c.set_replication.new.tree; users = c.args.users.now } ≡ step))
     (as_step leases c.args.tree.now c.args.users.now c.args.caller.now c.caller-asking.result c.args.needs.now c.args.op.now (op.SetReplication c.in-SetReplication.path c.in-SetReplication.replication) c.caller-asking.ensures c.requires.needs c.in-SetReplication.is)
     (c.set_replication.ensures.ok leases c.args.users.now)
-
-pub returns-in-Stat-clause-ok : goal.returns-in-Stat-clause-ok
-returns-in-Stat-clause-ok c = λ leases.
-    subst (λ step. IfOk c.stat.result (λ verdict. record { verdict = verdict; rows = c.args.tree.now; users = c.args.users.now } ≡ step))
-    (as_step leases c.args.tree.now c.args.users.now c.args.caller.now c.caller-asking.result c.args.needs.now c.args.op.now (op.Stat c.in-Stat.path) c.caller-asking.ensures c.requires.needs c.in-Stat.is)
-    (c.stat.ensures leases c.args.users.now)
-
-pub returns-in-GetAcl-clause-ok : goal.returns-in-GetAcl-clause-ok
-returns-in-GetAcl-clause-ok c = λ leases.
-    subst (λ step. IfOk c.get_acl.result (λ verdict. record { verdict = verdict; rows = c.args.tree.now; users = c.args.users.now } ≡ step))
-    (as_step leases c.args.tree.now c.args.users.now c.args.caller.now c.caller-asking.result c.args.needs.now c.args.op.now (op.GetAcl c.in-GetAcl.path) c.caller-asking.ensures c.requires.needs c.in-GetAcl.is)
-    (c.get_acl.ensures leases c.args.users.now)
-
-pub returns-in-List-clause-ok : goal.returns-in-List-clause-ok
-returns-in-List-clause-ok c = λ leases.
-    subst (λ step. IfOk c.list.result (λ verdict. record { verdict = verdict; rows = c.args.tree.now; users = c.args.users.now } ≡ step))
-    (as_step leases c.args.tree.now c.args.users.now c.args.caller.now c.caller-asking.result c.args.needs.now c.args.op.now (op.List c.in-List.path) c.caller-asking.ensures c.requires.needs c.in-List.is)
-    (c.list.ensures leases c.args.users.now)
-
-pub returns-in-Summary-clause-ok : goal.returns-in-Summary-clause-ok
-returns-in-Summary-clause-ok c = λ leases.
-    subst (λ step. IfOk c.summary.result (λ verdict. record { verdict = verdict; rows = c.args.tree.now; users = c.args.users.now } ≡ step))
-    (as_step leases c.args.tree.now c.args.users.now c.args.caller.now c.caller-asking.result c.args.needs.now c.args.op.now (op.Summary c.in-Summary.path) c.caller-asking.ensures c.requires.needs c.in-Summary.is)
-    (c.summary.ensures leases c.args.users.now)
 
 pub returns-in-Open-clause-ok : goal.returns-in-Open-clause-ok
 returns-in-Open-clause-ok c = λ leases.

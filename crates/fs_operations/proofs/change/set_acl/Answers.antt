@@ -1,7 +1,7 @@
 use Rattle.std.proofs.Common.{◌∙◌, sym, ap, subst}
 use Rattle.partial_acl.specs.AclChange.{acl_change}
 use Rattle.perm_walk.specs.Walked.{IsWalked}
-use Rattle.fs_operations.specs.Found.{IsFound}
+use Rattle.perm_walk.specs.Found.{IsFound}
 use Rattle.fs_operations.proofs.Suiting.{changed_list_suits}
 use Rattle.fs_operations.proofs.change.set_acl.Goals as goal
 

@@ -1,7 +1,7 @@
 use Rattle.std.proofs.Common.{◌∙◌, ap, subst}
 use Rattle.partial_acl.specs.AclChange.{with_mode}
 use Rattle.perm_walk.specs.Walked.{IsWalked}
-use Rattle.fs_operations.specs.Found.{IsFound}
+use Rattle.perm_walk.specs.Found.{IsFound}
 use Rattle.fs_operations.proofs.Suiting.{list_of_mode_suits}
 use Rattle.fs_operations.proofs.change.set_mode.Goals as goal
 

@@ -1,7 +1,7 @@
 use Rattle.std.proofs.Common.{ap}
-use Rattle.fs_operations.specs.Judged.{verdict_under}
+use Rattle.write_rules.specs.Judged.{verdict_under}
 use Rattle.name_core.specs.Performed.{facts_of}
-use Rattle.name_core.proofs.Performing.{no_facts}
+use Rattle.file_effects.proofs.Effects.{no_facts}
 use Rattle.name_core.proofs.Deciding.{free_of, judged_is, held_free, held_is}
 use Rattle.name_core.proofs.namesystem.decide.Goals as goal
 

@@ -1,0 +1,91 @@
+-- What an operation leaves, from what its calls leave.
+use Rattle.std.proofs.Common.{◌≡◌, ℕ, Bool, List, length, filter, map, Option, Some, None, refl, sym, ap, ◌∙◌, subst}
+use Rattle.hdfs_types.specs.declared.op.Op.TheVariants as op
+use Rattle.hdfs_types.specs.declared.file.LastBlock.{LastBlock}
+use Rattle.hdfs_types.specs.declared.file.FileState.TheVariants.{Closed, Open}
+use Rattle.lease_manager.specs.Lease.{renewed}
+use Rattle.principals.specs.Principals.{Principals}
+use Rattle.namespace_rows.specs.declared.row.Row.{Row}
+use Rattle.namespace_rows.specs.declared.row.Change.TheVariants as change
+use Rattle.namespace_rows.specs.Rows.{row_at, ancestor}
+use Rattle.namespace_rows.specs.Namespace.{IsNamespace}
+use Rattle.namespace_rows.specs.Files.{new_file, holders}
+use Rattle.flat_rows.specs.FileOutcome.{LeaseFacts, holder_at, state_after_append, appended_reply, is_expired, closed_where_expired}
+use Rattle.flat_rows.specs.Outcome.{with_new}
+use Rattle.flat_rows.specs.Changes.{rows_under, rewritten, without}
+use Rattle.history.specs.ClockAndLease.{has_opened}
+use Rattle.file_writers.specs.declared.writers.Writers.{Writers}
+use Rattle.file_writers.specs.Writers.{IsLeased, renewed_at}
+use Rattle.file_effects.specs.Effected.{IsExact, IsFree, IsEffected, renewed_where}
+use Rattle.file_writers.proofs.Leasing.{leased_open}
+use Rattle.file_effects.proofs.Effects.{OneMore, OneLess, EachLess, free_create, free_append, counted_create, counted_reopen, counted_close, counted_delete}
+use Rattle.file_effects.proofs.Expiring.{counted_expire, holders_counted}
+
+abbrev pub KeepsLeased : Writers → Writers → Type 0
+KeepsLeased before after = (last : List ℕ → Option ℕ) → IsLeased last before → IsLeased last after
+
+abbrev pub KeepsExact : List Row → Writers → List Row → Writers → Type 0
+KeepsExact rows before left after = (last : List ℕ → Option ℕ) → IsExact last rows before → IsExact last left after
+
+less_of : (clients others : List (List ℕ)) (before after : Writers) → clients ≡ others → EachLess clients before after → EachLess others before after
+less_of clients others before after is less = subst (λ some. EachLess some before after) is less
+
+pub effected_create : (path : List (List ℕ)) (mode replication : ℕ) (over : Bool) (caller : List ℕ) (now : ℕ) (rows left : List Row) (clients : List (List ℕ)) (before between after : Writers) (users : Principals)
+    → IsNamespace rows → IsFree (op.Create path mode replication over) caller rows users → left ≡ with_new path mode (Some (new_file replication caller)) caller (ancestor path rows) rows
+    → between.leases.renewals ≡ renewed caller now before.leases.renewals → OneMore caller before between → clients ≡ holders (rows_under path rows) → EachLess clients between after → KeepsLeased between after
+    → IsEffected (op.Create path mode replication over) caller now rows before left after
+effected_create path mode replication over caller now rows left clients before between after users namespace free made renewals more is less kept =
+    record {
+      tree = λ leases. made;
+      exact = λ leases last exact. record {
+        files = counted_create path mode replication caller rows left before between after namespace (free_create path mode replication over caller rows users free).1 made exact.files more (less_of clients (holders (rows_under path rows)) between after is less);
+        leased = kept (renewed_at caller now last) (leased_open before between caller now last renewals more exact.leased);
+      };
+    }
+
+pub effected_reopen : (path : List (List ℕ)) (client caller : List ℕ) (now : ℕ) (rows left : List Row) (before after : Writers) (users : Principals) → IsNamespace rows → IsFree (op.Append path) caller rows users
+    → holder_at (row_at path rows) ≡ None → client ≡ caller → left ≡ rewritten path (change.State (Open client)) rows → OneMore caller before after
+    → ((last : List ℕ → Option ℕ) → IsLeased last before → IsLeased (renewed_at caller now last) after) → IsEffected (op.Append path) caller now rows before left after
+effected_reopen path client caller now rows left before after users namespace free closed is made more renews =
+    let made_by : left ≡ rewritten path (change.State (Open caller)) rows = made ∙ ap (λ who. rewritten path (change.State (Open who)) rows) is in
+    record {
+      tree = λ leases. made_by ∙ ap (λ h. rewritten path (change.State (state_after_append caller h)) rows) (sym closed);
+      exact = λ leases last exact. subst (λ h. IsExact (renewed_where (has_opened (appended_reply h)) caller now last) left after) (sym closed)
+          (record { files = counted_reopen path caller rows left before after namespace (free_append path caller rows users namespace free) closed made_by exact.files more; leased = renews last exact.leased });
+    }
+
+pub effected_release : (path : List (List ℕ)) (holder caller : List ℕ) (now : ℕ) (rows left : List Row) (before after : Writers) → holder_at (row_at path rows) ≡ Some holder
+    → left ≡ rewritten path (change.State Closed) rows → KeepsExact rows before left after → IsEffected (op.Append path) caller now rows before left after
+effected_release path holder caller now rows left before after held made kept =
+    record {
+      tree = λ leases. made ∙ ap (λ h. rewritten path (change.State (state_after_append caller h)) rows) (sym held);
+      exact = λ leases last exact. subst (λ h. IsExact (renewed_where (has_opened (appended_reply h)) caller now last) left after) (sym held) (kept last exact);
+    }
+
+pub effected_complete : (path : List (List ℕ)) (stated : Option LastBlock) (caller : List ℕ) (now : ℕ) (rows left : List Row) (before after : Writers)
+    → left ≡ rewritten path (change.State Closed) rows → KeepsExact rows before left after → IsEffected (op.Complete path stated) caller now rows before left after
+effected_complete path stated caller now rows left before after made kept = record { tree = λ leases. made; exact = λ leases last exact. kept last exact }
+
+pub effected_delete : (path : List (List ℕ)) (recursive : Bool) (caller : List ℕ) (now : ℕ) (rows left : List Row) (clients : List (List ℕ)) (before after : Writers)
+    → left ≡ without path rows → clients ≡ holders (rows_under path rows) → EachLess clients before after → KeepsLeased before after → IsEffected (op.Delete path recursive) caller now rows before left after
+effected_delete path recursive caller now rows left clients before after made is less kept =
+    record {
+      tree = λ leases. made;
+      exact = λ leases last exact. record { files = counted_delete path rows left before after made exact.files (less_of clients (holders (rows_under path rows)) before after is less); leased = kept last exact.leased };
+    }
+
+pub effected_add_block : (path : List (List ℕ)) (stated : Option LastBlock) (caller : List ℕ) (now : ℕ) (rows : List Row) (writers : Writers) → IsEffected (op.AddBlock path stated) caller now rows writers rows writers
+effected_add_block path stated caller now rows writers = record { tree = λ leases. refl; exact = λ leases last exact. exact }
+
+pub exact_close : (path : List (List ℕ)) (holder : List ℕ) (rows left : List Row) (before after : Writers) → IsNamespace rows → holder_at (row_at path rows) ≡ Some holder → left ≡ rewritten path (change.State Closed) rows
+    → OneLess holder before after → KeepsLeased before after → KeepsExact rows before left after
+exact_close path holder rows left before after namespace held made less kept last exact =
+    record { files = counted_close path holder rows left before after namespace held made exact.files less; leased = kept last exact.leased }
+
+pub exact_expire : (leases : LeaseFacts) (rows left : List Row) (clients : List (List ℕ)) (before after : Writers) → left ≡ map (closed_where_expired leases) rows → clients ≡ holders (filter (is_expired leases) rows)
+    → EachLess clients before after → KeepsLeased before after → KeepsExact rows before left after
+exact_expire leases rows left clients before after made is less kept last exact =
+    record { files = counted_expire leases rows left before after made exact.files (less_of clients (holders (filter (is_expired leases) rows)) before after is less); leased = kept last exact.leased }
+
+pub expired_count : (leases : LeaseFacts) (rows : List Row) (clients : List (List ℕ)) (n : ℕ) → n ≡ length clients → clients ≡ holders (filter (is_expired leases) rows) → n ≡ length (filter (is_expired leases) rows)
+expired_count leases rows clients n counted is = counted ∙ (ap length is ∙ holders_counted leases rows)

@@ -1,0 +1,6 @@
+pub mod Effects
+pub mod Expiring
+pub mod Closing
+pub mod Effected
+pub mod Replacing
+pub mod Replacement

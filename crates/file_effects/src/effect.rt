@@ -1,0 +1,355 @@
+ghost use Rattle.std.specs.Prelude.{◌≡◌, ◌≤◌, ◌+◌, ℕ, List, Option, None, Some, Bool, true, if◌then◌else◌, map, not, IfOk, OnOk, OnErr};
+ghost use Rattle.std.specs.Option.{IsSome};
+ghost use Rattle.flat_rows.specs.FileOutcome.{holder_at, directory_there};
+ghost use Rattle.namespace_rows.specs.Files.{holders, new_file};
+ghost use Rattle.flat_rows.specs.Changes.{rows_under, rewritten};
+ghost use Rattle.namespace_rows.specs.declared.row.Change.TheVariants as change;
+ghost use Rattle.namespace_rows.specs.Namespace.{IsNamespace, is_root};
+ghost use Rattle.flat_rows.specs.Outcome.{with_new};
+ghost use Rattle.namespace_rows.specs.Rows.{row_at, file_above, ancestor};
+ghost use Rattle.hdfs_types.specs.WritingVerbs.{writes_or_deletes};
+ghost use Rattle.hdfs_texts.specs.Text.{same};
+ghost use Rattle.hdfs_types.specs.declared.file.FileState.TheVariants.{Closed};
+ghost use Rattle.hdfs_types.specs.declared.op.Op.TheVariants as op;
+ghost use Rattle.lease_manager.specs.Lease as lease;
+ghost use Rattle.principals.specs.Principals.{Principals};
+ghost use Rattle.file_effects.specs.Effected.{IsExact, IsFree, IsEffected};
+ghost use Rattle.file_writers.specs.Writers.{count_of, moment_of, HasRoom, IsAlike};
+
+use crate::make::make_file;
+use block_numbers::moment::Moment;
+use block_numbers::replication::Repl;
+use file_paths::path::Path;
+use file_writers::open_paths::OpenPaths;
+use file_writers::writers::Writers;
+use hdfs_types::file::FileState;
+use hdfs_types::op::Op;
+use inode_tree::tree::Tree;
+use namespace_rows::row::Change;
+use permission_bits::mode::Mode;
+use principal_names::who::Who;
+use std::alloc::{AllocError, Global};
+
+// ---- questions
+
+/// Copies of names, in their order.
+pub fn copies(alloc: Global, names: &[&Who]) -> Result<Vec<Who>, AllocError>
+    ensures { IfOk result (λ copies. copies.items ≡ map (λ name. name.now) names.now) }
+{
+    let mut copies = Vec::new(alloc);
+    for name in names {
+        let who: &Who = name;
+        copies.push(who.clone()?)?;
+    }
+    Ok(copies)
+}
+
+/// The clients who have open the files at a path and beneath it, one for each open file.
+fn holders_at(alloc: Global, tree: &Tree, path: &Path) -> Result<Vec<Who>, AllocError>
+    ensures { IfOk result (λ clients. clients.items ≡ holders (rows_under path.now tree.now)) }
+{
+    let clients = tree.holders_under(path)?;
+    copies(alloc, &clients)
+}
+
+/// The client who has open the file that has a path.
+fn holder_of(tree: &Tree, path: &Path) -> Result<Option<Who>, AllocError>
+    ensures { IfOk result (λ holder. holder ≡ holder_at (row_at path.now tree.now)) }
+{
+    let Some(inode) = tree.get(path) else {
+        return Ok(None);
+    };
+    match inode.holder() {
+        Some(holder) => Ok(Some(holder.clone()?)),
+        None => Ok(None),
+    }
+}
+
+// ---- files that are opened
+
+/// Makes a file for a client that has no lease yet.
+fn create_first(
+    alloc: Global,
+    tree: &mut Tree,
+    writers: &mut Writers,
+    path: &Path,
+    mode: Mode,
+    replication: Repl,
+    caller: &Who,
+    now: Moment,
+) -> Result<(), AllocError>
+    requires latest { lease.latest writers.old.leases.renewals ≤ now }
+    requires room { HasRoom writers.old.files caller.now }
+    requires absent { moment_of writers.old.leases.renewals caller.now ≡ None }
+    requires clear { file_above path.now tree.old ≡ None }
+    requires file { directory_there (row_at path.now tree.old) ≡ None }
+    ensures tree { OnOk result (tree.new ≡ with_new path.now mode (Some (new_file replication caller.now)) caller.now (ancestor path.now tree.old) tree.old) }
+    ensures files { OnOk result ((other : List ℕ) → count_of writers.new.files other ≡ (if same caller.now other then count_of writers.old.files caller.now + 1 else count_of writers.old.files other)) }
+    ensures renewals { OnOk result (writers.new.leases.renewals ≡ lease.renewed caller.now now writers.old.leases.renewals) }
+    ensures limits { writers.new.leases.limits ≡ writers.old.leases.limits }
+    ensures latest { OnOk result (lease.latest writers.new.leases.renewals ≡ now) }
+    ensures err { OnErr result ((tree.new ≡ tree.old) × (writers.new.leases ≡ writers.old.leases) × (writers.new.files ≡ writers.old.files)) }
+{
+    writers.leases.take(caller, now)?;
+    let Ok(()) = make_file(alloc, tree, path, mode, replication, caller) else {
+        writers.leases.release(caller);
+        return Err(AllocError);
+    };
+    writers.files.add(caller);
+    Ok(())
+}
+
+/// Makes a file for a client that has a lease.
+fn create_another(
+    alloc: Global,
+    tree: &mut Tree,
+    writers: &mut Writers,
+    path: &Path,
+    mode: Mode,
+    replication: Repl,
+    caller: &Who,
+    now: Moment,
+) -> Result<(), AllocError>
+    requires latest { lease.latest writers.old.leases.renewals ≤ now }
+    requires room { HasRoom writers.old.files caller.now }
+    requires held { IsSome (lease.renewal_of caller.now writers.old.leases.renewals) }
+    requires clear { file_above path.now tree.old ≡ None }
+    requires file { directory_there (row_at path.now tree.old) ≡ None }
+    ensures tree { OnOk result (tree.new ≡ with_new path.now mode (Some (new_file replication caller.now)) caller.now (ancestor path.now tree.old) tree.old) }
+    ensures files { OnOk result ((other : List ℕ) → count_of writers.new.files other ≡ (if same caller.now other then count_of writers.old.files caller.now + 1 else count_of writers.old.files other)) }
+    ensures renewals { OnOk result (writers.new.leases.renewals ≡ lease.renewed caller.now now writers.old.leases.renewals) }
+    ensures limits { writers.new.leases.limits ≡ writers.old.leases.limits }
+    ensures latest { OnOk result (lease.latest writers.new.leases.renewals ≡ now) }
+    ensures err { OnErr result ((tree.new ≡ tree.old) × (writers.new.leases ≡ writers.old.leases) × (writers.new.files ≡ writers.old.files)) }
+{
+    make_file(alloc, tree, path, mode, replication, caller)?;
+    let Ok(()) = writers.leases.take(caller, now) else {
+        unreachable!()
+    };
+    writers.files.add(caller);
+    Ok(())
+}
+
+/// Makes a file that the caller has open, whether it has a lease yet or not.
+fn create_open(
+    alloc: Global,
+    tree: &mut Tree,
+    writers: &mut Writers,
+    path: &Path,
+    mode: Mode,
+    replication: Repl,
+    caller: &Who,
+    now: Moment,
+) -> Result<(), AllocError>
+    requires latest { lease.latest writers.old.leases.renewals ≤ now }
+    requires clear { file_above path.now tree.old ≡ None }
+    requires file { directory_there (row_at path.now tree.old) ≡ None }
+    ensures tree { OnOk result (tree.new ≡ with_new path.now mode (Some (new_file replication caller.now)) caller.now (ancestor path.now tree.old) tree.old) }
+    ensures files { OnOk result ((other : List ℕ) → count_of writers.new.files other ≡ (if same caller.now other then count_of writers.old.files caller.now + 1 else count_of writers.old.files other)) }
+    ensures renewals { OnOk result (writers.new.leases.renewals ≡ lease.renewed caller.now now writers.old.leases.renewals) }
+    ensures limits { writers.new.leases.limits ≡ writers.old.leases.limits }
+    ensures latest { OnOk result (lease.latest writers.new.leases.renewals ≡ now) }
+    ensures err { OnErr result ((tree.new ≡ tree.old) × IsAlike writers.old writers.new) }
+{
+    writers.files.make_room(caller)?;
+    if writers.leases.state(caller, now).is_none() {
+        return create_first(alloc, tree, writers, path, mode, replication, caller, now);
+    }
+    create_another(alloc, tree, writers, path, mode, replication, caller, now)
+}
+
+/// The clients who have open what a creation takes the place of. Where nothing may be replaced, nothing has the path.
+fn replaced_holders(
+    alloc: Global,
+    tree: &Tree,
+    path: &Path,
+    over: bool,
+) -> Result<Vec<Who>, AllocError>
+    requires free { (mode : ℕ) × (replication : ℕ) × (caller : List ℕ) × (users : Principals) × IsFree (op.Create path.now mode replication over) caller tree.now users }
+    requires namespace { IsNamespace tree.now }
+    ensures { IfOk result (λ clients. clients.items ≡ holders (rows_under path.now tree.now)) }
+{
+    if !over {
+        return Ok(Vec::new(alloc));
+    }
+    holders_at(alloc, tree, path)
+}
+
+/// Makes a file that the caller has open, in the place of one that has the path.
+fn create(
+    alloc: Global,
+    tree: &mut Tree,
+    writers: &mut Writers,
+    open_paths: &mut OpenPaths,
+    path: &Path,
+    mode: Mode,
+    replication: Repl,
+    over: bool,
+    caller: &Who,
+    now: Moment,
+) -> Result<(), AllocError>
+    requires latest { lease.latest writers.old.leases.renewals ≤ now }
+    requires free { (users : Principals) × IsFree (op.Create path.now mode replication over) caller.now tree.old users }
+    requires namespace { IsNamespace tree.old }
+    ensures ok { OnOk result (IsEffected (op.Create path.now mode replication over) caller.now now tree.old writers.old tree.new writers.new) }
+    ensures limits { writers.new.leases.limits ≡ writers.old.leases.limits }
+    ensures latest { OnOk result (lease.latest writers.new.leases.renewals ≤ now) }
+    ensures err { OnErr result ((tree.new ≡ tree.old) × IsAlike writers.old writers.new) }
+{
+    let clients = replaced_holders(alloc, tree, path, over)?;
+    create_open(alloc, tree, writers, path, mode, replication, caller, now)?;
+    writers.close_each(&clients);
+    open_paths.delete(path, &clients);
+    open_paths.open(path, caller);
+    Ok(())
+}
+
+/// Opens a closed file for the caller to write.
+fn reopen(
+    tree: &mut Tree,
+    writers: &mut Writers,
+    open_paths: &mut OpenPaths,
+    path: &Path,
+    caller: &Who,
+    now: Moment,
+) -> Result<(), AllocError>
+    requires latest { lease.latest writers.old.leases.renewals ≤ now }
+    requires free { (users : Principals) × IsFree (op.Append path.now) caller.now tree.old users }
+    requires closed { holder_at (row_at path.now tree.old) ≡ None }
+    requires namespace { IsNamespace tree.old }
+    ensures ok { OnOk result (IsEffected (op.Append path.now) caller.now now tree.old writers.old tree.new writers.new) }
+    ensures limits { writers.new.leases.limits ≡ writers.old.leases.limits }
+    ensures latest { OnOk result (lease.latest writers.new.leases.renewals ≤ now) }
+    ensures err { OnErr result ((tree.new ≡ tree.old) × IsAlike writers.old writers.new) }
+{
+    let client = caller.clone()?;
+    writers.open(caller, now)?;
+    tree.rewrite(path, Change::State(FileState::Open(client)));
+    open_paths.open(path, caller);
+    Ok(())
+}
+
+// ---- files that are closed or deleted
+
+/// Closes a file that a client has open. Takes no memory.
+pub(crate) fn close(tree: &mut Tree, writers: &mut Writers, path: &Path, client: &Who)
+    requires held { holder_at (row_at path.now tree.old) ≡ Some client.now }
+    requires namespace { IsNamespace tree.old }
+    ensures tree { tree.new ≡ rewritten path.now (change.State Closed) tree.old }
+    ensures exact { (last : List ℕ → Option ℕ) → IsExact last tree.old writers.old → IsExact last tree.new writers.new }
+    ensures limits { writers.new.leases.limits ≡ writers.old.leases.limits }
+    ensures latest { lease.latest writers.new.leases.renewals ≤ lease.latest writers.old.leases.renewals }
+{
+    writers.close(client);
+    tree.rewrite(path, Change::State(FileState::Closed));
+}
+
+/// Closes a file that a client has open, and notes that. Takes no memory but for the note.
+fn release(
+    tree: &mut Tree,
+    writers: &mut Writers,
+    open_paths: &mut OpenPaths,
+    path: &Path,
+    client: &Who,
+)
+    requires held { holder_at (row_at path.now tree.old) ≡ Some client.now }
+    requires namespace { IsNamespace tree.old }
+    ensures tree { tree.new ≡ rewritten path.now (change.State Closed) tree.old }
+    ensures exact { (last : List ℕ → Option ℕ) → IsExact last tree.old writers.old → IsExact last tree.new writers.new }
+    ensures limits { writers.new.leases.limits ≡ writers.old.leases.limits }
+    ensures latest { lease.latest writers.new.leases.renewals ≤ lease.latest writers.old.leases.renewals }
+{
+    close(tree, writers, path, client);
+    open_paths.close(path, client);
+}
+
+/// Opens a closed file for the caller to write, or closes one that another client has open.
+fn append(
+    tree: &mut Tree,
+    writers: &mut Writers,
+    open_paths: &mut OpenPaths,
+    path: &Path,
+    caller: &Who,
+    now: Moment,
+) -> Result<(), AllocError>
+    requires latest { lease.latest writers.old.leases.renewals ≤ now }
+    requires free { (users : Principals) × IsFree (op.Append path.now) caller.now tree.old users }
+    requires namespace { IsNamespace tree.old }
+    ensures ok { OnOk result (IsEffected (op.Append path.now) caller.now now tree.old writers.old tree.new writers.new) }
+    ensures limits { writers.new.leases.limits ≡ writers.old.leases.limits }
+    ensures latest { OnOk result (lease.latest writers.new.leases.renewals ≤ now) }
+    ensures err { OnErr result ((tree.new ≡ tree.old) × IsAlike writers.old writers.new) }
+{
+    let Some(holder) = holder_of(tree, path)? else {
+        return reopen(tree, writers, open_paths, path, caller, now);
+    };
+    release(tree, writers, open_paths, path, &holder);
+    Ok(())
+}
+
+/// Deletes what has a path, with all that is beneath it.
+fn delete(
+    alloc: Global,
+    tree: &mut Tree,
+    writers: &mut Writers,
+    open_paths: &mut OpenPaths,
+    path: &Path,
+) -> Result<(), AllocError>
+    requires { not (is_root path.now) ≡ true }
+    ensures ok { (recursive : Bool) (caller : List ℕ) (now : ℕ) → OnOk result (IsEffected (op.Delete path.now recursive) caller now tree.old writers.old tree.new writers.new) }
+    ensures limits { writers.new.leases.limits ≡ writers.old.leases.limits }
+    ensures latest { lease.latest writers.new.leases.renewals ≤ lease.latest writers.old.leases.renewals }
+    ensures err { OnErr result ((tree.new ≡ tree.old) × IsAlike writers.old writers.new) }
+{
+    let clients = holders_at(alloc, tree, path)?;
+    writers.close_each(&clients);
+    tree.remove(path);
+    open_paths.delete(path, &clients);
+    Ok(())
+}
+
+/// Does an operation that writes files, or a deletion, where nothing stands against it.
+///
+/// # Errors
+/// Want of memory, and nothing has changed.
+pub fn effect(
+    alloc: Global,
+    tree: &mut Tree,
+    writers: &mut Writers,
+    open_paths: &mut OpenPaths,
+    op: &Op,
+    caller: &Who,
+    now: Moment,
+) -> Result<(), AllocError>
+    requires latest { lease.latest writers.old.leases.renewals ≤ now }
+    requires verb { writes_or_deletes op.now ≡ true }
+    requires free { (users : Principals) × IsFree op.now caller.now tree.old users }
+    requires namespace { IsNamespace tree.old }
+    ensures ok { OnOk result (IsEffected op.now caller.now now tree.old writers.old tree.new writers.new) }
+    ensures limits { writers.new.leases.limits ≡ writers.old.leases.limits }
+    ensures latest { OnOk result (lease.latest writers.new.leases.renewals ≤ now) }
+    ensures err { OnErr result ((tree.new ≡ tree.old) × IsAlike writers.old writers.new) }
+{
+    match op {
+        Op::Create(path, mode, replication, over) => create(
+            alloc,
+            tree,
+            writers,
+            open_paths,
+            path,
+            *mode,
+            *replication,
+            *over,
+            caller,
+            now,
+        ),
+        Op::Append(path) => append(tree, writers, open_paths, path, caller, now),
+        Op::Complete(path, _) => {
+            release(tree, writers, open_paths, path, caller);
+            Ok(())
+        }
+        Op::Delete(path, _) => delete(alloc, tree, writers, open_paths, path),
+        Op::AddBlock(_, _) => Ok(()),
+        _ => unreachable!(),
+    }
+}

@@ -1,0 +1,7 @@
+//! What a verb that writes files, a deletion or a tick changes of the namespace, and of the clients who have files open, where
+//! nothing stands against it.
+#![tactic(auto)]
+
+pub mod effect;
+pub mod expiry;
+pub mod make;

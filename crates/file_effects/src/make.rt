@@ -1,0 +1,67 @@
+ghost use Rattle.std.specs.Prelude.{◌≡◌, Bool, false, None, Some, OnOk, OnErr};
+ghost use Rattle.flat_rows.specs.FileOutcome.{LeaseFacts, directory_there};
+ghost use Rattle.flat_rows.specs.Outcome as spec;
+ghost use Rattle.namespace_rows.specs.Rows.{row_at, is_missing, file_above, ancestor};
+ghost use Rattle.hdfs_types.specs.declared.op.Op.TheVariants as op;
+
+use block_numbers::replication::Repl;
+use default_acl::inherit::inherit;
+use file_paths::path::Path;
+use hdfs_types::reply::ObjectKind;
+use inode_tree::tree::Tree;
+use namespace_rows::file_row::FileRow;
+use permission_bits::mode::Mode;
+use principal_names::who::Who;
+use std::alloc::{AllocError, Global};
+
+/// Puts a file in the place of another, with what it inherits from the directory that holds it.
+fn replace_file(
+    alloc: Global,
+    tree: &mut Tree,
+    path: &Path,
+    mode: Mode,
+    file: FileRow,
+    owner: &Who,
+) -> Result<(), AllocError>
+    requires there { is_missing path.now tree.old ≡ false }
+    requires file { directory_there (row_at path.now tree.old) ≡ None }
+    ensures ok { OnOk result (tree.new ≡ spec.with_new path.now mode (Some file) owner.now (ancestor path.now tree.old) tree.old) }
+    ensures err { OnErr result (tree.new ≡ tree.old) }
+{
+    // a call on the tree tells the prover that its rows are a tree
+    let _root = tree.root();
+    let Some(front) = path.parent(alloc)? else {
+        unreachable!()
+    };
+    let Some(above) = tree.get(&front) else {
+        unreachable!()
+    };
+    let acl = inherit(alloc, above.acl(), mode, ObjectKind::File)?;
+    let (owner, group) = (owner.clone()?, above.group().clone()?);
+    tree.insert(path, owner, group, acl, Some(file))
+}
+
+/// Makes a file of a mode and a replication that the caller has open, instead of the file that has the path, and the missing
+/// directories above it. Costs the path (HDFS Architecture, "The File System Namespace").
+///
+/// # Errors
+/// Want of memory, and nothing has changed.
+pub fn make_file(
+    alloc: Global,
+    tree: &mut Tree,
+    path: &Path,
+    mode: Mode,
+    replication: Repl,
+    caller: &Who,
+) -> Result<(), AllocError>
+    requires clear { file_above path.now tree.old ≡ None }
+    requires file { directory_there (row_at path.now tree.old) ≡ None }
+    ensures ok { (leases : LeaseFacts) (over : Bool) → OnOk result (tree.new ≡ spec.rows_after leases (op.Create path.now mode replication over) caller.now tree.old) }
+    ensures err { OnErr result (tree.new ≡ tree.old) }
+{
+    let file = FileRow::opened(alloc, replication, caller.clone()?);
+    if tree.get(path).is_some() {
+        return replace_file(alloc, tree, path, mode, file, caller);
+    }
+    tree.make(path, mode, Some(file), caller)
+}

@@ -1,0 +1,81 @@
+ghost use Rattle.std.specs.Prelude.{◌≡◌, ℕ, List, IfOk, length, filter, not};
+ghost use Rattle.namespace_rows.specs.declared.row.Row.{Row};
+ghost use Rattle.flat_rows.specs.Changes as changes;
+ghost use Rattle.namespace_rows.specs.Files.{length_of, told_length};
+ghost use Rattle.flat_rows.specs.Outcome as spec;
+ghost use Rattle.namespace_rows.specs.Rows as rows_spec;
+ghost use Rattle.perm_walk.specs.Reached.{IsReach};
+ghost use Rattle.perm_walk.specs.Found.{IsFound, IsFoundFile};
+
+use crate::component::Component;
+use crate::reach::Reach;
+use file_paths::path::Path;
+use hdfs_types::reply::Refusal;
+use inode_tree::tree::Tree;
+use inode_visits::visit::Counts;
+use namespace_rows::file_row::FileRow;
+use std::alloc::{AllocError, Global};
+
+/// What has a path, or why nothing has.
+#[derive(Drop)]
+pub enum Found<'a> {
+    There(Component<'a>),
+    Refused(Refusal),
+}
+
+/// What has a path that leads so far.
+pub fn standing<'a>(alloc: Global, reach: Reach<'a>) -> Result<Found<'a>, AllocError>
+    ensures { (path : List (List ℕ)) → (rows : List Row) → IsReach path rows reach.entry → IfOk result (IsFound path rows) }
+{
+    if let Some(file) = reach.file {
+        return Ok(Found::Refused(Refusal::NotDirectory(file.to_path(alloc)?)));
+    }
+    match reach.at {
+        Some(component) => Ok(Found::There(component)),
+        None => Ok(Found::Refused(Refusal::NotFound)),
+    }
+}
+
+/// The file that has a path, or why none has.
+#[derive(Drop)]
+pub enum FoundFile<'a> {
+    There(&'a FileRow),
+    Refused(Refusal),
+}
+
+/// The file that has a path that leads so far.
+pub fn standing_file<'a>(alloc: Global, reach: Reach<'a>) -> Result<FoundFile<'a>, AllocError>
+    ensures { (path : List (List ℕ)) → (rows : List Row) → IsReach path rows reach.entry → IfOk result (IsFoundFile path rows) }
+{
+    let component = match standing(alloc, reach)? {
+        Found::There(component) => component,
+        Found::Refused(refusal) => return Ok(FoundFile::Refused(refusal)),
+    };
+    match component.inode().file() {
+        Some(file) => Ok(FoundFile::There(file)),
+        None => Ok(FoundFile::Refused(Refusal::IsDirectory)),
+    }
+}
+
+/// The bytes of a file; a number that can't be told counts as want of memory. Costs its blocks.
+pub fn length_told(file: &FileRow) -> Result<u64, AllocError>
+    ensures { IfOk result (λ length. length ≡ length_of file.now.blocks) }
+{
+    match file.blocks.length() {
+        Some(length) => Ok(length),
+        None => Err(AllocError),
+    }
+}
+
+/// How many directories and files there are; a number that can't be told counts as want of memory.
+pub fn counts_at(tree: &Tree, path: &Path) -> Result<Counts, AllocError>
+    ensures directories { IfOk result (λ counts. counts.directories ≡ length (filter rows_spec.is_directory (changes.rows_under path.now tree.now))) }
+    ensures files { IfOk result (λ counts. counts.files ≡ length (filter (λ row. not (rows_spec.is_directory row)) (changes.rows_under path.now tree.now))) }
+    ensures bytes { IfOk result (λ counts. counts.bytes ≡ told_length (spec.bytes_in (changes.rows_under path.now tree.now))) }
+{
+    let counts = tree.count(path);
+    if counts.directories == u64::MAX || counts.files == u64::MAX {
+        return Err(AllocError);
+    }
+    Ok(counts)
+}

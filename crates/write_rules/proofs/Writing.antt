@@ -1,0 +1,59 @@
+-- What stands against a verb on a file, and what is asked of the file.
+use Rattle.std.proofs.Common.{◌≡◌, ℕ, List, [], ◌∷◌, ◌++◌, cond, Option, Some, None, refl, sym, ap, ◌∙◌}
+use Rattle.std.specs.Option.{option_or}
+use Rattle.hdfs_types.specs.declared.op.Op.{Op}
+use Rattle.hdfs_types.specs.declared.op.Op.TheVariants.{Append}
+use Rattle.hdfs_types.specs.declared.reply.Refusal.{Refusal}
+use Rattle.hdfs_types.specs.declared.reply.Refusal.TheVariants.{IsDirectory}
+use Rattle.principals.specs.Principals.{Principals, Asking}
+use Rattle.namespace_rows.specs.declared.file_row.FileRow.{FileRow}
+use Rattle.namespace_rows.specs.declared.row.Row.{Row}
+use Rattle.namespace_rows.specs.Rows.{row_at}
+use Rattle.namespace_rows.specs.Files.{holder_of, holder_of_file}
+use Rattle.flat_rows.specs.FileOutcome.{LeaseFacts, directory_there, of_file, if_some_file, refused_takeover, appended_reply, holder_at}
+use Rattle.required_rights.specs.RequiredRights.{Demand}
+use Rattle.flat_rows.specs.Decision.{denial_among}
+use Rattle.flat_rows.specs.Outcome.{first_some, beneath_file, nothing_at, refusal_of_missing, refusals_of_file, first_refusal, reply_of, refused_or_done, denied_or_outcome}
+use Rattle.inode_visits.specs.Tree.{IsTree}
+use Rattle.perm_walk.specs.Found.{file_at_row, IsFileThere}
+use Rattle.perm_walk.specs.JudgedStep.{judged_step}
+use Rattle.write_rules.specs.Judged.{refused_or}
+
+-- where nothing stands against any verb on a file, what stands against this one
+pub free_at_file : (path : List (List ℕ)) (rows : List Row) (rest : List (Option Refusal)) → first_some (refusals_of_file path rows) ≡ None → first_some (refusals_of_file path rows ++ rest) ≡ first_some rest
+free_at_file path rows rest h = by (beneath_file path rows) (nothing_at (row_at path rows)) (directory_there (row_at path rows)) h
+  where
+    by : (a b c : Option Refusal) → first_some (a ∷ b ∷ c ∷ []) ≡ None → first_some (a ∷ b ∷ c ∷ rest) ≡ first_some rest
+    by (Some r) b c k = cc
+    by None (Some r) c k = cc
+    by None None (Some r) k = cc
+    by None None None k = refl
+
+-- what is asked of the file that has a path
+pub of_this : (refused : FileRow → Option Refusal) (at : Option Row) (file : FileRow) → file_at_row at ≡ Some file → of_file refused at ≡ refused file
+of_this refused None file h = cc
+of_this refused (Some row) file h = ap (if_some_file refused) h
+
+pub holder_of_this : (at : Option Row) (file : FileRow) → file_at_row at ≡ Some file → holder_at at ≡ holder_of file.state
+holder_of_this None file h = cc
+holder_of_this (Some row) file h = ap holder_of_file h
+
+-- what an append to a file answers
+or_none : (refusal : Option Refusal) → option_or refusal None ≡ refusal
+or_none None = refl
+or_none (Some refusal) = refl
+
+verdict_is : (leases : LeaseFacts) (rows : List Row) (users : Principals) (caller : List ℕ) (op : Op) (refusal : Option Refusal) → refused_or (reply_of leases op rows) refusal ≡ (refused_or_done leases rows users caller op refusal).verdict
+verdict_is leases rows users caller op None = refl
+verdict_is leases rows users caller op (Some refusal) = refl
+
+pub append_verdict : (leases : LeaseFacts) (path : List (List ℕ)) (rows : List Row) (users : Principals) (caller : Asking) (needs : List Demand) (file : FileRow) → IsFileThere path rows file → denial_among rows caller needs ≡ None
+    → refused_or (appended_reply (holder_of file.state)) (refused_takeover leases caller.name file) ≡ (judged_step leases rows users caller needs (Append path)).verdict
+append_verdict leases path rows users caller needs file there granted =
+    let takeover = of_file (refused_takeover leases caller.name) (row_at path rows) in
+    let refusal : first_refusal leases caller.name (Append path) rows users ≡ refused_takeover leases caller.name file =
+    free_at_file path rows (takeover ∷ []) there.free ∙ or_none takeover ∙ of_this (refused_takeover leases caller.name) (row_at path rows) file there.at in
+    ap (refused_or (appended_reply (holder_of file.state))) (sym refusal)
+    ∙ ap (λ holder. refused_or (appended_reply holder) (first_refusal leases caller.name (Append path) rows users)) (sym (holder_of_this (row_at path rows) file there.at))
+    ∙ verdict_is leases rows users caller.name (Append path) (first_refusal leases caller.name (Append path) rows users)
+    ∙ ap (λ denied. (denied_or_outcome leases rows users caller.name (Append path) denied).verdict) (sym granted)

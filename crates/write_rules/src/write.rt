@@ -1,0 +1,368 @@
+ghost use Rattle.std.specs.Prelude.{◌≡◌, ℕ, List, true, false, length, IfOk};
+ghost use Rattle.std.specs.Option.{option_or};
+ghost use Rattle.principals.specs.Principals.{Principals};
+ghost use Rattle.namespace_rows.specs.declared.row.Row.{Row};
+ghost use Rattle.required_rights.specs.RequiredRights.{required_rights};
+ghost use Rattle.flat_rows.specs.Decision.{decision};
+ghost use Rattle.flat_rows.specs.FileOutcome.{LeaseFacts, refused_write, refused_commit, refused_takeover, appended_reply};
+ghost use Rattle.namespace_rows.specs.Files.{holder_of};
+ghost use Rattle.flat_rows.specs.Outcome as spec;
+ghost use Rattle.flat_rows.specs.Outcome.{is_alone};
+ghost use Rattle.flat_rows.specs.Changes.{rows_under};
+ghost use Rattle.namespace_rows.specs.Rows.{is_missing};
+ghost use Rattle.perm_walk.specs.Reached.{IsReach};
+ghost use Rattle.perm_walk.specs.Walked.{AreOn};
+ghost use Rattle.perm_walk.specs.JudgedStep.{judged_step};
+ghost use Rattle.hdfs_types.specs.WritingVerbs.{writes_or_deletes};
+ghost use Rattle.write_rules.specs.Judged.{refused_or, verdict_under, IsJudged};
+
+use file_paths::path::Path;
+use flat_rows::denial::Denial;
+use flat_rows::verdict::Verdict;
+use hdfs_types::file::{FileState, LastBlock};
+use hdfs_types::op::Op;
+use hdfs_types::reply::{ObjectKind, Refusal, Reply};
+use inode_tree::tree::Tree;
+use namespace_rows::file_row::FileRow;
+use perm_walk::found::{Found, FoundFile, counts_at, length_told, standing, standing_file};
+use perm_walk::reach::Reach;
+use perm_walk::walk::{Walked, walk, walk_along};
+use principal_names::who::Who;
+use principals::caller::Caller;
+use principals::users::Users;
+use required_rights::demand::{Needs, needs_of};
+use std::alloc::{AllocError, Global};
+
+/// What is judged of a verb that writes files, before anything changes.
+#[derive(Drop)]
+pub enum Judged<'a> {
+    /// The verdict, however leases stand.
+    Verdict(Verdict),
+    /// An append to a file that another client has open. While that client's lease is live it is refused as `LeaseHeld`; else the
+    /// file is released, but where the length of its last block isn't committed, which is refused as `TooFewNodes`.
+    Held {
+        holder: &'a Who,
+        ends_uncommitted: bool,
+    },
+}
+
+// ---- creating
+
+/// Why no file can be made at a path that leads so far, where none can.
+fn refusal_of_create(
+    alloc: Global,
+    reach: Reach<'_>,
+    over: bool,
+) -> Result<Option<Refusal>, AllocError>
+    ensures { (leases : LeaseFacts) (user : List ℕ) (path : List (List ℕ)) (mode replication : ℕ) (rows : List Row) (users : Principals) → IsReach path rows reach.entry → IfOk result (λ refusal. refusal ≡ spec.first_refusal leases user (Op.Create path mode replication over) rows users) }
+{
+    if let Some(file) = reach.file {
+        return Ok(Some(Refusal::NotDirectory(file.to_path(alloc)?)));
+    }
+    let Some(component) = reach.at else {
+        return Ok(None);
+    };
+    match component.inode().kind() {
+        ObjectKind::Directory => Ok(Some(Refusal::IsDirectory)),
+        ObjectKind::File => Ok(if over { None } else { Some(Refusal::Exists) }),
+    }
+}
+
+/// Judges by its needs whether a file can be made and opened to write, over what is lent. One descent along the path; takes memory
+/// only for a denial and a refusal.
+///
+/// # Errors
+/// Want of memory.
+pub fn judge_create(
+    alloc: Global,
+    tree: &Tree,
+    caller: &Caller,
+    needs: &Needs,
+    path: &Path,
+    over: bool,
+) -> Result<Verdict, AllocError>
+    requires { AreOn path.now needs.now }
+    ensures { (leases : LeaseFacts) (users : Principals) (mode replication : ℕ) → IfOk result (λ verdict. verdict ≡ (judged_step leases tree.now users caller.now needs.now (Op.Create path.now mode replication over)).verdict) }
+{
+    let reach = match walk_along(alloc, tree, caller, needs, path)? {
+        Walked::Denied(denial) => return Ok(Verdict::Denied(denial)),
+        Walked::Reached(reach) => reach,
+    };
+    match refusal_of_create(alloc, reach, over)? {
+        Some(refusal) => Ok(Verdict::Refused(refusal)),
+        None => Ok(Verdict::Done(Reply::Empty)),
+    }
+}
+
+// ---- writing
+
+/// Why a client may not write a file, where he may not: only the one who has it open writes it.
+fn refusal_of_writer(client: &Who, file: &FileRow) -> Option<Refusal>
+    ensures { result ≡ refused_write client.now file.now }
+{
+    match &file.state {
+        FileState::Closed => Some(Refusal::NotOpen),
+        FileState::Recovering(_, _, _) => Some(Refusal::RecoveryRunning),
+        FileState::Open(holder) => {
+            if client == holder {
+                None
+            } else {
+                Some(Refusal::NoLease)
+            }
+        }
+    }
+}
+
+/// Why what a writer states of the last block of a file isn't committed, where it isn't: no DataNode has reported a block yet.
+fn refusal_of_last(last: Option<LastBlock>, file: &FileRow) -> Option<Refusal>
+    ensures { result ≡ refused_commit last file.now }
+{
+    if last.is_some() || !file.blocks.as_slice().is_empty() {
+        return Some(Refusal::NotYetReplicated);
+    }
+    None
+}
+
+/// Why a client may not go on behind the last block of a file, where he may not.
+fn refusal_of_write(client: &Who, last: Option<LastBlock>, file: &FileRow) -> Option<Refusal>
+    ensures { result ≡ option_or (refused_write client.now file.now) (refused_commit last file.now) }
+{
+    let refusal = refusal_of_writer(client, file);
+    if refusal.is_some() {
+        return refusal;
+    }
+    refusal_of_last(last, file)
+}
+
+/// Judges by its needs whether a new block can stand at the end of a file, over what is lent: no DataNode is live yet that could
+/// hold it. One descent along the path; takes memory only for a denial and a refusal.
+///
+/// # Errors
+/// Want of memory.
+pub fn judge_add_block(
+    alloc: Global,
+    tree: &Tree,
+    caller: &Caller,
+    needs: &Needs,
+    path: &Path,
+    last: Option<LastBlock>,
+) -> Result<Verdict, AllocError>
+    requires { AreOn path.now needs.now }
+    ensures { (leases : LeaseFacts) (users : Principals) → IfOk result (λ verdict. verdict ≡ (judged_step leases tree.now users caller.now needs.now (Op.AddBlock path.now last)).verdict) }
+{
+    let reach = match walk_along(alloc, tree, caller, needs, path)? {
+        Walked::Denied(denial) => return Ok(Verdict::Denied(denial)),
+        Walked::Reached(reach) => reach,
+    };
+    let file = match standing_file(alloc, reach)? {
+        FoundFile::There(file) => file,
+        FoundFile::Refused(refusal) => return Ok(Verdict::Refused(refusal)),
+    };
+    match refusal_of_write(caller.name(), last, file) {
+        Some(refusal) => Ok(Verdict::Refused(refusal)),
+        None => Ok(Verdict::Refused(Refusal::TooFewNodes)),
+    }
+}
+
+/// Judges by its needs whether a file can be closed by the caller, over what is lent. One descent along the path, and the blocks of
+/// the file; takes memory only for a denial and a refusal.
+///
+/// # Errors
+/// Want of memory.
+pub fn judge_complete(
+    alloc: Global,
+    tree: &Tree,
+    caller: &Caller,
+    needs: &Needs,
+    path: &Path,
+    last: Option<LastBlock>,
+) -> Result<Verdict, AllocError>
+    requires { AreOn path.now needs.now }
+    ensures { (leases : LeaseFacts) (users : Principals) → IfOk result (λ verdict. verdict ≡ (judged_step leases tree.now users caller.now needs.now (Op.Complete path.now last)).verdict) }
+{
+    let reach = match walk_along(alloc, tree, caller, needs, path)? {
+        Walked::Denied(denial) => return Ok(Verdict::Denied(denial)),
+        Walked::Reached(reach) => reach,
+    };
+    let file = match standing_file(alloc, reach)? {
+        FoundFile::There(file) => file,
+        FoundFile::Refused(refusal) => return Ok(Verdict::Refused(refusal)),
+    };
+    match refusal_of_write(caller.name(), last, file) {
+        Some(refusal) => Ok(Verdict::Refused(refusal)),
+        None => Ok(Verdict::Done(Reply::Closed(length_told(file)?))),
+    }
+}
+
+// ---- appending
+
+/// Judges whether a client can append to a file.
+fn appended<'a>(client: &Who, file: &'a FileRow) -> Result<Judged<'a>, AllocError>
+    ensures { (leases : LeaseFacts) → IfOk result (λ judged. verdict_under leases judged ≡ refused_or (appended_reply (holder_of file.now.state)) (refused_takeover leases client.now file.now)) }
+{
+    let holder = match &file.state {
+        FileState::Closed => return Ok(Judged::Verdict(Verdict::Done(Reply::Empty))),
+        FileState::Recovering(_, _, _) => {
+            return Ok(Judged::Verdict(Verdict::Refused(Refusal::RecoveryRunning)));
+        }
+        FileState::Open(holder) => holder,
+    };
+    if client == holder {
+        return Ok(Judged::Verdict(Verdict::Refused(Refusal::LeaseHeld(holder.clone()?))));
+    }
+    Ok(Judged::Held {
+        holder,
+        ends_uncommitted: file.blocks.ends_uncommitted(),
+    })
+}
+
+/// Judges by its needs whether the caller can append to a file, over what is lent: one that is closed is opened, and one that
+/// another client has open is released where his lease isn't live. One descent along the path; takes memory only for a denial and
+/// a refusal.
+///
+/// # Errors
+/// Want of memory.
+pub fn judge_append<'a>(
+    alloc: Global,
+    tree: &'a Tree,
+    caller: &Caller,
+    needs: &Needs,
+    path: &'a Path,
+) -> Result<Judged<'a>, AllocError>
+    requires { AreOn path.now needs.now }
+    ensures { (leases : LeaseFacts) (users : Principals) → IfOk result (λ judged. verdict_under leases judged ≡ (judged_step leases tree.now users caller.now needs.now (Op.Append path.now)).verdict) }
+{
+    let reach = match walk_along(alloc, tree, caller, needs, path)? {
+        Walked::Denied(denial) => return Ok(Judged::Verdict(Verdict::Denied(denial))),
+        Walked::Reached(reach) => reach,
+    };
+    match standing_file(alloc, reach)? {
+        FoundFile::There(file) => appended(caller.name(), file),
+        FoundFile::Refused(refusal) => Ok(Judged::Verdict(Verdict::Refused(refusal))),
+    }
+}
+
+// ---- deleting
+
+/// How many files and directories a deletion takes away: one where it isn't recursive, since nothing is beneath then. A number
+/// that can't be told counts as want of memory.
+fn deleted_at(tree: &Tree, path: &Path, recursive: bool) -> Result<u64, AllocError>
+    requires there { is_missing path.now tree.now ≡ false }
+    requires alone { recursive ≡ false → is_alone (rows_under path.now tree.now) ≡ true }
+    ensures { IfOk result (λ deleted. deleted ≡ length (rows_under path.now tree.now)) }
+{
+    if !recursive {
+        return Ok(1);
+    }
+    let counts = counts_at(tree, path)?;
+    match counts.directories.checked_add(counts.files) {
+        Some(deleted) => Ok(deleted),
+        None => Err(AllocError),
+    }
+}
+
+/// Judges by its needs whether what has a path can be deleted with all that is beneath it, over what is lent. One descent along the
+/// path, and for its need of the sub-tree the directories there; where it is recursive also all that stands there. Takes memory only for a
+/// denial and a refusal.
+///
+/// # Errors
+/// Want of memory.
+pub fn judge_delete(
+    alloc: Global,
+    tree: &Tree,
+    caller: &Caller,
+    needs: &Needs,
+    path: &Path,
+    recursive: bool,
+) -> Result<Verdict, AllocError>
+    requires { AreOn path.now needs.now }
+    ensures { (leases : LeaseFacts) (users : Principals) → IfOk result (λ verdict. verdict ≡ (judged_step leases tree.now users caller.now needs.now (Op.Delete path.now recursive)).verdict) }
+{
+    let reach = match walk_along(alloc, tree, caller, needs, path)? {
+        Walked::Denied(denial) => return Ok(Verdict::Denied(denial)),
+        Walked::Reached(reach) => reach,
+    };
+    if path.depth() == 0 {
+        return Ok(Verdict::Refused(Refusal::IsRoot));
+    }
+    if let Found::Refused(refusal) = standing(alloc, reach)? {
+        return Ok(Verdict::Refused(refusal));
+    }
+    if !recursive && !tree.is_alone(path) {
+        return Ok(Verdict::Refused(Refusal::NotEmpty));
+    }
+    Ok(Verdict::Done(Reply::Deleted(deleted_at(tree, path, recursive)?)))
+}
+
+// ---- all
+
+/// Judges a verb with its needs.
+fn judge_with<'a>(
+    alloc: Global,
+    tree: &'a Tree,
+    users: &Users,
+    caller: &Who,
+    needs: &Needs,
+    op: &'a Op,
+) -> Result<Judged<'a>, AllocError>
+    requires verb { writes_or_deletes op.now ≡ true }
+    requires needs { needs.now ≡ required_rights op.now }
+    ensures { (leases : LeaseFacts) → IfOk result (IsJudged leases tree.now users.now caller.now op.now) }
+{
+    let asking = users.caller(caller);
+    match op {
+        Op::Create(path, _, _, over) => Ok(Judged::Verdict(judge_create(
+            alloc, tree, &asking, needs, path, *over,
+        )?)),
+        Op::Append(path) => judge_append(alloc, tree, &asking, needs, path),
+        Op::AddBlock(path, last) => Ok(Judged::Verdict(judge_add_block(
+            alloc, tree, &asking, needs, path, *last,
+        )?)),
+        Op::Complete(path, last) => Ok(Judged::Verdict(judge_complete(
+            alloc, tree, &asking, needs, path, *last,
+        )?)),
+        Op::Delete(path, recursive) => Ok(Judged::Verdict(judge_delete(
+            alloc, tree, &asking, needs, path, *recursive,
+        )?)),
+        _ => unreachable!(),
+    }
+}
+
+/// Judges a verb that writes files, or a deletion, and changes nothing: first the first need that fails, then the first refusal of
+/// the operation's list, then done; what hangs on the lease of another client is left open. What a done verb changes is then a
+/// call of `make_file`, `Tree::rewrite` or `Tree::remove`. Costs the path, one look-up in a map for each name; `complete` also the
+/// blocks of the file, and a recursive `delete` the sub-tree (HDFS Architecture, "The File System Namespace"; HDFS Permissions
+/// Guide, "Permission Checks").
+///
+/// # Errors
+/// Want of memory.
+pub fn judge<'a>(
+    alloc: Global,
+    tree: &'a Tree,
+    users: &Users,
+    caller: &Who,
+    op: &'a Op,
+) -> Result<Judged<'a>, AllocError>
+    requires { writes_or_deletes op.now ≡ true }
+    ensures { (leases : LeaseFacts) → IfOk result (IsJudged leases tree.now users.now caller.now op.now) }
+{
+    let needs = needs_of(alloc, op)?;
+    judge_with(alloc, tree, users, caller, &needs, op)
+}
+
+/// Whether the caller may have the files of clients closed whose leases are past the hard limit: the denial, or none. Nothing
+/// else stands against it.
+///
+/// # Errors
+/// Want of memory.
+pub fn judge_tick(
+    alloc: Global,
+    tree: &Tree,
+    users: &Users,
+    caller: &Who,
+) -> Result<Option<Denial>, AllocError>
+    ensures { IfOk result (λ denial. denial ≡ decision tree.now users.now caller.now Op.Tick) }
+{
+    let asked = needs_of(alloc, &Op::Tick)?;
+    walk(alloc, tree, users, caller, &asked)
+}
