@@ -10,6 +10,4 @@ pub mod laws;
 mod reading;
 pub mod refusal;
 pub mod ring;
-#[cfg(test)]
-mod tests;
 pub mod token;

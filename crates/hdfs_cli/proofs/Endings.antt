@@ -8,9 +8,9 @@ use Rattle.std.proofs.lemmas.List.Concat.{flat_map-append}
 use Rattle.hdfs_texts.specs.declared.fault.IllFormed.{IllFormed}
 use Rattle.hdfs_types.specs.declared.op.Request.{Request}
 use Rattle.history.specs.Config.{standard}
-use Rattle.hdfs_cli.specs.Words.{lines_of, is_skipped, words_of, without_return}
-use Rattle.hdfs_cli.specs.Script.{request_of}
-use Rattle.hdfs_cli.specs.AnswerText.{answer_line}
+use Rattle.script_words.specs.Words.{lines_of, is_skipped, words_of, without_return}
+use Rattle.script_text.specs.Script.{request_of}
+use Rattle.script_text.specs.AnswerText.{answer_line}
 use Rattle.hdfs_cli.specs.Channel.{AppendsFront}
 use Rattle.hdfs_cli.specs.Output.{State, Numbered, opening, answered, after_answer, after_trimmed, after_line, after_lines, answers_of, answers_of_first, text_of, output_of}
 use Rattle.hdfs_cli.specs.Ended.{IsAnswersBefore, AppendsAnswersBefore}

@@ -1,10 +1,5 @@
 pub mod Vectors
-pub mod Forming
-pub mod Groups
 pub mod Known
 pub mod Lines
 pub mod Endings
 pub mod Fronts
-pub mod TokenVectors
-pub mod Counts
-pub mod LineVectors

@@ -1,7 +1,7 @@
 -- What is written of a script that was not run to its end.
 use Rattle.std.specs.Prelude.{◌≡◌, ◌<◌, ℕ, List, [], length, Option}
 use Rattle.std.specs.Io.KnownBytes.{Appends}
-use Rattle.hdfs_cli.specs.Words.{lines_of}
+use Rattle.script_words.specs.Words.{lines_of}
 use Rattle.hdfs_cli.specs.Output.{text_of, answers_of_first}
 
 -- the answers of the lines before one of the script's, and nothing else

@@ -12,8 +12,8 @@ use Rattle.history.specs.Config.{Settings, standard}
 use Rattle.history.specs.State.{rows_of, users_of}
 use Rattle.hdfs_cli.specs.declared.explain.Explained.{Explained}
 use Rattle.hdfs_cli.specs.declared.explain.Explained.TheVariants.{Trail, NoRequest}
-use Rattle.hdfs_cli.specs.Words.{lines_of, without_return, is_skipped, words_of}
-use Rattle.hdfs_cli.specs.Script.{request_of}
+use Rattle.script_words.specs.Words.{lines_of, without_return, is_skipped, words_of}
+use Rattle.script_text.specs.Script.{request_of}
 use Rattle.hdfs_cli.specs.Output.{State, after_lines, status_of}
 
 abbrev pub well_formed : Result Request IllFormed → Option Request

@@ -1,10 +1,5 @@
 pub mod Channel
-pub mod Words
-pub mod Script
-pub mod LineForms
-pub mod AnswerText
 pub mod Output
 pub mod Shown
 pub mod Ended
 pub mod Explanation
-pub mod TokenLine

@@ -7,13 +7,13 @@ use Rattle.hdfs_types.specs.declared.op.Request.{Request}
 use Rattle.history.specs.declared.entry.HistoryEntry.{HistoryEntry}
 use Rattle.history.specs.Config.{Settings, standard}
 use Rattle.history.specs.LegalHistory.{verdict_of}
-use Rattle.hdfs_cli.specs.declared.answer.Answer.{Answer}
-use Rattle.hdfs_cli.specs.declared.answer.Answer.TheVariants.{Bad, Given}
+use Rattle.script_text.specs.declared.answer.Answer.{Answer}
+use Rattle.script_text.specs.declared.answer.Answer.TheVariants.{Bad, Given}
 use Rattle.hdfs_cli.specs.declared.script.Status.{Status}
 use Rattle.hdfs_cli.specs.declared.script.Status.TheVariants as status
-use Rattle.hdfs_cli.specs.Words.{lines_of, without_return, is_skipped, words_of}
-use Rattle.hdfs_cli.specs.Script.{request_of}
-use Rattle.hdfs_cli.specs.AnswerText.{answer_line}
+use Rattle.script_words.specs.Words.{lines_of, without_return, is_skipped, words_of}
+use Rattle.script_text.specs.Script.{request_of}
+use Rattle.script_text.specs.AnswerText.{answer_line, is_bad}
 
 -- an answer behind the number of its line
 pub record Numbered : Type 0 where
@@ -59,6 +59,10 @@ after_line state line = after_trimmed state (without_return line)
 abbrev pub opening : State
 opening = record { number = 0; entries = []; answers = [] }
 
+-- what more lines leave behind those before
+abbrev pub behind_lines : State → List (List ℕ) → State
+behind_lines state lines = fold after_line state lines
+
 abbrev pub after_lines : List (List ℕ) → State
 after_lines lines = fold after_line opening lines
 
@@ -71,10 +75,6 @@ answers_of_first count script = (after_lines (take count (lines_of script))).ans
 
 abbrev pub text_of : List Numbered → List ℕ
 text_of answers = flat_map (λ numbered. answer_line numbered.number numbered.answer) answers
-
-abbrev pub is_bad : Answer → Bool
-is_bad (Bad fault) = true
-is_bad (Given verdict) = false
 
 -- how a script ends: with an ill-formed line, or with none
 abbrev pub status_by : Bool → Status

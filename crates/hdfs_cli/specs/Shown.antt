@@ -4,7 +4,8 @@ use Rattle.std.specs.List.{list_any}
 use Rattle.std.specs.String.{string_bytes}
 use Rattle.history.specs.Config.{standard}
 use Rattle.hdfs_cli.specs.declared.script.Session.{Session}
-use Rattle.hdfs_cli.specs.Output.{State, text_of, is_bad}
+use Rattle.script_text.specs.AnswerText.{is_bad}
+use Rattle.hdfs_cli.specs.Output.{State, text_of}
 
 pub record Shows (state : State) (session : Session) : Type 0 where
   pub number : session.number ≡ state.number

@@ -11,15 +11,15 @@ ghost use Rattle.hdfs_cli.specs.Output as output;
 ghost use Rattle.hdfs_cli.specs.Shown.{Shows};
 
 use crate::channel::write_text;
-use crate::line::read_line;
 use crate::script::{ScriptFault, Session, Status, read_script, run_lines};
-use crate::words::{is_skipped, pieces_between, without_return};
 use file_paths::path::Path;
 use flat_rows::trail::{Judged, trail};
 use hdfs_types::op::Request;
 use inode_tree::tree::Tree;
 use name_core::namenode::NameCore;
 use namespace_rows::rows::Rows;
+use script_text::line::read_line;
+use script_words::words::{is_skipped, pieces_between, without_return};
 use std::alloc::{AllocError, Global};
 use std::io::{Read, Write};
 
@@ -74,7 +74,7 @@ struct Explanation {
 }
 
 /// The tree as a flat list of rows.
-pub(crate) fn rows_of(alloc: Global, tree: &Tree) -> Result<Rows, AllocError>
+pub fn rows_of(alloc: Global, tree: &Tree) -> Result<Rows, AllocError>
     ensures { IfOk result (λ rows. rows ≡ tree.now) }
 {
     let rows = tree.rows_under(&Path::root(alloc))?;
@@ -87,11 +87,41 @@ fn trail_on(alloc: Global, core: &NameCore, request: &Request) -> Result<Vec<Jud
     ensures { IfOk result (λ needs. needs.items ≡ spec.trail_on core.now.config core.now.entries request.now) }
 {
     let rows = rows_of(alloc, core.tree())?;
-    trail(alloc, &rows, core.users(), &request.caller, &request.op)
+    let needs = trail(alloc, &rows, core.users(), &request.caller, &request.op);
+    drop(rows);
+    needs
+}
+
+/// What is printed of the needs of a request.
+fn needs_text(alloc: Global, core: &NameCore, request: &Request) -> Result<String, AllocError>
+    ensures { IfOk result (λ text. string_bytes text ≡ spec.trail_text (spec.trail_on core.now.config core.now.entries request.now)) }
+{
+    let needs = trail_on(alloc, core, request)?;
+    let text = text_of(alloc, &needs);
+    drop(needs);
+    text
 }
 
 /// Runs the lines before a request, and prints its needs.
 fn explain_request(
+    alloc: Global,
+    session: &mut Session,
+    before: &[&str],
+    request: &Request,
+) -> Result<Explanation, AllocError>
+    requires { Shows output.opening session.old }
+    ensures text { IfOk result (λ explanation. string_bytes explanation.text ≡ spec.explanation_by (output.after_lines (map (λ line. line.now) before.now)) (Some request.now)) }
+    ensures found { IfOk result (λ explanation. explanation.found ≡ Explained.Trail (output.status_of (output.after_lines (map (λ line. line.now) before.now)).answers)) }
+{
+    run_lines(alloc, session, before)?;
+    Ok(Explanation {
+        found: Explained::Trail(Status::by(session.has_bad())),
+        text: needs_text(alloc, &session.core, request)?,
+    })
+}
+
+/// Explains a request behind these lines.
+fn explain_alone(
     alloc: Global,
     before: &[&str],
     request: &Request,
@@ -100,12 +130,9 @@ fn explain_request(
     ensures found { IfOk result (λ explanation. explanation.found ≡ Explained.Trail (output.status_of (output.after_lines (map (λ line. line.now) before.now)).answers)) }
 {
     let mut session = Session::open(alloc)?;
-    run_lines(alloc, &mut session, before)?;
-    let needs = trail_on(alloc, &session.core, request)?;
-    Ok(Explanation {
-        found: Explained::Trail(Status::by(session.has_bad)),
-        text: text_of(alloc, &needs)?,
-    })
+    let explained = explain_request(alloc, &mut session, before, request);
+    drop(session);
+    explained
 }
 
 /// The request of the first of these lines, where it makes one.
@@ -125,7 +152,11 @@ fn explain_behind(alloc: Global, lines: &[&str], before: usize) -> Result<Explan
 {
     let (done, left) = lines.split_at(before.min(lines.len()));
     match first_request(alloc, left)? {
-        Some(request) => explain_request(alloc, done, &request),
+        Some(request) => {
+            let explained = explain_alone(alloc, done, &request);
+            drop(request);
+            explained
+        }
         None => Ok(Explanation {
             found: Explained::NoRequest,
             text: String::new(alloc),

@@ -2,23 +2,24 @@ ghost use Rattle.std.specs.Prelude.{◌≡◌, ◌≢◌, ◌+◌, ◌<◌, ◌^
 ghost use Rattle.std.specs.Io.KnownBytes.{Appends, Keeps};
 ghost use Rattle.std.specs.String.{string_bytes};
 ghost use Rattle.std.specs.Str.{IsUtf8};
-ghost use Rattle.hdfs_cli.specs.AnswerText.{answer_line};
+ghost use Rattle.history.specs.Config.{standard};
+ghost use Rattle.script_text.specs.AnswerText.{answer_line, is_bad};
 ghost use Rattle.hdfs_cli.specs.Channel.{AppendsFront};
 ghost use Rattle.hdfs_cli.specs.Output as spec;
 ghost use Rattle.hdfs_cli.specs.Shown.{Shows};
 ghost use Rattle.hdfs_cli.specs.Ended.{IsAnswersBefore, AppendsAnswersBefore};
-ghost use Rattle.hdfs_cli.specs.Script.{request_of as request_said};
-ghost use Rattle.hdfs_cli.specs.Words as words;
+ghost use Rattle.script_words.specs.Words as words;
 
-use crate::answer::Answer;
 use crate::channel::{ReadFault, read_all, write_text};
-use crate::line::read_line;
-use crate::words::{is_skipped, pieces_between, without_return};
 use flat_rows::verdict::Verdict;
+use hdfs_texts::fault::IllFormed;
 use hdfs_types::op::Request;
 use history::config::Config;
 use history::entry;
 use name_core::namenode::NameCore;
+use script_text::answer::Answer;
+use script_text::line::read_line;
+use script_words::words::{is_skipped, pieces_between, without_return};
 use std::alloc::{AllocError, Global};
 use std::io::{Read, Write};
 
@@ -55,28 +56,34 @@ pub enum ScriptFault {
 fn verdict_in(answer: entry::Answer) -> Verdict
     ensures { result ≡ answer.verdict }
 {
-    answer.verdict
+    let entry::Answer {
+        request,
+        verdict,
+        ..
+    } = answer;
+    drop(request);
+    verdict
 }
 
-/// The verdict on a request, which makes one entry more. Where memory runs out the core stays as it was.
-pub(crate) fn step(core: &mut NameCore, request: &Request) -> Result<Verdict, AllocError>
-    ensures ok { IfOk result (λ verdict. record { answer = Answer.Given verdict; entries = core.new.entries } ≡ spec.answered core.old.config core.old.entries (Ok request.now)) }
+/// The answer to a request, which makes one entry more. Where memory runs out the core stays as it was.
+fn given(core: &mut NameCore, request: &Request) -> Result<Answer, AllocError>
+    ensures ok { IfOk result (λ answer. record { answer = answer; entries = core.new.entries } ≡ spec.answered core.old.config core.old.entries (Ok request.now)) }
     ensures config { core.new.config ≡ core.old.config }
     ensures err { OnErr result (core.new ≡ core.old) }
 {
     let index = core.place();
-    Ok(verdict_in(core.step(0, index, request)?))
+    Ok(Answer::Given(verdict_in(core.step(0, index, request)?)))
 }
 
-/// The answer to a line. Where memory runs out the core stays as it was.
-fn answer_to(alloc: Global, core: &mut NameCore, line: &str) -> Result<Answer, AllocError>
-    ensures ok { IfOk result (λ answer. record { answer = answer; entries = core.new.entries } ≡ spec.answered core.old.config core.old.entries (request_said (words.words_of line.now))) }
+/// The answer to what a line says. Where memory runs out the core stays as it was.
+fn answer_to(core: &mut NameCore, said: &Result<Request, IllFormed>) -> Result<Answer, AllocError>
+    ensures ok { IfOk result (λ answer. record { answer = answer; entries = core.new.entries } ≡ spec.answered core.old.config core.old.entries said.now) }
     ensures config { core.new.config ≡ core.old.config }
     ensures err { OnErr result (core.new ≡ core.old) }
 {
-    match read_line(alloc, line)? {
-        Ok(request) => Ok(Answer::Given(step(core, &request)?)),
-        Err(fault) => Ok(Answer::Bad(fault)),
+    match said {
+        Ok(request) => given(core, request),
+        Err(fault) => Ok(Answer::Bad(*fault)),
     }
 }
 
@@ -84,11 +91,11 @@ fn answer_to(alloc: Global, core: &mut NameCore, line: &str) -> Result<Answer, A
 /// no contract says what a failed `write!` leaves of the text that it was to go on with.
 fn print_answer(
     number: usize,
-    answer: Answer,
+    answer: &Answer,
     line: &mut String,
     out: &mut String,
 ) -> Result<(), AllocError>
-    ensures ok { OnOk result (string_bytes out.new ≡ string_bytes out.old ++ answer_line number answer) }
+    ensures ok { OnOk result (string_bytes out.new ≡ string_bytes out.old ++ answer_line number answer.now) }
     ensures err { OnErr result (string_bytes out.new ≡ string_bytes out.old) }
 {
     line.clear();
@@ -98,12 +105,12 @@ fn print_answer(
 
 /// A script that is being run: the NameNode, the lines so far, and what they print.
 #[derive(Drop)]
-pub(crate) struct Session {
+pub struct Session {
     pub(crate) core: NameCore,
     /// How many lines were run.
     number: usize,
     /// Whether one of them was ill-formed.
-    pub(crate) has_bad: bool,
+    has_bad: bool,
     out: String,
     /// Where an answer is formatted.
     line: String,
@@ -111,7 +118,10 @@ pub(crate) struct Session {
 
 impl Session {
     /// A NameNode that has answered nothing.
-    pub(crate) fn open(alloc: Global) -> Result<Session, AllocError>
+    ///
+    /// # Errors
+    /// Want of memory.
+    pub fn open(alloc: Global) -> Result<Session, AllocError>
         ensures { IfOk result (Shows spec.opening) }
     {
         Ok(Session {
@@ -123,22 +133,82 @@ impl Session {
         })
     }
 
-    /// Runs a line, and adds its answer to the output where it has one. Where memory runs out the output stays as it was.
-    fn serve(&mut self, alloc: Global, line: &str) -> Result<(), AllocError>
+    /// What the lines so far print.
+    pub fn output(&self) -> &str
+        ensures { (state : spec.State) → Shows state self.now → result.now ≡ spec.text_of state.answers }
+    {
+        self.out.as_str()
+    }
+
+    /// Whether one of the lines so far was ill-formed.
+    pub fn has_bad(&self) -> bool
+        ensures { (state : spec.State) → Shows state self.now → spec.status_by result ≡ spec.status_of state.answers }
+    {
+        self.has_bad
+    }
+
+    /// What the lines so far print, where nothing more is run.
+    fn into_output(self) -> String
+        ensures { result ≡ self.out }
+    {
+        let Session { core, out, .. } = self;
+        drop(core);
+        out
+    }
+
+    /// Prints an answer behind the number of the line.
+    fn print(&mut self, answer: &Answer) -> Result<(), AllocError>
+        ensures kept { (self.new.number ≡ self.old.number) × (self.new.core ≡ self.old.core) }
+        ensures ok { OnOk result (string_bytes self.new.out ≡ string_bytes self.old.out ++ answer_line self.old.number answer.now) }
+        ensures bad { OnOk result (self.new.has_bad ≡ (self.old.has_bad || is_bad answer.now)) }
+        ensures err { OnErr result (string_bytes self.new.out ≡ string_bytes self.old.out) }
+    {
+        print_answer(self.number, answer, &mut self.line, &mut self.out)?;
+        self.has_bad = self.has_bad || answer.is_bad();
+        Ok(())
+    }
+
+    /// Answers what the next line says. Where memory runs out the output stays as it was.
+    fn answer(&mut self, said: &Result<Request, IllFormed>) -> Result<(), AllocError>
         requires { self.old.number + 1 < 2 ^ 64 }
         ensures number { self.new.number ≡ self.old.number + 1 }
-        ensures ok { (state : spec.State) → Shows state self.old → OnOk result (Shows (spec.after_line state line.now) self.new) }
+        ensures ok { (state : spec.State) → Shows state self.old → OnOk result (Shows (spec.after_answer state (spec.answered standard state.entries said.now)) self.new) }
         ensures err { OnErr result (string_bytes self.new.out ≡ string_bytes self.old.out) }
     {
         self.number += 1;
+        let answer = answer_to(&mut self.core, said)?;
+        let printed = self.print(&answer);
+        drop(answer);
+        printed
+    }
+
+    /// Runs a line, and adds its answer to the output where it has one. Where memory runs out the output stays as it was.
+    fn serve(&mut self, alloc: Global, line: &str) -> Result<(), AllocError>
+        requires { self.old.number + 1 < 2 ^ 64 }
+        ensures number { OnOk result (self.new.number ≡ self.old.number + 1) }
+        ensures ok { (state : spec.State) → Shows state self.old → OnOk result (Shows (spec.after_line state line.now) self.new) }
+        ensures err { OnErr result (string_bytes self.new.out ≡ string_bytes self.old.out) }
+    {
         let line = without_return(line);
         if is_skipped(line) {
+            self.number += 1;
             return Ok(());
         }
-        let answer = answer_to(alloc, &mut self.core, line)?;
-        let is_bad = answer.is_bad();
-        print_answer(self.number, answer, &mut self.line, &mut self.out)?;
-        self.has_bad = self.has_bad || is_bad;
+        let said = read_line(alloc, line)?;
+        let answered = self.answer(&said);
+        drop(said);
+        answered
+    }
+
+    /// Runs the lines. An `Err` leaves what the lines before the one that failed print.
+    fn serve_all(&mut self, alloc: Global, lines: &[&str]) -> Result<(), AllocError>
+        requires { self.old.number + length lines.now < 2 ^ 64 }
+        ensures ok { (state : spec.State) → Shows state self.old → OnOk result (Shows (spec.behind_lines state (map (λ line. line.now) lines.now)) self.new) }
+        ensures err { (state : spec.State) → Shows state self.old → OnErr result ((count : ℕ) × (count < length lines.now) × (string_bytes self.new.out ≡ spec.text_of (spec.behind_lines state (take count (map (λ line. line.now) lines.now))).answers)) }
+    {
+        for line in lines {
+            self.serve(alloc, line)?;
+        }
         Ok(())
     }
 }
@@ -153,10 +223,22 @@ pub(crate) fn run_lines(
     ensures ok { OnOk result (Shows (spec.after_lines (map (λ line. line.now) lines.now)) session.new) }
     ensures err { OnErr result ((count : ℕ) × (count < length lines.now) × (string_bytes session.new.out ≡ spec.text_of (spec.after_lines (take count (map (λ line. line.now) lines.now))).answers)) }
 {
-    for line in lines {
-        session.serve(alloc, line)?;
+    session.serve_all(alloc, lines)
+}
+
+/// Runs the lines of a text behind those that were run. An `Err` leaves what the lines before the one that failed print.
+///
+/// # Errors
+/// Want of memory, and of numbers for so many lines.
+pub fn run_more(alloc: Global, session: &mut Session, text: &str) -> Result<(), AllocError>
+    ensures ok { (state : spec.State) → Shows state session.old → OnOk result (Shows (spec.behind_lines state (words.lines_of text.now)) session.new) }
+    ensures err { (state : spec.State) → Shows state session.old → OnErr result ((count : ℕ) × (count < length (words.lines_of text.now)) × (string_bytes session.new.out ≡ spec.text_of (spec.behind_lines state (take count (words.lines_of text.now))).answers)) }
+{
+    let lines = pieces_between(alloc, text, '\n')?;
+    if lines.len() > usize::MAX - session.number {
+        return Err(AllocError);
     }
-    Ok(())
+    session.serve_all(alloc, &lines)
 }
 
 /// Runs a script on a NameNode that has answered nothing. An `Err` leaves what its lines before the one that failed print.
@@ -187,7 +269,7 @@ fn run_alone(alloc: Global, script: &str) -> Result<ScriptRun, AllocError>
     let mut session = Session::open(alloc)?;
     let ended = run_text(alloc, &mut session, script);
     Ok(ScriptRun {
-        text: session.out,
+        text: session.into_output(),
         ended,
     })
 }

@@ -5,12 +5,12 @@ use Rattle.hdfs_cli.proofs.explain.explain_behind.Goals as goal
 
 pub returns-in-Some-clause-text : goal.returns-in-Some-clause-text
 returns-in-Some-clause-text c =
-    subst (λ text. IfOk c.explain_request.result (λ explanation. string_bytes explanation.text ≡ text))
+    subst (λ text. IfOk c.explain_alone-explained.result (λ explanation. string_bytes explanation.text ≡ text))
     (explains c.args.lines.now c.split_at.result.0.now c.split_at.result.1.now c.args.before c.min.result c.min.ensures c.split_at.ensures.front c.split_at.ensures.back c.in_ok-request.field-0 c.in-Some.request c.in_ok-request.ensures c.in-Some.is)
-    c.explain_request.ensures.text
+    c.explain_alone-explained.ensures.text
 
 pub returns-in-Some-clause-found : goal.returns-in-Some-clause-found
 returns-in-Some-clause-found c =
-    subst (λ found. IfOk c.explain_request.result (λ explanation. explanation.found ≡ found))
+    subst (λ found. IfOk c.explain_alone-explained.result (λ explanation. explanation.found ≡ found))
     (finds c.args.lines.now c.split_at.result.0.now c.split_at.result.1.now c.args.before c.min.result c.min.ensures c.split_at.ensures.front c.split_at.ensures.back c.in_ok-request.field-0 c.in-Some.request c.in_ok-request.ensures c.in-Some.is)
-    c.explain_request.ensures.found
+    c.explain_alone-explained.ensures.found

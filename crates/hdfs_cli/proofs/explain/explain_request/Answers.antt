@@ -8,6 +8,5 @@ pub returns-clause-text : goal.returns-clause-text
 returns-clause-text c =
     let state : State = after_lines (map (λ line. line.now) c.args.before.now) in
     let entries = c.run_lines.new.session.core.entries in
-    c.in_ok-text_of.ensures
-    ∙ ap trail_text (c.deref.ensures.value ∙ c.in_ok-needs.ensures ∙ ap (λ config. trail_on config entries c.args.request.now) c.in_ok-run_lines.ensures.ok.config
-    ∙ ap (λ entries. trail_on standard entries c.args.request.now) c.in_ok-run_lines.ensures.ok.entries)
+    c.in_ok-needs_text.ensures
+    ∙ ap trail_text (ap (λ config. trail_on config entries c.args.request.now) c.in_ok-run_lines.ensures.ok.config ∙ ap (λ entries. trail_on standard entries c.args.request.now) c.in_ok-run_lines.ensures.ok.entries)

@@ -1,6 +1,0 @@
-use Rattle.std.proofs.Common.{arith}
-use Rattle.hdfs_cli.proofs.Counts.{too_many}
-use Rattle.hdfs_cli.proofs.line.op_of.Goals as goal
-
-pub returns-in_default : goal.returns-in_default
-returns-in_default c = too_many c.args.verb.now c.args.words.now (omega arith)

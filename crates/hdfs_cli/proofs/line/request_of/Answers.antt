@@ -1,6 +1,0 @@
-use Rattle.std.proofs.Common.{arith}
-use Rattle.hdfs_cli.proofs.Counts.{no_verb}
-use Rattle.hdfs_cli.proofs.line.request_of.Goals as goal
-
-pub returns-in_default : goal.returns-in_default
-returns-in_default c = no_verb c.args.words.now (omega arith)

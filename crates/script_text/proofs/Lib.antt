@@ -1,0 +1,3 @@
+pub mod TokenVectors
+pub mod Counts
+pub mod LineVectors

@@ -1,0 +1,47 @@
+-- The answer to a line, and how it is printed.
+use Rattle.std.specs.Prelude.{ℕ, Bool, true, false, List, [], ◌∷◌, ◌++◌, codes}
+use Rattle.std.specs.Fmt.{decimal}
+use Rattle.hdfs_texts.specs.Faults.{ill_formed_text}
+use Rattle.hdfs_types.specs.Reply.{status_text, acl_status_text, names_text, summary_text, refusal_text}
+use Rattle.hdfs_types.specs.declared.reply.Expired.{Expired as ExpiredFiles}
+use Rattle.hdfs_types.specs.declared.reply.Reply.{Reply}
+use Rattle.hdfs_types.specs.declared.reply.Reply.TheVariants.{Empty, Status, Acl, Names, Summary, Deleted, Released, Closed, Opened, Expired}
+use Rattle.flat_rows.specs.DenialText.{denial_text}
+use Rattle.flat_rows.specs.declared.verdict.Verdict.{Verdict}
+use Rattle.flat_rows.specs.declared.verdict.Verdict.TheVariants.{Done, Denied, Refused}
+use Rattle.script_text.specs.declared.answer.Answer.{Answer}
+use Rattle.script_text.specs.declared.answer.Answer.TheVariants.{Bad, Given}
+
+-- how many files were closed, and of how many the last block is recovered
+abbrev pub expired_text : ExpiredFiles → List ℕ
+expired_text files = codes "closed " ++ (decimal files.closed ++ (codes " recovering " ++ decimal files.recovering))
+
+abbrev pub reply_text : Reply → List ℕ
+reply_text Empty = codes "ok"
+reply_text (Status status) = codes "ok " ++ status_text status
+reply_text (Acl status) = codes "ok " ++ acl_status_text status
+reply_text (Names names) = codes "ok list" ++ names_text names
+reply_text (Summary summary) = codes "ok summary" ++ summary_text summary
+reply_text (Deleted count) = codes "ok deleted " ++ decimal count
+reply_text Released = codes "ok released"
+reply_text (Closed bytes) = codes "ok closed " ++ decimal bytes
+reply_text (Opened bytes) = codes "ok open " ++ decimal bytes
+reply_text (Expired files) = codes "ok " ++ expired_text files
+
+abbrev pub verdict_text : Verdict → List ℕ
+verdict_text (Done reply) = reply_text reply
+verdict_text (Denied denial) = codes "denied " ++ denial_text denial
+verdict_text (Refused refusal) = codes "refused " ++ refusal_text refusal
+
+abbrev pub answer_text : Answer → List ℕ
+answer_text (Bad fault) = codes "bad " ++ ill_formed_text fault
+answer_text (Given verdict) = verdict_text verdict
+
+-- the line's number, a blank, the answer and a line feed
+abbrev pub answer_line : ℕ → Answer → List ℕ
+answer_line number answer = decimal number ++ (32 ∷ (answer_text answer ++ (10 ∷ [])))
+
+-- whether the line was ill-formed
+abbrev pub is_bad : Answer → Bool
+is_bad (Bad fault) = true
+is_bad (Given verdict) = false

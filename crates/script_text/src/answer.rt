@@ -1,0 +1,93 @@
+ghost use Rattle.std.specs.Prelude.{◌≡◌, ◌++◌, Some};
+ghost use Rattle.std.specs.Fmt.{DisplaysOnOk};
+ghost use Rattle.std.specs.Option.{option_map};
+ghost use Rattle.hdfs_types.specs.declared.reply.Reply.TheVariants as reply;
+ghost use Rattle.script_text.specs.AnswerText as spec;
+
+use flat_rows::verdict::Verdict;
+use hdfs_texts::fault::IllFormed;
+use hdfs_types::reply::{Expired, Reply};
+use std::fmt;
+
+/// What is printed for a line of a script.
+#[derive(Drop)]
+pub enum Answer {
+    /// The line is no request.
+    Bad(IllFormed),
+    /// What the NameNode answered.
+    Given(Verdict),
+}
+
+impl Answer {
+    ghost use Rattle.script_text.specs.AnswerText.{is_bad};
+
+    /// Whether the line was ill-formed.
+    pub fn is_bad(&self) -> bool
+        ensures { result ≡ is_bad self.now }
+    {
+        match self {
+            Answer::Bad(_) => true,
+            Answer::Given(_) => false,
+        }
+    }
+}
+
+impl fmt::Display for Answer {
+    ghost use Rattle.script_text.specs.AnswerText.{answer_text};
+
+    ghost output = { λ answer. Some (answer_text answer) };
+
+    fn fmt<W: fmt::Write>(&self, f: &mut fmt::Formatter<W>) -> fmt::Result {
+        match self {
+            Answer::Bad(fault) => write!(f, "bad {fault}"),
+            Answer::Given(verdict) => print_verdict(verdict, f),
+        }
+    }
+}
+
+fn print_verdict<W: fmt::Write>(verdict: &Verdict, f: &mut fmt::Formatter<W>) -> fmt::Result
+    ensures { DisplaysOnOk W.write_str_gives f.old result (Some (spec.verdict_text verdict.now)) f.new }
+{
+    match verdict {
+        Verdict::Done(reply) => print_reply(reply, f),
+        Verdict::Denied(denial) => write!(f, "denied {denial}"),
+        Verdict::Refused(refusal) => write!(f, "refused {refusal}"),
+    }
+}
+
+fn print_reply<W: fmt::Write>(reply: &Reply, f: &mut fmt::Formatter<W>) -> fmt::Result
+    ensures { DisplaysOnOk W.write_str_gives f.old result (Some (spec.reply_text reply.now)) f.new }
+{
+    match reply {
+        Reply::Empty => f.write_str("ok"),
+        Reply::Status(status) => print_behind("ok ", status, f),
+        Reply::Acl(status) => print_behind("ok ", status, f),
+        Reply::Names(names) => print_behind("ok list", names, f),
+        Reply::Summary(summary) => print_behind("ok summary", summary, f),
+        Reply::Deleted(count) => print_behind("ok deleted ", count, f),
+        Reply::Released => f.write_str("ok released"),
+        Reply::Closed(bytes) => print_behind("ok closed ", bytes, f),
+        Reply::Opened(bytes) => print_behind("ok open ", bytes, f),
+        Reply::Expired(files) => print_expired(files, f),
+    }
+}
+
+/// Prints a value behind its word.
+fn print_behind<T: fmt::Display, W: fmt::Write>(
+    word: &str,
+    value: &T,
+    f: &mut fmt::Formatter<W>,
+) -> fmt::Result
+    ensures { DisplaysOnOk W.write_str_gives f.old result (option_map (λ text. word.now ++ text) (T.output value.now)) f.new }
+{
+    write!(f, "{word}{value}")
+}
+
+/// How many files a tick closed, and of how many the last block is recovered.
+fn print_expired<W: fmt::Write>(files: &Expired, f: &mut fmt::Formatter<W>) -> fmt::Result
+    ensures { DisplaysOnOk W.write_str_gives f.old result (Some (spec.reply_text (reply.Expired files.now))) f.new }
+{
+    let closed = files.closed;
+    let recovering = files.recovering;
+    write!(f, "ok closed {closed} recovering {recovering}")
+}

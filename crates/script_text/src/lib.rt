@@ -1,0 +1,6 @@
+//! What the lines of a script say, and what is printed of an answer and of a token.
+#![tactic(auto)]
+
+pub mod answer;
+pub mod line;
+pub mod token;

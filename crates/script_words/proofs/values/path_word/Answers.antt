@@ -1,0 +1,5 @@
+use Rattle.script_words.proofs.Forming.{forms}
+use Rattle.script_words.proofs.values.path_word.Goals as goal
+
+pub returns : goal.returns
+returns c = forms _ c.parse.result _ c.parse.ensures

@@ -1,0 +1,7 @@
+//! The lines of a script, their words, and what a word says.
+#![tactic(auto)]
+
+pub mod acl_words;
+pub mod groups_word;
+pub mod values;
+pub mod words;

@@ -1,0 +1,121 @@
+ghost use Rattle.std.specs.Prelude.{◌≡◌};
+ghost use Rattle.script_words.specs.LineForms.{Forms};
+ghost use Rattle.script_words.specs.Values as spec;
+
+use crate::words::is_word;
+use block_numbers::ids::BlockId;
+use block_numbers::moment::Moment;
+use block_numbers::replication::Repl;
+use file_paths::path::Path;
+use hdfs_texts::fault::{IllFormed, ParseFault};
+use hdfs_texts::number::number_of;
+use hdfs_types::file::LastBlock;
+use permission_bits::mode::Mode;
+use principal_names::who::Who;
+use std::alloc::Global;
+
+/// A moment, in milliseconds.
+pub fn moment_word(word: &str) -> Result<Moment, ParseFault>
+    ensures { Forms result (spec.moment_word word.now) }
+{
+    match number_of(word).and_then(Moment::new) {
+        Some(moment) => Ok(moment),
+        None => Err(ParseFault::IllFormed(IllFormed::BadLine)),
+    }
+}
+
+/// A name of a user or a group.
+pub fn who_word(alloc: Global, word: &str) -> Result<Who, ParseFault>
+    ensures { Forms result (spec.who_word word.now) }
+{
+    Who::parse(alloc, word)
+}
+
+/// A path.
+pub fn path_word(alloc: Global, word: &str) -> Result<Path, ParseFault>
+    ensures { Forms result (spec.path_word word.now) }
+{
+    Path::parse(alloc, word)
+}
+
+/// A mode, in octal digits.
+pub fn mode_word(word: &str) -> Result<Mode, ParseFault>
+    ensures { Forms result (spec.mode_word word.now) }
+{
+    match Mode::parse(word) {
+        Ok(mode) => Ok(mode),
+        Err(fault) => Err(ParseFault::IllFormed(fault)),
+    }
+}
+
+/// How many replicas a number says; `None` for 0 and above 16.
+fn replication_of(replicas: u64) -> Option<Repl>
+    ensures { result ≡ spec.replication_of replicas }
+{
+    if replicas > 16 {
+        return None;
+    }
+    Repl::new(replicas as u8)
+}
+
+/// How many replicas, in decimal digits.
+pub fn replication_word(word: &str) -> Result<Repl, ParseFault>
+    ensures { Forms result (spec.replication_word word.now) }
+{
+    match number_of(word).and_then(replication_of) {
+        Some(replication) => Ok(replication),
+        None => Err(ParseFault::IllFormed(IllFormed::BadLine)),
+    }
+}
+
+/// A number below 2^64, as of a block or of bytes.
+pub fn number_word(word: &str) -> Result<u64, ParseFault>
+    ensures { Forms result (spec.number_word word.now) }
+{
+    match number_of(word) {
+        Some(number) => Ok(number),
+        None => Err(ParseFault::IllFormed(IllFormed::BadLine)),
+    }
+}
+
+/// Whether a deletion is recursive, as the word behind its path says.
+pub fn recursive_word(word: &str) -> Result<bool, ParseFault>
+    ensures { Forms result (spec.recursive_word word.now) }
+{
+    if is_word(word, "recursive") {
+        Ok(true)
+    } else {
+        Err(ParseFault::IllFormed(IllFormed::BadLine))
+    }
+}
+
+/// That what is made takes the place of a file, as the word behind the replication says.
+pub fn over_word(word: &str) -> Result<bool, ParseFault>
+    ensures { Forms result (spec.over_word word.now) }
+{
+    if is_word(word, "over") {
+        Ok(true)
+    } else {
+        Err(ParseFault::IllFormed(IllFormed::BadLine))
+    }
+}
+
+/// Which block the last one is, and how many bytes were written of it.
+pub fn last_words(block: &str, bytes: &str) -> Result<LastBlock, ParseFault>
+    ensures { Forms result (spec.last_words block.now bytes.now) }
+{
+    let block = BlockId::new(number_word(block)?);
+    let length = number_word(bytes)?;
+    Ok(LastBlock { block, length })
+}
+
+/// A new owner or group; `None` for the `-` that keeps the one that there is.
+pub fn change_word(alloc: Global, word: &str) -> Result<Option<Who>, ParseFault>
+    ensures { Forms result (spec.change_word word.now) }
+{
+    if is_word(word, "-") {
+        return Ok(None);
+    }
+    let who = who_word(alloc, word)?;
+    Ok(Some(who))
+}
