@@ -1,2 +1,3 @@
 pub mod Effected
 pub mod Expiry
+pub mod Inheriting

@@ -1,9 +1,12 @@
-ghost use Rattle.std.specs.Prelude.{◌≡◌, Bool, false, None, Some, OnOk, OnErr};
+ghost use Rattle.std.specs.Prelude.{◌≡◌, Bool, true, false, None, Some, IfOk, OnOk, OnErr};
 ghost use Rattle.flat_rows.specs.FileOutcome.{LeaseFacts, directory_there};
 ghost use Rattle.flat_rows.specs.Outcome as spec;
 ghost use Rattle.namespace_rows.specs.Rows.{row_at, is_missing, file_above, ancestor};
 ghost use Rattle.hdfs_types.specs.declared.op.Op.TheVariants as op;
+ghost use Rattle.access_lists.specs.AccessControlList.{suits_file};
+ghost use Rattle.file_effects.specs.Inheriting.{IsInherited};
 
+use access_lists::acl::Acl;
 use block_numbers::replication::Repl;
 use default_acl::inherit::inherit;
 use file_paths::path::Path;
@@ -13,6 +16,40 @@ use namespace_rows::file_row::FileRow;
 use permission_bits::mode::Mode;
 use principal_names::who::Who;
 use std::alloc::{AllocError, Global};
+
+/// What a file has beside its mode and what files alone have: its owner, and what it takes over from the directory that holds it.
+#[derive(Drop)]
+struct Inherited {
+    owner: Who,
+    group: Who,
+    acl: Acl,
+}
+
+/// What a file that is put in the place of another takes over.
+fn taken_over(
+    alloc: Global,
+    tree: &Tree,
+    path: &Path,
+    mode: Mode,
+    owner: &Who,
+) -> Result<Inherited, AllocError>
+    requires there { is_missing path.now tree.now ≡ false }
+    requires file { directory_there (row_at path.now tree.now) ≡ None }
+    ensures suits { IfOk result (λ parts. suits_file parts.acl ≡ true) }
+    ensures made { IfOk result (IsInherited path.now mode owner.now tree.now) }
+{
+    // a call on the tree tells the prover that its rows are a tree
+    let _root = tree.root();
+    let Some(front) = path.parent(alloc)? else {
+        unreachable!()
+    };
+    let Some(above) = tree.get(&front) else {
+        unreachable!()
+    };
+    let acl = inherit(alloc, above.acl(), mode, ObjectKind::File)?;
+    let (owner, group) = (owner.clone()?, above.group().clone()?);
+    Ok(Inherited { owner, group, acl })
+}
 
 /// Puts a file in the place of another, with what it inherits from the directory that holds it.
 fn replace_file(
@@ -28,17 +65,11 @@ fn replace_file(
     ensures ok { OnOk result (tree.new ≡ spec.with_new path.now mode (Some file) owner.now (ancestor path.now tree.old) tree.old) }
     ensures err { OnErr result (tree.new ≡ tree.old) }
 {
-    // a call on the tree tells the prover that its rows are a tree
-    let _root = tree.root();
-    let Some(front) = path.parent(alloc)? else {
-        unreachable!()
+    let Ok(parts) = taken_over(alloc, tree, path, mode, owner) else {
+        drop(file);
+        return Err(AllocError);
     };
-    let Some(above) = tree.get(&front) else {
-        unreachable!()
-    };
-    let acl = inherit(alloc, above.acl(), mode, ObjectKind::File)?;
-    let (owner, group) = (owner.clone()?, above.group().clone()?);
-    tree.insert(path, owner, group, acl, Some(file))
+    tree.insert(path, parts.owner, parts.group, parts.acl, Some(file))
 }
 
 /// Makes a file of a mode and a replication that the caller has open, instead of the file that has the path, and the missing

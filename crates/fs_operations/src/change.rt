@@ -151,8 +151,8 @@ fn owners_due(
     owner: &Option<Who>,
     group: &Option<Who>,
 ) -> Result<(Who, Who), AllocError>
-    ensures owner { IfOk result (λ due. due.0 ≡ unwrap_or owner.now (branch_at inode).top.owner) }
-    ensures group { IfOk result (λ due. due.1 ≡ unwrap_or group.now (branch_at inode).top.group) }
+    ensures owner { IfOk result (λ due. due.0 ≡ unwrap_or owner.now (branch_at inode.entry).top.owner) }
+    ensures group { IfOk result (λ due. due.1 ≡ unwrap_or group.now (branch_at inode.entry).top.group) }
 {
     let owner = given_or(owner, inode.owner())?;
     let group = given_or(group, inode.group())?;

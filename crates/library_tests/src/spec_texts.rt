@@ -30,7 +30,7 @@ fn all_told(rt: &HostRuntime, with_rights: bool, texts: &[&str], want: &str) -> 
 }
 
 /// Each scope and type, with a name and without, and all rights.
-const ENTRIES: [&str; 24] = [
+static ENTRIES: [&str; 24] = [
     "user::rwx",
     "user:bruce:rw-",
     "user:-:r-x",
@@ -126,7 +126,7 @@ fn entries_without_rights(rt: HostRuntime) -> Result<(), Fail> {
     Ok(())
 }
 
-const MISSPELLED_WITH_RIGHTS: [&str; 40] = [
+static MISSPELLED_WITH_RIGHTS: [&str; 40] = [
     "",
     ",",
     ":",
@@ -178,7 +178,7 @@ fn misspelled_entries_with_rights(rt: HostRuntime) -> Result<(), Fail> {
     Ok(())
 }
 
-const MISSPELLED_WITHOUT_RIGHTS: [&str; 24] = [
+static MISSPELLED_WITHOUT_RIGHTS: [&str; 24] = [
     "",
     ",",
     ":",

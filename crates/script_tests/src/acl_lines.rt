@@ -2,7 +2,7 @@ use crate::lines::made;
 use std::test::Fail;
 
 /// Numbers of words that the form doesn't take. The words are ill-formed too, which is judged later.
-const COUNTS: [&str; 13] = [
+static COUNTS: [&str; 13] = [
     "0 a:b getfacl",
     "0 a:b getfacl /.. /..",
     "0 a:b setfacl",
@@ -20,7 +20,7 @@ const COUNTS: [&str; 13] = [
 
 #[test]
 fn the_form_says_how_many_words_there_are(rt: HostRuntime) -> Result<(), Fail> {
-    for line in COUNTS {
+    for line in &COUNTS {
         let fault = made(rt.alloc(), line)?;
         assert_eq!(rt; fault.as_str(), "0 BadLine", "of {line}");
     }
@@ -28,7 +28,7 @@ fn the_form_says_how_many_words_there_are(rt: HostRuntime) -> Result<(), Fail> {
 }
 
 /// Words that are ill-formed, alone and before another. A form that is none of the five is such a word.
-const FAULTS: [(&str, &str); 24] = [
+static FAULTS: [(&str, &str); 24] = [
     ("x a:b getfacl /..", "0 BadLine"),
     ("0 a:b getfacl /..", "19 BadName"),
     ("0 ann getfacl /..", "1 BadPath"),
@@ -66,9 +66,9 @@ const FAULTS: [(&str, &str); 24] = [
 
 #[test]
 fn the_first_ill_formed_word_of_setfacl_counts(rt: HostRuntime) -> Result<(), Fail> {
-    for (line, want) in FAULTS {
+    for (line, want) in &FAULTS {
         let found = made(rt.alloc(), line)?;
-        assert_eq!(rt; found.as_str(), want, "of {line}");
+        assert_eq!(rt; found.as_str(), *want, "of {line}");
     }
     Ok(())
 }

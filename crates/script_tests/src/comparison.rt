@@ -151,7 +151,7 @@ const FILES_DENIED: &str =
 /d/f -w- by other::---\n/ superuser by superuser\n/d/f -w- by other::---\n";
 
 /// Scripts, and what is denied of them.
-const COMPARED: [(&str, &str); 6] = [
+static COMPARED: [(&str, &str); 6] = [
     (FIRST_PATH, FIRST_PATH_DENIED),
     (RENAME, ""),
     (SUBTREE_RIGHTS, "/p/x/b rwx by other::r-x\n"),
@@ -162,8 +162,8 @@ const COMPARED: [(&str, &str); 6] = [
 
 #[test]
 fn core_and_rows_deny_the_same(rt: HostRuntime) -> Result<(), Fail> {
-    for (script, want) in COMPARED {
-        assert_eq!(rt; denials(rt.alloc(), script)?.as_str(), want);
+    for (script, want) in &COMPARED {
+        assert_eq!(rt; denials(rt.alloc(), script)?.as_str(), *want);
     }
     Ok(())
 }

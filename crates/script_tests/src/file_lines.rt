@@ -2,7 +2,7 @@ use crate::lines::made;
 use std::test::Fail;
 
 /// Numbers of words that the verb doesn't take. The words are ill-formed too, which is judged later.
-const COUNTS: [&str; 18] = [
+static COUNTS: [&str; 18] = [
     "0 a:b create /.. 888",
     "0 a:b create /.. 888 77 under under",
     "0 a:b append",
@@ -25,7 +25,7 @@ const COUNTS: [&str; 18] = [
 
 #[test]
 fn verbs_of_files_count_their_words(rt: HostRuntime) -> Result<(), Fail> {
-    for line in COUNTS {
+    for line in &COUNTS {
         let fault = made(rt.alloc(), line)?;
         assert_eq!(rt; fault.as_str(), "0 BadLine", "of {line}");
     }
@@ -33,7 +33,7 @@ fn verbs_of_files_count_their_words(rt: HostRuntime) -> Result<(), Fail> {
 }
 
 /// Requests, and words that are ill-formed, alone and before another.
-const SAID: [(&str, &str); 39] = [
+static SAID: [(&str, &str); 39] = [
     ("7 ann create /a 1644 3", "7 ann Create /a 1644 3 false"),
     ("0 ann create /a 0 016 over", "0 ann Create /a 0000 16 true"),
     ("0 ann append /a", "0 ann Append /a"),
@@ -80,9 +80,9 @@ const SAID: [(&str, &str); 39] = [
 
 #[test]
 fn lines_of_files_make_requests(rt: HostRuntime) -> Result<(), Fail> {
-    for (line, want) in SAID {
+    for (line, want) in &SAID {
         let found = made(rt.alloc(), line)?;
-        assert_eq!(rt; found.as_str(), want, "of {line}");
+        assert_eq!(rt; found.as_str(), *want, "of {line}");
     }
     Ok(())
 }

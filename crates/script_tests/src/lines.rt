@@ -163,7 +163,7 @@ pub(crate) fn made(alloc: Global, line: &str) -> Result<String, AllocError> {
 }
 
 /// Each verb with a word too few and a word too many. The words are ill-formed too, which is judged later.
-const COUNTS: [&str; 28] = [
+static COUNTS: [&str; 28] = [
     "",
     "0",
     "0 a:b",
@@ -196,7 +196,7 @@ const COUNTS: [&str; 28] = [
 
 #[test]
 fn counts_of_words_come_first(rt: HostRuntime) -> Result<(), Fail> {
-    for line in COUNTS {
+    for line in &COUNTS {
         let fault = made(rt.alloc(), line)?;
         assert_eq!(rt; fault.as_str(), "0 BadLine", "of {line}");
     }
@@ -204,7 +204,7 @@ fn counts_of_words_come_first(rt: HostRuntime) -> Result<(), Fail> {
 }
 
 /// Words that are ill-formed, alone and before another.
-const FAULTS: [(&str, &str); 40] = [
+static FAULTS: [(&str, &str); 40] = [
     ("x a:b ls /..", "0 BadLine"),
     ("0 a:b ls /..", "19 BadName"),
     ("0 ann ls /..", "1 BadPath"),
@@ -249,30 +249,48 @@ const FAULTS: [(&str, &str); 40] = [
 
 #[test]
 fn the_first_ill_formed_word_counts(rt: HostRuntime) -> Result<(), Fail> {
-    for (line, want) in FAULTS {
+    for (line, want) in &FAULTS {
         let found = made(rt.alloc(), line)?;
-        assert_eq!(rt; found.as_str(), want, "of {line}");
+        assert_eq!(rt; found.as_str(), *want, "of {line}");
     }
     Ok(())
+}
+
+/// A line with a group whose name has so many bytes.
+fn line_with_group(alloc: Global, length: u32) -> Result<String, AllocError> {
+    let mut line = String::from_str(alloc, "0 hdfs groups bob ")?;
+    for _ in 0..length {
+        line.push_str("g")?;
+    }
+    Ok(line)
+}
+
+fn push_groups(line: &mut String) -> Result<(), AllocError> {
+    for _ in 0..300 {
+        line.push_str(",h")?;
+    }
+    Ok(())
+}
+
+fn made_with_group(alloc: Global, length: u32) -> Result<String, AllocError> {
+    let line = line_with_group(alloc, length)?;
+    made(alloc, line.as_str())
+}
+
+fn made_with_groups(alloc: Global) -> Result<String, AllocError> {
+    let mut line = line_with_group(alloc, 255)?;
+    push_groups(&mut line)?;
+    made(alloc, line.as_str())
 }
 
 /// A group's name has at most 255 bytes; the list as a whole has no limit.
 #[test]
 fn lists_of_groups_have_no_limit(rt: HostRuntime) -> Result<(), Fail> {
-    let alloc = rt.alloc();
-    let mut line = String::from_str(alloc, "0 hdfs groups bob ")?;
-    for _ in 0..255 {
-        line.push_str("g")?;
-    }
-    let long = made(alloc, line.as_str())?;
+    let long = made_with_group(rt.alloc(), 255)?;
     assert!(rt; long.as_str().starts_with("0 hdfs SetGroups bob |ggg"));
-    let mut longer = line.clone()?;
-    longer.push_str("g")?;
-    assert_eq!(rt; made(alloc, longer.as_str())?.as_str(), "19 BadName");
-    for _ in 0..300 {
-        line.push_str(",h")?;
-    }
-    let longest = made(alloc, line.as_str())?;
-    assert!(rt; longest.as_str().starts_with("0 hdfs SetGroups bob |ggg"));
+    let longer = made_with_group(rt.alloc(), 256)?;
+    assert_eq!(rt; longer.as_str(), "19 BadName");
+    let longest = made_with_groups(rt.alloc())?;
+    assert!(rt; longest.as_str().ends_with("|h|h"));
     Ok(())
 }

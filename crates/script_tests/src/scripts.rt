@@ -94,6 +94,11 @@ fn texts_are_run_behind_one_another(rt: HostRuntime) -> Result<(), Fail> {
         "1 ok\n3 ok dir 0755 hdfs supergroup\n4 bad 0 BadLine\n"
     );
     assert!(rt; has_bad);
+    Ok(())
+}
+
+#[test]
+fn comments_are_counted_from_text_to_text(rt: HostRuntime) -> Result<(), Fail> {
     let (text, has_bad) = run_in_turn(rt.alloc(), "# a comment", "0 bob stat /x")?;
     assert_eq!(rt; text.as_str(), "2 refused 2 NotFound\n");
     assert!(rt; !has_bad);
