@@ -1,4 +1,7 @@
-//! Access control lists of directories in plain Rust, judged and modified as HDFS does.
+//! Access control lists in plain Rust, judged and modified as HDFS does. There are no default lists.
+
+use crate::names::{Names, Who};
+use crate::request::SpecFault;
 
 /// Whom an entry is for; with no name the owner, the owning group, the mask or all others.
 #[derive(Clone, Copy, PartialEq, Eq)]
@@ -9,35 +12,53 @@ pub enum EntryKind {
     Other,
 }
 
-/// An entry that a change names.
-#[derive(Clone)]
+/// An entry of a list, or one that a change names.
+#[derive(Clone, Copy)]
 pub struct Entry {
-    kind: EntryKind,
-    name: Option<String>,
-    rights: u16,
+    pub kind: EntryKind,
+    pub name: Option<Who>,
+    pub rights: u8,
 }
 
 /// How a list is changed.
-#[derive(Clone)]
 pub enum AclChange {
     /// These entries alone, those of owner, owning group and others among them.
-    Set(Vec<Entry>),
+    Set(Box<[Entry]>),
     /// These entries, each instead of one of the same kind and name.
-    Modify(Vec<Entry>),
+    Modify(Box<[Entry]>),
 }
 
-#[derive(Debug, Clone)]
+#[derive(Clone, Copy)]
 pub enum AclFault {
     NoBase,
     TooManyEntries,
 }
 
 /// The entries `KIND:[NAME]:RIGHTS` that a text spells, with a comma between each two.
-pub fn parse_spec(text: &str) -> Option<Vec<Entry>> {
-    text.split(',').map(parse_entry).collect()
+pub fn parse_spec(names: &mut Names, text: &str) -> Result<Box<[Entry]>, SpecFault> {
+    let entries: Option<Box<[Entry]>> = text
+        .split(',')
+        .map(|text| parse_entry(names, text))
+        .collect();
+    let entries = entries.ok_or(SpecFault::Form)?;
+    let is_twice = |(at, entry): (usize, &Entry)| {
+        let same = |other: &Entry| other.kind == entry.kind && other.name == entry.name;
+        entries[..at].iter().any(same)
+    };
+    let is_base = |entry: &Entry| matches!(entry.kind, EntryKind::Mask | EntryKind::Other);
+    if entries.iter().enumerate().any(is_twice) {
+        return Err(SpecFault::Duplicate);
+    }
+    if entries
+        .iter()
+        .any(|entry| entry.name.is_some() && is_base(entry))
+    {
+        return Err(SpecFault::NamedBase);
+    }
+    Ok(entries)
 }
 
-fn parse_entry(text: &str) -> Option<Entry> {
+fn parse_entry(names: &mut Names, text: &str) -> Option<Entry> {
     let mut fields = text.split(':');
     let kind = match fields.next()? {
         "user" => EntryKind::User,
@@ -46,93 +67,106 @@ fn parse_entry(text: &str) -> Option<Entry> {
         "other" => EntryKind::Other,
         _ => return None,
     };
-    let name = Some(fields.next()?)
-        .filter(|name| !name.is_empty())
-        .map(str::to_string);
+    let name = match fields.next()? {
+        "" => None,
+        name => Some(names.who(name)?),
+    };
     let rights = parse_rights(fields.next()?)?;
-    (fields.next().is_none()).then_some(Entry { kind, name, rights })
+    fields
+        .next()
+        .is_none()
+        .then_some(Entry { kind, name, rights })
 }
 
-fn parse_rights(text: &str) -> Option<u16> {
-    let letters = text.as_bytes();
-    (letters.len() == 3).then_some(())?;
-    letters
-        .iter()
-        .zip(b"rwx")
-        .try_fold(0, |rights, (found, letter)| match found {
-            b'-' => Some(rights << 1),
-            _ if found == letter => Some(rights << 1 | 1),
-            _ => None,
-        })
+fn parse_rights(text: &str) -> Option<u8> {
+    let letters: &[u8; 3] = text.as_bytes().try_into().ok()?;
+    let bit = |rights: u8, (found, letter): (&u8, &u8)| match found {
+        b'-' => Some(rights << 1),
+        _ if found == letter => Some(rights << 1 | 1),
+        _ => None,
+    };
+    letters.iter().zip(b"rwx").try_fold(0, bit)
 }
 
 /// What a named user or a named group is granted.
+#[derive(Clone, Copy)]
 struct NamedEntry {
-    name: String,
-    rights: u16,
+    name: Who,
+    rights: u8,
 }
 
 /// The entries that most lists don't have, named ones in the order of their names.
 struct Extension {
-    mask: u16,
+    mask: u8,
     users: Vec<NamedEntry>,
     groups: Vec<NamedEntry>,
 }
 
-/// The access control list of a directory, without a default list.
+/// An access control list, without a default list.
 pub struct Acl {
-    sticky: bool,
-    user: u16,
-    group: u16,
-    other: u16,
+    pub is_sticky: bool,
+    user: u8,
+    group: u8,
+    other: u8,
     extension: Option<Box<Extension>>,
+}
+
+/// The entry that decides, and the mask that filters it.
+#[derive(Clone, Copy)]
+pub struct Deciding {
+    pub entry: Entry,
+    pub mask: Option<u8>,
+}
+
+impl Deciding {
+    fn grants(&self, right: u8) -> bool {
+        self.entry.rights & self.mask.unwrap_or(0o7) & right == right
+    }
 }
 
 const MOST_NAMED: usize = 28;
 
 /// The rights of the entry without a name of a kind, where a spec has one.
-fn given(spec: &[Entry], kind: EntryKind) -> Option<u16> {
-    spec.iter()
-        .find(|entry| entry.kind == kind && entry.name.is_none())
-        .map(|entry| entry.rights)
+fn given(spec: &[Entry], kind: EntryKind) -> Option<u8> {
+    let is_given = |entry: &&Entry| entry.kind == kind && entry.name.is_none();
+    spec.iter().find(is_given).map(|entry| entry.rights)
 }
 
 /// The named entries of a kind.
-fn named(spec: &[Entry], kind: EntryKind) -> impl Iterator<Item = (&str, u16)> {
+fn named(spec: &[Entry], kind: EntryKind) -> impl Iterator<Item = NamedEntry> {
     spec.iter()
         .filter(move |entry| entry.kind == kind)
-        .filter_map(|entry| entry.name.as_deref().map(|name| (name, entry.rights)))
+        .filter_map(|entry| {
+            let rights = entry.rights;
+            entry.name.map(|name| NamedEntry { name, rights })
+        })
 }
 
-fn place(entries: &[NamedEntry], name: &str) -> Result<usize, usize> {
-    entries.binary_search_by(|entry| entry.name.as_str().cmp(name))
+fn place(names: &Names, entries: &[NamedEntry], name: Who) -> Result<usize, usize> {
+    if let Some(index) = entries.iter().position(|entry| entry.name == name) {
+        return Ok(index);
+    }
+    entries.binary_search_by(|entry| names.text(entry.name).cmp(names.text(name)))
 }
 
 /// How many entries a spec adds to those of a kind.
-fn added(entries: &[NamedEntry], spec: &[Entry], kind: EntryKind) -> usize {
-    named(spec, kind)
-        .filter(|(name, _)| place(entries, name).is_err())
-        .count()
+fn added(names: &Names, entries: &[NamedEntry], spec: &[Entry], kind: EntryKind) -> usize {
+    let is_new = |new: &NamedEntry| place(names, entries, new.name).is_err();
+    named(spec, kind).filter(is_new).count()
 }
 
 /// Puts in the named entries of a kind, each instead of one of the same name.
-fn put_each(entries: &mut Vec<NamedEntry>, spec: &[Entry], kind: EntryKind) {
-    for (name, rights) in named(spec, kind) {
-        match place(entries, name) {
-            Ok(index) => entries[index].rights = rights,
-            Err(index) => entries.insert(
-                index,
-                NamedEntry {
-                    name: name.to_string(),
-                    rights,
-                },
-            ),
+fn put_each(names: &Names, entries: &mut Vec<NamedEntry>, spec: &[Entry], kind: EntryKind) {
+    for new in named(spec, kind) {
+        match place(names, entries, new.name) {
+            Ok(index) => entries[index] = new,
+            Err(index) => entries.insert(index, new),
         }
     }
 }
 
 impl Extension {
-    fn new() -> Extension {
+    fn empty() -> Extension {
         Extension {
             mask: 0,
             users: Vec::new(),
@@ -145,128 +179,158 @@ impl Extension {
     }
 
     /// All that the entries of a class grant together.
-    fn union_with(&self, group: u16) -> u16 {
+    fn union_with(&self, group: u8) -> u8 {
         let named = self.users.iter().chain(&self.groups);
         named.fold(group, |union, entry| union | entry.rights)
     }
 
-    fn has_room_for(&self, spec: &[Entry]) -> bool {
-        let added =
-            added(&self.users, spec, EntryKind::User) + added(&self.groups, spec, EntryKind::Group);
-        self.users.len() + self.groups.len() + added <= MOST_NAMED
+    fn has_room_for(&self, names: &Names, spec: &[Entry]) -> bool {
+        let users = added(names, &self.users, spec, EntryKind::User);
+        let groups = added(names, &self.groups, spec, EntryKind::Group);
+        self.users.len() + self.groups.len() + users + groups <= MOST_NAMED
     }
 
-    /// The rights of the entry that decides for a caller who isn't the owner: a named user's, else the owning group's or a named
-    /// group's that grants the right, else those of one that doesn't. No entry matches a stranger.
-    fn rights_of(
-        &self,
-        caller: &str,
-        groups: &[String],
-        in_group: Option<u16>,
-        right: u16,
-    ) -> Option<u16> {
-        if let Some(entry) = self.users.iter().find(|entry| entry.name == caller) {
-            return Some(entry.rights & self.mask);
+    fn deciding(&self, kind: EntryKind, entry: &NamedEntry) -> Deciding {
+        let entry = Entry {
+            kind,
+            name: Some(entry.name),
+            rights: entry.rights,
+        };
+        Deciding {
+            entry,
+            mask: Some(self.mask),
         }
-        let mut matching = in_group
-            .into_iter()
-            .chain(
-                self.groups
-                    .iter()
-                    .filter(|entry| groups.contains(&entry.name))
-                    .map(|entry| entry.rights),
-            )
-            .map(|rights| rights & self.mask)
-            .peekable();
-        let first = matching.peek().copied();
-        matching.find(|rights| rights & right == right).or(first)
     }
+}
+
+fn base(kind: EntryKind, rights: u8, mask: Option<u8>) -> Deciding {
+    let entry = Entry {
+        kind,
+        name: None,
+        rights,
+    };
+    Deciding { entry, mask }
+}
+
+/// Who is judged: a caller and his groups, beside the owner and the owning group of a node.
+#[derive(Clone, Copy)]
+pub struct Judged<'a> {
+    pub owner: Who,
+    pub group: Who,
+    pub caller: Who,
+    pub groups: &'a [Who],
 }
 
 impl Acl {
     pub fn from_mode(mode: u16) -> Acl {
+        let three = |shift: u16| (mode >> shift & 0o7) as u8;
         Acl {
-            sticky: mode & 0o1000 != 0,
-            user: mode >> 6 & 0o7,
-            group: mode >> 3 & 0o7,
-            other: mode & 0o7,
+            is_sticky: mode & 0o1000 != 0,
+            user: three(6),
+            group: three(3),
+            other: three(0),
             extension: None,
         }
     }
 
     /// The mode that the list shows: where there is a mask, it stands for the group.
     pub fn mode(&self) -> u16 {
-        let group = match &self.extension {
-            Some(extension) => extension.mask,
-            None => self.group,
-        };
-        u16::from(self.sticky) << 9 | self.user << 6 | group << 3 | self.other
+        let group = self
+            .extension
+            .as_ref()
+            .map_or(self.group, |extension| extension.mask);
+        let bits = |rights: u8, shift: u16| u16::from(rights) << shift;
+        bits(self.is_sticky.into(), 9) | bits(self.user, 6) | bits(group, 3) | bits(self.other, 0)
+    }
+
+    pub fn set_mode(&mut self, mode: u16, is_directory: bool) {
+        let new = Acl::from_mode(mode);
+        self.is_sticky = new.is_sticky && is_directory;
+        self.user = new.user;
+        self.other = new.other;
+        match &mut self.extension {
+            Some(extension) => extension.mask = new.group,
+            None => self.group = new.group,
+        }
     }
 
     pub fn is_extended(&self) -> bool {
         self.extension.is_some()
     }
 
-    /// Whether the entry that decides for a caller grants a right.
-    #[inline]
-    pub fn grants(
-        &self,
-        owner: &str,
-        group: &String,
-        caller: &str,
-        groups: &[String],
-        right: u16,
-    ) -> bool {
-        let rights = if caller == owner {
-            self.user
-        } else {
-            let in_group = groups.contains(group).then_some(self.group);
-            match &self.extension {
-                Some(extension) => extension.rights_of(caller, groups, in_group, right),
-                None => in_group,
-            }
-            .unwrap_or(self.other)
+    /// The entry that decides for a caller about rights: the owner's, else a named user's, else of those of his groups the first
+    /// that grants the rights, else the first, else that of all others.
+    fn deciding(&self, judged: Judged, rights: u8) -> Deciding {
+        if judged.caller == judged.owner {
+            return base(EntryKind::User, self.user, None);
+        }
+        let mask = self.extension.as_ref().map(|extension| extension.mask);
+        let owning = judged.groups.contains(&judged.group);
+        let owning = owning.then(|| base(EntryKind::Group, self.group, mask));
+        let others = || base(EntryKind::Other, self.other, None);
+        let Some(extension) = &self.extension else {
+            return owning.unwrap_or_else(others);
         };
-        rights & right == right
+        if let Some(entry) = extension
+            .users
+            .iter()
+            .find(|entry| entry.name == judged.caller)
+        {
+            return extension.deciding(EntryKind::User, entry);
+        }
+        let matching = extension
+            .groups
+            .iter()
+            .filter(|entry| judged.groups.contains(&entry.name));
+        let matching = matching.map(|entry| extension.deciding(EntryKind::Group, entry));
+        let mut matching = owning.into_iter().chain(matching).peekable();
+        let first = matching.peek().copied();
+        matching
+            .find(|deciding| deciding.grants(rights))
+            .or(first)
+            .unwrap_or_else(others)
+    }
+
+    /// What decides against a caller who asks for rights, if it does.
+    #[inline]
+    pub fn denial(&self, judged: Judged, rights: u8) -> Option<Deciding> {
+        let deciding = self.deciding(judged, rights);
+        (!deciding.grants(rights)).then_some(deciding)
     }
 
     /// Changes the list, or leaves it as it was.
-    pub fn change(&mut self, change: &AclChange) -> Result<(), AclFault> {
+    pub fn change(&mut self, names: &Names, change: &AclChange) -> Result<(), AclFault> {
         match change {
-            AclChange::Set(spec) => self.set(spec),
-            AclChange::Modify(spec) => self.add(spec),
+            AclChange::Set(spec) => self.set(names, spec),
+            AclChange::Modify(spec) => self.add(names, spec),
         }
     }
 
-    fn set(&mut self, spec: &[Entry]) -> Result<(), AclFault> {
+    fn set(&mut self, names: &Names, spec: &[Entry]) -> Result<(), AclFault> {
         let bases = [EntryKind::User, EntryKind::Group, EntryKind::Other];
         if bases.iter().any(|kind| given(spec, *kind).is_none()) {
             return Err(AclFault::NoBase);
         }
-        let mut list = Acl {
-            sticky: self.sticky,
-            ..Acl::from_mode(0)
-        };
-        list.add(spec)?;
+        let mut list = Acl::from_mode(0);
+        list.is_sticky = self.is_sticky;
+        list.add(names, spec)?;
         *self = list;
         Ok(())
     }
 
-    /// Adds entries. A mask that isn't given becomes the union of its class.
-    fn add(&mut self, spec: &[Entry]) -> Result<(), AclFault> {
-        let mut extension = match self.extension.take() {
-            Some(extension) => extension,
-            None => Box::new(Extension::new()),
-        };
-        if !extension.has_room_for(spec) {
+    /// Adds entries. A mask that isn't given becomes the union of its class; with no named entries it filters the group for good.
+    fn add(&mut self, names: &Names, spec: &[Entry]) -> Result<(), AclFault> {
+        let new = || Box::new(Extension::empty());
+        let mut extension = self.extension.take().unwrap_or_else(new);
+        if !extension.has_room_for(names, spec) {
             self.extension = Some(extension).filter(|old| !old.is_empty());
             return Err(AclFault::TooManyEntries);
         }
         self.user = given(spec, EntryKind::User).unwrap_or(self.user);
         self.group = given(spec, EntryKind::Group).unwrap_or(self.group);
         self.other = given(spec, EntryKind::Other).unwrap_or(self.other);
-        put_each(&mut extension.users, spec, EntryKind::User);
-        put_each(&mut extension.groups, spec, EntryKind::Group);
+        put_each(names, &mut extension.users, spec, EntryKind::User);
+        put_each(names, &mut extension.groups, spec, EntryKind::Group);
         let mask = given(spec, EntryKind::Mask);
         if extension.is_empty() {
             self.group &= mask.unwrap_or(self.group);

@@ -1,7 +1,9 @@
-//! The leases of clients in plain Rust: which files each has open, and when each was last renewed, the oldest first.
+//! The leases of clients: which files each has open, and when each was last renewed, the oldest first.
 
-use crate::namespace::Path;
-use std::collections::{HashMap, HashSet};
+use crate::names::{FastHasher, FastMap, Who};
+use crate::tree::Place;
+use std::collections::HashSet;
+use std::hash::BuildHasherDefault;
 
 /// The greatest age, in milliseconds, at which no other client may take over a file.
 const SOFT_LIMIT: u64 = 60_000;
@@ -13,16 +15,16 @@ const HARD_LIMIT: u64 = 1_200_000;
 const NONE: usize = usize::MAX;
 
 struct Lease {
-    client: String,
+    client: Who,
     renewed: u64,
-    open_files: HashSet<Path>,
+    open_files: HashSet<Place, BuildHasherDefault<FastHasher>>,
     older: usize,
     newer: usize,
 }
 
 /// A linked list in a vector, with an index by client. A client has a lease where it has a file open.
 pub struct Leases {
-    places: HashMap<String, usize>,
+    indexes: FastMap<Who, usize>,
     leases: Vec<Lease>,
     free: Vec<usize>,
     oldest: usize,
@@ -32,7 +34,7 @@ pub struct Leases {
 impl Leases {
     pub fn new() -> Leases {
         Leases {
-            places: HashMap::new(),
+            indexes: FastMap::default(),
             leases: Vec::new(),
             free: Vec::new(),
             oldest: NONE,
@@ -40,8 +42,8 @@ impl Leases {
         }
     }
 
-    fn unlink(&mut self, place: usize) {
-        let (older, newer) = (self.leases[place].older, self.leases[place].newer);
+    fn unlink(&mut self, index: usize) {
+        let (older, newer) = (self.leases[index].older, self.leases[index].newer);
         match older {
             NONE => self.oldest = newer,
             older => self.leases[older].newer = newer,
@@ -52,87 +54,89 @@ impl Leases {
         }
     }
 
-    fn link_last(&mut self, place: usize) {
+    fn link_last(&mut self, index: usize) {
         let older = self.newest;
-        self.leases[place].older = older;
-        self.leases[place].newer = NONE;
+        self.leases[index].older = older;
+        self.leases[index].newer = NONE;
         match older {
-            NONE => self.oldest = place,
-            older => self.leases[older].newer = place,
+            NONE => self.oldest = index,
+            older => self.leases[older].newer = index,
         }
-        self.newest = place;
+        self.newest = index;
     }
 
-    fn add(&mut self, client: &str) -> usize {
+    fn add(&mut self, client: Who) -> usize {
         let lease = Lease {
-            client: client.to_string(),
+            client,
             renewed: 0,
-            open_files: HashSet::new(),
+            open_files: HashSet::default(),
             older: NONE,
             newer: NONE,
         };
-        let place = match self.free.pop() {
-            Some(place) => {
-                self.leases[place] = lease;
-                place
+        let index = match self.free.pop() {
+            Some(index) => {
+                self.leases[index] = lease;
+                index
             }
             None => {
                 self.leases.push(lease);
                 self.leases.len() - 1
             }
         };
-        self.places.insert(client.to_string(), place);
-        place
+        self.indexes.insert(client, index);
+        index
     }
 
     /// A client has opened a file: its lease is renewed.
-    pub fn opened(&mut self, client: &str, path: &Path, now: u64) {
-        let place = match self.places.get(client) {
-            Some(&place) => {
-                self.unlink(place);
-                place
+    pub fn opened(&mut self, client: Who, file: Place, now: u64) {
+        let index = match self.indexes.get(&client) {
+            Some(&index) => {
+                self.unlink(index);
+                index
             }
             None => self.add(client),
         };
-        self.link_last(place);
-        self.leases[place].renewed = now;
-        self.leases[place].open_files.insert(path.clone());
+        self.link_last(index);
+        self.leases[index].renewed = now;
+        self.leases[index].open_files.insert(file);
     }
 
     /// A file that a client had open is closed. With the last one its lease ends.
-    pub fn closed(&mut self, client: &str, path: &Path) {
-        let Some(&place) = self.places.get(client) else {
+    pub fn closed(&mut self, client: Who, file: Place) {
+        let Some(&index) = self.indexes.get(&client) else {
             return;
         };
-        self.leases[place].open_files.remove(path);
-        if self.leases[place].open_files.is_empty() {
-            self.unlink(place);
-            self.places.remove(client);
-            self.free.push(place);
+        self.leases[index].open_files.remove(&file);
+        if self.leases[index].open_files.is_empty() {
+            self.unlink(index);
+            self.indexes.remove(&client);
+            self.free.push(index);
         }
     }
 
-    /// Whether the age of a client's lease isn't past a limit.
-    pub fn is_live(&self, client: &str, now: u64) -> bool {
-        self.places
-            .get(client)
-            .is_some_and(|&place| self.age(place, now) <= SOFT_LIMIT.min(HARD_LIMIT))
+    /// Whether the age of a client's lease is past no limit.
+    pub fn is_live(&self, client: Who, now: u64) -> bool {
+        let index = self.indexes.get(&client);
+        index.is_some_and(|&index| self.age(index, now) <= SOFT_LIMIT.min(HARD_LIMIT))
     }
 
-    fn age(&self, place: usize, now: u64) -> u64 {
-        now.saturating_sub(self.leases[place].renewed)
+    fn age(&self, index: usize, now: u64) -> u64 {
+        now.saturating_sub(self.leases[index].renewed)
     }
 
-    /// The clients whose leases are past the hard limit, each with its files.
-    pub fn past_hard(&self, now: u64) -> Vec<(String, Vec<Path>)> {
-        let mut clients = Vec::new();
-        let mut place = self.oldest;
-        while place != NONE && self.age(place, now) > HARD_LIMIT {
-            let lease = &self.leases[place];
-            let paths = lease.open_files.iter().cloned().collect();
-            clients.push((lease.client.clone(), paths));
-            place = lease.newer;
+    /// Ends the oldest lease, if it is past the hard limit, and tells the files that its client had open.
+    pub fn end_past_hard(&mut self, now: u64) -> Option<Vec<Place>> {
+        let index = self.oldest;
+        if index == NONE || self.age(index, now) <= HARD_LIMIT {
+            return None;
         }
-        clients
+        self.unlink(index);
+        self.indexes.remove(&self.leases[index].client);
+        self.free.push(index);
+        Some(
+            std::mem::take(&mut self.leases[index].open_files)
+                .into_iter()
+                .collect(),
+        )
     }
 }

@@ -1,74 +1,125 @@
 //! `plain NAME N` does a workload of `hdfs_bench` in plain Rust, and prints the same line, `NAME N OPS_PER_SECOND`: the mark that
-//! the proved namesystem is measured by. Build it with `rustc --edition 2024 -O`. The workloads are `mkdirs`, `stat`, `acl_stat`
-//! and `setfacl` on a namespace, and `create_complete`, `append_takeover`, `tick_idle`, `tick_expired`, `step_stat` and `look_stat`
-//! on a NameNode, which has leases and a history beside it.
+//! the proved namesystem is measured by. Build it with `rustc --edition 2024 -O`.
 //!
-//! The paths, their order, the users, the modes, the access lists, the moments and the bundles are those of `hdfs_bench`, and so
-//! is what is timed: each request until its reply or answer is dropped. The caller is looked up among the users, each existing
-//! directory above the path is judged for the right to traverse it, what is made is judged by the right to write the last existing
-//! component, `stat` answers with copies of owner, group and the client that has the file open, `setfacl` judges who owns the
-//! directory, and `append` and `complete` who has the file open. A step keeps a copy of the request and of the verdict in the
-//! history, and answers with copies of both. Leases are linked in the order of their renewals, with an index by client and the
-//! paths of the files that each has open.
+//! Both programs read the workloads from one file, spell the same lines, and print the same answers (`plain NAME N script` and
+//! `plain NAME N answers` show them; `tools/compare-bench` compares them). What is timed is the same too: each line is read, its
+//! request is stepped, with its entry in the history, and the answer is printed, into memory. `plain - < SCRIPT` prints what a
+//! script is answered.
 //!
-//! It does less in these ways: it has seven verbs, and so no path of an open file changes; a request finds out what it needs as it
-//! goes down, once, where `hdfs_bench` makes a list of its needs and judges one after another; a denial names the path and the
-//! right that is missing, and not what decided; there are no default lists, and two forms of `setfacl`; and it aborts for want of
-//! memory. A request is served by one match. What is made is made aside, so that nothing has changed where it is denied or
-//! refused; `setfacl` asks first whether the entries have room, and then changes the list in place.
+//! It is written for speed, with nothing proved: a path is one allocation, users and groups are numbers, nodes stand in one vector,
+//! a request moves into the history, and an answer is printed from its entry. It does less in these ways: it has only the verbs of
+//! the workloads, of `setfacl` two forms, no default lists, no blocks, no recovery, and it aborts for want of memory.
 
 mod access_list;
+mod answer;
 mod leases;
 mod name_node;
-mod namespace;
-mod steps;
-mod workloads;
+mod names;
+mod request;
+mod session;
+mod text;
+mod tree;
+#[path = "../../crates/hdfs_bench/src/workload.rt"]
+mod workload;
 
-use namespace::Failure;
-use std::env;
+use session::Session;
+use std::io::{self, Write};
+use std::mem;
 use std::process::ExitCode;
-use std::time::Duration;
+use std::time::{Duration, Instant};
+use text::text_of;
+use workload::{Operations, WORKLOADS, Workload};
 
-const NAMES: &str = "mkdirs stat acl_stat setfacl create_complete append_takeover tick_idle tick_expired step_stat look_stat";
+/// The exit status for a fault of the command line.
+const BAD_COMMAND_LINE: u8 = 2;
 
-/// Does a workload; answers how many operations that was, and how long they took.
-fn run(name: &str, count: u32) -> Option<Result<(u32, Duration), Failure>> {
-    let counted = |taken: Result<Duration, Failure>| taken.map(|taken| (count, taken));
-    Some(match name {
-        "mkdirs" => counted(workloads::mkdirs(count)),
-        "stat" => counted(workloads::stat(count)),
-        "acl_stat" => counted(workloads::acl_stat(count)),
-        "setfacl" => counted(workloads::setfacl(count)),
-        "create_complete" => steps::create_complete(count),
-        "append_takeover" => steps::append_takeover(count),
-        "tick_idle" => steps::tick_idle(count),
-        "tick_expired" => steps::tick_expired(count),
-        "step_stat" => steps::step_stat(count),
-        "look_stat" => steps::look_stat(count),
-        _ => return None,
-    })
+/// Whether the answer in a line of output, behind its number, is `ok`.
+fn is_ok(line: &str) -> bool {
+    let answer = line.split_once(' ').map_or("", |(_, answer)| answer);
+    answer == "ok" || answer.starts_with("ok ")
 }
 
-fn main() -> ExitCode {
-    let words: Vec<String> = env::args().collect();
-    let asked = match words.as_slice() {
-        [_, name, count] => count.parse().ok().map(|count| (name.as_str(), count)),
-        _ => None,
-    };
-    let timed = asked.and_then(|(name, count)| Some((name, count, run(name, count)?)));
-    match timed {
-        Some((name, count, Ok((operations, taken)))) => {
-            let rate = u128::from(operations) * 1_000_000_000 / taken.as_nanos().max(1);
-            println!("{name} {count} {rate}");
-            ExitCode::SUCCESS
-        }
-        Some((_, _, Err(failure))) => {
-            eprintln!("plain: {failure:?}");
-            ExitCode::FAILURE
-        }
-        None => {
-            eprintln!("usage: plain NAME N, with a NAME of: {NAMES}");
-            ExitCode::from(2)
-        }
+/// Runs the lines that prepare and those that are timed, and tells how long the latter took.
+fn run(session: &mut Session, before: &str, timed: &str) -> Duration {
+    session.run_more(before);
+    let start = Instant::now();
+    session.run_more(timed);
+    let taken = start.elapsed();
+    let count = session.output().lines().filter(|line| is_ok(line)).count();
+    assert_eq!(
+        count,
+        before.lines().count() + timed.lines().count(),
+        "a line isn't answered ok"
+    );
+    taken
+}
+
+/// How many operations the timed lines of a workload are.
+fn operations(workload: &Workload, size: u32, timed: &str) -> u128 {
+    match workload.operations {
+        Operations::Lines => timed.lines().count() as u128,
+        Operations::Size => size.into(),
+        Operations::Fixed(count) => count.into(),
     }
+}
+
+fn print(text: &str) -> io::Result<()> {
+    io::stdout().lock().write_all(text.as_bytes())
+}
+
+fn show(workload: &Workload, size: u32, shown: &str) -> io::Result<()> {
+    let before = text_of(workload.before, size);
+    let timed = text_of(workload.timed, size);
+    if shown == "script" {
+        print(&before)?;
+        return print(&timed);
+    }
+    let mut session = Session::open();
+    let taken = run(&mut session, &before, &timed);
+    if shown == "answers" {
+        print(session.output())?;
+    } else {
+        let operations = operations(workload, size, &timed);
+        let rate = operations * 1_000_000_000 / taken.as_nanos().max(1);
+        println!("{} {size} {rate}", workload.name);
+    }
+    // what it holds needn't be given back
+    mem::forget(session);
+    Ok(())
+}
+
+/// A workload of a size, and what is shown of it.
+fn asked(words: &[&str]) -> Option<(&'static Workload, u32, String)> {
+    let (name, size, shown) = match words {
+        [_, name, size] => (name, size, "rate"),
+        [_, name, size, shown @ ("script" | "answers")] => (name, size, *shown),
+        _ => return None,
+    };
+    let workload = WORKLOADS.iter().find(|workload| workload.name == *name)?;
+    Some((workload, size.parse().ok()?, shown.to_string()))
+}
+
+fn run_input() -> io::Result<()> {
+    let mut session = Session::open();
+    session.run_more(&io::read_to_string(io::stdin())?);
+    print(session.output())
+}
+
+fn main() -> io::Result<ExitCode> {
+    let words: Vec<String> = std::env::args().collect();
+    let words: Vec<&str> = words.iter().map(String::as_str).collect();
+    if let [_, "-"] = words[..] {
+        run_input()?;
+        return Ok(ExitCode::SUCCESS);
+    }
+    let Some((workload, size, shown)) = asked(&words) else {
+        let names: Vec<&str> = WORKLOADS.iter().map(|workload| workload.name).collect();
+        eprintln!(
+            "usage: plain NAME N [script|answers], with a NAME of: {}",
+            names.join(" ")
+        );
+        return Ok(ExitCode::from(BAD_COMMAND_LINE));
+    };
+    show(workload, size, &shown)?;
+    Ok(ExitCode::SUCCESS)
 }

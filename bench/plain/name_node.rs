@@ -1,11 +1,16 @@
-//! A NameNode in plain Rust: a namespace, the leases of clients, and the history of all requests that were stepped.
+//! A NameNode in plain Rust: the tree, the users, the leases of clients, and the history of all requests.
 
+use crate::access_list::AclChange;
+use crate::answer::{Failure, FileDetail, Refusal, Reply, Status, Verdict};
 use crate::leases::Leases;
-use crate::namespace::{
-    Caller, Failure, File, FileState, LastBlock, Made, Namespace, Node, Op, Path, Reply, Request,
+use crate::names::{FastMap, Names, Who};
+use crate::request::{Op, Request};
+use crate::tree::{
+    Caller, File, FileState, Held, Node, Place, Tree, Walk, last_name, require_superuser,
 };
 
-pub type Verdict = Result<Reply, Failure>;
+const MOST_NAMES: usize = 1000;
+const MOST_BYTES: usize = 8000;
 
 /// One step: a request, and the verdict on it.
 #[allow(dead_code)]
@@ -16,174 +21,370 @@ pub struct HistoryEntry {
     pass: u64,
     index: u64,
     request: Request,
-    verdict: Verdict,
-}
-
-/// What a caller is told.
-#[allow(dead_code)]
-pub struct Answer {
-    pub place: u64,
-    pub request: Request,
     pub verdict: Verdict,
 }
 
+/// The known users, each with its groups.
+struct Users {
+    groups: FastMap<Who, Box<[Who]>>,
+    superuser: Who,
+    supergroup: Who,
+}
+
+impl Users {
+    fn caller(&self, name: Who) -> Caller<'_> {
+        let groups = self.groups.get(&name).map_or(&[][..], |groups| groups);
+        Caller {
+            name,
+            groups,
+            is_superuser: name == self.superuser || groups.contains(&self.supergroup),
+        }
+    }
+}
+
 pub struct NameNode {
-    namespace: Namespace,
+    tree: Tree,
+    users: Users,
     leases: Leases,
-    /// The greatest moment of a request that was stepped.
+    /// The greatest moment of a request.
     clock: u64,
     history: Vec<HistoryEntry>,
 }
 
-/// What a verb of leases works on.
-struct Writing<'a> {
-    root: &'a mut Node,
+/// What the verbs work on.
+struct Serving<'a> {
+    names: &'a Names,
+    tree: &'a mut Tree,
     leases: &'a mut Leases,
     caller: Caller<'a>,
     now: u64,
 }
 
 impl NameNode {
-    pub fn new(namespace: Namespace) -> NameNode {
+    pub fn new(names: &mut Names) -> NameNode {
+        let superuser = names.who("hdfs").expect("a name");
+        let supergroup = names.who("supergroup").expect("a name");
         NameNode {
-            namespace,
+            tree: Tree::new(superuser, supergroup),
+            users: Users {
+                groups: FastMap::default(),
+                superuser,
+                supergroup,
+            },
             leases: Leases::new(),
             clock: 0,
             history: Vec::new(),
         }
     }
 
-    pub fn place(&self) -> u64 {
-        self.history.len() as u64
-    }
-
     /// Answers a request, which the history keeps with its verdict.
-    pub fn step(&mut self, pass: u64, index: u64, request: &Request) -> Answer {
+    pub fn step(&mut self, names: &Names, request: Request) -> &HistoryEntry {
         self.clock = self.clock.max(request.moment);
-        let verdict = self.serve(request);
-        let place = self.place() + 1;
+        let (request, verdict) = self.serve(names, request);
+        let place = self.history.len() as u64;
         self.history.push(HistoryEntry {
-            place,
-            pass,
-            index,
-            request: request.clone(),
-            verdict: verdict.clone(),
+            place: place + 1,
+            pass: 0,
+            index: place,
+            request,
+            verdict,
         });
-        Answer {
-            place,
-            request: request.clone(),
-            verdict,
-        }
+        self.history.last().expect("an entry")
     }
 
-    /// Answers what only looks, which the history doesn't keep.
-    pub fn look(&self, request: &Request) -> Answer {
+    fn serve(&mut self, names: &Names, request: Request) -> (Request, Verdict) {
         let verdict = match &request.op {
-            Op::Stat(path) => self.namespace.stat(&request.caller, path),
-            _ => unreachable!("a verb that doesn't only look"),
+            Op::AddUser(user, groups) => self.add_user(names, request.caller, *user, groups),
+            op => self.serving(names, request.caller).serve(op),
         };
-        Answer {
-            place: self.place(),
-            request: request.clone(),
-            verdict,
-        }
+        (request, verdict)
     }
 
-    fn serve(&mut self, request: &Request) -> Verdict {
-        if let Op::Mkdirs(..) | Op::Stat(..) | Op::SetAcl(..) = request.op {
-            return self.namespace.serve(request);
+    fn add_user(&mut self, names: &Names, caller: Who, user: Who, groups: &[Who]) -> Verdict {
+        require_superuser(self.users.caller(caller))?;
+        if names.is_node(user) {
+            return Err(Refusal::BadName.into());
         }
-        let Namespace { root, users } = &mut self.namespace;
-        let mut writing = Writing {
-            root,
+        if self.users.groups.contains_key(&user) {
+            return Err(Refusal::Exists.into());
+        }
+        self.users.groups.insert(user, groups.into());
+        Ok(Reply::Empty)
+    }
+
+    fn serving<'a>(&'a mut self, names: &'a Names, caller: Who) -> Serving<'a> {
+        Serving {
+            names,
+            tree: &mut self.tree,
             leases: &mut self.leases,
-            caller: users.caller(&request.caller),
+            caller: self.users.caller(caller),
             now: self.clock,
-        };
-        match &request.op {
-            Op::Create(path, mode, replication, over) => {
-                writing.create(path, *mode, *replication, *over)
-            }
-            Op::Append(path) => writing.append(path),
-            Op::Complete(path, last) => writing.complete(path, *last),
-            Op::Tick => writing.tick(),
-            Op::Mkdirs(..) | Op::Stat(..) | Op::SetAcl(..) => unreachable!("served above"),
         }
     }
 }
 
-impl Writing<'_> {
-    fn create(&mut self, path: &Path, mode: u16, replication: u8, over: bool) -> Verdict {
-        let made = Made {
-            caller: &self.caller,
-            path: &path.names,
-            mode,
-        };
-        let holder = self.root.create(&made, 0, replication, over)?;
-        if let Some(holder) = holder {
-            self.leases.closed(&holder, path);
+impl Serving<'_> {
+    fn serve(&mut self, op: &Op) -> Verdict {
+        match op {
+            Op::Mkdirs(path, mode) => self.mkdirs(path, *mode),
+            Op::Stat(path) => self.stat(path),
+            Op::List(path) => self.list(path),
+            Op::Delete(path, is_recursive) => self.delete(path, *is_recursive),
+            Op::Rename(from, to) => self.rename(from, to),
+            Op::SetMode(path, mode) => self.set_mode(path, *mode),
+            Op::SetAcl(path, change) => self.set_acl(path, change),
+            Op::Create(path, mode, replication, over) => {
+                self.create(path, *mode, *replication, *over)
+            }
+            Op::Append(path) => self.append(path),
+            Op::Complete(path) => self.complete(path),
+            Op::Tick => self.tick(),
+            Op::AddUser(..) => unreachable!("users are added elsewhere"),
         }
-        self.leases.opened(self.caller.name, path, self.now);
+    }
+
+    fn walk<'p>(&self, path: &'p str) -> Result<Walk<'p>, Failure> {
+        Ok(self.tree.walk(self.caller, path)?)
+    }
+
+    fn last(&self, walk: &Walk) -> &Node {
+        self.tree.node(walk.last)
+    }
+
+    /// No file is above the path.
+    fn expect_no_file_above(&self, walk: &Walk) -> Result<(), Refusal> {
+        if walk.is_found() || self.last(walk).is_directory() {
+            return Ok(());
+        }
+        Err(Refusal::NotDirectory(walk.front().into()))
+    }
+
+    /// Something has the path.
+    fn expect_found(&self, walk: &Walk) -> Result<Place, Refusal> {
+        self.expect_no_file_above(walk)?;
+        if walk.is_found() {
+            Ok(walk.last)
+        } else {
+            Err(Refusal::NotFound)
+        }
+    }
+
+    fn mkdirs(&mut self, path: &str, mode: u16) -> Verdict {
+        let walk = self.walk(path)?;
+        if walk.is_found() {
+            let is_directory = self.last(&walk).is_directory();
+            return if is_directory {
+                Ok(Reply::Empty)
+            } else {
+                Err(Refusal::Exists.into())
+            };
+        }
+        self.tree.require_write_above(self.caller, &walk)?;
+        self.expect_no_file_above(&walk)?;
+        self.tree.make(self.caller.name, &walk, mode, None);
         Ok(Reply::Empty)
     }
 
-    fn append(&mut self, path: &Path) -> Verdict {
-        let file = self.root.find_writable(&self.caller, &path.names)?;
-        let holder = match &file.state {
-            FileState::Recovering(..) => return Err(Failure::RecoveryRunning),
-            FileState::Closed => {
-                file.state = FileState::Open(self.caller.name.to_string());
-                self.leases.opened(self.caller.name, path, self.now);
-                return Ok(Reply::Empty);
+    fn stat(&mut self, path: &str) -> Verdict {
+        let walk = self.walk(path)?;
+        let node = self.tree.node(self.expect_found(&walk)?);
+        Ok(Reply::Status(Status {
+            mode: node.acl.mode(),
+            is_extended: node.acl.is_extended(),
+            owner: node.owner,
+            group: node.group,
+            file: match &node.held {
+                Held::File(file) => Some(FileDetail {
+                    replication: file.replication,
+                    state: file.state,
+                }),
+                Held::Directory(_) => None,
+            },
+        }))
+    }
+
+    fn list(&mut self, path: &str) -> Verdict {
+        let walk = self.walk(path)?;
+        self.tree.require_listing(self.caller, &walk)?;
+        let mut text = String::new();
+        match &self.tree.node(self.expect_found(&walk)?).held {
+            Held::File(_) => {
+                text.push('/');
+                text.push_str(last_name(path));
             }
-            FileState::Open(holder) => holder,
+            Held::Directory(children) => {
+                text.reserve(children.keys().map(|name| name.len() + 1).sum());
+                for name in children.keys() {
+                    text.push('/');
+                    text.push_str(name);
+                }
+            }
+        }
+        Ok(Reply::Names(text.into()))
+    }
+
+    fn delete(&mut self, path: &str, is_recursive: bool) -> Verdict {
+        let walk = self.walk(path)?;
+        self.tree.require_sticky(self.caller, &walk)?;
+        self.tree.require_removal(self.caller, &walk)?;
+        self.tree.require_sub_tree(self.caller, &walk)?;
+        if walk.is_root() {
+            return Err(Refusal::IsRoot.into());
+        }
+        let place = self.expect_found(&walk)?;
+        let is_filled = match &self.tree.node(place).held {
+            Held::Directory(children) => !children.is_empty(),
+            Held::File(_) => false,
+        };
+        if is_filled && !is_recursive {
+            return Err(Refusal::NotEmpty.into());
+        }
+        let (gone, open) = self.tree.delete(&walk);
+        for (holder, place) in open {
+            self.leases.closed(holder, place);
+        }
+        Ok(Reply::Deleted(gone))
+    }
+
+    fn rename(&mut self, from: &str, to: &str) -> Verdict {
+        let old = self.walk(from)?;
+        let new = self.walk(to)?;
+        self.tree.require_sticky(self.caller, &old)?;
+        self.tree.require_write_above(self.caller, &new)?;
+        self.tree.require_removal(self.caller, &old)?;
+        self.expect_movable(&old, &new)?;
+        self.tree.rename(&old, &new);
+        Ok(Reply::Empty)
+    }
+
+    fn expect_movable(&self, from: &Walk, to: &Walk) -> Result<(), Refusal> {
+        if from.is_root() || to.is_root() {
+            return Err(Refusal::IsRoot);
+        }
+        self.expect_found(from)?;
+        self.expect_no_file_above(to)?;
+        let behind = to.path.strip_prefix(from.path);
+        if behind.is_some_and(|behind| behind.is_empty() || behind.starts_with('/')) {
+            return Err(Refusal::UnderItself);
+        }
+        if to.is_found() {
+            return Err(Refusal::Exists);
+        }
+        if to.missing.contains('/') {
+            return Err(Refusal::NotFound);
+        }
+        self.expect_within_limits(from, to)
+    }
+
+    /// No path beneath what is moved gets too long or too deep.
+    fn expect_within_limits(&self, from: &Walk, to: &Walk) -> Result<(), Refusal> {
+        let depth = |path: &str| path.matches('/').count();
+        if to.path.len() <= from.path.len() && depth(to.path) <= depth(from.path) {
+            return Ok(());
+        }
+        let (names, bytes) = self.tree.extent(from.last);
+        if depth(to.path) + names > MOST_NAMES || to.path.len() + bytes > MOST_BYTES {
+            return Err(Refusal::BadPath);
+        }
+        Ok(())
+    }
+
+    fn owned(&self, path: &str) -> Result<Place, Failure> {
+        let walk = self.walk(path)?;
+        self.tree.require_owner(self.caller, &walk)?;
+        Ok(self.expect_found(&walk)?)
+    }
+
+    fn set_mode(&mut self, path: &str, mode: u16) -> Verdict {
+        let place = self.owned(path)?;
+        let node = self.tree.node_mut(place);
+        let is_directory = node.is_directory();
+        node.acl.set_mode(mode, is_directory);
+        Ok(Reply::Empty)
+    }
+
+    fn set_acl(&mut self, path: &str, change: &AclChange) -> Verdict {
+        let place = self.owned(path)?;
+        let acl = &mut self.tree.node_mut(place).acl;
+        acl.change(self.names, change).map_err(Refusal::Acl)?;
+        Ok(Reply::Empty)
+    }
+
+    fn create(&mut self, path: &str, mode: u16, replication: u8, over: bool) -> Verdict {
+        let walk = self.walk(path)?;
+        self.tree.require_write_above(self.caller, &walk)?;
+        let is_file = walk.is_found() && !self.last(&walk).is_directory();
+        if over && is_file {
+            self.tree.require_write(self.caller, &walk)?;
+        }
+        self.expect_no_file_above(&walk)?;
+        if walk.is_found() && !is_file {
+            return Err(Refusal::IsDirectory.into());
+        }
+        if is_file && !over {
+            return Err(Refusal::Exists.into());
+        }
+        let state = FileState::Open(self.caller.name);
+        let place = self.make(walk, mode, File { replication, state });
+        self.leases.opened(self.caller.name, place, self.now);
+        Ok(Reply::Empty)
+    }
+
+    /// Makes a file, after one that has the path is deleted.
+    fn make(&mut self, mut walk: Walk, mode: u16, file: File) -> Place {
+        if walk.is_found() {
+            let (_, open) = self.tree.delete(&walk);
+            for (holder, place) in open {
+                self.leases.closed(holder, place);
+            }
+            walk = walk.without_last();
+        }
+        self.tree.make(self.caller.name, &walk, mode, Some(file))
+    }
+
+    fn append(&mut self, path: &str) -> Verdict {
+        let walk = self.walk(path)?;
+        self.tree.require_write(self.caller, &walk)?;
+        let place = self.expect_found(&walk)?;
+        let file = self.tree.file_mut(place).ok_or(Refusal::IsDirectory)?;
+        let FileState::Open(holder) = file.state else {
+            file.state = FileState::Open(self.caller.name);
+            self.leases.opened(self.caller.name, place, self.now);
+            return Ok(Reply::Empty);
         };
         if holder == self.caller.name || self.leases.is_live(holder, self.now) {
-            return Err(Failure::LeaseHeld(holder.clone()));
+            return Err(Refusal::LeaseHeld(holder).into());
         }
-        if file.ends_uncommitted() {
-            return Err(Failure::TooFewNodes);
-        }
-        self.leases.closed(holder, path);
         file.state = FileState::Closed;
+        self.leases.closed(holder, place);
         Ok(Reply::Released)
     }
 
-    fn complete(&mut self, path: &Path, last: Option<LastBlock>) -> Verdict {
-        let file: &mut File = self.root.find_file(&self.caller, &path.names)?;
-        match &file.state {
-            FileState::Closed => return Err(Failure::NotOpen),
-            FileState::Recovering(..) => return Err(Failure::RecoveryRunning),
-            FileState::Open(holder) if holder != self.caller.name => return Err(Failure::NoLease),
-            FileState::Open(_) => {}
+    fn complete(&mut self, path: &str) -> Verdict {
+        let walk = self.walk(path)?;
+        let place = self.expect_found(&walk)?;
+        let file = self.tree.file_mut(place).ok_or(Refusal::IsDirectory)?;
+        match file.state {
+            FileState::Closed => return Err(Refusal::NotOpen.into()),
+            FileState::Open(holder) if holder != self.caller.name => {
+                return Err(Refusal::NoLease.into());
+            }
+            FileState::Open(_) => file.state = FileState::Closed,
         }
-        if last.is_some() || file.has_blocks() {
-            return Err(Failure::NotYetReplicated);
-        }
-        file.state = FileState::Closed;
-        self.leases.closed(self.caller.name, path);
-        Ok(Reply::Closed(file.length()))
+        self.leases.closed(self.caller.name, place);
+        Ok(Reply::Closed)
     }
 
     fn tick(&mut self) -> Verdict {
-        if !self.caller.is_superuser {
-            return Err(Failure::NotSuperuser);
-        }
+        require_superuser(self.caller)?;
         let mut closed = 0;
-        for (client, paths) in self.leases.past_hard(self.now) {
-            closed += self.close_each(&client, &paths);
-        }
-        Ok(Reply::Expired(closed))
-    }
-
-    fn close_each(&mut self, client: &str, paths: &[Path]) -> u64 {
-        let mut closed = 0;
-        for path in paths {
-            if self.root.close(&path.names, client) {
-                self.leases.closed(client, path);
-                closed += 1;
+        while let Some(places) = self.leases.end_past_hard(self.now) {
+            closed += places.len() as u64;
+            for place in places {
+                let file = self.tree.file_mut(place).expect("an open file");
+                file.state = FileState::Closed;
             }
         }
-        closed
+        Ok(Reply::Expired(closed))
     }
 }

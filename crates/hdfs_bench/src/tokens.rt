@@ -1,5 +1,4 @@
-use crate::timed::Timed;
-use anyhow::{Context, Result, bail};
+use crate::fault::Fault;
 use block_numbers::ids::{BlockId, Serial};
 use block_numbers::moment::Moment;
 use block_tokens::cache::KeyCache;
@@ -9,7 +8,7 @@ use block_tokens::ring::KeyRing;
 use permission_bits::modes::Modes;
 use principal_names::who::Who;
 use std::alloc::Global;
-use std::time::{Clock, Instant};
+use std::time::{Duration, Instant};
 
 /// Ten hours, in milliseconds.
 const LIFETIME: u32 = 36_000_000;
@@ -17,50 +16,70 @@ const LIFETIME: u32 = 36_000_000;
 /// A name as long as makes a token of 64 bytes before its code, as many as `tools/bench-tokens` has OpenSSL hash.
 const USER: &str = "0123456789-0123456789-0123456789-01234567";
 
-/// A token, and a cache that holds its key.
-#[derive(Drop)]
-struct Presented {
-    now: Moment,
-    cache: KeyCache,
-    grant: Grant,
+/// The moment at which the token is issued and judged.
+fn begin() -> Result<Moment, Fault> {
+    Moment::new(0).ok_or(Fault::NoToken)
 }
 
-impl Presented {
-    fn new(alloc: Global) -> Result<Presented> {
-        let now = Moment::new(0).context("no moment")?;
-        let user = Who::parse(alloc, USER).ok().context("no name")?;
-        let ring = KeyRing::new(alloc, Serial::new(1), Key::new([0x0b; 20]), LIFETIME);
-        let grant = ring.issue(alloc, now, &user, BlockId::new(1), Modes::READ)?;
-        let mut cache = KeyCache::new(alloc);
-        cache.merge(&ring.update(alloc, now)?)?;
-        Ok(Presented { now, cache, grant })
-    }
-
-    fn is_taken(&self) -> bool {
-        let grant = &self.grant;
-        self.cache
-            .check(
-                self.now,
-                &grant.user,
-                grant.block,
-                grant.modes,
-                grant.token.as_bytes(),
-            )
-            .is_ok()
-    }
+fn user(alloc: Global) -> Result<Who, Fault> {
+    Who::parse(alloc, USER).map_err(|_| Fault::NoToken)
 }
 
-/// Judges one token so many times.
-pub fn check_uncached<R: Clock + AllocGlobal>(rt: &R, count: u32) -> Result<Timed> {
-    let presented = Presented::new(rt.alloc())?;
-    let start = Instant::now(rt)?;
+/// The token of a user who may read a block.
+fn granted(alloc: Global, ring: &KeyRing, now: Moment) -> Result<Grant, Fault> {
+    let user = user(alloc)?;
+    Ok(ring.issue(alloc, now, &user, BlockId::new(1), Modes::READ)?)
+}
+
+fn learn(cache: &mut KeyCache, alloc: Global, ring: &KeyRing, now: Moment) -> Result<(), Fault> {
+    let update = ring.update(alloc, now)?;
+    Ok(cache.merge(&update)?)
+}
+
+/// A cache that holds the key of a ring.
+fn learned(alloc: Global, ring: &KeyRing, now: Moment) -> Result<KeyCache, Fault> {
+    let mut cache = KeyCache::new(alloc);
+    learn(&mut cache, alloc, ring, now)?;
+    Ok(cache)
+}
+
+fn is_taken(cache: &KeyCache, grant: &Grant, now: Moment) -> bool {
+    let bytes = grant.token.as_bytes();
+    let answer = cache.check(now, &grant.user, grant.block, grant.modes, bytes);
+    answer.is_ok()
+}
+
+fn check_each(cache: &KeyCache, grant: &Grant, now: Moment, count: u32) -> Result<(), Fault> {
     for _ in 0..count {
-        if !presented.is_taken() {
-            bail!("a valid token is refused");
+        if !is_taken(cache, grant, now) {
+            return Err(Fault::NoToken);
         }
     }
-    Ok(Timed {
-        operations: u64::from(count),
-        taken: start.elapsed(rt)?,
-    })
+    Ok(())
+}
+
+fn time_checks(
+    rt: &HostRuntime,
+    cache: &KeyCache,
+    grant: &Grant,
+    now: Moment,
+    count: u32,
+) -> Result<Duration, Fault> {
+    let start = Instant::now(rt)?;
+    check_each(cache, grant, now, count)?;
+    Ok(start.elapsed(rt)?)
+}
+
+fn time_ring(rt: &HostRuntime, ring: &KeyRing, count: u32) -> Result<Duration, Fault> {
+    let now = begin()?;
+    let grant = granted(rt.alloc(), ring, now)?;
+    let cache = learned(rt.alloc(), ring, now)?;
+    time_checks(rt, &cache, &grant, now, count)
+}
+
+/// Judges one token so many times, by a cache that holds its key and keeps nothing of it for the next time.
+pub fn check_uncached(rt: &HostRuntime, count: u32) -> Result<Duration, Fault> {
+    let key = Key::new([0x0b; 20]);
+    let ring = KeyRing::new(rt.alloc(), Serial::new(1), key, LIFETIME);
+    time_ring(rt, &ring, count)
 }

@@ -1,110 +1,331 @@
-use crate::timed::Timed;
-use crate::{
-    acl_stat, append_takeover, create_complete, delete_recursive, ls, mkdirs, rename_dir, script,
-    setfacl, stat, step_stat, tick_expired, tick_idle, tokens,
+//! The workloads as data: what lines each has. `bench/plain` reads this file too, so it is plain Rust.
+
+/// What can be timed as a script of lines.
+#[derive(Clone, Copy)]
+pub struct Workload {
+    pub name: &'static str,
+    /// The lines that prepare.
+    pub before: &'static [Block],
+    /// The lines that are timed.
+    pub timed: &'static [Block],
+    pub operations: Operations,
+}
+
+/// Lines that are repeated, turn by turn. What stands between braces is filled in:
+/// - `{path}` is the path of the turn's number: five names, each with two digits of it, so that no directory holds more than 100;
+/// - `{any}` and `{other}` are paths of two numbers below the size, which jump about from turn to turn, and `{any_parent}` is the
+///   directory that holds `{any}`;
+/// - `{earlier}` is the path of a number below the turn's, and `{behind}` that of the turn's number counted on from the size;
+/// - `{level4}` is the turn's directory at depth 4 above the paths, and so on;
+/// - `{writer}` is the client who writes `{path}`, one of a hundred by turns.
+#[derive(Clone, Copy)]
+pub struct Block {
+    pub turns: Turns,
+    pub lines: &'static str,
+}
+
+/// How many turns.
+#[derive(Clone, Copy)]
+pub enum Turns {
+    Fixed(u32),
+    /// As many as the size says.
+    Size,
+    /// Half as many.
+    Half,
+    /// One for each so many of the size.
+    Every(u32),
+}
+
+/// What is counted as an operation of the timed lines.
+#[derive(Clone, Copy)]
+pub enum Operations {
+    /// Each line.
+    Lines,
+    /// What one line does as often as the size says.
+    Size,
+    /// What one line does so often.
+    Fixed(u32),
+}
+
+use Turns::{Every, Fixed, Half, Size};
+
+/// A root that all may write to, with a maker, who makes all directories and owns them, and a reader, who looks at what there is
+/// by the rights of all others. Each has two groups.
+const OPEN: Block = Block {
+    turns: Fixed(1),
+    lines: "0 hdfs adduser alice analysts,staff\n0 hdfs adduser bob auditors,staff\n0 hdfs chmod / 777\n",
 };
-use anyhow::Result;
-use std::time::Clock;
 
-/// What can be timed.
-#[derive(Clone, Copy, Debug, PartialEq, Eq)]
-pub enum Workload {
-    /// A DataNode judges a valid token, and keeps nothing of it for the next time.
-    CheckTokenUncached,
-    /// Directories are made.
-    Mkdirs,
-    /// A caller asks what has a path.
-    Stat,
-    /// The same where each directory has an access list with named entries.
-    AclStat,
-    /// An owner modifies an entry of access lists.
-    SetAcl,
-    /// A caller lists directories.
-    Ls,
-    /// A directory is moved with all that is beneath it.
-    RenameDir,
-    /// A directory is deleted with all that is beneath it.
-    DeleteRecursive,
-    /// Files are made, and then closed.
-    CreateComplete,
-    /// Files that other clients have open are taken over, and opened to append.
-    AppendTakeover,
-    /// A NameNode with open files looks for leases past the hard limit, and finds none.
-    TickIdle,
-    /// The same, and finds some.
-    TickExpired,
-    /// A caller asks what a file is, by steps of a NameNode.
-    StepStat,
-    /// The same by looks.
-    LookStat,
-    /// The lines of a script are answered, from its text to theirs.
-    Script,
-}
+/// A hundred clients.
+const WRITERS: Block = Block {
+    turns: Fixed(100),
+    lines: "0 hdfs adduser {writer} writers,staff\n",
+};
 
-impl Workload {
-    pub fn named(name: &str) -> Option<Workload> {
-        match name {
-            "check_token_uncached" => Some(Workload::CheckTokenUncached),
-            "mkdirs" => Some(Workload::Mkdirs),
-            "stat" => Some(Workload::Stat),
-            "acl_stat" => Some(Workload::AclStat),
-            "setfacl" => Some(Workload::SetAcl),
-            "ls" => Some(Workload::Ls),
-            "rename_dir" => Some(Workload::RenameDir),
-            "delete_recursive" => Some(Workload::DeleteRecursive),
-            "create_complete" => Some(Workload::CreateComplete),
-            "append_takeover" => Some(Workload::AppendTakeover),
-            "tick_idle" => Some(Workload::TickIdle),
-            "tick_expired" => Some(Workload::TickExpired),
-            "step_stat" => Some(Workload::StepStat),
-            "look_stat" => Some(Workload::LookStat),
-            "script" => Some(Workload::Script),
-            _ => None,
-        }
-    }
+/// As many directories as the size says, each at depth 5, and at most 100 in one directory. Each hundredth or so is made with
+/// directories above it that are missing.
+const TREE: Block = Block {
+    turns: Size,
+    lines: "0 alice mkdirs {path} 755\n",
+};
 
-    pub fn name(self) -> &'static str {
-        match self {
-            Workload::CheckTokenUncached => "check_token_uncached",
-            Workload::Mkdirs => "mkdirs",
-            Workload::Stat => "stat",
-            Workload::AclStat => "acl_stat",
-            Workload::SetAcl => "setfacl",
-            Workload::Ls => "ls",
-            Workload::RenameDir => "rename_dir",
-            Workload::DeleteRecursive => "delete_recursive",
-            Workload::CreateComplete => "create_complete",
-            Workload::AppendTakeover => "append_takeover",
-            Workload::TickIdle => "tick_idle",
-            Workload::TickExpired => "tick_expired",
-            Workload::StepStat => "step_stat",
-            Workload::LookStat => "look_stat",
-            Workload::Script => "script",
-        }
-    }
+/// The reader asks as often what has a path of the tree, or of the files.
+const LOOKS: Block = Block {
+    turns: Size,
+    lines: "0 bob stat {any}\n",
+};
 
-    /// Does the workload of a size, and tells how many operations that was and how long they took. What they are done on is made
-    /// before, and isn't timed; what the size means is said at each workload.
-    ///
-    /// # Errors
-    /// Want of memory, no clock, and an operation that answers otherwise than the workload means.
-    pub fn run<R: Clock + AllocGlobal>(self, rt: &R, count: u32) -> Result<Timed> {
-        match self {
-            Workload::CheckTokenUncached => tokens::check_uncached(rt, count),
-            Workload::Mkdirs => mkdirs::run(rt, count),
-            Workload::Stat => stat::run(rt, count),
-            Workload::AclStat => acl_stat::run(rt, count),
-            Workload::SetAcl => setfacl::run(rt, count),
-            Workload::Ls => ls::run(rt, count),
-            Workload::RenameDir => rename_dir::run(rt, count),
-            Workload::DeleteRecursive => delete_recursive::run(rt, count),
-            Workload::CreateComplete => create_complete::run(rt, count),
-            Workload::AppendTakeover => append_takeover::run(rt, count),
-            Workload::TickIdle => tick_idle::run(rt, count),
-            Workload::TickExpired => tick_expired::run(rt, count),
-            Workload::StepStat => step_stat::run_steps(rt, count),
-            Workload::LookStat => step_stat::run_looks(rt, count),
-            Workload::Script => script::run(rt, count),
-        }
-    }
-}
+/// Each directory of the tree gets a list of eight entries. Only that of the named user lets the reader through. The maker is let
+/// through as the owner, and by the named group where the superuser is the owner.
+const LISTS: Block = Block {
+    turns: Size,
+    lines: "0 alice setfacl {path} set user::rwx,user:amy:r--,user:ben:---,user:bob:r-x,group::---,group:analysts:r-x,mask::r-x,other::---\n",
+};
+
+/// So do those above them at depth 4.
+const LISTS_AT_4: Block = Block {
+    turns: Every(100),
+    lines: "0 alice setfacl {level4} set user::rwx,user:amy:r--,user:ben:---,user:bob:r-x,group::---,group:analysts:r-x,mask::r-x,other::---\n",
+};
+
+/// So do those above them at depth 3.
+const LISTS_AT_3: Block = Block {
+    turns: Every(10_000),
+    lines: "0 alice setfacl {level3} set user::rwx,user:amy:r--,user:ben:---,user:bob:r-x,group::---,group:analysts:r-x,mask::r-x,other::---\n",
+};
+
+/// So do those above them at depth 2.
+const LISTS_AT_2: Block = Block {
+    turns: Every(1_000_000),
+    lines: "0 alice setfacl {level2} set user::rwx,user:amy:r--,user:ben:---,user:bob:r-x,group::---,group:analysts:r-x,mask::r-x,other::---\n",
+};
+
+/// So do those above them at depth 1.
+const LISTS_AT_1: Block = Block {
+    turns: Every(100_000_000),
+    lines: "0 alice setfacl {level1} set user::rwx,user:amy:r--,user:ben:---,user:bob:r-x,group::---,group:analysts:r-x,mask::r-x,other::---\n",
+};
+
+/// So does the root.
+const LIST_OF_ROOT: Block = Block {
+    turns: Fixed(1),
+    lines: "0 hdfs setfacl / set user::rwx,user:amy:r--,user:ben:---,user:bob:r-x,group::---,group:analysts:r-x,mask::r-x,other::---\n",
+};
+
+/// The owner gives the named user the right to write, and takes it, by turns, and the mask follows.
+const MODIFICATIONS: Block = Block {
+    turns: Half,
+    lines: "0 alice setfacl {any} modify user:bob:rwx\n0 alice setfacl {other} modify user:bob:r-x\n",
+};
+
+/// The reader lists directories, which hold 100 names (the last of the tree may hold fewer).
+const LISTINGS: Block = Block {
+    turns: Fixed(20_000),
+    lines: "0 bob ls {any_parent}\n",
+};
+
+/// The tree beneath a directory.
+const MOVED_TREE: Block = Block {
+    turns: Size,
+    lines: "0 alice mkdirs /here/moved{path} 755\n",
+};
+
+/// Where it is moved to.
+const AWAY: Block = Block {
+    turns: Fixed(1),
+    lines: "0 alice mkdirs /away 755\n",
+};
+
+/// It is moved there and back again. Both paths are as deep and as long, so no move looks at what is beneath.
+const MOVES: Block = Block {
+    turns: Fixed(10_000),
+    lines: "0 alice rename /here/moved /away/moved\n0 alice rename /away/moved /here/moved\n",
+};
+
+/// The tree beneath another directory.
+const DOOMED_TREE: Block = Block {
+    turns: Size,
+    lines: "0 alice mkdirs /doomed{path} 755\n",
+};
+
+/// It is deleted, with all beneath it.
+const DELETION: Block = Block {
+    turns: Fixed(1),
+    lines: "0 alice delete /doomed recursive\n",
+};
+
+/// As many files as the size says, at the paths of the tree, which their writers open, and all may write.
+const CREATIONS: Block = Block {
+    turns: Size,
+    lines: "0 {writer} create {path} 777 3\n",
+};
+
+/// They are closed.
+const COMPLETIONS: Block = Block {
+    turns: Size,
+    lines: "0 {writer} complete {path}\n",
+};
+
+/// As many files that are made and closed, one after the other.
+const CLOSED_FILES: Block = Block {
+    turns: Size,
+    lines: "0 {writer} create {path} 777 3\n0 {writer} complete {path}\n",
+};
+
+/// The reader appends twice to each file, at a moment at which leases that were renewed at 0 are past the soft limit, and within the
+/// hard one: the first append releases the file, and the second opens it.
+const TAKEOVERS: Block = Block {
+    turns: Size,
+    lines: "60001 bob append {path}\n60001 bob append {path}\n",
+};
+
+/// Leases past the hard limit are looked for at the moment 0, when none is.
+const IDLE_TICKS: Block = Block {
+    turns: Fixed(20_000),
+    lines: "0 hdfs tick\n",
+};
+
+/// A thousand files of the reader.
+const OLDER_FILES: Block = Block {
+    turns: Fixed(1000),
+    lines: "0 bob create {behind} 777 3\n",
+};
+
+/// Files that are opened at a moment at which leases that were renewed at 0 are past the hard limit.
+const LATE_FILES: Block = Block {
+    turns: Size,
+    lines: "2000000 {writer} create {path} 777 3\n",
+};
+
+/// The tick that closes the reader's files.
+const LATE_TICK: Block = Block {
+    turns: Fixed(1),
+    lines: "2000000 hdfs tick\n",
+};
+
+/// A directory that all may write to.
+const SHARED: Block = Block {
+    turns: Fixed(1),
+    lines: "0 hdfs mkdirs /shared 777\n",
+};
+
+/// By turns a directory at depth 6 is made, and one that was made before is looked at.
+const MIX: Block = Block {
+    turns: Half,
+    lines: "0 alice mkdirs /shared{path} 755\n0 bob stat /shared{earlier}\n",
+};
+
+/// All that can be timed as scripts.
+pub static WORKLOADS: [Workload; 13] = [
+    // Directories are made, one a line, in a namespace that is empty at first.
+    Workload {
+        name: "mkdirs",
+        before: &[OPEN],
+        timed: &[TREE],
+        operations: Operations::Lines,
+    },
+    // A caller asks as often what has a path, in a tree of as many directories.
+    Workload {
+        name: "stat",
+        before: &[OPEN, TREE],
+        timed: &[LOOKS],
+        operations: Operations::Lines,
+    },
+    // The same where each directory has a list of eight entries: he traverses them by the entry of a named user, the last of three.
+    Workload {
+        name: "acl_stat",
+        before: &[
+            OPEN,
+            TREE,
+            LISTS,
+            LISTS_AT_4,
+            LISTS_AT_3,
+            LISTS_AT_2,
+            LISTS_AT_1,
+            LIST_OF_ROOT,
+        ],
+        timed: &[LOOKS],
+        operations: Operations::Lines,
+    },
+    // The owner modifies as often one entry of such a list.
+    Workload {
+        name: "setfacl",
+        before: &[
+            OPEN,
+            TREE,
+            LISTS,
+            LISTS_AT_4,
+            LISTS_AT_3,
+            LISTS_AT_2,
+            LISTS_AT_1,
+            LIST_OF_ROOT,
+        ],
+        timed: &[MODIFICATIONS],
+        operations: Operations::Lines,
+    },
+    // A caller lists directories of a tree. An operation is one listing of up to 100 names.
+    Workload {
+        name: "ls",
+        before: &[OPEN, TREE],
+        timed: &[LISTINGS],
+        operations: Operations::Lines,
+    },
+    // A directory is moved back and forth with a tree beneath it. An operation is one move.
+    Workload {
+        name: "rename_dir",
+        before: &[OPEN, MOVED_TREE, AWAY],
+        timed: &[MOVES],
+        operations: Operations::Lines,
+    },
+    // A tree is deleted by one line. An operation is one of its directories at the lowest depth; those above, one in a hundred or so,
+    // aren't counted.
+    Workload {
+        name: "delete_recursive",
+        before: &[OPEN, DOOMED_TREE],
+        timed: &[DELETION],
+        operations: Operations::Size,
+    },
+    // Files are made, and then closed. An operation is a line: each renews a lease that isn't the last renewed one, or counts an open
+    // file less.
+    Workload {
+        name: "create_complete",
+        before: &[OPEN, WRITERS],
+        timed: &[CREATIONS, COMPLETIONS],
+        operations: Operations::Lines,
+    },
+    // Files that other clients have open are taken over, and opened to append. An operation is one append.
+    Workload {
+        name: "append_takeover",
+        before: &[OPEN, WRITERS, CREATIONS],
+        timed: &[TAKEOVERS],
+        operations: Operations::Lines,
+    },
+    // With as many files open of a hundred clients, leases past the hard limit are looked for. An operation is one tick.
+    Workload {
+        name: "tick_idle",
+        before: &[OPEN, WRITERS, CREATIONS],
+        timed: &[IDLE_TICKS],
+        operations: Operations::Lines,
+    },
+    // One tick closes a thousand files of a client, with as many files open of a hundred others. An operation is a file that is closed.
+    Workload {
+        name: "tick_expired",
+        before: &[OPEN, WRITERS, OLDER_FILES, LATE_FILES],
+        timed: &[LATE_TICK],
+        operations: Operations::Fixed(1000),
+    },
+    // A caller asks as often what has a path, among as many closed files.
+    Workload {
+        name: "step_stat",
+        before: &[OPEN, WRITERS, CLOSED_FILES],
+        timed: &[LOOKS],
+        operations: Operations::Lines,
+    },
+    // Half of the lines make a directory, and the others look at one.
+    Workload {
+        name: "script",
+        before: &[SHARED],
+        timed: &[MIX],
+        operations: Operations::Lines,
+    },
+];

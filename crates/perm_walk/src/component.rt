@@ -1,3 +1,4 @@
+use file_paths::name::Name;
 use file_paths::path::Path;
 use inode_visits::inode::Inode;
 use namespace_rows::row::Row;

@@ -1,0 +1,261 @@
+//! What a caller is told, and how it is printed.
+
+use crate::access_list::{AclFault, Deciding, EntryKind};
+use crate::names::{Names, Who};
+use crate::request::{IllFormed, SpecFault};
+use crate::tree::{Denial, FileState, Need};
+
+pub struct FileDetail {
+    pub replication: u8,
+    pub state: FileState,
+}
+
+pub struct Status {
+    pub mode: u16,
+    pub is_extended: bool,
+    pub owner: Who,
+    pub group: Who,
+    /// What is told of a file alone.
+    pub file: Option<FileDetail>,
+}
+
+pub enum Reply {
+    Empty,
+    Status(Status),
+    /// The names, each behind a slash.
+    Names(Box<str>),
+    Deleted(u64),
+    /// The file was taken from a client whose lease is past a limit, and closed.
+    Released,
+    /// The file is closed; it holds nothing, since files have no blocks.
+    Closed,
+    /// So many files were closed.
+    Expired(u64),
+}
+
+pub enum Refusal {
+    BadPath,
+    NotFound,
+    NotDirectory(Box<str>),
+    IsDirectory,
+    Exists,
+    NotEmpty,
+    IsRoot,
+    UnderItself,
+    Acl(AclFault),
+    /// This client has the file open.
+    LeaseHeld(Who),
+    /// Another client has the file open.
+    NoLease,
+    NotOpen,
+    BadName,
+}
+
+pub enum Failure {
+    Denied(Box<Denial>),
+    Refused(Refusal),
+}
+
+impl From<Box<Denial>> for Failure {
+    fn from(denial: Box<Denial>) -> Failure {
+        Failure::Denied(denial)
+    }
+}
+
+impl From<Refusal> for Failure {
+    fn from(refusal: Refusal) -> Failure {
+        Failure::Refused(refusal)
+    }
+}
+
+pub type Verdict = Result<Reply, Failure>;
+
+/// A text to which answers are added.
+pub struct Printer<'a> {
+    pub names: &'a Names,
+    pub text: &'a mut String,
+}
+
+fn rights_text(rights: u8) -> &'static str {
+    ["---", "--x", "-w-", "-wx", "r--", "r-x", "rw-", "rwx"][usize::from(rights & 0o7)]
+}
+
+fn kind_text(kind: EntryKind) -> &'static str {
+    match kind {
+        EntryKind::User => "user:",
+        EntryKind::Group => "group:",
+        EntryKind::Mask => "mask:",
+        EntryKind::Other => "other:",
+    }
+}
+
+impl Printer<'_> {
+    fn push(&mut self, text: &str) {
+        self.text.push_str(text);
+    }
+
+    fn push_who(&mut self, who: Who) {
+        self.text.push_str(self.names.text(who));
+    }
+
+    pub fn push_number(&mut self, mut number: u64) {
+        let mut digits = [b'0'; 20];
+        let mut first = digits.len();
+        loop {
+            first -= 1;
+            digits[first] = b'0' + (number % 10) as u8;
+            number /= 10;
+            if number == 0 {
+                break;
+            }
+        }
+        self.push(str::from_utf8(&digits[first..]).expect("digits"));
+    }
+
+    fn push_mode(&mut self, mode: u16) {
+        for shift in [9, 6, 3, 0] {
+            self.text
+                .push(char::from(b'0' + (mode >> shift & 0o7) as u8));
+        }
+    }
+
+    fn push_entry(&mut self, deciding: &Deciding) {
+        self.push(kind_text(deciding.entry.kind));
+        if let Some(name) = deciding.entry.name {
+            self.push_who(name);
+        }
+        self.push(":");
+        self.push(rights_text(deciding.entry.rights));
+        if let Some(mask) = deciding.mask {
+            self.push(" mask::");
+            self.push(rights_text(mask));
+        }
+    }
+
+    fn push_need(&mut self, need: &Need) {
+        match need {
+            Need::Rights(asked, deciding) => {
+                self.push(rights_text(*asked));
+                self.push(" by ");
+                self.push_entry(deciding);
+            }
+            Need::Sticky(owner, above) => {
+                self.push("sticky by owner:");
+                self.push_who(*owner);
+                self.push(" dir:");
+                self.push_who(*above);
+            }
+            Need::Owner(owner) => {
+                self.push("owner by owner:");
+                self.push_who(*owner);
+            }
+            Need::Superuser => self.push("superuser by superuser"),
+        }
+    }
+
+    fn push_detail(&mut self, detail: &FileDetail) {
+        self.push(" ");
+        self.push_number(detail.replication.into());
+        match detail.state {
+            FileState::Closed => self.push(" 0 closed"),
+            FileState::Open(holder) => {
+                self.push(" 0 open:");
+                self.push_who(holder);
+            }
+        }
+    }
+
+    fn push_status(&mut self, status: &Status) {
+        self.push(if status.file.is_some() {
+            "ok file "
+        } else {
+            "ok dir "
+        });
+        self.push_mode(status.mode);
+        self.push(if status.is_extended { "+ " } else { " " });
+        self.push_who(status.owner);
+        self.push(" ");
+        self.push_who(status.group);
+        if let Some(detail) = &status.file {
+            self.push_detail(detail);
+        }
+    }
+
+    fn push_names(&mut self, names: &str) {
+        self.push("ok list");
+        for name in names.split('/').skip(1) {
+            self.push(" ");
+            self.push(name);
+        }
+    }
+
+    fn push_reply(&mut self, reply: &Reply) {
+        match reply {
+            Reply::Empty => self.push("ok"),
+            Reply::Status(status) => self.push_status(status),
+            Reply::Names(names) => self.push_names(names),
+            Reply::Deleted(count) => {
+                self.push("ok deleted ");
+                self.push_number(*count);
+            }
+            Reply::Released => self.push("ok released"),
+            Reply::Closed => self.push("ok closed 0"),
+            Reply::Expired(count) => {
+                self.push("ok closed ");
+                self.push_number(*count);
+                self.push(" recovering 0");
+            }
+        }
+    }
+
+    fn push_refusal(&mut self, refusal: &Refusal) {
+        self.push("refused ");
+        match refusal {
+            Refusal::BadPath => self.push("1 BadPath"),
+            Refusal::NotFound => self.push("2 NotFound"),
+            Refusal::NotDirectory(path) => {
+                self.push("3 NotDirectory ");
+                self.push(path);
+            }
+            Refusal::IsDirectory => self.push("4 IsDirectory"),
+            Refusal::Exists => self.push("5 Exists"),
+            Refusal::NotEmpty => self.push("6 NotEmpty"),
+            Refusal::IsRoot => self.push("7 IsRoot"),
+            Refusal::UnderItself => self.push("8 UnderItself"),
+            Refusal::Acl(AclFault::NoBase) => self.push("9 BadAcl NoBase"),
+            Refusal::Acl(AclFault::TooManyEntries) => self.push("10 TooManyEntries"),
+            Refusal::LeaseHeld(client) => {
+                self.push("11 LeaseHeld ");
+                self.push_who(*client);
+            }
+            Refusal::NoLease => self.push("13 NoLease"),
+            Refusal::NotOpen => self.push("14 NotOpen"),
+            Refusal::BadName => self.push("19 BadName"),
+        }
+    }
+
+    pub fn push_verdict(&mut self, verdict: &Verdict) {
+        match verdict {
+            Ok(reply) => self.push_reply(reply),
+            Err(Failure::Refused(refusal)) => self.push_refusal(refusal),
+            Err(Failure::Denied(denial)) => {
+                self.push("denied ");
+                self.push(&denial.path);
+                self.push(" ");
+                self.push_need(&denial.need);
+            }
+        }
+    }
+
+    pub fn push_bad(&mut self, fault: IllFormed) {
+        self.push(match fault {
+            IllFormed::BadLine => "bad 0 BadLine",
+            IllFormed::BadPath => "bad 1 BadPath",
+            IllFormed::BadAcl(SpecFault::Form) => "bad 9 BadAcl Form",
+            IllFormed::BadAcl(SpecFault::Duplicate) => "bad 9 BadAcl Duplicate",
+            IllFormed::BadAcl(SpecFault::NamedBase) => "bad 9 BadAcl NamedBase",
+            IllFormed::BadName => "bad 19 BadName",
+            IllFormed::BadMode => "bad 20 BadMode",
+        });
+    }
+}

@@ -1,0 +1,195 @@
+//! What a line asks for.
+
+use crate::access_list::{AclChange, parse_spec};
+use crate::names::{Names, Who};
+
+const LATEST: u64 = 1 << 62;
+
+/// An absolute path, in one piece.
+pub type Path = Box<str>;
+
+pub enum Op {
+    Mkdirs(Path, u16),
+    Stat(Path),
+    List(Path),
+    Delete(Path, bool),
+    Rename(Path, Path),
+    SetMode(Path, u16),
+    SetAcl(Path, AclChange),
+    AddUser(Who, Box<[Who]>),
+    /// A file of this mode and replication, and whether a file that has the path is deleted first.
+    Create(Path, u16, u8, bool),
+    Append(Path),
+    Complete(Path),
+    Tick,
+}
+
+pub struct Request {
+    pub caller: Who,
+    /// In milliseconds.
+    pub moment: u64,
+    pub op: Op,
+}
+
+/// Why a line is no request.
+#[derive(Clone, Copy, PartialEq, Eq)]
+pub enum IllFormed {
+    BadLine,
+    BadPath,
+    BadAcl(SpecFault),
+    BadName,
+    BadMode,
+}
+
+#[derive(Clone, Copy, PartialEq, Eq)]
+pub enum SpecFault {
+    Form,
+    Duplicate,
+    NamedBase,
+}
+
+type Read<T> = Result<T, IllFormed>;
+
+/// The most words that a line of these verbs has.
+const MOST_WORDS: usize = 7;
+
+/// The words of a line, and how many they are, if these aren't too many.
+fn words_of(line: &str) -> Option<([&str; MOST_WORDS], usize)> {
+    let mut words = [""; MOST_WORDS];
+    let mut count = 0;
+    for word in line.split([' ', '\t']).filter(|word| !word.is_empty()) {
+        *words.get_mut(count)? = word;
+        count += 1;
+    }
+    Some((words, count))
+}
+
+fn number(word: &str) -> Option<u64> {
+    let is_number = word.bytes().all(|byte| byte.is_ascii_digit());
+    is_number.then(|| word.parse().ok()).flatten()
+}
+
+fn moment(word: &str) -> Read<u64> {
+    number(word)
+        .filter(|moment| *moment <= LATEST)
+        .ok_or(IllFormed::BadLine)
+}
+
+fn replication(word: &str) -> Read<u8> {
+    let count = number(word).filter(|count| (1..=16).contains(count));
+    count.map(|count| count as u8).ok_or(IllFormed::BadLine)
+}
+
+fn mode(word: &str) -> Read<u16> {
+    let is_octal =
+        (1..=4).contains(&word.len()) && word.bytes().all(|byte| matches!(byte, b'0'..=b'7'));
+    let bits = u16::from_str_radix(word, 8)
+        .ok()
+        .filter(|bits| is_octal && *bits <= 0o1777);
+    bits.ok_or(IllFormed::BadMode)
+}
+
+fn is_name(name: &str) -> bool {
+    (1..=255).contains(&name.len()) && name != "." && name != ".."
+}
+
+/// The path that a word spells: absolute, with no slash at its end and none twice, within the limits.
+fn path(word: &str) -> Read<Path> {
+    let is_byte = |byte: u8| !matches!(byte, b':' | 0 | b'\n');
+    let is_path = word.strip_prefix('/').is_some_and(|names| {
+        names.is_empty()
+            || word.len() <= 8000
+                && word.bytes().all(is_byte)
+                && names.split('/').all(is_name)
+                && names.split('/').count() <= 1000
+    });
+    if is_path {
+        Ok(word.into())
+    } else {
+        Err(IllFormed::BadPath)
+    }
+}
+
+fn who(names: &mut Names, word: &str) -> Read<Who> {
+    names.who(word).ok_or(IllFormed::BadName)
+}
+
+fn groups(names: &mut Names, word: &str) -> Read<Box<[Who]>> {
+    if word == "-" {
+        return Ok(Box::default());
+    }
+    word.split(',').map(|word| who(names, word)).collect()
+}
+
+fn word_is(word: &str, wanted: &str) -> Read<bool> {
+    if word == wanted {
+        Ok(true)
+    } else {
+        Err(IllFormed::BadLine)
+    }
+}
+
+fn acl_change(names: &mut Names, form: &str, spec: &str) -> Read<AclChange> {
+    let entries = parse_spec(names, spec).map_err(IllFormed::BadAcl)?;
+    Ok(if form == "set" {
+        AclChange::Set(entries)
+    } else {
+        AclChange::Modify(entries)
+    })
+}
+
+/// The operation of a verb and its words, of which there are the right number.
+fn op(names: &mut Names, verb: &str, words: &[&str]) -> Read<Op> {
+    Ok(match (verb, words) {
+        ("mkdirs", [at, bits]) => Op::Mkdirs(path(at)?, mode(bits)?),
+        ("stat", [at]) => Op::Stat(path(at)?),
+        ("ls", [at]) => Op::List(path(at)?),
+        ("delete", [at]) => Op::Delete(path(at)?, false),
+        ("delete", [at, all]) => Op::Delete(path(at)?, word_is(all, "recursive")?),
+        ("rename", [from, to]) => Op::Rename(path(from)?, path(to)?),
+        ("chmod", [at, bits]) => Op::SetMode(path(at)?, mode(bits)?),
+        ("setfacl", [at, form, spec]) => Op::SetAcl(path(at)?, acl_change(names, form, spec)?),
+        ("adduser", [user, of]) => Op::AddUser(who(names, user)?, groups(names, of)?),
+        ("create", [at, bits, copies]) => {
+            Op::Create(path(at)?, mode(bits)?, replication(copies)?, false)
+        }
+        ("create", [at, bits, copies, over]) => Op::Create(
+            path(at)?,
+            mode(bits)?,
+            replication(copies)?,
+            word_is(over, "over")?,
+        ),
+        ("append", [at]) => Op::Append(path(at)?),
+        ("complete", [at]) => Op::Complete(path(at)?),
+        ("tick", []) => Op::Tick,
+        _ => return Err(IllFormed::BadLine),
+    })
+}
+
+/// Whether a verb is known and has so many words.
+fn is_verb(verb: &str, words: &[&str]) -> bool {
+    match (verb, words.len()) {
+        ("tick", 0) | ("stat" | "ls" | "delete" | "append" | "complete", 1) => true,
+        ("mkdirs" | "delete" | "rename" | "chmod" | "adduser", 2) | ("create", 3 | 4) => true,
+        ("setfacl", 3) => matches!(words[1], "set" | "modify"),
+        _ => false,
+    }
+}
+
+impl Request {
+    /// The request that a line makes.
+    pub fn read(names: &mut Names, line: &str) -> Read<Request> {
+        let (words, count) = words_of(line).ok_or(IllFormed::BadLine)?;
+        let [at, caller, verb, rest @ ..] = &words[..count] else {
+            return Err(IllFormed::BadLine);
+        };
+        if !is_verb(verb, rest) {
+            return Err(IllFormed::BadLine);
+        }
+        Ok(Request {
+            moment: moment(at)?,
+            caller: who(names, caller)?,
+            op: op(names, verb, rest)?,
+        })
+    }
+}

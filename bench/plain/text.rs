@@ -1,0 +1,87 @@
+//! The lines of workloads, spelled by the rules of `crates/hdfs_bench/src/text.rt`.
+
+use crate::workload::{Block, Turns};
+use std::fmt::Write;
+
+const WRITERS: u32 = 100;
+
+/// A number below the bound, which jumps about from turn to turn (the mixing steps of SplitMix64).
+fn jumping(turn: u32, bound: u32) -> u32 {
+    let spread = (u64::from(turn) + 1).wrapping_mul(0x9e37_79b9_7f4a_7c15);
+    let mixed = (spread ^ (spread >> 30)).wrapping_mul(0xbf58_476d_1ce4_e5b9);
+    let mixed = (mixed ^ (mixed >> 27)).wrapping_mul(0x94d0_49bb_1331_11eb);
+    ((mixed ^ (mixed >> 31)) % u64::from(bound)) as u32
+}
+
+/// A turn of a workload of a size.
+#[derive(Clone, Copy)]
+struct Turn {
+    size: u32,
+    number: u32,
+}
+
+impl Turns {
+    /// How many turns that is at a size.
+    fn at(self, size: u32) -> u32 {
+        match self {
+            Turns::Fixed(count) => count,
+            Turns::Size => size,
+            Turns::Half => size / 2,
+            Turns::Every(step) => size.div_ceil(step),
+        }
+    }
+}
+
+/// The number whose path a mark is, and how many of the five names.
+fn place(mark: &str, turn: Turn) -> (u32, u32) {
+    let (size, number) = (turn.size, turn.number);
+    let above = |names: u32| (number * 100_u32.pow(5 - names), names);
+    match mark {
+        "path" => (number, 5),
+        "any" => (jumping(number * 2, size.max(1)), 5),
+        "any_parent" => (jumping(number * 2, size.max(1)), 4),
+        "other" => (jumping(number * 2 + 1, size.max(1)), 5),
+        "earlier" => (jumping(number, number.max(1)), 5),
+        "behind" => (size + number, 5),
+        "level4" => above(4),
+        "level3" => above(3),
+        "level2" => above(2),
+        "level1" => above(1),
+        _ => panic!("no mark {mark}"),
+    }
+}
+
+fn push_mark(text: &mut String, mark: &str, turn: Turn) {
+    if mark == "writer" {
+        write!(text, "u{:02}", turn.number % WRITERS).expect("memory");
+        return;
+    }
+    let (number, names) = place(mark, turn);
+    for name in 0..names {
+        let digits = number / 100_u32.pow(4 - name) % 100;
+        write!(text, "/d{digits:02}").expect("memory");
+    }
+}
+
+fn push_turn(text: &mut String, lines: &str, turn: Turn) {
+    for piece in lines.split('{') {
+        match piece.split_once('}') {
+            Some((mark, rest)) => {
+                push_mark(text, mark, turn);
+                text.push_str(rest);
+            }
+            None => text.push_str(piece),
+        }
+    }
+}
+
+/// The lines of blocks at a size.
+pub fn text_of(blocks: &[Block], size: u32) -> String {
+    let mut text = String::new();
+    for block in blocks {
+        for number in 0..block.turns.at(size) {
+            push_turn(&mut text, block.lines, Turn { size, number });
+        }
+    }
+    text
+}

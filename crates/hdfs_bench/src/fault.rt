@@ -1,0 +1,26 @@
+use std::alloc::AllocError;
+use std::io;
+
+/// Why a workload has no rate.
+#[derive(Clone, Copy, Debug, PartialEq, Eq)]
+pub enum Fault {
+    OutOfMemory,
+    /// No command line, no clock, or the output can't be written.
+    System,
+    /// A line is answered otherwise than the workload means.
+    NotOk,
+    /// A valid token is refused, or can't be made.
+    NoToken,
+}
+
+impl From<AllocError> for Fault {
+    fn from(_: AllocError) -> Fault {
+        Fault::OutOfMemory
+    }
+}
+
+impl From<io::Error> for Fault {
+    fn from(_: io::Error) -> Fault {
+        Fault::System
+    }
+}
