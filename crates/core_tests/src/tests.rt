@@ -26,76 +26,146 @@ fn path(alloc: Global, text: &str) -> Result<Path, Fail> {
     Ok(Path::parse(alloc, text)?)
 }
 
-fn opened(alloc: Global, client: &Who, texts: &[&str]) -> Result<OpenPaths, Fail> {
-    let mut paths = OpenPaths::new(alloc);
+fn open_each(
+    alloc: Global,
+    paths: &mut OpenPaths,
+    client: &Who,
+    texts: &[&str],
+) -> Result<(), Fail> {
     for text in texts {
         paths.open(&path(alloc, text)?, client);
     }
-    Ok(paths)
+    Ok(())
 }
 
-// The paths of the files that a client has open, each with a blank behind it.
-fn known(alloc: Global, paths: &OpenPaths, client: &Who) -> Result<String, Fail> {
-    let mut text = String::new(alloc);
+// Writes the paths of the files that a client has open, each with a blank behind it, and a stop behind all.
+fn tell(paths: &OpenPaths, client: &Who, text: &mut String) -> Result<(), Fail> {
     for path in &paths.of_client(client)? {
         write!(text, "{path} ")?;
     }
-    Ok(text)
+    text.push('.')?;
+    Ok(())
+}
+
+fn move_directory(alloc: Global, paths: &mut OpenPaths, from: &str, to: &str) -> Result<(), Fail> {
+    let (from, to) = (path(alloc, from)?, path(alloc, to)?);
+    paths.move_directory(&from, &to);
+    Ok(())
+}
+
+fn move_file(
+    alloc: Global,
+    paths: &mut OpenPaths,
+    client: &Who,
+    from: &str,
+    to: &str,
+) -> Result<(), Fail> {
+    let (from, to) = (path(alloc, from)?, path(alloc, to)?);
+    paths.move_file(&from, &to, client);
+    Ok(())
+}
+
+// Tells what is known of open files, and again behind each of two moves.
+fn tell_moved(
+    alloc: Global,
+    paths: &mut OpenPaths,
+    client: &Who,
+    text: &mut String,
+) -> Result<(), Fail> {
+    open_each(alloc, paths, client, &["/a/b", "/a/c/d", "/a-b", "/ab"])?;
+    tell(paths, client, text)?;
+    move_directory(alloc, paths, "/a", "/x/y")?;
+    tell(paths, client, text)?;
+    move_file(alloc, paths, client, "/ab", "/c")?;
+    tell(paths, client, text)
 }
 
 #[test]
 fn files_are_known_where_they_are_moved_to(rt: HostRuntime) -> Result<(), Fail> {
-    let alloc = rt.alloc();
-    let alice = who(alloc, "alice")?;
-    let mut paths = opened(alloc, &alice, &["/a/b", "/a/c/d", "/a-b", "/ab"])?;
+    let client = who(rt.alloc(), "alice")?;
+    let mut paths = OpenPaths::new(rt.alloc());
+    let mut text = String::new(rt.alloc());
+    let told = tell_moved(rt.alloc(), &mut paths, &client, &mut text);
+    drop(paths);
+    drop(client);
+    told?;
     assert_eq!(rt;
-        known(alloc, &paths, &alice)?.as_str(),
-        "/a-b /a/b /a/c/d /ab "
-    );
-    paths.move_directory(&path(alloc, "/a")?, &path(alloc, "/x/y")?);
-    assert_eq!(rt;
-        known(alloc, &paths, &alice)?.as_str(),
-        "/a-b /ab /x/y/b /x/y/c/d "
-    );
-    paths.move_file(&path(alloc, "/ab")?, &path(alloc, "/c")?, &alice);
-    assert_eq!(rt;
-        known(alloc, &paths, &alice)?.as_str(),
-        "/a-b /c /x/y/b /x/y/c/d "
+        text.as_str(),
+        "/a-b /a/b /a/c/d /ab ./a-b /ab /x/y/b /x/y/c/d ./a-b /c /x/y/b /x/y/c/d ."
     );
     Ok(())
+}
+
+fn delete(
+    alloc: Global,
+    paths: &mut OpenPaths,
+    text: &str,
+    client: &Who,
+    other: &Who,
+) -> Result<(), Fail> {
+    let path = path(alloc, text)?;
+    let clients = vec![in alloc; client.clone()?, other.clone()?]?;
+    paths.delete(&path, &clients);
+    Ok(())
+}
+
+fn close(alloc: Global, paths: &mut OpenPaths, text: &str, client: &Who) -> Result<(), Fail> {
+    paths.close(&path(alloc, text)?, client);
+    Ok(())
+}
+
+// Tells what is known of open files behind a deletion, and where one is closed, first by a client who hasn't opened it.
+fn tell_closed(
+    alloc: Global,
+    paths: &mut OpenPaths,
+    client: &Who,
+    other: &Who,
+    text: &mut String,
+) -> Result<(), Fail> {
+    open_each(alloc, paths, client, &["/a/b", "/a/c/d", "/a-b"])?;
+    delete(alloc, paths, "/a", client, other)?;
+    tell(paths, client, text)?;
+    close(alloc, paths, "/a-b", other)?;
+    tell(paths, client, text)?;
+    close(alloc, paths, "/a-b", client)?;
+    tell(paths, client, text)
 }
 
 #[test]
 fn files_are_known_as_long_as_they_are_open(rt: HostRuntime) -> Result<(), Fail> {
-    let alloc = rt.alloc();
-    let alice = who(alloc, "alice")?;
-    let mut paths = opened(alloc, &alice, &["/a/b", "/a/c/d", "/a-b"])?;
-    let clients = vec![in alloc; who(alloc, "alice")?, who(alloc, "bob")?]?;
-    paths.delete(&path(alloc, "/a")?, &clients);
-    assert_eq!(rt; known(alloc, &paths, &alice)?.as_str(), "/a-b ");
-    paths.close(&path(alloc, "/a-b")?, &who(alloc, "bob")?);
-    assert_eq!(rt; known(alloc, &paths, &alice)?.as_str(), "/a-b ");
-    paths.close(&path(alloc, "/a-b")?, &alice);
-    assert_eq!(rt; known(alloc, &paths, &alice)?.as_str(), "");
+    let (client, other) = (who(rt.alloc(), "alice")?, who(rt.alloc(), "bob")?);
+    let mut paths = OpenPaths::new(rt.alloc());
+    let mut text = String::new(rt.alloc());
+    let told = tell_closed(rt.alloc(), &mut paths, &client, &other, &mut text);
+    drop(paths);
+    drop(client);
+    drop(other);
+    told?;
+    assert_eq!(rt; text.as_str(), "/a-b ./a-b ..");
     Ok(())
-}
-
-fn request(alloc: Global, caller: &str, op: Op) -> Result<Request, Fail> {
-    Ok(Request {
-        caller: who(alloc, caller)?,
-        moment: Moment::new(0).ok_or("a moment")?,
-        op,
-    })
 }
 
 fn creating(alloc: Global, caller: &str, text: &str) -> Result<Request, Fail> {
     let mode = Mode::new(0o644).ok_or("a mode")?;
     let replication = Repl::new(1).ok_or("a replication")?;
-    request(
-        alloc,
+    let moment = Moment::new(0).ok_or("a moment")?;
+    let caller = who(alloc, caller)?;
+    let path = path(alloc, text)?;
+    Ok(Request {
         caller,
-        Op::Create(path(alloc, text)?, mode, replication, false),
-    )
+        moment,
+        op: Op::Create(path, mode, replication, false),
+    })
+}
+
+fn ticking(alloc: Global, caller: &str) -> Result<Request, Fail> {
+    let moment = Moment::new(0).ok_or("a moment")?;
+    let caller = who(alloc, caller)?;
+    Ok(Request {
+        caller,
+        moment,
+        op: Op::Tick,
+    })
 }
 
 fn system(alloc: Global) -> Result<Namesystem, Fail>
@@ -149,7 +219,7 @@ fn make(alloc: Global, system: &mut Namesystem, now: Moment) -> Result<u64, Fail
 fn closed_unknown(alloc: Global, system: &mut Namesystem, now: Moment) -> Result<u64, Fail>
     requires { latest system.old.writers.leases.renewals ≤ now }
 {
-    let request = request(alloc, "hdfs", Op::Tick)?;
+    let request = ticking(alloc, "hdfs")?;
     let closed = closed(alloc, system, &request, now);
     drop(request);
     closed

@@ -19,7 +19,7 @@ use Rattle.namespace_rows.specs.declared.row.Change.TheVariants as change
 use Rattle.namespace_rows.specs.First.{first}
 use Rattle.namespace_rows.specs.Rows.{row_at}
 use Rattle.namespace_rows.specs.Namespace.{IsNamespace, is_ascending, is_before_all}
-use Rattle.namespace_rows.specs.Files.{holder_of, holder_of_file, is_client, is_open_by, ends_uncommitted, with_state}
+use Rattle.namespace_rows.specs.Files.{holder_of, holder_of_file, is_client, ends_uncommitted, with_state}
 use Rattle.flat_rows.specs.FileOutcome.{LeaseFacts, holder_at, is_expired, is_expired_file, closed_where_expired}
 use Rattle.flat_rows.specs.FileOutcome as outcome
 use Rattle.flat_rows.specs.Changes.{changed, rewritten, suits_change}

@@ -1,18 +1,10 @@
 -- Each row is a directory or a file; the last name of a path; and a row that stands alone.
-use Rattle.std.proofs.Common.{◌≡◌, ℕ, suc, ◌+◌, ◌-◌, Bool, true, false, List, [], ◌∷◌, length, cond, get_or, refl, subst, ap, ◌∙◌, arith}
-use Rattle.std.specs.Prelude.{filter, not}
+use Rattle.std.proofs.Common.{◌≡◌, ℕ, suc, ◌-◌, List, [], ◌∷◌, length, get_or, refl, ap, ◌∙◌, arith}
 use Rattle.std.specs.List.{slice_get}
 use Rattle.std.specs.Option.{option_to_list}
 use Rattle.std.proofs.lemmas.Option.{slice_get-get_or}
-use Rattle.file_paths.specs.Path.{is_prefix}
-use Rattle.file_paths.specs.PathOrder.{same_path}
-use Rattle.hdfs_texts.proofs.Texts.{same_self}
-use Rattle.namespace_rows.specs.declared.row.Row.{Row}
-use Rattle.namespace_rows.specs.First.{first}
-use Rattle.namespace_rows.specs.Rows.{is_missing, is_none}
-use Rattle.flat_rows.specs.Changes.{last_name, rows_under}
-use Rattle.flat_rows.specs.Outcome.{own_name, is_alone}
-use Rattle.namespace_rows.proofs.PathOrders.{same_path_is}
+use Rattle.flat_rows.specs.Changes.{last_name}
+use Rattle.flat_rows.specs.Outcome.{own_name}
 
 last_is : (name : List ℕ) (names : List (List ℕ)) → get_or (name ∷ names) (length names) [] ≡ last_name (name ∷ names)
 last_is name [] = refl

@@ -1,7 +1,6 @@
 -- What no refusal of a rename tells, and what has a path in a namespace.
-use Rattle.std.proofs.Common.{◌≡◌, ℕ, Bool, true, false, ◌&&◌, ◌||◌, List, [], ◌∷◌, length, take, cond, Option, Some, None, refl, sym, ap, ◌∙◌, subst}
+use Rattle.std.proofs.Common.{◌≡◌, ℕ, Bool, true, false, ◌&&◌, ◌||◌, List, [], ◌∷◌, length, take, cond, Option, Some, None, refl, sym, ap, ◌∙◌}
 use Rattle.std.specs.Prelude.{filter, not}
-use Rattle.std.specs.List.{list_all}
 use Rattle.std.specs.Option.{option_or}
 use Rattle.file_paths.specs.Path.{is_prefix}
 use Rattle.file_paths.specs.PathOrder.{same_path}
@@ -16,7 +15,7 @@ use Rattle.namespace_rows.specs.Namespace.{is_child, has_parent}
 use Rattle.flat_rows.specs.Changes.{are_paths}
 use Rattle.flat_rows.specs.FileOutcome.{LeaseFacts}
 use Rattle.flat_rows.specs.Outcome.{refused_where, nothing_at, something_at, beneath_file, first_refusal, rows_moved}
-use Rattle.namespace_rows.proofs.Tests.{both, or_right}
+use Rattle.namespace_rows.proofs.Tests.{or_right}
 use Rattle.namespace_rows.proofs.PathOrders.{same_path_is}
 
 -- none of two is none of either

@@ -2,7 +2,6 @@
 use Rattle.std.proofs.Common.{◌≡◌, ℕ, Bool, true, false, ◌||◌, not, List, cond, Option, Some, None, Ok, Err, refl, ap, ◌∙◌, subst}
 use Rattle.std.specs.Prelude.{if◌then◌else◌}
 use Rattle.std.specs.Option.{is_none}
-use Rattle.file_paths.specs.PathOrder.{same_path}
 use Rattle.acl_specs.specs.declared.acl_change.AclChange.{AclChange}
 use Rattle.acl_specs.specs.declared.acl_change.AclChange.TheVariants.{Set, Modify, Remove, RemoveDefault, Clear}
 use Rattle.acl_specs.specs.declared.entry.Scope.TheVariants.{Default}
@@ -16,11 +15,10 @@ use Rattle.partial_acl.specs.AclChange.{acl_change, acl_after, unless_fault, fir
 use Rattle.namespace_rows.specs.declared.row.Row.{Row}
 use Rattle.namespace_rows.specs.declared.file_row.FileRow.{FileRow}
 use Rattle.namespace_rows.specs.declared.row.Change.TheVariants as given
-use Rattle.namespace_rows.specs.Rows.{is_directory, is_directory_kind, row_at}
+use Rattle.namespace_rows.specs.Rows.{is_directory_kind, row_at}
 use Rattle.namespace_rows.specs.Namespace.{suits_kind, suits_parts}
 use Rattle.flat_rows.specs.Changes.{suits_change}
 use Rattle.namespace_rows.proofs.Tests.{both, and}
-use Rattle.namespace_rows.proofs.Namespaces.{namespace_tests}
 use Rattle.inode_visits.specs.Tree.{IsTree}
 use Rattle.perm_walk.proofs.Standing.{row_suits}
 

@@ -130,7 +130,7 @@ fn show_rate(
     size: u32,
     script: Script,
 ) -> Result<(), Fault> {
-    let taken = run::time_alone(rt, script)?;
+    let taken = run::run_alone(rt, script, false)?;
     let operations = operations(workload, size, script.timed);
     print_rate(rt, workload.name, size, rate(operations, taken))
 }
@@ -138,6 +138,11 @@ fn show_rate(
 fn show_lines(rt: &HostRuntime, script: Script) -> Result<(), Fault> {
     rt.print(script.before)?;
     Ok(rt.print(script.timed)?)
+}
+
+fn show_answers(rt: &HostRuntime, script: Script) -> Result<(), Fault> {
+    run::run_alone(rt, script, true)?;
+    Ok(())
 }
 
 fn show_texts(
@@ -150,7 +155,7 @@ fn show_texts(
     match shown {
         Shown::Rate => show_rate(rt, workload, size, script),
         Shown::Lines => show_lines(rt, script),
-        Shown::Answers => run::print_answers(rt, script),
+        Shown::Answers => show_answers(rt, script),
     }
 }
 

@@ -1,6 +1,7 @@
 use crate::answers::{count_lines, count_ok};
 use crate::fault::Fault;
 use hdfs_cli::script::{Session, run_more};
+use std::mem;
 use std::time::{Duration, Instant};
 
 /// The two texts of a workload of a size.
@@ -43,27 +44,26 @@ fn expect_ok(session: &Session, script: Script) -> Result<(), Fault> {
     }
 }
 
-/// Runs both texts, and prints what they are answered.
-fn print_in(rt: &HostRuntime, session: &mut Session, script: Script) -> Result<(), Fault> {
-    time_script(rt, session, script)?;
-    rt.print(session.output())?;
-    expect_ok(session, script)
-}
-
-fn time_in(rt: &HostRuntime, session: &mut Session, script: Script) -> Result<Duration, Fault> {
+/// Runs both texts where each line is answered `ok`, and tells how long the second took. What they are answered is printed where
+/// that is wanted.
+fn run_in(
+    rt: &HostRuntime,
+    session: &mut Session,
+    script: Script,
+    is_shown: bool,
+) -> Result<Duration, Fault> {
     let taken = time_script(rt, session, script)?;
+    if is_shown {
+        rt.print(session.output())?;
+    }
     expect_ok(session, script)?;
     Ok(taken)
 }
 
-/// Tells how long the timed lines take, on a NameNode of their own. Each line has to be answered `ok`.
-pub fn time_alone(rt: &HostRuntime, script: Script) -> Result<Duration, Fault> {
+/// The same on a NameNode of their own. What that holds isn't given back, since the program ends.
+pub fn run_alone(rt: &HostRuntime, script: Script, is_shown: bool) -> Result<Duration, Fault> {
     let mut session = Session::open(rt.alloc())?;
-    time_in(rt, &mut session, script)
-}
-
-/// Prints what all lines are answered, by a NameNode of their own.
-pub fn print_answers(rt: &HostRuntime, script: Script) -> Result<(), Fault> {
-    let mut session = Session::open(rt.alloc())?;
-    print_in(rt, &mut session, script)
+    let taken = run_in(rt, &mut session, script, is_shown);
+    mem::forget(session);
+    taken
 }

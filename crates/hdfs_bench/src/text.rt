@@ -33,7 +33,7 @@ impl Turns {
             Turns::Fixed(count) => count,
             Turns::Size => size,
             Turns::Half => size / 2,
-            Turns::Every(step) => size.saturating_sub(1) / step.max(1) + size.min(1),
+            Turns::Every(step) => size.saturating_sub(1) / step.max(1) + u32::from(size > 0),
         }
     }
 }

@@ -124,16 +124,16 @@ const LISTINGS: Block = Block {
     lines: "0 bob ls {any_parent}\n",
 };
 
-/// The tree beneath a directory.
+/// What is moved, and where it is moved to.
+const HERE_AND_AWAY: Block = Block {
+    turns: Fixed(1),
+    lines: "0 alice mkdirs /here/moved 755\n0 alice mkdirs /away 755\n",
+};
+
+/// The tree beneath it.
 const MOVED_TREE: Block = Block {
     turns: Size,
     lines: "0 alice mkdirs /here/moved{path} 755\n",
-};
-
-/// Where it is moved to.
-const AWAY: Block = Block {
-    turns: Fixed(1),
-    lines: "0 alice mkdirs /away 755\n",
 };
 
 /// It is moved there and back again. Both paths are as deep and as long, so no move looks at what is beneath.
@@ -142,7 +142,13 @@ const MOVES: Block = Block {
     lines: "0 alice rename /here/moved /away/moved\n0 alice rename /away/moved /here/moved\n",
 };
 
-/// The tree beneath another directory.
+/// What is deleted.
+const DOOMED: Block = Block {
+    turns: Fixed(1),
+    lines: "0 alice mkdirs /doomed 755\n",
+};
+
+/// The tree beneath it.
 const DOOMED_TREE: Block = Block {
     turns: Size,
     lines: "0 alice mkdirs /doomed{path} 755\n",
@@ -273,7 +279,7 @@ pub static WORKLOADS: [Workload; 13] = [
     // A directory is moved back and forth with a tree beneath it. An operation is one move.
     Workload {
         name: "rename_dir",
-        before: &[OPEN, MOVED_TREE, AWAY],
+        before: &[OPEN, HERE_AND_AWAY, MOVED_TREE],
         timed: &[MOVES],
         operations: Operations::Lines,
     },
@@ -281,7 +287,7 @@ pub static WORKLOADS: [Workload; 13] = [
     // aren't counted.
     Workload {
         name: "delete_recursive",
-        before: &[OPEN, DOOMED_TREE],
+        before: &[OPEN, DOOMED, DOOMED_TREE],
         timed: &[DELETION],
         operations: Operations::Size,
     },

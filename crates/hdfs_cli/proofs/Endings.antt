@@ -1,18 +1,15 @@
 -- What is written of a script that was not run to its end, or not all written.
-use Rattle.std.proofs.Common.{◌≡◌, ℕ, zero, suc, ◌+◌, ◌<◌, Bool, true, false, List, [], ◌∷◌, ◌++◌, length, take, drop, Option, Some, None, Result, Ok, Err, refl, sym, ap, ◌∙◌, arith, append_assoc, append-nil, eqb}
+use Rattle.std.proofs.Common.{◌≡◌, ℕ, zero, suc, ◌+◌, Bool, true, false, List, [], ◌∷◌, ◌++◌, take, Option, Some, None, Result, Ok, Err, refl, sym, ap, ◌∙◌, arith, append_assoc, append-nil, eqb}
 use Rattle.std.specs.Prelude.{fold, OnOk, OnErr, IfSome, if◌then◌else◌}
-use Rattle.std.specs.List.{flat_map, slice_split}
 use Rattle.std.specs.Io.KnownBytes.{Appends}
 use Rattle.std.proofs.lemmas.List.Splits.{length-slice_split}
 use Rattle.std.proofs.lemmas.List.Concat.{flat_map-append}
-use Rattle.hdfs_texts.specs.declared.fault.IllFormed.{IllFormed}
-use Rattle.hdfs_types.specs.declared.op.Request.{Request}
 use Rattle.history.specs.Config.{standard}
 use Rattle.script_words.specs.Words.{lines_of, is_skipped, words_of, without_return}
 use Rattle.script_text.specs.Script.{request_of}
 use Rattle.script_text.specs.AnswerText.{answer_line}
 use Rattle.hdfs_cli.specs.Channel.{AppendsFront}
-use Rattle.hdfs_cli.specs.Output.{State, Numbered, opening, answered, after_answer, after_trimmed, after_line, after_lines, answers_of, answers_of_first, text_of, output_of}
+use Rattle.hdfs_cli.specs.Output.{State, Numbered, opening, answered, after_answer, after_line, answers_of_first, text_of, output_of}
 use Rattle.hdfs_cli.specs.Ended.{IsAnswersBefore, AppendsAnswersBefore}
 
 pub appends_none : (old : Option (List ℕ)) → Appends old old []

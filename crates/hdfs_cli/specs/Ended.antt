@@ -1,5 +1,5 @@
 -- What is written of a script that was not run to its end.
-use Rattle.std.specs.Prelude.{◌≡◌, ◌<◌, ℕ, List, [], length, Option}
+use Rattle.std.specs.Prelude.{◌≡◌, ◌<◌, ℕ, List, length, Option}
 use Rattle.std.specs.Io.KnownBytes.{Appends}
 use Rattle.script_words.specs.Words.{lines_of}
 use Rattle.hdfs_cli.specs.Output.{text_of, answers_of_first}

@@ -368,15 +368,50 @@ fn roll(ring: &mut KeyRing, now: u64) -> Result<Result<u32, RollFault>, Fail> {
     Ok(rolled.map(|serial| serial.get()))
 }
 
-// A cache that knows the expiry of the first key, and was told of it again without.
-fn told_late(rt: &impl Abort, alloc: Global) -> Result<KeyCache, Fail> {
+// Tells a cache of the first key with its expiry.
+fn tell_rolled(
+    rt: &impl Abort,
+    alloc: Global,
+    ring: &mut KeyRing,
+    cache: &mut KeyCache,
+) -> Result<(), Fail> {
+    assert_eq!(rt; roll(ring, 200)?, Ok(2));
+    assert_eq!(rt; send(alloc, ring, 200, cache)?, 2);
+    assert_eq!(rt; send(alloc, ring, 36_000_200, cache)?, 1);
+    Ok(())
+}
+
+// Tells a cache of the expiry of the first key, and then of the key without it.
+fn tell_late(rt: &impl Abort, alloc: Global, cache: &mut KeyCache) -> Result<(), Fail> {
     let mut ring = ring_from(alloc, 1, 0x0b);
-    let mut cache = first_cache(alloc)?;
-    assert_eq!(rt; roll(&mut ring, 200)?, Ok(2));
-    assert_eq!(rt; send(alloc, &ring, 200, &mut cache)?, 2);
-    assert_eq!(rt; send(alloc, &ring, 36_000_200, &mut cache)?, 1);
-    send_late(alloc, &mut cache)?;
-    Ok(cache)
+    let told = tell_rolled(rt, alloc, &mut ring, cache);
+    drop(ring);
+    told?;
+    send_late(alloc, cache)
+}
+
+// How bob's token is judged.
+fn judged_at(alloc: Global, cache: &KeyCache, now: u64) -> Result<Option<TokenRefusal>, Fail> {
+    let grant = read_grant(alloc, &ring_from(alloc, 1, 0x0b))?;
+    let asked = Asked { now, ..BOB_READS };
+    let judged = judge(alloc, cache, asked, grant.token.as_bytes());
+    drop(grant);
+    judged
+}
+
+fn expect_in(
+    rt: &impl Abort,
+    alloc: Global,
+    cache: &mut KeyCache,
+    now: u64,
+    refusal: Option<TokenRefusal>,
+    left: usize,
+) -> Result<(), Fail> {
+    tell_late(rt, alloc, cache)?;
+    assert_eq!(rt; judged_at(alloc, cache, now)?, refusal);
+    cache.drop_expired(moment(now)?);
+    assert_eq!(rt; cache.len(), left);
+    Ok(())
 }
 
 fn expect_held(
@@ -386,18 +421,10 @@ fn expect_held(
     refusal: Option<TokenRefusal>,
     left: usize,
 ) -> Result<(), Fail> {
-    let grant = read_grant(alloc, &ring_from(alloc, 1, 0x0b))?;
-    let mut cache = told_late(rt, alloc)?;
-    let judged = judge(
-        alloc,
-        &cache,
-        Asked { now, ..BOB_READS },
-        grant.token.as_bytes(),
-    )?;
-    assert_eq!(rt; judged, refusal);
-    cache.drop_expired(moment(now)?);
-    assert_eq!(rt; cache.len(), left);
-    Ok(())
+    let mut cache = first_cache(alloc)?;
+    let held = expect_in(rt, alloc, &mut cache, now, refusal, left);
+    drop(cache);
+    held
 }
 
 #[test]

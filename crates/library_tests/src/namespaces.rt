@@ -1,4 +1,4 @@
-ghost use Rattle.std.specs.Prelude.{◌≡◌, true, IsTrue};
+ghost use Rattle.std.specs.Prelude.{◌≡◌, true, IfOk, IsTrue};
 ghost use Rattle.namespace_rows.specs.Namespace.{has_parent, suits_kind};
 ghost use Rattle.hdfs_types.specs.Request.{is_look};
 
@@ -53,42 +53,41 @@ fn is_held(rows: &[Row], path: &Path) -> bool
     directory_of(rows, path.names()).is_some()
 }
 
-/// Puts a file of mode 0755 at a path of the tree, and tells whether there is a directory that holds it.
-fn put_into_tree(
-    alloc: Global,
-    tree: &mut Tree,
-    path: &Path,
-    owner: Who,
-    group: Who,
-    file: FileRow,
-) -> Result<bool, AllocError> {
+/// Whether a tree has a directory that holds the path.
+fn has_directory(alloc: Global, tree: &Tree, path: &Path) -> Result<bool, AllocError>
+    ensures { IfOk result (λ held. held ≡ true → IsTrue (has_parent path.now tree.now)) }
+{
     let rows = rows_of(alloc, tree)?;
-    if !is_held(rows.as_slice(), path) {
-        return Ok(false);
-    }
-    let acl = Acl::from_mode(Mode::root(), ObjectKind::File);
-    tree.insert(path, owner, group, acl, Some(file))?;
-    Ok(true)
+    let held = is_held(rows.as_slice(), path);
+    drop(rows);
+    Ok(held)
 }
 
-/// Puts a file of `ann` and the group `crew` into a tree, and tells whether there is a directory that holds it.
-fn put_file(rt: &HostRuntime, tree: &mut Tree, path: &str) -> Result<bool, Fail> {
-    let alloc = rt.alloc();
+/// Puts a file of mode 0755, of `ann` and the group `crew`, into a tree, and tells whether there is a directory that holds it.
+fn put_file(alloc: Global, tree: &mut Tree, path: &str) -> Result<bool, Fail> {
     let path = path_of(alloc, path)?;
+    if !has_directory(alloc, tree, &path)? {
+        return Ok(false);
+    }
     let (owner, group) = (who_of(alloc, "ann")?, who_of(alloc, "crew")?);
     let file = opened(alloc)?;
-    Ok(put_into_tree(alloc, tree, &path, owner, group, file)?)
+    let acl = Acl::from_mode(Mode::root(), ObjectKind::File);
+    tree.insert(&path, owner, group, acl, Some(file))?;
+    Ok(true)
 }
 
 /// A file of mode 0755 that `ann` and the group `crew` own.
 fn file_at(alloc: Global, path: &str) -> Result<Row, Fail> {
+    let path = path_of(alloc, path)?;
+    let (owner, group) = (who_of(alloc, "ann")?, who_of(alloc, "crew")?);
+    let file = opened(alloc)?;
     Ok(Row {
-        path: path_of(alloc, path)?,
+        path,
         kind: ObjectKind::File,
-        owner: who_of(alloc, "ann")?,
-        group: who_of(alloc, "crew")?,
+        owner,
+        group,
         acl: Acl::from_mode(Mode::root(), ObjectKind::File),
-        file: Some(opened(alloc)?),
+        file: Some(file),
     })
 }
 
@@ -105,6 +104,7 @@ fn is_plain(row: &Row) -> bool
 /// Puts a plain row among the rows, and tells whether there is a directory that holds it.
 fn put_among_rows(alloc: Global, rows: &mut Rows, row: Row) -> Result<bool, AllocError> {
     if !is_plain(&row) || !is_held(rows.as_slice(), &row.path) {
+        drop(row);
         return Ok(false);
     }
     rows.insert(alloc, vec![in alloc; row]?)?;
@@ -133,35 +133,72 @@ fn owner_at(alloc: Global, rows: &Rows, path: &str) -> Result<Option<Who>, Fail>
     }
 }
 
+/// The owners of the root and of what isn't there.
+fn owners_in(alloc: Global, rows: &Rows) -> Result<(Option<Who>, Option<Who>), Fail> {
+    let root = owner_at(alloc, rows, "/")?;
+    let other = owner_at(alloc, rows, "/f")?;
+    Ok((root, other))
+}
+
 #[test]
 fn new_rows_are_the_root(rt: HostRuntime) -> Result<(), Fail> {
-    let alloc = rt.alloc();
-    let rows = opening_rows(alloc)?;
-    let (root, other) = (owner_at(alloc, &rows, "/")?, owner_at(alloc, &rows, "/f")?);
+    let rows = opening_rows(rt.alloc())?;
+    let owners = owners_in(rt.alloc(), &rows);
+    drop(rows);
+    let (root, other) = owners?;
     assert_eq!(rt; root.ok_or("no root")?.as_str(), "hdfs");
     assert!(rt; other.is_none());
     Ok(())
 }
 
+/// Puts a file among the rows, and tells its owner.
+fn put_and_find(alloc: Global, rows: &mut Rows) -> Result<Option<Who>, Fail> {
+    let row = file_at(alloc, "/f")?;
+    if !put_among_rows(alloc, rows, row)? {
+        return Ok(None);
+    }
+    owner_at(alloc, rows, "/f")
+}
+
 #[test]
 fn rows_are_put_and_found(rt: HostRuntime) -> Result<(), Fail> {
-    let alloc = rt.alloc();
-    let mut rows = opening_rows(alloc)?;
-    assert!(rt; put_among_rows(alloc, &mut rows, file_at(alloc, "/f")?)?);
-    let owner = owner_at(alloc, &rows, "/f")?.ok_or("no row")?;
-    assert_eq!(rt; owner.as_str(), "ann");
-    assert_eq!(rt; rows.as_slice().len(), 2);
+    let mut rows = opening_rows(rt.alloc())?;
+    let owner = put_and_find(rt.alloc(), &mut rows);
+    let count = rows.as_slice().len();
+    drop(rows);
+    assert_eq!(rt; owner?.ok_or("no row")?.as_str(), "ann");
+    assert_eq!(rt; count, 2);
     Ok(())
+}
+
+/// The path of the file that stands above this one, if any does.
+fn above(alloc: Global, rows: &[Row], path: &str) -> Result<Option<Path>, Fail> {
+    let beneath = path_of(alloc, path)?;
+    match file_above(rows, beneath.names()) {
+        Some(row) => Ok(Some(row.path.clone()?)),
+        None => Ok(None),
+    }
+}
+
+/// The files above a path beneath a file, and above the file itself.
+fn both_above(alloc: Global, rows: &[Row]) -> Result<(Option<Path>, Option<Path>), Fail> {
+    let found = above(alloc, rows, "/f/x/y")?;
+    let none = above(alloc, rows, "/f")?;
+    Ok((found, none))
 }
 
 #[test]
 fn files_above_are_found(rt: HostRuntime) -> Result<(), Fail> {
-    let alloc = rt.alloc();
-    let rows = vec![in alloc; file_at(alloc, "/f")?]?;
-    let beneath = path_of(alloc, "/f/x/y")?;
-    let above = file_above(&rows, beneath.names()).ok_or("no file")?;
-    assert!(rt; above.path == path_of(alloc, "/f")?);
-    assert!(rt; file_above(&rows, above.path.names()).is_none());
+    let row = file_at(rt.alloc(), "/f")?;
+    let rows = vec![in rt.alloc(); row]?;
+    let both = both_above(rt.alloc(), &rows);
+    drop(rows);
+    let (found, none) = both?;
+    assert_eq!(rt;
+        found.ok_or("no file")?.to_string(rt.alloc())?.as_str(),
+        "/f"
+    );
+    assert!(rt; none.is_none());
     Ok(())
 }
 
@@ -178,19 +215,38 @@ fn found_at(alloc: Global, tree: &Tree, path: &str) -> Result<Option<String>, Fa
     Ok(Some(format!(in alloc; "{kind} {owner} {group}")?))
 }
 
+/// What a tree has at these paths, a line each.
+fn listed(alloc: Global, tree: &Tree, paths: &[&str]) -> Result<String, Fail> {
+    let mut text = String::new(alloc);
+    for path in paths {
+        match found_at(alloc, tree, path)? {
+            Some(found) => text.push_str(found.as_str())?,
+            None => text.push_str("nothing")?,
+        }
+        text.push_str("\n")?;
+    }
+    Ok(text)
+}
+
+/// Puts a file, and another one beneath it, and tells what the tree has then.
+fn put_two(alloc: Global, tree: &mut Tree) -> Result<(bool, bool, String), Fail> {
+    let first = put_file(alloc, tree, "/f")?;
+    let beneath = put_file(alloc, tree, "/f/x")?;
+    let listed = listed(alloc, tree, &["/", "/f", "/f/x"])?;
+    Ok((first, beneath, listed))
+}
+
 #[test]
 fn trees_take_files(rt: HostRuntime) -> Result<(), Fail> {
-    let alloc = rt.alloc();
-    let mut tree = opening_tree(alloc)?;
-    assert!(rt; put_file(&rt, &mut tree, "/f")?);
-    assert!(rt; !put_file(&rt, &mut tree, "/f/x")?);
-    let (root, file) = (found_at(alloc, &tree, "/")?, found_at(alloc, &tree, "/f")?);
+    let mut tree = opening_tree(rt.alloc())?;
+    let put = put_two(rt.alloc(), &mut tree);
+    drop(tree);
+    let (first, beneath, listed) = put?;
+    assert!(rt; first && !beneath);
     assert_eq!(rt;
-        root.ok_or("no root")?.as_str(),
-        "directory hdfs supergroup"
+        listed.as_str(),
+        "directory hdfs supergroup\nfile ann crew\nnothing\n"
     );
-    assert_eq!(rt; file.ok_or("no file")?.as_str(), "file ann crew");
-    assert!(rt; found_at(alloc, &tree, "/f/x")?.is_none());
     Ok(())
 }
 
@@ -213,32 +269,62 @@ fn users_tell_who_is_above_all(rt: HostRuntime) -> Result<(), Fail> {
     Ok(())
 }
 
+/// What denies a line's request.
+fn denial_by(
+    alloc: Global,
+    rows: &Rows,
+    users: &Users,
+    line: &str,
+) -> Result<Option<Denial>, Fail> {
+    let request = read(alloc, line)?;
+    let denial = verdict(alloc, rows, users, &request.caller, &request.op);
+    drop(request);
+    Ok(denial?)
+}
+
 /// What denies `bob` a directory in the root.
+fn bobs_denial_by(alloc: Global, rows: &Rows) -> Result<Option<Denial>, Fail> {
+    let users = users_with_bob(alloc)?;
+    let denial = denial_by(alloc, rows, &users, "0 bob mkdirs /z 755");
+    drop(users);
+    denial
+}
+
 fn bobs_denial(alloc: Global) -> Result<Denial, Fail> {
     let rows = opening_rows(alloc)?;
-    let users = users_with_bob(alloc)?;
-    let request = read(alloc, "0 bob mkdirs /z 755")?;
-    let denial = verdict(alloc, &rows, &users, &request.caller, &request.op)?;
-    Ok(denial.ok_or("nothing denies it")?)
+    let denial = bobs_denial_by(alloc, &rows);
+    drop(rows);
+    Ok(denial?.ok_or("nothing denies it")?)
+}
+
+fn decided(alloc: Global, denial: &Denial) -> Result<String, AllocError> {
+    let (path, need, by) = (denial.path(), denial.need(), denial.by());
+    format!(in alloc; "{path} {need} {by}")
 }
 
 #[test]
 fn denials_tell_what_decided(rt: HostRuntime) -> Result<(), Fail> {
-    let alloc = rt.alloc();
-    let denial = bobs_denial(alloc)?;
-    assert_eq!(rt; denial.path().to_string(alloc)?.as_str(), "/");
-    assert_eq!(rt; denial.need().to_string(alloc)?.as_str(), "-w-");
-    assert_eq!(rt; denial.by().to_string(alloc)?.as_str(), "other::r-x");
+    let denial = bobs_denial(rt.alloc())?;
+    let decided = decided(rt.alloc(), &denial);
+    drop(denial);
+    assert_eq!(rt; decided?.as_str(), "/ -w- other::r-x");
     Ok(())
+}
+
+/// Whether it is granted, the owner of the row, the caller, and of how many groups.
+fn evidence(alloc: Global, denial: &Denial) -> Result<String, AllocError> {
+    let granted = granted(denial);
+    let (owner, caller) = (&denial.row().owner, denial.caller());
+    let count = denial.groups().len();
+    format!(in alloc; "{granted} {owner} {caller} {count}")
 }
 
 #[test]
 fn denials_keep_their_evidence(rt: HostRuntime) -> Result<(), Fail> {
     let denial = bobs_denial(rt.alloc())?;
-    assert!(rt; !granted(&denial));
-    assert_eq!(rt; denial.row().owner.as_str(), "hdfs");
-    assert_eq!(rt; denial.caller().as_str(), "bob");
-    assert_eq!(rt; denial.groups().len(), 1);
+    let evidence = evidence(rt.alloc(), &denial);
+    drop(denial);
+    assert_eq!(rt; evidence?.as_str(), "false hdfs bob 1");
     Ok(())
 }
 
@@ -265,31 +351,41 @@ fn looked(alloc: Global, tree: &Tree, users: &Users, caller: &Who, op: &Op) -> R
     requires { is_look op.now ≡ true }
 {
     let verdict = answer_look(alloc, tree, users, caller, op)?;
-    Ok(text_of(alloc, &verdict)?)
+    let text = text_of(alloc, &verdict);
+    drop(verdict);
+    Ok(text?)
 }
 
 fn looked_by_bob(alloc: Global, tree: &Tree, op: &Op) -> Result<String, Fail>
     requires { is_look op.now ≡ true }
 {
-    let users = users_with_bob(alloc)?;
     let bob = who_of(alloc, "bob")?;
-    looked(alloc, tree, &users, &bob, op)
+    let users = users_with_bob(alloc)?;
+    let told = looked(alloc, tree, &users, &bob, op);
+    drop(users);
+    told
 }
 
 /// What `bob` is told of a path.
 fn status_for_bob(alloc: Global, tree: &Tree, path: &str) -> Result<String, Fail> {
     let op = Op::Stat(path_of(alloc, path)?);
-    looked_by_bob(alloc, tree, &op)
+    let told = looked_by_bob(alloc, tree, &op);
+    drop(op);
+    told
+}
+
+fn both_for_bob(alloc: Global, tree: &Tree) -> Result<(String, String), Fail> {
+    let root = status_for_bob(alloc, tree, "/")?;
+    let missing = status_for_bob(alloc, tree, "/x")?;
+    Ok((root, missing))
 }
 
 #[test]
 fn looks_are_answered_over_what_is_lent(rt: HostRuntime) -> Result<(), Fail> {
-    let alloc = rt.alloc();
-    let tree = opening_tree(alloc)?;
-    let (root, missing) = (
-        status_for_bob(alloc, &tree, "/")?,
-        status_for_bob(alloc, &tree, "/x")?,
-    );
+    let tree = opening_tree(rt.alloc())?;
+    let both = both_for_bob(rt.alloc(), &tree);
+    drop(tree);
+    let (root, missing) = both?;
     assert_eq!(rt; root.as_str(), "dir 0755 hdfs supergroup");
     assert_eq!(rt; missing.as_str(), "2 NotFound");
     Ok(())

@@ -12,6 +12,7 @@ use permission_bits::rights::Rights;
 use principal_names::groups::Groups;
 use principal_names::node_id::{NodeId, node_of};
 use principal_names::who::Who;
+use std::alloc::AllocError;
 use std::test::Fail;
 
 #[test]
@@ -155,15 +156,26 @@ fn entries_are_copied_and_printed(rt: HostRuntime) -> Result<(), Fail> {
     Ok(())
 }
 
+fn is_copy_a_look(request: &Request) -> Result<bool, AllocError> {
+    let copy = request.clone()?;
+    let is_look = is_look(&copy.op);
+    drop(copy);
+    Ok(is_look)
+}
+
 #[test]
 fn requests_and_groups_are_copied(rt: HostRuntime) -> Result<(), Fail> {
     let alloc = rt.alloc();
+    let caller = Who::parse(alloc, "ann")?;
+    let path = Path::parse(alloc, "/a")?;
     let request = Request {
-        caller: Who::parse(alloc, "ann")?,
+        caller,
         moment: Moment::new(3).ok_or("moment")?,
-        op: Op::Mkdirs(Path::parse(alloc, "/a")?, Mode::parse("700")?),
+        op: Op::Mkdirs(path, Mode::parse("700")?),
     };
-    assert!(rt; !is_look(&request.clone()?.op));
+    let is_look = is_copy_a_look(&request);
+    drop(request);
+    assert!(rt; !is_look?);
     assert_eq!(rt; Groups::new(Vec::new(alloc)).clone()?.into_vec().len(), 0);
     Ok(())
 }

@@ -1,10 +1,9 @@
 -- What stands against a verb on a file, and what is asked of the file.
-use Rattle.std.proofs.Common.{◌≡◌, ℕ, List, [], ◌∷◌, ◌++◌, cond, Option, Some, None, refl, sym, ap, ◌∙◌}
+use Rattle.std.proofs.Common.{◌≡◌, ℕ, List, [], ◌∷◌, ◌++◌, Option, Some, None, refl, sym, ap, ◌∙◌}
 use Rattle.std.specs.Option.{option_or}
 use Rattle.hdfs_types.specs.declared.op.Op.{Op}
 use Rattle.hdfs_types.specs.declared.op.Op.TheVariants.{Append}
 use Rattle.hdfs_types.specs.declared.reply.Refusal.{Refusal}
-use Rattle.hdfs_types.specs.declared.reply.Refusal.TheVariants.{IsDirectory}
 use Rattle.principals.specs.Principals.{Principals, Asking}
 use Rattle.namespace_rows.specs.declared.file_row.FileRow.{FileRow}
 use Rattle.namespace_rows.specs.declared.row.Row.{Row}
@@ -13,8 +12,7 @@ use Rattle.namespace_rows.specs.Files.{holder_of, holder_of_file}
 use Rattle.flat_rows.specs.FileOutcome.{LeaseFacts, directory_there, of_file, if_some_file, refused_takeover, appended_reply, holder_at}
 use Rattle.required_rights.specs.RequiredRights.{Demand}
 use Rattle.flat_rows.specs.Decision.{denial_among}
-use Rattle.flat_rows.specs.Outcome.{first_some, beneath_file, nothing_at, refusal_of_missing, refusals_of_file, first_refusal, reply_of, refused_or_done, denied_or_outcome}
-use Rattle.inode_visits.specs.Tree.{IsTree}
+use Rattle.flat_rows.specs.Outcome.{first_some, beneath_file, nothing_at, refusals_of_file, first_refusal, reply_of, refused_or_done, denied_or_outcome}
 use Rattle.perm_walk.specs.Found.{file_at_row, IsFileThere}
 use Rattle.perm_walk.specs.JudgedStep.{judged_step}
 use Rattle.write_rules.specs.Judged.{refused_or}

@@ -1,4 +1,4 @@
-use Rattle.std.proofs.Common.{◌≡◌, ◌∙◌, sym, ap, subst}
+use Rattle.std.proofs.Common.{◌∙◌, sym, ap, subst}
 use Rattle.flat_rows.specs.Changes.{rows_under}
 use Rattle.namespace_rows.specs.Namespace.{IsNamespace}
 use Rattle.hdfs_cli.proofs.Fronts.{all_under}

@@ -1,4 +1,4 @@
-use Rattle.std.proofs.Common.{◌≡◌, ◌∙◌, ℕ, List, [], Bor, refl, ap, subst, map, take, get_or, arith, ◌+◌, ◌<◌, length}
+use Rattle.std.proofs.Common.{◌≡◌, ℕ, List, [], Bor, refl, subst, map, take, get_or, arith, ◌+◌, ◌<◌, length}
 use Rattle.hdfs_cli.specs.Output.{State, after_line, behind_lines}
 use Rattle.hdfs_cli.specs.Shown.{Shows}
 use Rattle.hdfs_cli.proofs.Lines.{fold_step}

@@ -5,7 +5,7 @@ use Rattle.name_core.specs.declared.namenode.NameCore.TheInside.{Inside}
 use Rattle.name_core.specs.Core.{Steps}
 use Rattle.name_core.specs.Kept.{core_of, entries_of}
 use Rattle.name_core.proofs.Keeping.{Adds, kept_more}
-use Rattle.name_core.proofs.Recording.{on_err, adds_of, recorded, kept_undone, core_same}
+use Rattle.name_core.proofs.Recording.{adds_of, recorded}
 use Rattle.name_core.proofs.namenode.NameCore.step.Goals as goal
 
 abbrev after : goal.After-record → Inside
