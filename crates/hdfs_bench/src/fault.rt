@@ -1,3 +1,4 @@
+use hdfs_cli::timing::TimingFault;
 use std::alloc::AllocError;
 use std::io;
 
@@ -22,5 +23,14 @@ impl From<AllocError> for Fault {
 impl From<io::Error> for Fault {
     fn from(_: io::Error) -> Fault {
         Fault::System
+    }
+}
+
+impl From<TimingFault> for Fault {
+    fn from(fault: TimingFault) -> Fault {
+        match fault {
+            TimingFault::OutOfMemory => Fault::OutOfMemory,
+            TimingFault::NoClock => Fault::System,
+        }
     }
 }

@@ -4,5 +4,6 @@
 pub mod channel;
 pub mod explain;
 pub mod script;
+pub mod timing;
 
 pub use script_text::token as token;

@@ -105,7 +105,7 @@ fn print_answer(
 
 /// A script that is being run: the NameNode, the lines so far, and what they print.
 #[derive(Drop)]
-pub struct Session {
+pub(crate) struct Session {
     pub(crate) core: NameCore,
     /// How many lines were run.
     number: usize,
@@ -121,7 +121,7 @@ impl Session {
     ///
     /// # Errors
     /// Want of memory.
-    pub fn open(alloc: Global) -> Result<Session, AllocError>
+    pub(crate) fn open(alloc: Global) -> Result<Session, AllocError>
         ensures { IfOk result (Shows spec.opening) }
     {
         Ok(Session {
@@ -133,22 +133,15 @@ impl Session {
         })
     }
 
-    /// What the lines so far print.
-    pub fn output(&self) -> &str
-        ensures { (state : spec.State) → Shows state self.now → result.now ≡ spec.text_of state.answers }
-    {
-        self.out.as_str()
-    }
-
     /// Whether one of the lines so far was ill-formed.
-    pub fn has_bad(&self) -> bool
+    pub(crate) fn has_bad(&self) -> bool
         ensures { (state : spec.State) → Shows state self.now → spec.status_by result ≡ spec.status_of state.answers }
     {
         self.has_bad
     }
 
     /// What the lines so far print, where nothing more is run.
-    fn into_output(self) -> String
+    pub(crate) fn into_output(self) -> String
         ensures { result ≡ self.out }
     {
         let Session { core, out, .. } = self;
@@ -230,7 +223,7 @@ pub(crate) fn run_lines(
 ///
 /// # Errors
 /// Want of memory, and of numbers for so many lines.
-pub fn run_more(alloc: Global, session: &mut Session, text: &str) -> Result<(), AllocError>
+pub(crate) fn run_more(alloc: Global, session: &mut Session, text: &str) -> Result<(), AllocError>
     ensures ok { (state : spec.State) → Shows state session.old → OnOk result (Shows (spec.behind_lines state (words.lines_of text.now)) session.new) }
     ensures err { (state : spec.State) → Shows state session.old → OnErr result ((count : ℕ) × (count < length (words.lines_of text.now)) × (string_bytes session.new.out ≡ spec.text_of (spec.behind_lines state (take count (words.lines_of text.now))).answers)) }
 {

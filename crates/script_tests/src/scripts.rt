@@ -1,5 +1,5 @@
-use hdfs_cli::script::{ScriptFault, Session, Status, run_more, run_script};
-use std::alloc::{AllocError, Global};
+use hdfs_cli::script::{ScriptFault, Status, run_script};
+use hdfs_cli::timing::time_script;
 use std::io;
 use std::io::{ErrorKind, Read, Write};
 use std::test::Fail;
@@ -59,33 +59,17 @@ fn an_empty_script_prints_nothing(rt: HostRuntime) -> Result<(), Fail> {
     Ok(())
 }
 
-/// What is printed of two texts, the second run behind the first, and whether a line was ill-formed.
-fn run_both(
-    alloc: Global,
-    session: &mut Session,
-    first: &str,
-    second: &str,
-) -> Result<(String, bool), AllocError> {
-    run_more(alloc, session, first)?;
-    run_more(alloc, session, second)?;
-    Ok((
-        String::from_str(alloc, session.output())?,
-        session.has_bad(),
-    ))
-}
-
-fn run_in_turn(alloc: Global, first: &str, second: &str) -> Result<(String, bool), AllocError> {
-    let mut session = Session::open(alloc)?;
-    let ran = run_both(alloc, &mut session, first, second);
-    drop(session);
-    ran
+/// What is printed of two texts, the second run behind the first.
+fn printed_in_turn(rt: &HostRuntime, first: &str, second: &str) -> Result<String, Fail> {
+    let run = time_script(rt, first, second)?;
+    Ok(run.output)
 }
 
 /// The text behind the last line feed is a line, too.
 #[test]
 fn texts_are_run_behind_one_another(rt: HostRuntime) -> Result<(), Fail> {
-    let (text, has_bad) = run_in_turn(
-        rt.alloc(),
+    let text = printed_in_turn(
+        &rt,
         "0 hdfs mkdirs /a 755\n",
         "0 hdfs stat /a\n0 hdfs frob /a",
     )?;
@@ -93,15 +77,13 @@ fn texts_are_run_behind_one_another(rt: HostRuntime) -> Result<(), Fail> {
         text.as_str(),
         "1 ok\n3 ok dir 0755 hdfs supergroup\n4 bad 0 BadLine\n"
     );
-    assert!(rt; has_bad);
     Ok(())
 }
 
 #[test]
 fn comments_are_counted_from_text_to_text(rt: HostRuntime) -> Result<(), Fail> {
-    let (text, has_bad) = run_in_turn(rt.alloc(), "# a comment", "0 bob stat /x")?;
+    let text = printed_in_turn(&rt, "# a comment", "0 bob stat /x")?;
     assert_eq!(rt; text.as_str(), "2 refused 2 NotFound\n");
-    assert!(rt; !has_bad);
     Ok(())
 }
 
