@@ -1,0 +1,5 @@
+//! Tests of rows and of trees, below the scripts.
+#![tactic(auto)]
+
+#[cfg(test)]
+mod namespaces;
