@@ -1,29 +1,48 @@
 use hdfs_cli::explain::{Explained, explain};
 use hdfs_cli::script::{ScriptFault, Status};
+use std::alloc::Global;
 use std::test::Fail;
 
-/// Explains a line of a script in memory. It has no clauses, so that no proof of a test computes what is printed.
-fn explained_by(
-    rt: &HostRuntime,
+/// Whether this is printed of a line of a script in memory, and this was found there. It has no clauses, so that no proof of a
+/// test computes what is printed.
+fn explains(
+    alloc: Global,
     script: &[u8],
     number: u32,
-) -> Result<(Vec<u8>, Result<Explained, ScriptFault>), Fail> {
-    let mut writer = Vec::new(rt.alloc());
+    text: &str,
+    want: Result<Explained, ScriptFault>,
+) -> bool {
+    let mut writer = Vec::new(alloc);
     let mut reader = script;
-    let found = explain(rt.alloc(), &mut reader, number, &mut writer);
-    Ok((writer, found))
+    let found = explain(alloc, &mut reader, number, &mut writer);
+    writer.as_slice() == text.as_bytes() && found == want
 }
 
-/// Whether this is printed of a line, and this was found there.
-pub(crate) fn explains(
-    rt: &HostRuntime,
+/// Fails where anything else is printed of a line, or was found there.
+fn explains_line(
+    alloc: Global,
     script: &str,
     number: u32,
     text: &str,
     want: Explained,
-) -> Result<bool, Fail> {
-    let (printed, found) = explained_by(rt, script.as_bytes(), number)?;
-    Ok(str::from_utf8(&printed)? == text && found == Ok(want))
+) -> Result<(), Fail> {
+    if explains(alloc, script.as_bytes(), number, text, Ok(want)) {
+        return Ok(());
+    }
+    Err(Fail::new(format_args!("line {number}")))
+}
+
+/// Fails where of a line anything else is printed than stands beside it, or where a line before it is ill-formed.
+pub(crate) fn explains_lines(
+    rt: &HostRuntime,
+    script: &str,
+    table: &[(u32, &str)],
+) -> Result<(), Fail> {
+    for (number, text) in table {
+        let want = Explained::Trail(Status::Clean);
+        explains_line(rt.alloc(), script, *number, text, want)?;
+    }
+    Ok(())
 }
 
 const SCRIPT: &str = "0 hdfs mkdirs /a 1777\n\
@@ -40,60 +59,58 @@ const SCRIPT: &str = "0 hdfs mkdirs /a 1777\n\
 x bob stat /\n\
 0 bob stat /a/b\n";
 
+static NEEDS: [(u32, &str); 8] = [
+    (1, "/ --x ok by superuser\n/ -w- ok by superuser\ngranted\n"),
+    (
+        3,
+        "/ --x ok by other::r-x\n/a --x ok by other::rwx\n/a/b --x denied by other::---\n",
+    ),
+    (
+        6,
+        "/ --x ok by other::r-x\n/a --x ok by other::rwx\n/a -w- ok by other::rwx\ngranted\n",
+    ),
+    (7, "/ --x ok by other::r-x\n/ -w- denied by other::r-x\n"),
+    (
+        8,
+        "/ --x ok by superuser\n/a --x ok by superuser\n/a/b --x ok by superuser\n/a/b -w- ok by superuser\ngranted\n",
+    ),
+    (
+        9,
+        "/ --x ok by other::r-x\n/a --x ok by other::rwx\n/a/b --x ok by user::rwx\ngranted\n",
+    ),
+    (10, "granted\n"),
+    (
+        11,
+        "/ --x ok by other::r-x\n/a --x ok by other::rwx\n/a/b --x ok by user::rwx\ngranted\n",
+    ),
+];
+
 #[test]
 fn explains_each_need(rt: HostRuntime) -> Result<(), Fail> {
-    let table = [
-        (1, "/ --x ok by superuser\n/ -w- ok by superuser\ngranted\n"),
-        (
-            3,
-            "/ --x ok by other::r-x\n/a --x ok by other::rwx\n/a/b --x denied by other::---\n",
-        ),
-        (
-            6,
-            "/ --x ok by other::r-x\n/a --x ok by other::rwx\n/a -w- ok by other::rwx\ngranted\n",
-        ),
-        (7, "/ --x ok by other::r-x\n/ -w- denied by other::r-x\n"),
-        (
-            8,
-            "/ --x ok by superuser\n/a --x ok by superuser\n/a/b --x ok by superuser\n/a/b -w- ok by superuser\ngranted\n",
-        ),
-        (
-            9,
-            "/ --x ok by other::r-x\n/a --x ok by other::rwx\n/a/b --x ok by user::rwx\ngranted\n",
-        ),
-        (10, "granted\n"),
-        (
-            11,
-            "/ --x ok by other::r-x\n/a --x ok by other::rwx\n/a/b --x ok by user::rwx\ngranted\n",
-        ),
-    ];
-    for (number, text) in table {
-        let right = explains(&rt, SCRIPT, number, text, Explained::Trail(Status::Clean))?;
-        assert!(rt; right, "line {number}");
-    }
-    Ok(())
+    explains_lines(&rt, SCRIPT, &NEEDS)
 }
 
 #[test]
 fn an_ill_formed_line_before_is_told(rt: HostRuntime) -> Result<(), Fail> {
     let text = "/ --x ok by other::r-x\n/a --x ok by other::rwx\ngranted\n";
-    assert!(rt; explains(&rt, SCRIPT, 13, text, Explained::Trail(Status::IllFormed))?);
+    let want = Ok(Explained::Trail(Status::IllFormed));
+    assert!(rt; explains(rt.alloc(), SCRIPT.as_bytes(), 13, text, want));
     Ok(())
 }
 
+static WITHOUT_REQUEST: [u32; 7] = [0, 4, 5, 12, 14, 15, 4294967295];
+
 #[test]
 fn lines_without_a_request_print_nothing(rt: HostRuntime) -> Result<(), Fail> {
-    for number in [0, 4, 5, 12, 14, 15, 4294967295] {
-        let right = explains(&rt, SCRIPT, number, "", Explained::NoRequest)?;
-        assert!(rt; right, "line {number}");
+    for number in &WITHOUT_REQUEST {
+        explains_line(rt.alloc(), SCRIPT, *number, "", Explained::NoRequest)?;
     }
-    assert!(rt; explains(&rt, "", 1, "", Explained::NoRequest)?);
-    Ok(())
+    explains_line(rt.alloc(), "", 1, "", Explained::NoRequest)
 }
 
 #[test]
 fn a_script_that_is_no_text_is_not_explained(rt: HostRuntime) -> Result<(), Fail> {
-    let (printed, found) = explained_by(&rt, b"0 bob stat /\n\xff\n", 1)?;
-    assert!(rt; printed.is_empty() && found == Err(ScriptFault::NotUtf8));
+    let want = Err(ScriptFault::NotUtf8);
+    assert!(rt; explains(rt.alloc(), b"0 bob stat /\n\xff\n".as_slice(), 1, "", want));
     Ok(())
 }

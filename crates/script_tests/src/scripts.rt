@@ -14,14 +14,6 @@ fn run_on<W: Write>(
     run_script(rt.alloc(), &mut reader, writer)
 }
 
-/// What a script in memory prints, and how it ends.
-fn printed(rt: &HostRuntime, script: &str) -> Result<(String, Status), Fail> {
-    let mut writer = Vec::new(rt.alloc());
-    let status = run_on(rt, script.as_bytes(), &mut writer)?;
-    let text = str::from_utf8(&writer)?;
-    Ok((String::from_str(rt.alloc(), text)?, status))
-}
-
 /// Lines of every form; the number of an answer counts every line.
 const LINES: &str = "# a comment\n\n0 hdfs stat /\r\n\
 0 hdfs stat /x\r\r\n\
@@ -42,9 +34,15 @@ const LINES_ANSWERED: &str = "3 ok dir 0755 hdfs supergroup\n\
 30 bad 19 BadName\n31 bad 19 BadName\n32 bad 19 BadName\n33 bad 20 BadMode\n34 bad 20 BadMode\n35 refused 2 NotFound\n";
 
 /// Whether the script prints these answers, and ends so.
-fn prints(rt: &HostRuntime, script: &str, answers: &str, status: Status) -> Result<bool, Fail> {
-    let (text, ended) = printed(rt, script)?;
-    Ok(text.as_str() == answers && ended == status)
+fn prints(
+    rt: &HostRuntime,
+    script: &str,
+    answers: &str,
+    status: Status,
+) -> Result<bool, ScriptFault> {
+    let mut writer = Vec::new(rt.alloc());
+    let ended = run_on(rt, script.as_bytes(), &mut writer)?;
+    Ok(writer.as_slice() == answers.as_bytes() && ended == status)
 }
 
 #[test]
@@ -142,45 +140,54 @@ const SCRIPT: &str = "0 hdfs stat /\n0 bob stat /x\n";
 
 const ANSWERS: &str = "1 ok dir 0755 hdfs supergroup\n2 refused 2 NotFound\n";
 
+/// Whether a run prints nothing whose reader fails behind so many bytes.
+fn fails_to_read(rt: &HostRuntime, left: usize) -> bool {
+    let mut reader = Broken {
+        text: SCRIPT.as_bytes(),
+        left,
+    };
+    let mut writer = Vec::new(rt.alloc());
+    let ended = run_script(rt.alloc(), &mut reader, &mut writer);
+    ended == Err(ScriptFault::CannotRead) && writer.is_empty()
+}
+
 #[test]
 fn a_reader_that_fails_prints_nothing(rt: HostRuntime) -> Result<(), Fail> {
     for left in 0..SCRIPT.len() {
-        let mut reader = Broken {
-            text: SCRIPT.as_bytes(),
-            left,
-        };
-        let mut writer = Vec::new(rt.alloc());
-        let ended = run_script(rt.alloc(), &mut reader, &mut writer);
-        assert_eq!(rt; ended, Err(ScriptFault::CannotRead));
-        assert_eq!(rt; writer.len(), 0);
+        assert!(rt; fails_to_read(&rt, left));
     }
     Ok(())
+}
+
+/// Whether a run whose writer fails behind so many bytes has written these, a front of the answers.
+fn fails_to_write(rt: &HostRuntime, left: usize) -> bool {
+    let mut writer = Full {
+        taken: Vec::new(rt.alloc()),
+        left,
+    };
+    let ended = run_on(rt, SCRIPT.as_bytes(), &mut writer);
+    ended == Err(ScriptFault::CannotWrite)
+        && writer.taken.len() == left
+        && ANSWERS.as_bytes().starts_with(&writer.taken)
 }
 
 #[test]
 fn a_writer_that_fails_has_a_front(rt: HostRuntime) -> Result<(), Fail> {
     for left in 0..ANSWERS.len() {
-        let mut writer = Full {
-            taken: Vec::new(rt.alloc()),
-            left,
-        };
-        let ended = run_on(&rt, SCRIPT.as_bytes(), &mut writer);
-        assert_eq!(rt; ended, Err(ScriptFault::CannotWrite));
-        assert_eq!(rt; writer.taken.len(), left);
-        assert!(rt; ANSWERS.as_bytes().starts_with(&writer.taken));
+        assert!(rt; fails_to_write(&rt, left));
     }
     Ok(())
 }
 
+/// Whether nothing is printed of bytes that are no text.
+fn is_no_text(rt: &HostRuntime, script: &[u8]) -> bool {
+    let mut writer = Vec::new(rt.alloc());
+    let ended = run_on(rt, script, &mut writer);
+    ended == Err(ScriptFault::NotUtf8) && writer.is_empty()
+}
+
 #[test]
 fn a_script_that_is_no_text_prints_nothing(rt: HostRuntime) -> Result<(), Fail> {
-    let mut writer = Vec::new(rt.alloc());
-    let ended = run_on(
-        &rt,
-        b"0 hdfs stat /\n0 hdfs stat /\xff\n".as_slice(),
-        &mut writer,
-    );
-    assert_eq!(rt; ended, Err(ScriptFault::NotUtf8));
-    assert_eq!(rt; writer.len(), 0);
+    assert!(rt; is_no_text(&rt, b"0 hdfs stat /\n0 hdfs stat /\xff\n".as_slice()));
     Ok(())
 }

@@ -1,4 +1,4 @@
-use crate::lines::made;
+use crate::made::{all_make, are_bad_lines};
 use std::test::Fail;
 
 /// Numbers of words that the verb doesn't take. The words are ill-formed too, which is judged later.
@@ -25,11 +25,7 @@ static COUNTS: [&str; 18] = [
 
 #[test]
 fn verbs_of_files_count_their_words(rt: HostRuntime) -> Result<(), Fail> {
-    for line in &COUNTS {
-        let fault = made(rt.alloc(), line)?;
-        assert_eq!(rt; fault.as_str(), "0 BadLine", "of {line}");
-    }
-    Ok(())
+    are_bad_lines(&rt, &COUNTS)
 }
 
 /// Requests, and words that are ill-formed, alone and before another.
@@ -80,9 +76,5 @@ static SAID: [(&str, &str); 39] = [
 
 #[test]
 fn lines_of_files_make_requests(rt: HostRuntime) -> Result<(), Fail> {
-    for (line, want) in &SAID {
-        let found = made(rt.alloc(), line)?;
-        assert_eq!(rt; found.as_str(), *want, "of {line}");
-    }
-    Ok(())
+    all_make(&rt, &SAID)
 }

@@ -1,4 +1,4 @@
-use crate::lines::made;
+use crate::made::{all_make, are_bad_lines};
 use std::test::Fail;
 
 /// Numbers of words that the form doesn't take. The words are ill-formed too, which is judged later.
@@ -20,11 +20,7 @@ static COUNTS: [&str; 13] = [
 
 #[test]
 fn the_form_says_how_many_words_there_are(rt: HostRuntime) -> Result<(), Fail> {
-    for line in &COUNTS {
-        let fault = made(rt.alloc(), line)?;
-        assert_eq!(rt; fault.as_str(), "0 BadLine", "of {line}");
-    }
-    Ok(())
+    are_bad_lines(&rt, &COUNTS)
 }
 
 /// Words that are ill-formed, alone and before another. A form that is none of the five is such a word.
@@ -66,9 +62,5 @@ static FAULTS: [(&str, &str); 24] = [
 
 #[test]
 fn the_first_ill_formed_word_of_setfacl_counts(rt: HostRuntime) -> Result<(), Fail> {
-    for (line, want) in &FAULTS {
-        let found = made(rt.alloc(), line)?;
-        assert_eq!(rt; found.as_str(), *want, "of {line}");
-    }
-    Ok(())
+    all_make(&rt, &FAULTS)
 }
