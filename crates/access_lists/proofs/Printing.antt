@@ -7,8 +7,8 @@ use Rattle.acl_specs.specs.declared.entry.Entry.{Entry}
 use Rattle.acl_specs.specs.declared.entry.EntryKind.TheVariants.{User, Group, Other}
 use Rattle.acl_specs.specs.declared.entry.Scope.{Scope}
 use Rattle.acl_specs.specs.declared.entry.Scope.TheVariants.{Access, Default}
-use Rattle.access_lists.specs.AccessControlList.{AccessControlList, EntryList, base_entry, named_entry, mask_entries, entries_in, entries}
-use Rattle.access_lists.specs.Printed.{behind_comma, text_in, default_text, text_of}
+use Rattle.access_lists.specs.Acl.{Acl, EntryList, base_entry, named_entry, mask_entries, entries_in, entries}
+use Rattle.access_lists.specs.Printed.{behind_comma, text_in, default_text, acl_text}
 
 no_more : (xs : List ℕ) → xs ++ [] ≡ xs
 no_more [] = refl
@@ -58,7 +58,7 @@ default_is : (default : Option EntryList) → flat_map behind_comma (option_map_
 default_is None = refl
 default_is (Some list) = ap (λ t. 44 ∷ t) (others_text Default list)
 
-pub joined : (acl : AccessControlList) → text_of acl ≡ join_with_byte 44 (map entry_text (entries acl))
+pub joined : (acl : Acl) → acl_text acl ≡ join_with_byte 44 (map entry_text (entries acl))
 joined acl = sym (first_and_others (first Access acl.access) (others Access acl.access ++ option_map_or (entries_in Default) acl.default [])
     ∙ ap (λ t. entry_text (first Access acl.access) ++ t) (flat_append behind_comma (others Access acl.access) (option_map_or (entries_in Default) acl.default []))
     ∙ sym (append_assoc (entry_text (first Access acl.access)) (flat_map behind_comma (others Access acl.access)) (flat_map behind_comma (option_map_or (entries_in Default) acl.default [])))

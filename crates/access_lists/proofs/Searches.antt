@@ -9,11 +9,11 @@ use Rattle.permission_bits.specs.declared.rights.Rights.{Rights}
 use Rattle.acl_specs.specs.declared.entry.EntryKind.TheVariants.{Group, Other}
 use Rattle.acl_specs.specs.declared.entry.Scope.TheVariants.{Access}
 use Rattle.access_lists.specs.declared.entry_list.NamedEntry.{NamedEntry}
-use Rattle.access_lists.specs.AccessControlList.{EntryList, base_entry, named_entry}
-use Rattle.access_lists.specs.JudgedEntry.{Judgement, judged_by, judged_by_groups, best, group_entries, masked}
+use Rattle.access_lists.specs.Acl.{EntryList, base_entry, named_entry}
+use Rattle.access_lists.specs.JudgedEntry.{Chosen, judged_by, judged_by_groups, best_judgement, group_entries, effective_rights}
 
-module _ {X Y : Type 0} (p : X → Bool) (g : X → Y) (f : Y → Judgement) where
-  abbrev judged : List X → List Judgement
+module _ {X Y : Type 0} (p : X → Bool) (g : X → Y) (f : Y → Chosen) where
+  abbrev judged : List X → List Chosen
   judged xs = map f (map g (filter p xs))
 
   granting : (xs : List X) → find (λ j. j.granted) (judged xs) ≡ option_map (λ x. f (g x)) (find (λ x. p x && (f (g x)).granted) xs)
@@ -37,59 +37,59 @@ module _ {X Y : Type 0} (p : X → Bool) (g : X → Y) (f : Y → Judgement) whe
       by false others = others
 
 -- whether the caller is in the owning group, its entry's judgement, the searches of the named groups, and the judgement by others
-abbrev chosen_of : Bool → Judgement → Option Judgement → Option Judgement → Judgement → Judgement
+abbrev chosen_of : Bool → Chosen → Option Chosen → Option Chosen → Chosen → Chosen
 chosen_of true own found first other = if own.granted then own else unwrap_or found own
 chosen_of false own found first other = unwrap_or found (unwrap_or first other)
 
-chosen_is : (member : Bool) (own : Judgement) (others : List Judgement) (other : Judgement) (found first : Option Judgement)
+chosen_is : (member : Bool) (own : Chosen) (others : List Chosen) (other : Chosen) (found first : Option Chosen)
     → find (λ j. j.granted) others ≡ found → slice_get others 0 ≡ first
-    → unwrap_or (best (cond member (own ∷ others) others)) other ≡ chosen_of member own found first other
+    → unwrap_or (best_judgement (cond member (own ∷ others) others)) other ≡ chosen_of member own found first other
 chosen_is true own others other found first h k = by own.granted
   where
     by : (b : Bool) → unwrap_or (option_or (cond b (Some own) (find (λ j. j.granted) others)) (Some own)) other ≡ cond b own (unwrap_or found own)
     by true = refl
     by false = rw h (last found)
       where
-        last : (o : Option Judgement) → unwrap_or (option_or o (Some own)) other ≡ unwrap_or o own
+        last : (o : Option Chosen) → unwrap_or (option_or o (Some own)) other ≡ unwrap_or o own
         last None = refl
         last (Some j) = refl
 chosen_is false own others other found first h k = rw (h, k) (last found)
   where
-    last : (o : Option Judgement) → unwrap_or (option_or o first) other ≡ unwrap_or o (unwrap_or first other)
+    last : (o : Option Chosen) → unwrap_or (option_or o first) other ≡ unwrap_or o (unwrap_or first other)
     last None = refl
     last (Some j) = refl
 
 module _ (group : List ℕ) (list : EntryList) (groups : List (List ℕ)) (need : Rights) where
-  abbrev by_named : NamedEntry → Judgement
+  abbrev by_named : NamedEntry → Chosen
   by_named entry = judged_by (named_entry Access Group entry) list.mask need
 
-  abbrev own : Judgement
+  abbrev own : Chosen
   own = judged_by (base_entry Access Group list.group) list.mask need
 
-  abbrev other : Judgement
+  abbrev other : Chosen
   other = judged_by (base_entry Access Other list.other) None need
 
   abbrev granting_entry : Option NamedEntry
-  granting_entry = find (λ entry. has_group groups entry.name && covers (masked list.mask entry.rights).0 need.0) list.groups
+  granting_entry = find (λ entry. has_group groups entry.name && covers (effective_rights list.mask entry.rights).0 need.0) list.groups
 
   abbrev matching_entry : Option NamedEntry
   matching_entry = find (λ entry. has_group groups entry.name) list.groups
 
-  abbrev judge : List Judgement
+  abbrev judge : List Chosen
   judge = map (λ entry. judged_by entry list.mask need) (map (named_entry Access Group) (filter (λ entry. has_group groups entry.name) list.groups))
 
   pub by_searches : judged_by_groups group list groups need ≡ chosen_of (has_group groups group) own (option_map by_named granting_entry) (option_map by_named matching_entry) other
   by_searches = by (has_group groups group)
     where
       by : (member : Bool)
-          → unwrap_or (best (map (λ entry. judged_by entry list.mask need) (cond member (base_entry Access Group list.group ∷ []) [] ++ map (named_entry Access Group) (filter (λ entry. has_group groups entry.name) list.groups)))) other
+          → unwrap_or (best_judgement (map (λ entry. judged_by entry list.mask need) (cond member (base_entry Access Group list.group ∷ []) [] ++ map (named_entry Access Group) (filter (λ entry. has_group groups entry.name) list.groups)))) other
           ≡ chosen_of member own (option_map by_named granting_entry) (option_map by_named matching_entry) other
       by true = chosen_is true own judge other _ _ (granting (λ entry. has_group groups entry.name) (named_entry Access Group) (λ entry. judged_by entry list.mask need) list.groups) (matching (λ entry. has_group groups entry.name) (named_entry Access Group) (λ entry. judged_by entry list.mask need) list.groups)
       by false = chosen_is false own judge other _ _ (granting (λ entry. has_group groups entry.name) (named_entry Access Group) (λ entry. judged_by entry list.mask need) list.groups) (matching (λ entry. has_group groups entry.name) (named_entry Access Group) (λ entry. judged_by entry list.mask need) list.groups)
 
   module _ (mask : Option Rights) (named : List NamedEntry) (m : mask ≡ list.mask) (n : named ≡ list.groups) (entry : NamedEntry) where
     abbrev found_granting : Option NamedEntry
-    found_granting = find (λ e. has_group groups e.name && covers (masked mask e.rights).0 need.0) named
+    found_granting = find (λ e. has_group groups e.name && covers (effective_rights mask e.rights).0 need.0) named
 
     granting_is : found_granting ≡ granting_entry
     granting_is = rw (m, n) refl

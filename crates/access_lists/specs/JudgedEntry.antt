@@ -10,20 +10,20 @@ use Rattle.permission_bits.specs.declared.rights.Rights.{Rights}
 use Rattle.acl_specs.specs.declared.entry.Entry.{Entry}
 use Rattle.acl_specs.specs.declared.entry.EntryKind.TheVariants.{User, Group, Other}
 use Rattle.acl_specs.specs.declared.entry.Scope.TheVariants.{Access}
-use Rattle.access_lists.specs.AccessControlList.{AccessControlList, EntryList, common, base_entry, named_entry}
+use Rattle.access_lists.specs.Acl.{Acl, EntryList, intersection, base_entry, named_entry}
 
 -- the entry, the mask where one filters it, and whether they grant what is needed
-pub record Judgement : Type 0 where
+pub record Chosen : Type 0 where
   pub entry : Entry
   pub mask : Option Rights
   pub granted : Bool
 
 -- what an entry leaves behind the mask, where there is one
-abbrev pub masked : Option Rights → Rights → Rights
-masked mask granted = option_map_or (common granted) mask granted
+abbrev pub effective_rights : Option Rights → Rights → Rights
+effective_rights mask granted = option_map_or (intersection granted) mask granted
 
-abbrev pub judged_by : Entry → Option Rights → Rights → Judgement
-judged_by entry mask need = record { entry = entry; mask = mask; granted = covers (masked mask entry.rights).0 need.0 }
+abbrev pub judged_by : Entry → Option Rights → Rights → Chosen
+judged_by entry mask need = record { entry = entry; mask = mask; granted = covers (effective_rights mask entry.rights).0 need.0 }
 
 -- the entries of the groups that the caller is in: the owning group's, and then those of named groups in the order of their names
 abbrev pub group_entries : List ℕ → EntryList → List (List ℕ) → List Entry
@@ -32,18 +32,18 @@ group_entries group list groups =
     ++ map (named_entry Access Group) (filter (λ entry. has_group groups entry.name) list.groups)
 
 -- the first judgement that grants, else the first
-abbrev pub best : List Judgement → Option Judgement
-best judgements = option_or (find (λ judgement. judgement.granted) judgements) (slice_get judgements 0)
+abbrev pub best_judgement : List Chosen → Option Chosen
+best_judgement judgements = option_or (find (λ judgement. judgement.granted) judgements) (slice_get judgements 0)
 
 -- among groups and others: where groups match, the first that grants decides, else the first of them; and others only where none does
-abbrev pub judged_by_groups : List ℕ → EntryList → List (List ℕ) → Rights → Judgement
+abbrev pub judged_by_groups : List ℕ → EntryList → List (List ℕ) → Rights → Chosen
 judged_by_groups group list groups need =
-    unwrap_or (best (map (λ entry. judged_by entry list.mask need) (group_entries group list groups)))
+    unwrap_or (best_judgement (map (λ entry. judged_by entry list.mask need) (group_entries group list groups)))
     (judged_by (base_entry Access Other list.other) None need)
 
 -- the owner's entry for the owner, else that of a user of the caller's name, else those of groups and others. The mask filters
 -- all but the owner's and the others'.
-abbrev pub judged_entry : List ℕ → List ℕ → AccessControlList → List ℕ → List (List ℕ) → Rights → Judgement
+abbrev pub judged_entry : List ℕ → List ℕ → Acl → List ℕ → List (List ℕ) → Rights → Chosen
 judged_entry owner group acl caller groups need =
     if same caller owner then judged_by (base_entry Access User acl.access.user) None need
     else option_map_or (λ entry. judged_by (named_entry Access User entry) acl.access.mask need)

@@ -10,8 +10,8 @@ use Rattle.access_lists.specs.declared.acl.Acl.TheInside as acl
 use Rattle.access_lists.specs.declared.deciding_entry.Chosen.TheInside as chosen
 use Rattle.access_lists.specs.declared.entry_list.Bases.{Bases}
 use Rattle.access_lists.specs.declared.entry_list.NamedEntry.{NamedEntry}
-use Rattle.access_lists.specs.AccessControlList.{AccessControlList, EntryList, are_bases}
-use Rattle.access_lists.specs.JudgedEntry.{Judgement}
+use Rattle.access_lists.specs.Acl.{Acl, EntryList, are_bases}
+use Rattle.access_lists.specs.JudgedEntry.{Chosen}
 
 abbrev pub entry_list_of : list.Inside → EntryList
 entry_list_of list = record {
@@ -29,10 +29,10 @@ list_of_parts bases mask users groups = record { user = bases.user; users = user
 abbrev pub bases_of_mode : ℕ → Bases
 bases_of_mode mode = record { user = rights (user_bits mode); group = rights (group_bits mode); other = rights (other_bits mode) }
 
-abbrev pub acl_of : acl.Inside → AccessControlList
+abbrev pub acl_of : acl.Inside → Acl
 acl_of acl = record { sticky = acl.sticky; access = acl.access; default = option_map (λ list. list.value) acl.default }
 
-abbrev pub judgement_of : chosen.Inside → Judgement
+abbrev pub judgement_of : chosen.Inside → Chosen
 judgement_of chosen = record {
   entry = record { scope = Access; kind = chosen.kind; name = option_copied chosen.name; rights = chosen.rights };
   mask = chosen.mask;

@@ -1,4 +1,4 @@
-pub mod AccessControlList
+pub mod Acl
 pub mod JudgedEntry
 pub mod Kept
 pub mod Printed

@@ -6,7 +6,7 @@ use Rattle.acl_specs.specs.declared.entry.Entry.{Entry}
 use Rattle.acl_specs.specs.declared.entry.EntryKind.TheVariants.{User, Group, Other}
 use Rattle.acl_specs.specs.declared.entry.Scope.{Scope}
 use Rattle.acl_specs.specs.declared.entry.Scope.TheVariants.{Access, Default}
-use Rattle.access_lists.specs.AccessControlList.{AccessControlList, EntryList, base_entry, named_entry, mask_entries}
+use Rattle.access_lists.specs.Acl.{Acl, EntryList, base_entry, named_entry, mask_entries}
 
 abbrev pub behind_comma : Entry → List ℕ
 behind_comma entry = 44 ∷ entry_text entry
@@ -21,5 +21,5 @@ abbrev pub default_text : Option EntryList → List ℕ
 default_text None = []
 default_text (Some list) = 44 ∷ text_in Default list
 
-abbrev pub text_of : AccessControlList → List ℕ
-text_of acl = text_in Access acl.access ++ default_text acl.default
+abbrev pub acl_text : Acl → List ℕ
+acl_text acl = text_in Access acl.access ++ default_text acl.default

@@ -4,7 +4,7 @@ ghost use Rattle.std.specs.Option.{option_copied};
 ghost use Rattle.principal_names.specs.Groups.{has_group as is_member};
 ghost use Rattle.hdfs_texts.specs.Text.{same};
 ghost use Rattle.permission_bits.specs.Rights.{covers};
-ghost use Rattle.access_lists.specs.JudgedEntry.{judged_entry, judged_by_groups, masked};
+ghost use Rattle.access_lists.specs.JudgedEntry.{judged_entry, judged_by_groups, effective_rights};
 
 use crate::acl::Acl;
 use crate::deciding_entry::{Chosen, grants};
@@ -35,7 +35,7 @@ fn first_granting<'a>(
     groups: &[Who],
     need: Rights,
 ) -> Option<&'a NamedEntry>
-    ensures { option_copied result ≡ find (λ entry. is_member groups.now entry.name && covers (masked mask entry.rights).0 need.0) named.now }
+    ensures { option_copied result ≡ find (λ entry. is_member groups.now entry.name && covers (effective_rights mask entry.rights).0 need.0) named.now }
 {
     named.iter().find(|entry| has_group(groups, &entry.name) && grants(entry.rights, mask, need))
 }

@@ -1,6 +1,6 @@
 ghost use Rattle.std.specs.Prelude.{◌≡◌, true, None, IfOk};
 ghost use Rattle.std.specs.Option.{is_some, option_copied};
-ghost use Rattle.access_lists.specs.AccessControlList.{IsEntryList, is_access_list, IsAccessControlList, acl_of_mode, shown_mode, has_named, has_acl, base_entries};
+ghost use Rattle.access_lists.specs.Acl.{IsEntryList, is_access_list, IsAcl, acl_of_mode, shown_mode, has_named, has_acl, base_entries};
 ghost use Rattle.access_lists.specs.Kept.{AreBases, bases_of_mode, list_of_parts};
 
 use crate::entry_list::{Bases, EntryList};
@@ -20,15 +20,15 @@ pub struct Acl {
 }
 
 impl Model for Acl {
-    ghost use Rattle.access_lists.specs.AccessControlList.{AccessControlList, IsAccessControlList};
+    ghost use Rattle.access_lists.specs.Acl.{Acl, IsAcl};
 
-    ghost Value = { AccessControlList };
+    ghost Value = { Acl };
 
     ghost use Rattle.access_lists.specs.Kept.{acl_of};
 
     ghost view = { acl_of };
 
-    ghost invariant = { λ acl. IsAccessControlList (acl_of acl) };
+    ghost invariant = { λ acl. IsAcl (acl_of acl) };
 }
 
 /// What a mode grants.
@@ -62,7 +62,7 @@ impl Acl {
         access: EntryList,
         default: Option<EntryList>,
     ) -> Result<Acl, AllocError>
-        requires { IsAccessControlList (record { sticky = sticky; access = access; default = default }) }
+        requires { IsAcl (record { sticky = sticky; access = access; default = default }) }
         ensures { IfOk result (λ acl. acl ≡ record { sticky = sticky; access = access; default = default }) }
     {
         let default = match default {
@@ -97,7 +97,7 @@ impl Acl {
     /// The entries that are judged.
     pub fn access(&self) -> &EntryList
         ensures list { result.now ≡ self.now.access }
-        ensures acl { IsAccessControlList self.now }
+        ensures acl { IsAcl self.now }
     {
         &self.access
     }

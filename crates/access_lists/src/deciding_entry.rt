@@ -1,7 +1,7 @@
 ghost use Rattle.std.specs.Prelude.{◌≡◌, IfOk};
 ghost use Rattle.permission_bits.specs.Rights.{covers};
 ghost use Rattle.acl_specs.specs.declared.entry.Scope.TheVariants.{Access};
-ghost use Rattle.access_lists.specs.JudgedEntry.{masked};
+ghost use Rattle.access_lists.specs.JudgedEntry.{effective_rights};
 
 use crate::entry_list::NamedEntry;
 use acl_specs::entry::{Entry, EntryKind, Scope};
@@ -23,9 +23,9 @@ pub struct Chosen<'a> {
 }
 
 impl<'a> Model for Chosen<'a> {
-    ghost use Rattle.access_lists.specs.JudgedEntry.{Judgement};
+    ghost use Rattle.access_lists.specs.JudgedEntry.{Chosen};
 
-    ghost Value = { Judgement };
+    ghost Value = { Chosen };
 
     ghost use Rattle.access_lists.specs.Kept.{judgement_of};
 
@@ -34,7 +34,7 @@ impl<'a> Model for Chosen<'a> {
 
 /// Whether rights behind a mask, where there is one, are all that is needed.
 pub fn grants(rights: Rights, mask: Option<Rights>, need: Rights) -> bool
-    ensures { result ≡ covers (masked mask rights).0 need.0 }
+    ensures { result ≡ covers (effective_rights mask rights).0 need.0 }
 {
     match mask {
         Some(mask) => rights.intersection(mask).covers(need),
@@ -43,7 +43,7 @@ pub fn grants(rights: Rights, mask: Option<Rights>, need: Rights) -> bool
 }
 
 impl<'a> Chosen<'a> {
-    ghost use Rattle.access_lists.specs.AccessControlList.{base_entry, named_entry};
+    ghost use Rattle.access_lists.specs.Acl.{base_entry, named_entry};
     ghost use Rattle.access_lists.specs.JudgedEntry.{judged_by};
 
     /// The entry of the owner, the owning group or all others.

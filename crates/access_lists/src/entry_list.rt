@@ -1,5 +1,5 @@
 ghost use Rattle.std.specs.Prelude.{◌≡◌, IfOk};
-ghost use Rattle.access_lists.specs.AccessControlList.{IsEntryList, base_entries};
+ghost use Rattle.access_lists.specs.Acl.{IsEntryList, base_entries};
 ghost use Rattle.access_lists.specs.Kept.{AreBases, list_of_parts};
 
 use permission_bits::rights::Rights;
@@ -53,7 +53,7 @@ pub struct EntryList {
 }
 
 impl Model for EntryList {
-    ghost use Rattle.access_lists.specs.AccessControlList.{EntryList, IsEntryList};
+    ghost use Rattle.access_lists.specs.Acl.{EntryList, IsEntryList};
 
     ghost Value = { EntryList };
 

@@ -2,8 +2,8 @@ ghost use Rattle.std.specs.Prelude.{◌≡◌, ◌∷◌, map, Some, IfOk};
 ghost use Rattle.std.specs.List.{flat_map, join_with_byte};
 ghost use Rattle.std.specs.String.{string_bytes};
 ghost use Rattle.acl_specs.specs.Entry.{entry_text};
-ghost use Rattle.access_lists.specs.AccessControlList.{entries, base_entry, named_entry, mask_entries};
-ghost use Rattle.access_lists.specs.Printed.{text_in, text_of};
+ghost use Rattle.access_lists.specs.Acl.{entries, base_entry, named_entry, mask_entries};
+ghost use Rattle.access_lists.specs.Printed.{text_in, acl_text};
 
 use crate::acl::Acl;
 use crate::entry_list::{EntryList, NamedEntry};
@@ -123,10 +123,10 @@ impl<'a> fmt::Display for InScope<'a> {
     }
 }
 
-/// Prints the entries that are judged, and then those of the default list, with a comma between each two, as `getfacl` tells them
+/// Prints the entries that are judged, and then those of the default list, with a comma between each two, as `getfacl` prints them
 /// (HDFS Permissions Guide, "ACLs Shell Commands").
 impl fmt::Display for Acl {
-    ghost output = { λ acl. Some (text_of acl) };
+    ghost output = { λ acl. Some (acl_text acl) };
 
     fn fmt<W: fmt::Write>(&self, f: &mut fmt::Formatter<W>) -> fmt::Result {
         let access = InScope {
@@ -147,7 +147,7 @@ impl fmt::Display for Acl {
 }
 
 #[tactic(auto, using(crate::proofs::Printing::joined))]
-/// The text of a list: its entries as `getfacl` tells them, with a comma between each two.
+/// The text of a list: its entries as `getfacl` prints them, with a comma between each two.
 pub fn print(alloc: Global, acl: &Acl) -> Result<String, AllocError>
     ensures { IfOk result (λ text. string_bytes text ≡ join_with_byte 44 (map entry_text (entries acl.now))) }
 {

@@ -9,7 +9,7 @@ use Rattle.hdfs_texts.specs.Text.{same}
 use Rattle.principal_names.specs.Who.{is_who}
 use Rattle.permission_bits.specs.Rights.{rights, rights_text, rights_of}
 use Rattle.acl_specs.specs.Entry.{entry_text, kind_text, name_text}
-use Rattle.acl_specs.specs.Spec.{IsSpec, spec_fault, checked}
+use Rattle.acl_specs.specs.Spec.{IsSpec, spec_fault, ok_unless}
 use Rattle.hdfs_texts.proofs.Texts.{same_is}
 use Rattle.permission_bits.specs.declared.rights.Rights.{Rights}
 use Rattle.hdfs_texts.specs.declared.fault.AclFault.{AclFault}
@@ -18,8 +18,8 @@ use Rattle.acl_specs.specs.declared.entry.Scope.TheVariants.{Access, Default}
 use Rattle.acl_specs.specs.declared.entry.EntryKind.{EntryKind}
 use Rattle.acl_specs.specs.declared.entry.EntryKind.TheVariants.{User, Group, Mask, Other}
 use Rattle.acl_specs.specs.declared.entry.Entry.{Entry}
-use Rattle.acl_entries.specs.SpecText.{pieces_at, kind_of, name_of, entry_with, granting_entry, entry_of, entry_of_fields, both, entries_of, spec_or_fault, spec_of, spec_text, is_printable}
-use Rattle.acl_entries.proofs.SpecTexts.{is_name, and_true}
+use Rattle.acl_entries.specs.SpecText.{entry_kind_of, entry_name_of, entry_with, granting_entry, entry_of_text, entry_of_fields, both, entries_of_texts, spec_or_fault, spec_of, spec_text, is_printable}
+use Rattle.acl_entries.proofs.SpecTexts.{pieces_at, is_name, and_true}
 
 -- the three letters are those of the rights
 abbrev pub RightsSpelled : Type 0
@@ -34,7 +34,7 @@ is_kind : (word : List ℕ) (own kind : EntryKind) (rest : Option EntryKind) →
 is_kind word own kind rest e =
     ⊎_elim (λ h. inl (ap kind_text (sym h.1) ∙ sym (same_is word (kind_text own) h.0))) (λ h. inr h) (if_some (same word (kind_text own)) own kind rest e)
 
-kind_spelled : (word : List ℕ) (kind : EntryKind) → kind_of word ≡ Some kind → kind_text kind ≡ word
+kind_spelled : (word : List ℕ) (kind : EntryKind) → entry_kind_of word ≡ Some kind → kind_text kind ≡ word
 kind_spelled word kind e =
     ⊎_elim (λ h. h) (λ e1. ⊎_elim (λ h. h) (λ e2. ⊎_elim (λ h. h) (λ e3. ⊎_elim (λ h. h) (λ (e4 : None ≡ Some kind). cc) (is_kind word Other kind _ e3)) (is_kind word Mask kind _ e2)) (is_kind word Group kind _ e1)) (is_kind word User kind _ e)
 
@@ -42,7 +42,7 @@ some_who : (text : List ℕ) (name : Option (List ℕ)) (b : Bool) → b ≡ is_
 some_who text name true h e = let own : Some text ≡ name = cc in (subst (λ n. is_name n ≡ true) own (sym h), ap name_text (sym own))
 some_who text name false h e = cc
 
-name_spelled : (word : List ℕ) (name : Option (List ℕ)) → name_of word ≡ Some name → (is_name name ≡ true) × (name_text name ≡ word)
+name_spelled : (word : List ℕ) (name : Option (List ℕ)) → entry_name_of word ≡ Some name → (is_name name ≡ true) × (name_text name ≡ word)
 name_spelled [] None e = (refl, refl)
 name_spelled [] (Some name) e = cc
 name_spelled (b ∷ word) name e = some_who (b ∷ word) name (is_who (b ∷ word)) refl e
@@ -82,7 +82,7 @@ granting_spelled spelled scope (a ∷ []) entry e = cc
 granting_spelled spelled scope (a ∷ b ∷ []) entry e = cc
 granting_spelled spelled scope (a ∷ b ∷ c ∷ d ∷ rest) entry e = cc
 granting_spelled spelled scope (a ∷ b ∷ c ∷ []) entry e =
-    let parts = parts_of scope (kind_of a) (name_of b) (rights_of c) entry e in
+    let parts = parts_of scope (entry_kind_of a) (entry_name_of b) (rights_of c) entry e in
     let kind = kind_spelled a entry.kind parts.its_kind in
     let name = name_spelled b entry.name parts.its_name in
     let granted = spelled c entry.rights.0 parts.its_rights in
@@ -115,7 +115,7 @@ fields_spelled : RightsSpelled → (fields : List (List ℕ)) (entry : Entry) �
 fields_spelled spelled [] entry e = cc
 fields_spelled spelled (field ∷ fields) entry e = by_scope spelled field fields entry (same field (codes "default")) refl e
 
-entry_spelled : RightsSpelled → (text : List ℕ) (entry : Entry) → entry_of true text ≡ Some entry → (is_printable entry ≡ true) × (entry_text entry ≡ text)
+entry_spelled : RightsSpelled → (text : List ℕ) (entry : Entry) → entry_of_text true text ≡ Some entry → (is_printable entry ≡ true) × (entry_text entry ≡ text)
 entry_spelled spelled text entry e =
     let s = fields_spelled spelled (pieces_at 58 text) entry e in (s.0, s.1 ∙ join_with_byte-slice_split 58 text)
 
@@ -127,15 +127,15 @@ both_some None others entries e = cc
 both_some (Some entry) None entries e = cc
 both_some (Some entry) (Some rest) entries e = (entry, rest, refl, refl, cc)
 
-all_spelled : RightsSpelled → (texts : List (List ℕ)) (entries : List Entry) → entries_of true texts ≡ Some entries → (list_all is_printable entries ≡ true) × (map entry_text entries ≡ texts)
+all_spelled : RightsSpelled → (texts : List (List ℕ)) (entries : List Entry) → entries_of_texts true texts ≡ Some entries → (list_all is_printable entries ≡ true) × (map entry_text entries ≡ texts)
 all_spelled spelled [] entries e = let none : [] ≡ entries = cc in (subst (λ es. list_all is_printable es ≡ true) none refl, ap (map entry_text) (sym none))
 all_spelled spelled (text ∷ texts) entries e =
-    let found = both_some (entry_of true text) (entries_of true texts) entries e in
+    let found = both_some (entry_of_text true text) (entries_of_texts true texts) entries e in
     let first = entry_spelled spelled text found.0 found.2 in
     let rest = all_spelled spelled texts found.1 found.3 in
     (subst (λ es. list_all is_printable es ≡ true) (sym found.4) (and_true _ _ first.0 rest.0), rw (found.4, first.1, rest.1) refl)
 
-checked_ok : (fault : Option AclFault) (found entries : List Entry) → checked fault found ≡ Ok entries → (fault ≡ None) × (found ≡ entries)
+checked_ok : (fault : Option AclFault) (found entries : List Entry) → ok_unless fault found ≡ Ok entries → (fault ≡ None) × (found ≡ entries)
 checked_ok None found entries e = (refl, cc)
 checked_ok (Some fault) found entries e = cc
 
@@ -146,6 +146,6 @@ spec_ok (Some found) entries e =
 
 pub spec_spelled : RightsSpelled → (text : List ℕ) (entries : List Entry) → spec_of true text ≡ Ok entries → IsSpec entries × IsTrue (list_all is_printable entries) × (spec_text entries ≡ text)
 spec_spelled spelled text entries e =
-    let told = spec_ok (entries_of true (pieces_at 44 text)) entries e in
+    let told = spec_ok (entries_of_texts true (pieces_at 44 text)) entries e in
     let all = all_spelled spelled (pieces_at 44 text) entries told.1 in
     (told.0, all.0, ap (join_with_byte 44) all.1 ∙ join_with_byte-slice_split 44 text)

@@ -1,6 +1,6 @@
 -- The text of a spec is read back.
 use Rattle.std.proofs.Common.{◌≡◌, ℕ, zero, suc, ◌<◌, Bool, true, false, not, List, [], ◌∷◌, ◌++◌, ◌&&◌, map, Option, Some, None, Ok, IsTrue, eqb, ltb, refl, ap, ◌∙◌, arith}
-use Rattle.std.specs.List.{list_all, join_with_byte}
+use Rattle.std.specs.List.{list_all, join_with_byte, slice_split}
 use Rattle.std.specs.Option.{option_map_or}
 use Rattle.std.proofs.lemmas.Bool.Decides.{nat_tests}
 use Rattle.std.proofs.lemmas.List.Folds.{list_all-append}
@@ -14,12 +14,15 @@ use Rattle.acl_specs.specs.declared.entry.Scope.TheVariants.{Access, Default}
 use Rattle.acl_specs.specs.declared.entry.EntryKind.{EntryKind}
 use Rattle.acl_specs.specs.declared.entry.EntryKind.TheVariants.{User, Group, Mask, Other}
 use Rattle.acl_specs.specs.declared.entry.Entry.{Entry}
-use Rattle.acl_entries.specs.SpecText.{pieces_at, kind_of, name_of, granting_entry, entry_of, entries_of, spec_of, spec_text, is_printable}
+use Rattle.acl_entries.specs.SpecText.{entry_kind_of, entry_name_of, granting_entry, entry_of_text, entries_of_texts, spec_of, spec_text, is_printable}
 
 -- ── cutting at a byte ──
 
 abbrev is_free : ℕ → List ℕ → Bool
 is_free c text = list_all (λ b. not (eqb b c)) text
+
+abbrev pub pieces_at : ℕ → List ℕ → List (List ℕ)
+pieces_at byte text = slice_split (λ b. eqb b byte) text
 
 first_piece : (c : ℕ) (piece rest : List ℕ) → is_free c piece ≡ true → pieces_at c (piece ++ c ∷ rest) ≡ piece ∷ pieces_at c rest
 first_piece c [] rest h = let own : eqb c c ≡ true = grind (arith, nat_tests) in rw own refl
@@ -91,13 +94,13 @@ rights_free (suc (suc (suc (suc (suc (suc (suc (suc n)))))))) lt = absurd (omega
 
 -- ── an entry ──
 
-kind_read : (kind : EntryKind) → kind_of (kind_text kind) ≡ Some kind
+kind_read : (kind : EntryKind) → entry_kind_of (kind_text kind) ≡ Some kind
 kind_read User = refl
 kind_read Group = refl
 kind_read Mask = refl
 kind_read Other = refl
 
-name_read : (name : Option (List ℕ)) → is_name name ≡ true → name_of (name_text name) ≡ Some name
+name_read : (name : Option (List ℕ)) → is_name name ≡ true → entry_name_of (name_text name) ≡ Some name
 name_read None h = refl
 name_read (Some []) h = cc
 name_read (Some (b ∷ name)) h = rw h refl
@@ -116,7 +119,7 @@ read_fields : (scope : Scope) (kind : EntryKind) (name : Option (List ℕ)) (bit
     → granting_entry scope (kind_text kind ∷ name_text name ∷ rights_text bits ∷ []) ≡ Some (record { scope = scope; kind = kind; name = name; rights = rights bits })
 read_fields scope kind name bits h lt = rw (kind_read kind, name_read name h, read_again bits lt) refl
 
-scoped : (scope : Scope) (kind : EntryKind) (rest : List ℕ) → entry_of true (scope_text scope ++ (kind_text kind ++ (58 ∷ rest))) ≡ granting_entry scope (kind_text kind ∷ pieces_at 58 rest)
+scoped : (scope : Scope) (kind : EntryKind) (rest : List ℕ) → entry_of_text true (scope_text scope ++ (kind_text kind ++ (58 ∷ rest))) ≡ granting_entry scope (kind_text kind ∷ pieces_at 58 rest)
 scoped Access User rest = refl
 scoped Access Group rest = refl
 scoped Access Mask rest = refl
@@ -135,7 +138,7 @@ printable entry h =
     let parts = both_true (ltb entry.rights.0 8) (is_name entry.name) h in
     record { bits = grind (arith, nat_tests, parts.0); name = parts.1 }
 
-entry_read : (entry : Entry) → is_printable entry ≡ true → entry_of true (entry_text entry) ≡ Some entry
+entry_read : (entry : Entry) → is_printable entry ≡ true → entry_of_text true (entry_text entry) ≡ Some entry
 entry_read entry h =
     let p = printable entry h in
     scoped entry.scope entry.kind (name_text entry.name ++ (58 ∷ rights_text entry.rights.0))
@@ -161,7 +164,7 @@ all_free (entry ∷ entries) h =
     let parts = both_true (is_printable entry) (list_all is_printable entries) h in
     and_true _ _ (entry_free entry parts.0) (all_free entries parts.1)
 
-all_read : (entries : List Entry) → list_all is_printable entries ≡ true → entries_of true (map entry_text entries) ≡ Some entries
+all_read : (entries : List Entry) → list_all is_printable entries ≡ true → entries_of_texts true (map entry_text entries) ≡ Some entries
 all_read [] h = refl
 all_read (entry ∷ entries) h =
     let parts = both_true (is_printable entry) (list_all is_printable entries) h in

@@ -22,20 +22,17 @@ use Rattle.hdfs_texts.specs.declared.fault.AclFault.TheVariants.{Form}
 abbrev pub spec_text : List Entry → List ℕ
 spec_text entries = join_with_byte 44 (map entry_text entries)
 
-abbrev pub pieces_at : ℕ → List ℕ → List (List ℕ)
-pieces_at byte text = slice_split (λ b. b == byte) text
-
-abbrev pub kind_of : List ℕ → Option EntryKind
-kind_of word =
+abbrev pub entry_kind_of : List ℕ → Option EntryKind
+entry_kind_of word =
     if same word (kind_text User) then Some User else
     if same word (kind_text Group) then Some Group else
     if same word (kind_text Mask) then Some Mask else
     if same word (kind_text Other) then Some Other else None
 
 -- a name, or nothing where the piece is empty
-abbrev pub name_of : List ℕ → Option (Option (List ℕ))
-name_of [] = Some None
-name_of (byte ∷ word) = option_map (λ name. Some name) (who_of (byte ∷ word))
+abbrev pub entry_name_of : List ℕ → Option (Option (List ℕ))
+entry_name_of [] = Some None
+entry_name_of (byte ∷ word) = option_map (λ name. Some name) (who_of (byte ∷ word))
 
 abbrev pub entry_with : Scope → Option EntryKind → Option (Option (List ℕ)) → Option Rights → Option Entry
 entry_with scope (Some kind) (Some name) (Some granted) = Some (record { scope = scope; kind = kind; name = name; rights = granted })
@@ -43,14 +40,14 @@ entry_with scope _ _ _ = None
 
 -- an entry of an access control list
 abbrev pub granting_entry : Scope → List (List ℕ) → Option Entry
-granting_entry scope (kind ∷ name ∷ granted ∷ []) = entry_with scope (kind_of kind) (name_of name) (rights_of granted)
+granting_entry scope (kind ∷ name ∷ granted ∷ []) = entry_with scope (entry_kind_of kind) (entry_name_of name) (rights_of granted)
 granting_entry scope _ = None
 
 -- an entry to be taken away, which has no rights
 abbrev pub bare_entry : Scope → List (List ℕ) → Option Entry
-bare_entry scope (kind ∷ []) = entry_with scope (kind_of kind) (Some None) (Some (rights 0))
-bare_entry scope (kind ∷ name ∷ []) = entry_with scope (kind_of kind) (name_of name) (Some (rights 0))
-bare_entry scope (kind ∷ (byte ∷ name) ∷ [] ∷ []) = entry_with scope (kind_of kind) (name_of (byte ∷ name)) (Some (rights 0))
+bare_entry scope (kind ∷ []) = entry_with scope (entry_kind_of kind) (Some None) (Some (rights 0))
+bare_entry scope (kind ∷ name ∷ []) = entry_with scope (entry_kind_of kind) (entry_name_of name) (Some (rights 0))
+bare_entry scope (kind ∷ (byte ∷ name) ∷ [] ∷ []) = entry_with scope (entry_kind_of kind) (entry_name_of (byte ∷ name)) (Some (rights 0))
 bare_entry scope _ = None
 
 abbrev pub entry_in : Bool → Scope → List (List ℕ) → Option Entry
@@ -63,17 +60,17 @@ entry_of_fields with_rights [] = None
 entry_of_fields with_rights (field ∷ fields) =
     if same field (codes "default") then entry_in with_rights Default fields else entry_in with_rights Access (field ∷ fields)
 
-abbrev pub entry_of : Bool → List ℕ → Option Entry
-entry_of with_rights text = entry_of_fields with_rights (pieces_at 58 text)
+abbrev pub entry_of_text : Bool → List ℕ → Option Entry
+entry_of_text with_rights text = entry_of_fields with_rights (slice_split (λ byte. byte == 58) text)
 
 -- what each answers, where all answer
 abbrev pub both : Option Entry → Option (List Entry) → Option (List Entry)
 both (Some entry) (Some entries) = Some (entry ∷ entries)
 both _ _ = None
 
-abbrev pub entries_of : Bool → List (List ℕ) → Option (List Entry)
-entries_of with_rights [] = Some []
-entries_of with_rights (text ∷ texts) = both (entry_of with_rights text) (entries_of with_rights texts)
+abbrev pub entries_of_texts : Bool → List (List ℕ) → Option (List Entry)
+entries_of_texts with_rights [] = Some []
+entries_of_texts with_rights (text ∷ texts) = both (entry_of_text with_rights text) (entries_of_texts with_rights texts)
 
 abbrev pub spec_or_fault : Option (List Entry) → Result (List Entry) AclFault
 spec_or_fault None = Err Form
@@ -82,7 +79,7 @@ spec_or_fault (Some entries) = spec_of_entries entries
 -- the spec that a text spells, or how it doesn't: the form of the whole text first, then an entry that stands twice, then a name
 -- where none belongs
 abbrev pub spec_of : Bool → List ℕ → Result (List Entry) AclFault
-spec_of with_rights text = spec_or_fault (entries_of with_rights (pieces_at 44 text))
+spec_of with_rights text = spec_or_fault (entries_of_texts with_rights (slice_split (λ byte. byte == 44) text))
 
 -- what has a text of its own: its rights have three bits, and its name is one of a user or a group
 abbrev pub is_printable : Entry → Bool

@@ -1,11 +1,11 @@
-ghost use Rattle.std.specs.Prelude.{◌≡◌, ◌<◌, ℕ, true, List, [], ◌∷◌, IfOk, IsTrue, Ok, map};
-ghost use Rattle.std.specs.List.{list_all};
-ghost use Rattle.hdfs_texts.specs.Parsed.{Parses, ParsesBy};
+ghost use Rattle.std.specs.Prelude.{◌≡◌, ◌==◌, ◌<◌, ℕ, true, List, [], ◌∷◌, IfOk, IsTrue, Ok, map};
+ghost use Rattle.std.specs.List.{list_all, slice_split};
+ghost use Rattle.hdfs_texts.specs.Parsed.{ParsesInParts, ParsesInPartsBy};
 ghost use Rattle.permission_bits.specs.Rights.{rights};
 ghost use Rattle.acl_specs.specs.Spec.{IsSpec, MakesSpec};
 ghost use Rattle.hdfs_texts.specs.Text.{same};
 ghost use Rattle.principal_names.specs.Who.{who_of};
-ghost use Rattle.acl_entries.specs.SpecText.{is_printable, pieces_at, spec_of, spec_text};
+ghost use Rattle.acl_entries.specs.SpecText.{is_printable, spec_of, spec_text};
 ghost use Rattle.acl_entries.specs.SpecText as grammar;
 
 use acl_specs::entry::{Entry, EntryKind, Scope};
@@ -19,7 +19,7 @@ const NO_SPEC: ParseFault = ParseFault::IllFormed(IllFormed::BadAcl(AclFault::Fo
 
 fn pieces_between(alloc: Global, text: &str, separator: char) -> Result<Vec<&str>, AllocError>
     requires { separator < 128 }
-    ensures { IfOk result (λ found. map (λ piece. piece.now) found.items ≡ pieces_at separator text.now) }
+    ensures { IfOk result (λ found. map (λ piece. piece.now) found.items ≡ slice_split (λ byte. byte == separator) text.now) }
 {
     text.split(separator).collect(alloc)
 }
@@ -31,7 +31,7 @@ fn is_word(word: &str, text: &str) -> bool
 }
 
 fn kind_of(word: &str) -> Option<EntryKind>
-    ensures { result ≡ grammar.kind_of word.now }
+    ensures { result ≡ grammar.entry_kind_of word.now }
 {
     if is_word(word, "user") {
         Some(EntryKind::User)
@@ -47,7 +47,7 @@ fn kind_of(word: &str) -> Option<EntryKind>
 }
 
 fn who_in(alloc: Global, word: &str) -> Result<Who, ParseFault>
-    ensures { Parses (IllFormed.BadAcl AclFault.Form) result (who_of word.now) }
+    ensures { ParsesInParts (IllFormed.BadAcl AclFault.Form) result (who_of word.now) }
 {
     match Who::parse(alloc, word) {
         Ok(who) => Ok(who),
@@ -57,7 +57,7 @@ fn who_in(alloc: Global, word: &str) -> Result<Who, ParseFault>
 }
 
 fn name_of(alloc: Global, word: &str) -> Result<Option<Who>, ParseFault>
-    ensures { Parses (IllFormed.BadAcl AclFault.Form) result (grammar.name_of word.now) }
+    ensures { ParsesInParts (IllFormed.BadAcl AclFault.Form) result (grammar.entry_name_of word.now) }
 {
     if word.is_empty() {
         return Ok(None);
@@ -72,7 +72,7 @@ fn entry_with(
     name: &str,
     rights: Option<Rights>,
 ) -> Result<Entry, ParseFault>
-    ensures { Parses (IllFormed.BadAcl AclFault.Form) result (grammar.entry_with scope (grammar.kind_of kind.now) (grammar.name_of name.now) rights) }
+    ensures { ParsesInParts (IllFormed.BadAcl AclFault.Form) result (grammar.entry_with scope (grammar.entry_kind_of kind.now) (grammar.entry_name_of name.now) rights) }
 {
     let Some(kind) = kind_of(kind) else {
         return Err(NO_SPEC);
@@ -90,7 +90,7 @@ fn entry_with(
 }
 
 fn granting_entry(alloc: Global, scope: Scope, fields: &[&str]) -> Result<Entry, ParseFault>
-    ensures { Parses (IllFormed.BadAcl AclFault.Form) result (grammar.granting_entry scope (map (λ field. field.now) fields.now)) }
+    ensures { ParsesInParts (IllFormed.BadAcl AclFault.Form) result (grammar.granting_entry scope (map (λ field. field.now) fields.now)) }
 {
     match fields {
         [kind, name, rights] => entry_with(alloc, scope, kind, name, Rights::parse(rights)),
@@ -112,7 +112,7 @@ fn closed_entry(
     name: &str,
     end: &str,
 ) -> Result<Entry, ParseFault>
-    ensures { Parses (IllFormed.BadAcl AclFault.Form) result (grammar.bare_entry scope (kind.now ∷ name.now ∷ end.now ∷ [])) }
+    ensures { ParsesInParts (IllFormed.BadAcl AclFault.Form) result (grammar.bare_entry scope (kind.now ∷ name.now ∷ end.now ∷ [])) }
 {
     if name.is_empty() || !end.is_empty() {
         return Err(NO_SPEC);
@@ -121,7 +121,7 @@ fn closed_entry(
 }
 
 fn bare_entry(alloc: Global, scope: Scope, fields: &[&str]) -> Result<Entry, ParseFault>
-    ensures { Parses (IllFormed.BadAcl AclFault.Form) result (grammar.bare_entry scope (map (λ field. field.now) fields.now)) }
+    ensures { ParsesInParts (IllFormed.BadAcl AclFault.Form) result (grammar.bare_entry scope (map (λ field. field.now) fields.now)) }
 {
     match fields {
         [kind] => entry_with(alloc, scope, kind, "", Some(no_rights())),
@@ -137,7 +137,7 @@ fn entry_in(
     scope: Scope,
     fields: &[&str],
 ) -> Result<Entry, ParseFault>
-    ensures { Parses (IllFormed.BadAcl AclFault.Form) result (grammar.entry_in with_rights scope (map (λ field. field.now) fields.now)) }
+    ensures { ParsesInParts (IllFormed.BadAcl AclFault.Form) result (grammar.entry_in with_rights scope (map (λ field. field.now) fields.now)) }
 {
     if with_rights {
         granting_entry(alloc, scope, fields)
@@ -147,7 +147,7 @@ fn entry_in(
 }
 
 fn entry_of_fields(alloc: Global, with_rights: bool, fields: &[&str]) -> Result<Entry, ParseFault>
-    ensures { Parses (IllFormed.BadAcl AclFault.Form) result (grammar.entry_of_fields with_rights (map (λ field. field.now) fields.now)) }
+    ensures { ParsesInParts (IllFormed.BadAcl AclFault.Form) result (grammar.entry_of_fields with_rights (map (λ field. field.now) fields.now)) }
 {
     let [first, rest @ ..] = fields else {
         return Err(NO_SPEC);
@@ -159,14 +159,14 @@ fn entry_of_fields(alloc: Global, with_rights: bool, fields: &[&str]) -> Result<
 }
 
 fn entry_of(alloc: Global, with_rights: bool, text: &str) -> Result<Entry, ParseFault>
-    ensures { Parses (IllFormed.BadAcl AclFault.Form) result (grammar.entry_of with_rights text.now) }
+    ensures { ParsesInParts (IllFormed.BadAcl AclFault.Form) result (grammar.entry_of_text with_rights text.now) }
 {
     let fields = pieces_between(alloc, text, ':')?;
     entry_of_fields(alloc, with_rights, &fields)
 }
 
 fn entries_of(alloc: Global, with_rights: bool, texts: &[&str]) -> Result<Vec<Entry>, ParseFault>
-    ensures { ParsesBy (λ entries. entries.items) (IllFormed.BadAcl AclFault.Form) result (grammar.entries_of with_rights (map (λ text. text.now) texts.now)) }
+    ensures { ParsesInPartsBy (λ entries. entries.items) (IllFormed.BadAcl AclFault.Form) result (grammar.entries_of_texts with_rights (map (λ text. text.now) texts.now)) }
 {
     let mut entries = Vec::with_capacity(alloc, texts.len())?;
     for text in texts {
@@ -181,7 +181,7 @@ fn entries_of(alloc: Global, with_rights: bool, texts: &[&str]) -> Result<Vec<En
 ///
 /// # Errors
 /// `BadAcl`, over the whole text: with `Form` where it is none, else with `Duplicate` where two entries have the same scope, kind
-/// and name, else with `NamedBase` where a mask or an entry of all others has a name. And want of memory.
+/// and name, else with `NamedBase` where a mask or an entry of all others has a name. And out of memory.
 pub fn parse_spec(alloc: Global, text: &str, with_rights: bool) -> Result<Spec, ParseFault>
     ensures { MakesSpec result (spec_of with_rights text.now) }
 {

@@ -68,7 +68,7 @@ key_tied a b = all_tied _ _ _ _ _ _ (scope_tied a.scope b.scope) (kind_tied a.ki
 
 -- ── same_key is an equivalence, and a repeated key of a list is one of a front, or of a front and what comes next ──
 
-same_scope_symm : (a b : Scope) → same_scope a b ≡ same_scope b a
+pub same_scope_symm : (a b : Scope) → same_scope a b ≡ same_scope b a
 same_scope_symm Access Access = refl
 same_scope_symm Access Default = refl
 same_scope_symm Default Access = refl

@@ -51,23 +51,23 @@ abbrev pub IsSpec : List Entry → Type 0
 IsSpec entries = spec_fault entries ≡ None
 
 -- the spec of these entries, or what is wrong with them
-abbrev pub checked : Option AclFault → List Entry → Result (List Entry) AclFault
-checked None entries = Ok entries
-checked (Some fault) entries = Err fault
+abbrev pub ok_unless : Option AclFault → List Entry → Result (List Entry) AclFault
+ok_unless None entries = Ok entries
+ok_unless (Some fault) entries = Err fault
 
 abbrev pub spec_of_entries : List Entry → Result (List Entry) AclFault
-spec_of_entries entries = checked (spec_fault entries) entries
+spec_of_entries entries = ok_unless (spec_fault entries) entries
 
 -- how a text is ill-formed where there is no spec
 abbrev pub ill_formed_by : Result (List Entry) AclFault → Option IllFormed
 ill_formed_by (Ok entries) = None
 ill_formed_by (Err fault) = Some (BadAcl fault)
 
--- what a call answers where this is the spec, or why there is none; want of memory may stand in place of any answer
-abbrev pub FailsBy : ParseFault → Result (List Entry) AclFault → Type 0
-FailsBy (faults.IllFormed fault) spec = ill_formed_by spec ≡ Some fault
-FailsBy faults.OutOfMemory spec = Unit {0}
+-- what a call answers where this is the spec, or why there is none; out of memory may be answered instead of any answer
+abbrev pub FailsAsSpec : ParseFault → Result (List Entry) AclFault → Type 0
+FailsAsSpec (faults.IllFormed fault) spec = ill_formed_by spec ≡ Some fault
+FailsAsSpec faults.OutOfMemory spec = Unit {0}
 
 abbrev pub MakesSpec : Result (List Entry) ParseFault → Result (List Entry) AclFault → Type 0
 MakesSpec (Ok entries) spec = spec ≡ Ok entries
-MakesSpec (Err fault) spec = FailsBy fault spec
+MakesSpec (Err fault) spec = FailsAsSpec fault spec

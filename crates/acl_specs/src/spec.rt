@@ -79,7 +79,7 @@ impl Spec {
     ///
     /// # Errors
     /// `BadAcl` with `Duplicate` where two entries have the same scope, kind and name, else with `NamedBase` where a mask or an
-    /// entry of all others has a name; and want of memory.
+    /// entry of all others has a name, or out of memory.
     pub fn from_entries(alloc: Global, entries: Vec<Entry>) -> Result<Spec, ParseFault>
         ensures { MakesSpec result (spec_of_entries entries.items) }
     {

@@ -2,11 +2,11 @@
 use Rattle.std.proofs.Common.{◌≡◌, ℕ, ◌+◌, List, [], refl, sym, ap, ◌∙◌}
 use Rattle.permission_bits.specs.declared.modes.Modes.{Modes}
 use Rattle.block_tokens.specs.Ring.{Ring, grant_of, coded_token, parts_with}
-use Rattle.block_tokens.specs.TokenText.{Parts, version_1_fields, coded_bytes}
+use Rattle.block_tokens.specs.TokenText.{Body, version_1_fields, coded_bytes}
 use Rattle.block_tokens.specs.declared.grant.Grant.{Grant}
 
 -- the code is none of the bytes before it
-pub code_apart : (parts : Parts) (code : List ℕ) → version_1_fields parts ≡ version_1_fields (record parts { code = code })
+pub code_apart : (parts : Body) (code : List ℕ) → version_1_fields parts ≡ version_1_fields (record parts { code = code })
 unfolding version_1_fields
 code_apart parts code = refl
 

@@ -8,7 +8,7 @@ use Rattle.std.specs.Map.{keys_of}
 use Rattle.std.specs.Ordering.{nat_cmp, is_eq, match_ordering}
 use Rattle.std.specs.declared.cmp.Ordering.TheVariants.{Less, Equal, Greater}
 use Rattle.std.proofs.lemmas.Bool.Decides.{nat_tests}
-use Rattle.block_tokens.specs.Keys.{Keys, AreKeys, key_with, learned, merged_one, merged}
+use Rattle.block_tokens.specs.KeyList.{KeyList, AreKeys, key_with, learned_key, with_merged_key, merged_keys}
 use Rattle.block_tokens.specs.declared.key.HeldKey.{HeldKey}
 use Rattle.block_tokens.proofs.Ascending.{less, less_is}
 
@@ -24,7 +24,7 @@ at_same a b e = grind (arith, nat_tests)
 pub at_other : (a b : ℕ) → a ≢ b → is_eq (nat_cmp a b) ≡ false
 at_other a b ne = grind (arith, nat_tests)
 
-pub inserted_same : (keys : Keys) (k : ℕ) (v : HeldKey) → key_with k (insert_entry nat_cmp keys k v) ≡ Some v
+pub inserted_same : (keys : KeyList) (k : ℕ) (v : HeldKey) → key_with k (insert_entry nat_cmp keys k v) ≡ Some v
 inserted_same [] k v = rw (at_same k k refl) refl
 inserted_same (e ∷ keys) k v =
     elim (nat_cmp k e.0) as (λ o. nat_cmp k e.0 ≡ o → key_with k (match_ordering o ((k, v) ∷ e ∷ keys) ((e.0, v) ∷ keys) (e ∷ insert_entry nat_cmp keys k v)) ≡ Some v) [
@@ -33,7 +33,7 @@ inserted_same (e ∷ keys) k v =
       | Greater ↦ λ h. rw (at_other k e.0 (λ (q : k ≡ e.0). absurd (omega (arith, greater_is k e.0 h)))) (inserted_same keys k v)
     ] refl
 
-pub inserted_other : (keys : Keys) (k q : ℕ) (v : HeldKey) → q ≢ k → key_with q (insert_entry nat_cmp keys k v) ≡ key_with q keys
+pub inserted_other : (keys : KeyList) (k q : ℕ) (v : HeldKey) → q ≢ k → key_with q (insert_entry nat_cmp keys k v) ≡ key_with q keys
 inserted_other [] k q v ne = rw (at_other q k ne) refl
 inserted_other (e ∷ keys) k q v ne =
     elim (nat_cmp k e.0) as (λ o. nat_cmp k e.0 ≡ o → key_with q (match_ordering o ((k, v) ∷ e ∷ keys) ((e.0, v) ∷ keys) (e ∷ insert_entry nat_cmp keys k v)) ≡ key_with q (e ∷ keys)) [
@@ -46,7 +46,7 @@ weaker : (a b : ℕ) (ks : List ℕ) → a < b → AllByRecursion (λ y. nat_cmp
 weaker a b [] lt h = tt
 weaker a b (k ∷ ks) lt h = (less a k (omega (arith, less_is b k h.0)), weaker a b ks lt h.1)
 
-all_inserted : (P : ℕ → Type 0) (keys : Keys) (k : ℕ) (v : HeldKey) → AllByRecursion P (keys_of keys) → P k → AllByRecursion P (keys_of (insert_entry nat_cmp keys k v))
+all_inserted : (P : ℕ → Type 0) (keys : KeyList) (k : ℕ) (v : HeldKey) → AllByRecursion P (keys_of keys) → P k → AllByRecursion P (keys_of (insert_entry nat_cmp keys k v))
 all_inserted P [] k v h p = (p, tt)
 all_inserted P (e ∷ keys) k v h p =
     elim (nat_cmp k e.0) as (λ o. AllByRecursion P (keys_of (match_ordering o ((k, v) ∷ e ∷ keys) ((e.0, v) ∷ keys) (e ∷ insert_entry nat_cmp keys k v)))) [
@@ -55,7 +55,7 @@ all_inserted P (e ∷ keys) k v h p =
       | Greater ↦ (h.0, all_inserted P keys k v h.1 p)
     ]
 
-inserted_ascend : (keys : Keys) (k : ℕ) (v : HeldKey) → AreKeys keys → AreKeys (insert_entry nat_cmp keys k v)
+inserted_ascend : (keys : KeyList) (k : ℕ) (v : HeldKey) → AreKeys keys → AreKeys (insert_entry nat_cmp keys k v)
 unfolding IsStrictlySortedBy
 inserted_ascend [] k v h = (tt, tt)
 inserted_ascend (e ∷ keys) k v h =
@@ -65,11 +65,11 @@ inserted_ascend (e ∷ keys) k v h =
       | Greater ↦ λ gt. (all_inserted (λ y. nat_cmp e.0 y ≡ Less) keys k v h.0 (less e.0 k (greater_is k e.0 gt)), inserted_ascend keys k v h.1)
     ] refl
 
-pub merged_ascend : (update keys : Keys) → AreKeys keys → AreKeys (merged keys update)
-unfolding merged
+pub merged_ascend : (update keys : KeyList) → AreKeys keys → AreKeys (merged_keys keys update)
+unfolding merged_keys
 merged_ascend [] keys h = h
-merged_ascend (e ∷ update) keys h = merged_ascend update (merged_one keys e) (inserted_ascend keys e.0 (learned (key_with e.0 keys) e.1) h)
+merged_ascend (e ∷ update) keys h = merged_ascend update (with_merged_key keys e) (inserted_ascend keys e.0 (learned_key (key_with e.0 keys) e.1) h)
 
-pub all_merged_ascend : (updates : List Keys) (keys : Keys) → AreKeys keys → AreKeys (fold merged keys updates)
+pub all_merged_ascend : (updates : List KeyList) (keys : KeyList) → AreKeys keys → AreKeys (fold merged_keys keys updates)
 all_merged_ascend [] keys h = h
-all_merged_ascend (update ∷ updates) keys h = all_merged_ascend updates (merged keys update) (merged_ascend update keys h)
+all_merged_ascend (update ∷ updates) keys h = all_merged_ascend updates (merged_keys keys update) (merged_ascend update keys h)

@@ -12,12 +12,12 @@ abbrev pub block_key : List ℕ → List ℕ
 block_key key = short_key key ++ replicate (64 - length (short_key key)) 0
 
 -- each byte with the bits of the pad turned
-abbrev pub xored : ℕ → List ℕ → List ℕ
-xored pad block = map (λ byte. bit_xor byte pad) block
+abbrev pub xor_of : ℕ → List ℕ → List ℕ
+xor_of pad block = map (λ byte. bit_xor byte pad) block
 
 -- the hash of a padded block with the text behind it
 abbrev pub keyed_hash : ℕ → List ℕ → List ℕ → List ℕ
-keyed_hash pad block text = sha1 (xored pad block ++ text)
+keyed_hash pad block text = sha1 (xor_of pad block ++ text)
 
 -- the inner pad is the byte 36, the outer one 5c
 unfoldable pub hmac_sha1 : List ℕ → List ℕ → List ℕ

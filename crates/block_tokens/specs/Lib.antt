@@ -1,7 +1,7 @@
 pub mod Hmac
 pub mod TokenText
 pub mod Reading
-pub mod Keys
+pub mod KeyList
 pub mod Refusals
 pub mod TokenTest
 pub mod Ring

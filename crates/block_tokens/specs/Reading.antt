@@ -3,7 +3,7 @@ use Rattle.std.specs.Prelude.{◌≡◌, ℕ, ◌+◌, List, [], ◌∷◌, leng
 use Rattle.std.specs.Int.{Width, w32, w64, byte_len, from_be_bytes}
 use Rattle.permission_bits.specs.Modes.{is_modes}
 use Rattle.principal_names.specs.Who.{who_of}
-use Rattle.block_tokens.specs.TokenText.{Parts}
+use Rattle.block_tokens.specs.TokenText.{Body}
 
 infixl 10 ◌>>=◌
 abbrev pub ◌>>=◌ : {A B : Type 0} → Option A → (A → Option B) → Option B
@@ -30,7 +30,7 @@ user_at (size ∷ rest) = do
   if length rest == size + 20 then Some (name, drop size rest) else None
 
 -- behind the version
-unfoldable pub version_1_at : List ℕ → Option Parts
+unfoldable pub version_1_at : List ℕ → Option Body
 version_1_at bytes = do
   expiry ← number_at w64 bytes
   serial ← number_at w32 expiry.1
@@ -40,6 +40,6 @@ version_1_at bytes = do
   Some (record { expiry = expiry.0; serial = serial.0; block = block.0; modes = modes.0; user = user.0; code = user.1 })
 
 -- by the first byte
-unfoldable pub parts_of : List ℕ → Option Parts
+unfoldable pub parts_of : List ℕ → Option Body
 parts_of [] = None
 parts_of (version ∷ bytes) = if version == 1 then version_1_at bytes else None

@@ -3,18 +3,18 @@
 use Rattle.std.specs.Prelude.{ℕ, ◌+◌, List, [], ◌∷◌, ◌++◌, Option, Some, None, nat_lt, if◌then◌else◌}
 use Rattle.permission_bits.specs.declared.modes.Modes.{Modes}
 use Rattle.block_tokens.specs.Hmac.{hmac_sha1}
-use Rattle.block_tokens.specs.Keys.{Keys, AreKeys, usable_keys}
-use Rattle.block_tokens.specs.TokenText.{Parts, coded_bytes}
+use Rattle.block_tokens.specs.KeyList.{KeyList, AreKeys, usable_keys}
+use Rattle.block_tokens.specs.TokenText.{Body, coded_bytes}
 use Rattle.block_tokens.specs.declared.grant.Grant.{Grant}
 
 pub record Ring : Type 0 where
-  pub older : Keys
+  pub older : KeyList
   pub serial : ℕ
   pub key : List ℕ
   pub lifetime : ℕ
 
 -- all keys, the current one last
-abbrev pub ring_keys : Ring → Keys
+abbrev pub ring_keys : Ring → KeyList
 ring_keys ring = ring.older ++ (ring.serial, record { key = ring.key; expiry = None }) ∷ []
 
 -- serials ascend
@@ -26,22 +26,21 @@ abbrev pub next_serial : ℕ → Option ℕ
 next_serial serial = if nat_lt (serial + 1) 4294967295 then Some (serial + 1) else None
 
 -- the current key expires once the tokens under it have, and a new one is current
-abbrev pub rolled : Ring → List ℕ → ℕ → Ring
-rolled ring key now = record {
+abbrev pub ring_after_roll : Ring → List ℕ → ℕ → Ring
+ring_after_roll ring key now = record ring {
   older = ring.older ++ (ring.serial, record { key = ring.key; expiry = Some (now + ring.lifetime) }) ∷ [];
   serial = ring.serial + 1;
   key = key;
-  lifetime = ring.lifetime;
 }
 
 -- what DataNodes are told: the keys whose expiry hasn't come, by their serials
-unfoldable pub update_of : Ring → ℕ → Keys
+unfoldable pub update_of : Ring → ℕ → KeyList
 update_of ring now = usable_keys now (ring_keys ring)
 
 -- ---- tokens
 
 -- what a token says, with any code
-abbrev pub parts_with : Ring → ℕ → List ℕ → ℕ → ℕ → List ℕ → Parts
+abbrev pub parts_with : Ring → ℕ → List ℕ → ℕ → ℕ → List ℕ → Body
 parts_with ring now user block modes code =
     record { expiry = now + ring.lifetime; serial = ring.serial; block = block; modes = modes; user = user; code = code }
 

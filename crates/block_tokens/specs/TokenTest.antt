@@ -1,12 +1,12 @@
 -- The test of a token that is presented: the first refusal that applies, or none. (HADOOP-4359: a DataNode checks the code,
 -- the expiry, the user, the block and the mode.)
 use Rattle.std.specs.Prelude.{◌≡◌, ℕ, Bool, List, Option, Some, None, Result, Ok, Err, nat_le, ◌==◌, not, if◌then◌else◌}
-use Rattle.permission_bits.specs.Modes.{covers}
+use Rattle.permission_bits.specs.Rights.{covers}
 use Rattle.hdfs_texts.specs.Text.{same}
 use Rattle.block_tokens.specs.Hmac.{hmac_sha1}
-use Rattle.block_tokens.specs.Keys.{Keys, key_with, usable_keys}
+use Rattle.block_tokens.specs.KeyList.{KeyList, key_with, usable_keys}
 use Rattle.block_tokens.specs.Reading.{parts_of}
-use Rattle.block_tokens.specs.TokenText.{Parts, before_code}
+use Rattle.block_tokens.specs.TokenText.{Body, before_code}
 use Rattle.block_tokens.specs.declared.key.HeldKey.{HeldKey}
 use Rattle.block_tokens.specs.declared.refusal.TokenRefusal.{TokenRefusal}
 use Rattle.block_tokens.specs.declared.refusal.TokenRefusal.TheVariants.{Malformed, UnknownKey, CodeMismatch, Expired, WrongUser, WrongBlock, WrongMode}
@@ -19,7 +19,7 @@ pub record Access : Type 0 where
   pub mode : ℕ
 
 -- the parts against what is asked
-abbrev pub access_test : Parts → Access → Option TokenRefusal
+abbrev pub access_test : Body → Access → Option TokenRefusal
 access_test parts access =
     if nat_le parts.expiry access.now then Some Expired
     else if not (same parts.user access.caller) then Some WrongUser
@@ -32,15 +32,15 @@ abbrev pub has_code : List ℕ → List ℕ → List ℕ → Bool
 has_code key bytes code = same (hmac_sha1 key (before_code bytes)) code
 
 -- under the key with the token's serial
-abbrev pub code_test : Option HeldKey → List ℕ → Parts → Access → Option TokenRefusal
+abbrev pub code_test : Option HeldKey → List ℕ → Body → Access → Option TokenRefusal
 code_test None bytes parts access = Some UnknownKey
 code_test (Some held) bytes parts access = if has_code held.key bytes parts.code then access_test parts access else Some CodeMismatch
 
-abbrev pub parts_test : Keys → List ℕ → Option Parts → Access → Option TokenRefusal
+abbrev pub parts_test : KeyList → List ℕ → Option Body → Access → Option TokenRefusal
 parts_test keys bytes None access = Some Malformed
 parts_test keys bytes (Some parts) access = code_test (key_with parts.serial (usable_keys access.now keys)) bytes parts access
 
-unfoldable pub token_test : Keys → Access → List ℕ → Option TokenRefusal
+unfoldable pub token_test : KeyList → Access → List ℕ → Option TokenRefusal
 token_test keys access bytes = parts_test keys bytes (parts_of bytes) access
 
 -- what a function answered is what the test says

@@ -8,7 +8,7 @@ use Rattle.permission_bits.specs.Modes.{is_modes}
 use Rattle.principal_names.specs.Who.{IsWho}
 
 -- what a token says
-pub record Parts : Type 0 where
+pub record Body : Type 0 where
   pub expiry : ℕ
   pub serial : ℕ
   pub block : ℕ
@@ -17,7 +17,7 @@ pub record Parts : Type 0 where
   pub code : List ℕ
 
 -- the numbers fit their fields, the modes allow something, and the user is the name of one
-pub record AreParts (parts : Parts) : Type 0 where
+pub record AreParts (parts : Body) : Type 0 where
   pub expiry : parts.expiry < 2 ^ 64
   pub serial : parts.serial < 2 ^ 32
   pub block : parts.block < 2 ^ 64
@@ -26,25 +26,25 @@ pub record AreParts (parts : Parts) : Type 0 where
   pub code : length parts.code ≡ 20
 
 -- the bytes behind the version and before the code
-unfoldable pub version_1_fields : Parts → List ℕ
+unfoldable pub version_1_fields : Body → List ℕ
 version_1_fields parts =
     to_be_bytes w64 parts.expiry ++ (to_be_bytes w32 parts.serial ++ (to_be_bytes w64 parts.block ++ (parts.modes ∷ length parts.user ∷ parts.user)))
 
 -- all bytes before the code: what the code is of
-abbrev pub coded_bytes : Parts → List ℕ
+abbrev pub coded_bytes : Body → List ℕ
 coded_bytes parts = 1 ∷ version_1_fields parts
 
-abbrev pub token_bytes : Parts → List ℕ
+abbrev pub token_bytes : Body → List ℕ
 token_bytes parts = coded_bytes parts ++ parts.code
 
 -- a text of version 1, which its first byte tells
-pub record Version1Text (bytes : List ℕ) (parts : Parts) : Type 0 where
+pub record Version1Text (bytes : List ℕ) (parts : Body) : Type 0 where
   pub parts_fit : AreParts parts
   pub spelled : bytes ≡ token_bytes parts
 
 -- the bytes are the text of a token with these parts. Each version is a case of its own, told apart by the first byte; there
 -- is one so far.
-abbrev pub TokenText : List ℕ → Parts → Type 0
+abbrev pub TokenText : List ℕ → Body → Type 0
 TokenText bytes parts = Version1Text bytes parts
 
 -- the bytes before the code of a token

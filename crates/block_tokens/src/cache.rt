@@ -1,6 +1,6 @@
 ghost use Rattle.std.specs.Prelude.{◌≡◌, ◌+◌, [], Some, None, length, OnOk, OnErr, option_copied};
 ghost use Rattle.hdfs_texts.specs.Text.{same};
-ghost use Rattle.block_tokens.specs.Keys as spec;
+ghost use Rattle.block_tokens.specs.KeyList as spec;
 ghost use Rattle.block_tokens.specs.TokenTest.{Answers, access_test, token_test};
 
 use crate::code::has_code;
@@ -22,9 +22,9 @@ pub struct KeyCache {
 }
 
 impl Model for KeyCache {
-    ghost use Rattle.block_tokens.specs.Keys.{Keys, AreKeys};
+    ghost use Rattle.block_tokens.specs.KeyList.{KeyList, AreKeys};
 
-    ghost Value = { Keys };
+    ghost Value = { KeyList };
 
     ghost view = { λ cache. cache.keys.entries };
 
@@ -33,7 +33,7 @@ impl Model for KeyCache {
 
 // What is held of a key once it comes with an update.
 fn learned(known: Option<&HeldKey>, new: HeldKey) -> HeldKey
-    ensures { result ≡ spec.learned (option_copied known.entry) new }
+    ensures { result ≡ spec.learned_key (option_copied known.entry) new }
 {
     match known {
         None => new,
@@ -50,7 +50,7 @@ fn merge_one(
     serial: Serial,
     key: HeldKey,
 ) -> Result<(), AllocError>
-    ensures ok { OnOk result (keys.new.entries ≡ spec.merged_one keys.old.entries (serial, key)) }
+    ensures ok { OnOk result (keys.new.entries ≡ spec.with_merged_key keys.old.entries (serial, key)) }
     ensures ordered { OnOk result (spec.AreKeys keys.new.entries) }
 {
     let key = learned(keys.get(&serial.get()), key);
@@ -127,10 +127,10 @@ impl KeyCache {
     /// was known. A known key stays, and so does a known expiry. Time O((k + n) log k) for k keys held and n that come.
     ///
     /// # Errors
-    /// Want of memory: all is as before.
-    #[tactic(auto, unfolding(crate::specs::Keys::merged))]
+    /// Out of memory: all is as before.
+    #[tactic(auto, unfolding(crate::specs::KeyList::merged_keys))]
     pub fn merge(&mut self, update: &KeyList) -> Result<(), AllocError>
-        ensures ok { OnOk result (self.new ≡ spec.merged self.old update.now) }
+        ensures ok { OnOk result (self.new ≡ spec.merged_keys self.old update.now) }
         ensures err { OnErr result (self.new ≡ self.old) }
     {
         let mut keys = self.keys.clone()?;

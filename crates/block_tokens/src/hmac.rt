@@ -25,7 +25,7 @@ fn block_key(key: &[u8]) -> [u8; 64]
 }
 
 fn xored(pad: u8, block: &[u8; 64]) -> [u8; 64]
-    ensures { result ≡ spec.xored pad block.now }
+    ensures { result ≡ spec.xor_of pad block.now }
 {
     let mut bytes = *block;
     for byte in bytes.iter_mut() {

@@ -1,5 +1,5 @@
-ghost use Rattle.std.specs.Prelude.{◌≡◌, ◌++◌, [], ◌∷◌, length, OnOk, OnErr};
-ghost use Rattle.block_tokens.specs.Keys as spec;
+ghost use Rattle.std.specs.Prelude.{◌≡◌, ◌++◌, [], ◌∷◌, Some, codes, OnOk, OnErr};
+ghost use Rattle.block_tokens.specs.KeyList as spec;
 
 use block_numbers::ids::Serial;
 use block_numbers::moment::Moment;
@@ -7,7 +7,8 @@ use std::alloc::{AllocError, Global};
 use std::fmt;
 use std::marker::Model;
 
-/// A key under which the codes of tokens are made: 20 bytes.
+/// A key under which the codes of tokens are made: 20 bytes. Nothing of this crate prints a key or takes one into an error: it has no
+/// `Display`, and `{:?}` prints the same for all keys.
 #[derive(Clone, Copy)]
 pub struct Key {
     bytes: [u8; 20],
@@ -37,8 +38,10 @@ impl Key {
     }
 }
 
-/// Prints no byte of the key.
+/// Prints `Key { .. }`, whatever the key.
 impl fmt::Debug for Key {
+    ghost debug_output = { λ _key. Some (codes "Key { .. }") };
+
     fn fmt<W: fmt::Write>(&self, f: &mut fmt::Formatter<W>) -> fmt::Result {
         f.write_str("Key { .. }")
     }
@@ -70,9 +73,9 @@ pub struct KeyList {
 }
 
 impl Model for KeyList {
-    ghost use Rattle.block_tokens.specs.Keys.{Keys};
+    ghost use Rattle.block_tokens.specs.KeyList.{KeyList};
 
-    ghost Value = { Keys };
+    ghost Value = { KeyList };
 
     ghost view = { λ list. list.keys.items };
 }
@@ -90,7 +93,7 @@ impl KeyList {
     /// Adds a key at the end.
     ///
     /// # Errors
-    /// Want of memory: the list is as before.
+    /// Out of memory: the list is as before.
     pub fn push(&mut self, serial: Serial, key: HeldKey) -> Result<(), AllocError>
         ensures ok { OnOk result (self.new ≡ self.old ++ (serial, key) ∷ []) }
         ensures err { OnErr result (self.new ≡ self.old) }

@@ -23,9 +23,9 @@ pub enum TokenRefusal {
 
 /// Prints the code and the name, as `T1 Malformed`.
 impl fmt::Display for TokenRefusal {
-    ghost use Rattle.block_tokens.specs.Refusals.{refusal_text};
+    ghost use Rattle.block_tokens.specs.Refusals.{token_refusal_text};
 
-    ghost output = { λ refusal. Some (refusal_text refusal) };
+    ghost output = { λ refusal. Some (token_refusal_text refusal) };
 
     fn fmt<W: fmt::Write>(&self, f: &mut fmt::Formatter<W>) -> fmt::Result {
         match self {

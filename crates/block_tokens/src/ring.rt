@@ -1,6 +1,6 @@
 ghost use Rattle.std.specs.Prelude.{◌≡◌, ◌+◌, ◌↔◌, Err, [], Some, None, IfOk, OnErr, IsTrue};
 ghost use Rattle.permission_bits.specs.Modes.{is_modes};
-ghost use Rattle.block_tokens.specs.Keys.{AreKeys};
+ghost use Rattle.block_tokens.specs.KeyList.{AreKeys};
 ghost use Rattle.block_tokens.specs.Ring as spec;
 ghost use Rattle.block_tokens.specs.declared.ring.RollFault.TheVariants.{OutOfMemory};
 
@@ -88,9 +88,9 @@ impl KeyRing {
     /// token's lifetime. Time O(1), amortized.
     ///
     /// # Errors
-    /// `SpentSerial` where the next serial would be the greatest `u32`, and want of memory. The ring is then as before.
+    /// `SpentSerial` where the next serial would be the greatest `u32`, or out of memory. The ring is then as before.
     pub fn roll(&mut self, key: Key, now: Moment) -> Result<Serial, RollFault>
-        ensures rolled { IfOk result (λ serial. (Some serial ≡ spec.next_serial self.old.serial) × (self.new ≡ spec.rolled self.old key now)) }
+        ensures rolled { IfOk result (λ serial. (Some serial ≡ spec.next_serial self.old.serial) × (self.new ≡ spec.ring_after_roll self.old key now)) }
         ensures spent { (result ≡ Err RollFault.SpentSerial) ↔ (spec.next_serial self.old.serial ≡ None) }
         ensures err { OnErr result (self.new ≡ self.old) }
     {
@@ -111,7 +111,7 @@ impl KeyRing {
     /// linear in the name.
     ///
     /// # Errors
-    /// Want of memory.
+    /// Out of memory.
     pub fn issue(
         &self,
         alloc: Global,
@@ -146,7 +146,7 @@ impl KeyRing {
     /// The keys whose expiry hasn't come, by their serials, with their expiries. Time O(k) for k keys.
     ///
     /// # Errors
-    /// Want of memory.
+    /// Out of memory.
     #[tactic(auto, unfolding(crate::specs::Ring::update_of))]
     pub fn update(&self, alloc: Global, now: Moment) -> Result<KeyList, AllocError>
         ensures keys { IfOk result (λ keys. keys ≡ spec.update_of self.now now) }

@@ -1,6 +1,6 @@
 ghost use Rattle.std.specs.Prelude.{◌≡◌, Some, IfOk, IfSome, IsTrue};
 ghost use Rattle.permission_bits.specs.Modes.{is_modes};
-ghost use Rattle.block_tokens.specs.TokenText.{Parts, TokenText, coded_bytes, token_bytes};
+ghost use Rattle.block_tokens.specs.TokenText.{Body, TokenText, coded_bytes, token_bytes};
 ghost use Rattle.block_tokens.specs.Reading.{parts_of};
 
 use crate::reading;
@@ -27,9 +27,9 @@ impl<'a> Model for Body<'a> {
     ghost use Rattle.std.specs.Prelude.{IsTrue};
     ghost use Rattle.permission_bits.specs.Modes.{is_modes};
     ghost use Rattle.principal_names.specs.Who.{IsWho};
-    ghost use Rattle.block_tokens.specs.TokenText.{Parts};
+    ghost use Rattle.block_tokens.specs.TokenText.{Body};
 
-    ghost Value = { Parts };
+    ghost Value = { Body };
 
     ghost view = { λ body. record {
       expiry = body.expiry;
@@ -113,7 +113,7 @@ pub(crate) fn coded(alloc: Global, body: &Body) -> Result<Vec<u8>, AllocError>
 /// The text of a token with these parts, in time linear in it.
 ///
 /// # Errors
-/// Want of memory.
+/// Out of memory.
 pub fn encode(alloc: Global, body: &Body) -> Result<TokenBytes, AllocError>
     ensures { IfOk result (λ token. token ≡ token_bytes body.now) }
 {
@@ -127,7 +127,7 @@ pub fn decode(bytes: &[u8]) -> Option<Body<'_>>
     // What is read is the text of its parts.
     ensures found { IfSome result (λ body. TokenText bytes.now body) }
     // What is the text of any parts is read, and as these.
-    ensures only { (parts : Parts) → TokenText bytes.now parts → result ≡ Some parts }
+    ensures only { (parts : Body) → TokenText bytes.now parts → result ≡ Some parts }
     // The same, reading from left to right.
     ensures read { result ≡ parts_of bytes.now }
 {

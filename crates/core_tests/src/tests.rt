@@ -1,5 +1,5 @@
 ghost use Rattle.std.specs.Prelude.{◌≡◌, ◌≤◌, IfOk, OnOk};
-ghost use Rattle.lease_manager.specs.Lease.{latest};
+ghost use Rattle.lease_manager.specs.Leases.{latest_moment};
 
 use block_numbers::moment::Moment;
 use block_numbers::replication::Repl;
@@ -169,7 +169,7 @@ fn ticking(alloc: Global, caller: &str) -> Result<Request, Fail> {
 }
 
 fn system(alloc: Global) -> Result<Namesystem, Fail>
-    ensures { IfOk result (λ system. latest system.writers.leases.renewals ≡ 0) }
+    ensures { IfOk result (λ system. latest_moment system.writers.leases.renewals ≡ 0) }
 {
     let (superuser, supergroup) = (who(alloc, "hdfs")?, who(alloc, "supergroup")?);
     Ok(Namesystem {
@@ -194,8 +194,8 @@ fn closed(
     request: &Request,
     now: Moment,
 ) -> Result<u64, Fail>
-    requires { latest system.old.writers.leases.renewals ≤ now }
-    ensures { OnOk result (latest system.new.writers.leases.renewals ≤ now) }
+    requires { latest_moment system.old.writers.leases.renewals ≤ now }
+    ensures { OnOk result (latest_moment system.new.writers.leases.renewals ≤ now) }
 {
     let _root = system.tree.root();
     let told = perform(alloc, system, &mut OpenPaths::new(alloc), request, now)?;
@@ -206,8 +206,8 @@ fn closed(
 
 // Makes a file, and leaves it open.
 fn make(alloc: Global, system: &mut Namesystem, now: Moment) -> Result<u64, Fail>
-    requires { latest system.old.writers.leases.renewals ≤ now }
-    ensures { OnOk result (latest system.new.writers.leases.renewals ≤ now) }
+    requires { latest_moment system.old.writers.leases.renewals ≤ now }
+    ensures { OnOk result (latest_moment system.new.writers.leases.renewals ≤ now) }
 {
     let request = creating(alloc, "hdfs", "/a/b")?;
     let made = closed(alloc, system, &request, now);
@@ -217,7 +217,7 @@ fn make(alloc: Global, system: &mut Namesystem, now: Moment) -> Result<u64, Fail
 
 // How many files a tick closes that knows of none.
 fn closed_unknown(alloc: Global, system: &mut Namesystem, now: Moment) -> Result<u64, Fail>
-    requires { latest system.old.writers.leases.renewals ≤ now }
+    requires { latest_moment system.old.writers.leases.renewals ≤ now }
 {
     let request = ticking(alloc, "hdfs")?;
     let closed = closed(alloc, system, &request, now);
@@ -227,7 +227,7 @@ fn closed_unknown(alloc: Global, system: &mut Namesystem, now: Moment) -> Result
 
 // How many files a tick closes that knows of none, of one that is open.
 fn closed_of_one(alloc: Global, system: &mut Namesystem) -> Result<u64, Fail>
-    requires { latest system.old.writers.leases.renewals ≡ 0 }
+    requires { latest_moment system.old.writers.leases.renewals ≡ 0 }
 {
     make(alloc, system, Moment::new(0).ok_or("a moment")?)?;
     let late = Moment::new(1_200_001).ok_or("a moment")?;

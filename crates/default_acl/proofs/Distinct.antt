@@ -10,10 +10,10 @@ use Rattle.acl_specs.specs.declared.entry.Entry.{Entry}
 use Rattle.acl_specs.specs.declared.entry.EntryKind.{EntryKind}
 use Rattle.acl_specs.specs.declared.entry.EntryKind.TheVariants.{User, Group, Mask, Other}
 use Rattle.acl_specs.specs.declared.entry.Scope.{Scope}
-use Rattle.acl_specs.specs.declared.entry.Scope.TheVariants.{Access, Default}
+use Rattle.acl_specs.proofs.SpecKeys.{same_scope_symm}
 use Rattle.hdfs_texts.specs.declared.fault.AclFault.TheVariants.{Duplicate, NamedBase}
 use Rattle.access_lists.specs.declared.entry_list.NamedEntry.{NamedEntry}
-use Rattle.access_lists.specs.AccessControlList.{EntryList, ascend, base_entry, mask_entries, named_entry}
+use Rattle.access_lists.specs.Acl.{EntryList, ascend, base_entry, mask_entries, named_entry}
 use Rattle.partial_acl.specs.AclChange.{touches}
 use Rattle.partial_acl.proofs.Tests.{both, and_false}
 use Rattle.partial_acl.proofs.NamedLists.{ascend_tail, ascend_past}
@@ -24,12 +24,6 @@ use Rattle.default_acl.proofs.Listed.{before}
 -- neither of two
 neither : (a b : Bool) → a ≡ false → b ≡ false → (a || b) ≡ false
 neither a b h k = ap (λ c. c || b) h ∙ k
-
-scope_symm : (a b : Scope) → same_scope a b ≡ same_scope b a
-scope_symm Access Access = refl
-scope_symm Access Default = refl
-scope_symm Default Access = refl
-scope_symm Default Default = refl
 
 -- ---- what has another key
 
@@ -48,7 +42,7 @@ other_scope e [] h = refl
 other_scope e (f ∷ fs) h =
     let parts = or_false (same_scope f.scope e.scope) (touches e.scope fs) h in
     neither (same_key e f) (list_any (same_key e) fs)
-    (ap (λ b. b && (same_kind e.kind f.kind && option_eq same e.name f.name)) (scope_symm e.scope f.scope ∙ parts.0)) (other_scope e fs parts.1)
+    (ap (λ b. b && (same_kind e.kind f.kind && option_eq same e.name f.name)) (same_scope_symm e.scope f.scope ∙ parts.0)) (other_scope e fs parts.1)
 
 new_past_named : (e : Entry) (scope : Scope) (kind : EntryKind) (named : List NamedEntry) (others : List Entry) → ((entry : NamedEntry) → same_key e (named_entry scope kind entry) ≡ false)
     → IsNew e others → IsNew e (map (named_entry scope kind) named ++ others)

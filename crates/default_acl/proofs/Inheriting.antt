@@ -9,39 +9,39 @@ use Rattle.hdfs_types.specs.declared.reply.ObjectKind.TheVariants.{File, Directo
 use Rattle.access_lists.specs.declared.entry_list.Bases.{Bases}
 use Rattle.access_lists.specs.declared.entry_list.NamedEntry.{NamedEntry}
 use Rattle.access_lists.specs.Kept.{list_of_parts}
-use Rattle.access_lists.specs.AccessControlList.{EntryList, IsEntryList, IsAccessControlList, are_rights, common}
+use Rattle.access_lists.specs.Acl.{EntryList, IsEntryList, IsAcl, are_rights, intersection}
 use Rattle.partial_acl.specs.AclChange.{as_kept}
-use Rattle.default_acl.specs.Inheritance.{cut_to, passed_on}
+use Rattle.default_acl.specs.Inheritance.{list_cut_to, default_passed_on}
 use Rattle.partial_acl.proofs.Tests.{and}
 use Rattle.partial_acl.proofs.Completing.{Good, good, common_good, remasked_good}
 use Rattle.default_acl.proofs.Changing.{kept_masked}
 
-mask_stays : (mask : Option Rights) (granted : Rights) → is_some (option_map (λ own. common own granted) mask) ≡ is_some mask
+mask_stays : (mask : Option Rights) (granted : Rights) → is_some (option_map (λ own. intersection own granted) mask) ≡ is_some mask
 mask_stays None granted = refl
 mask_stays (Some mask) granted = refl
 
-mask_good : (mask : Option Rights) (granted : Rights) → option_map_or are_rights mask true ≡ true → option_map_or are_rights (option_map (λ own. common own granted) mask) true ≡ true
+mask_good : (mask : Option Rights) (granted : Rights) → option_map_or are_rights mask true ≡ true → option_map_or are_rights (option_map (λ own. intersection own granted) mask) true ≡ true
 mask_good None granted h = refl
 mask_good (Some mask) granted h = common_good mask granted h
 
-pub cut_good : (mode : ℕ) (list : EntryList) → IsEntryList list → IsEntryList (cut_to mode list)
+pub cut_good : (mode : ℕ) (list : EntryList) → IsEntryList list → IsEntryList (list_cut_to mode list)
 cut_good mode list h =
     let parts : Good list = good list h in
-    remasked_good list (common list.user (rights (user_bits mode))) (common list.other (rights (other_bits mode))) (option_map (λ mask. common mask (rights (group_bits mode))) list.mask)
+    remasked_good list (intersection list.user (rights (user_bits mode))) (intersection list.other (rights (other_bits mode))) (option_map (λ mask. intersection mask (rights (group_bits mode))) list.mask)
     h (mask_stays list.mask (rights (group_bits mode)))
     (common_good list.user (rights (user_bits mode)) parts.user) (mask_good list.mask (rights (group_bits mode)) parts.mask) (common_good list.other (rights (other_bits mode)) parts.other)
 
 -- the parts that the code makes
 pub cut_from : (mode : ℕ) (list : EntryList) (bases : Bases) (mask : Option Rights) (users groups : List NamedEntry) → IsEntryList list
-    → bases.user ≡ common list.user (rights (user_bits mode)) → bases.group ≡ list.group → bases.other ≡ common list.other (rights (other_bits mode))
-    → mask ≡ option_map (λ own. common own (rights (group_bits mode))) list.mask → users ≡ list.users → groups ≡ list.groups
+    → bases.user ≡ intersection list.user (rights (user_bits mode)) → bases.group ≡ list.group → bases.other ≡ intersection list.other (rights (other_bits mode))
+    → mask ≡ option_map (λ own. intersection own (rights (group_bits mode))) list.mask → users ≡ list.users → groups ≡ list.groups
     → IsEntryList (list_of_parts bases mask users groups)
 cut_from mode list bases mask users groups good_list user group other is us gs = rw (user, group, other, is, us, gs) (cut_good mode list good_list)
 
 pub inherited_good : (mode : ℕ) (kind : ObjectKind) (sticky : Bool) (list : EntryList) → is_some list.mask ≡ true
-    → IsAccessControlList (record { sticky = sticky; access = as_kept (cut_to mode list); default = passed_on kind list })
-inherited_good mode kind sticky list h = and _ _ (kept_masked (cut_to mode list) (mask_stays list.mask (rights (group_bits mode)) ∙ h)) (by kind)
+    → IsAcl (record { sticky = sticky; access = as_kept (list_cut_to mode list); default = default_passed_on kind list })
+inherited_good mode kind sticky list h = and _ _ (kept_masked (list_cut_to mode list) (mask_stays list.mask (rights (group_bits mode)) ∙ h)) (by kind)
   where
-    by : (kind : ObjectKind) → option_map_or (λ list. is_some list.mask) (passed_on kind list) true ≡ true
+    by : (kind : ObjectKind) → option_map_or (λ list. is_some list.mask) (default_passed_on kind list) true ≡ true
     by File = refl
     by Directory = h

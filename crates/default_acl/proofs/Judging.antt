@@ -15,8 +15,8 @@ use Rattle.acl_specs.specs.declared.entry.Entry.{Entry}
 use Rattle.acl_specs.specs.declared.entry.EntryKind.TheVariants.{User, Group, Other}
 use Rattle.acl_specs.specs.declared.entry.Scope.TheVariants.{Access}
 use Rattle.access_lists.specs.declared.entry_list.NamedEntry.{NamedEntry}
-use Rattle.access_lists.specs.AccessControlList.{base_entry, named_entry}
-use Rattle.access_lists.specs.JudgedEntry.{Judgement, judged_by, judged_by_groups, group_entries, best, masked}
+use Rattle.access_lists.specs.Acl.{base_entry, named_entry}
+use Rattle.access_lists.specs.JudgedEntry.{Chosen, judged_by, judged_by_groups, group_entries, best_judgement, effective_rights}
 use Rattle.default_acl.specs.Laws.{is_of_masked_class, MasksBoundWhatIsGranted, StrangersAreOthers}
 
 -- ---- what a mask bounds
@@ -34,17 +34,17 @@ module _ (mask : Option Rights) (need : Rights) where
   has_need = option_map_or (λ own. covers own.0 need.0) mask true
 
   -- a judgement that grants only what the mask has
-  abbrev IsBound : Judgement → Type 0
+  abbrev IsBound : Chosen → Type 0
   IsBound judgement = judgement.granted ≡ true → is_of_masked_class judgement.entry ≡ true → has_need ≡ true
 
   bound : (entry : Entry) → IsBound (judged_by entry mask need)
   bound entry h k = by mask h
     where
-      by : (own : Option Rights) → covers (masked own entry.rights).0 need.0 ≡ true → option_map_or (λ own. covers own.0 need.0) own true ≡ true
+      by : (own : Option Rights) → covers (effective_rights own entry.rights).0 need.0 ≡ true → option_map_or (λ own. covers own.0 need.0) own true ≡ true
       by None g = refl
       by (Some own) g = mask_covers entry.rights.0 own.0 need.0 g
 
-  found_bound : (entries : List Entry) (other : Judgement) → IsBound other → IsBound (unwrap_or (find (λ j. j.granted) (map (λ entry. judged_by entry mask need) entries)) other)
+  found_bound : (entries : List Entry) (other : Chosen) → IsBound other → IsBound (unwrap_or (find (λ j. j.granted) (map (λ entry. judged_by entry mask need) entries)) other)
   found_bound [] other h = h
   found_bound (e ∷ es) other h = by (judged_by e mask need).granted (found_bound es other h)
     where
@@ -53,20 +53,20 @@ module _ (mask : Option Rights) (need : Rights) where
       by true others = bound e
       by false others = others
 
-  first_bound : (entries : List Entry) (other : Judgement) → IsBound other → IsBound (unwrap_or (slice_get (map (λ entry. judged_by entry mask need) entries) 0) other)
+  first_bound : (entries : List Entry) (other : Chosen) → IsBound other → IsBound (unwrap_or (slice_get (map (λ entry. judged_by entry mask need) entries) 0) other)
   first_bound [] other h = h
   first_bound (e ∷ es) other h = bound e
 
-  best_bound : (entries : List Entry) (other : Judgement) → IsBound other → IsBound (unwrap_or (best (map (λ entry. judged_by entry mask need) entries)) other)
+  best_bound : (entries : List Entry) (other : Chosen) → IsBound other → IsBound (unwrap_or (best_judgement (map (λ entry. judged_by entry mask need) entries)) other)
   best_bound entries other h =
       by (find (λ j. j.granted) (map (λ entry. judged_by entry mask need) entries)) (slice_get (map (λ entry. judged_by entry mask need) entries) 0)
       (found_bound entries (unwrap_or (slice_get (map (λ entry. judged_by entry mask need) entries) 0) other) (first_bound entries other h))
     where
-      by : (found first : Option Judgement) → IsBound (unwrap_or found (unwrap_or first other)) → IsBound (unwrap_or (option_or found first) other)
+      by : (found first : Option Chosen) → IsBound (unwrap_or found (unwrap_or first other)) → IsBound (unwrap_or (option_or found first) other)
       by None first g = g
       by (Some judgement) first g = g
 
-  by_entry : (users : List NamedEntry) (caller : List ℕ) (other : Judgement) → IsBound other
+  by_entry : (users : List NamedEntry) (caller : List ℕ) (other : Chosen) → IsBound other
       → IsBound (option_map_or (λ entry. judged_by (named_entry Access User entry) mask need) (find (λ entry. same caller entry.name) users) other)
   by_entry users caller other h = by (find (λ entry. same caller entry.name) users)
     where
@@ -111,5 +111,5 @@ strangers owner group acl caller groups need stranger =
     ap (λ b. cond b (judged_by (base_entry Access User acl.access.user) None need)
     (option_map_or named (find (λ entry. same caller entry.name) acl.access.users) (judged_by_groups group acl.access groups need))) stranger.no_owner
     ∙ ap (λ entry. option_map_or named entry (judged_by_groups group acl.access groups need)) (none_found (λ entry. same caller entry.name) acl.access.users stranger.no_named_user)
-    ∙ ap (λ b. unwrap_or (best (map judge (cond b (base_entry Access Group acl.access.group ∷ []) [] ++ map (named_entry Access Group) (filter (λ entry. has_group groups entry.name) acl.access.groups)))) other) stranger.not_in_group
-    ∙ ap (λ entries. unwrap_or (best (map judge (map (named_entry Access Group) entries))) other) (none_left (λ entry. has_group groups entry.name) acl.access.groups stranger.in_no_named_group)
+    ∙ ap (λ b. unwrap_or (best_judgement (map judge (cond b (base_entry Access Group acl.access.group ∷ []) [] ++ map (named_entry Access Group) (filter (λ entry. has_group groups entry.name) acl.access.groups)))) other) stranger.not_in_group
+    ∙ ap (λ entries. unwrap_or (best_judgement (map judge (map (named_entry Access Group) entries))) other) (none_left (λ entry. has_group groups entry.name) acl.access.groups stranger.in_no_named_group)

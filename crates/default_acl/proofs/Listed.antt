@@ -12,8 +12,8 @@ use Rattle.acl_specs.specs.declared.entry.EntryKind.{EntryKind}
 use Rattle.acl_specs.specs.declared.entry.EntryKind.TheVariants.{User, Group, Mask, Other}
 use Rattle.acl_specs.specs.declared.entry.Scope.{Scope}
 use Rattle.access_lists.specs.declared.entry_list.NamedEntry.{NamedEntry}
-use Rattle.access_lists.specs.AccessControlList.{EntryList, are_rights, base_entry, entries_in, grant_rights, mask_entries, named_entry}
-use Rattle.partial_acl.specs.AclChange.{given, granted_by, has_base, is_base_of, is_for, named_in, touches, with_name}
+use Rattle.access_lists.specs.Acl.{EntryList, are_rights, base_entry, entries_in, grant_rights, mask_entries, named_entry}
+use Rattle.partial_acl.specs.AclChange.{base_rights, granted_by, has_base, is_base_of, is_for, named_in, touches, with_name}
 use Rattle.partial_acl.proofs.Tests.{both, and, and_false}
 use Rattle.partial_acl.proofs.Completing.{Good}
 use Rattle.default_acl.proofs.Repeating.{scope_self, kind_self}
@@ -41,13 +41,13 @@ module _ (scope : Scope) (kind : EntryKind) where
   abbrev is_own : Scope → EntryKind → Bool
   is_own s k = same_scope s scope && same_kind k kind
 
-  given_here : (granted : Rights) (others : List Entry) → are_rights granted ≡ true → given scope kind (base_entry scope kind granted ∷ others) ≡ Some granted
+  given_here : (granted : Rights) (others : List Entry) → are_rights granted ≡ true → base_rights scope kind (base_entry scope kind granted ∷ others) ≡ Some granted
   given_here granted others h =
       ap (λ b. option_map granted_by (cond b (Some (base_entry scope kind granted)) (find (is_base_of scope kind) others)))
       (and (same_scope scope scope) (same_kind kind kind && true) (scope_self scope) (and (same_kind kind kind) true (kind_self kind) refl))
       ∙ ap (λ own. Some own) (granted_is granted h)
 
-  given_past : (s : Scope) (k : EntryKind) (granted : Rights) (others : List Entry) → is_own s k ≡ false → given scope kind (base_entry s k granted ∷ others) ≡ given scope kind others
+  given_past : (s : Scope) (k : EntryKind) (granted : Rights) (others : List Entry) → is_own s k ≡ false → base_rights scope kind (base_entry s k granted ∷ others) ≡ base_rights scope kind others
   given_past s k granted others h =
       ap (λ b. option_map granted_by (cond b (Some (base_entry s k granted)) (find (is_base_of scope kind) others))) (apart (same_scope s scope) (same_kind k kind) h)
     where
@@ -56,14 +56,14 @@ module _ (scope : Scope) (kind : EntryKind) where
       apart true false h = refl
       apart false b h = refl
 
-  given_past_named : (s : Scope) (k : EntryKind) (named : List NamedEntry) (others : List Entry) → given scope kind (map (named_entry s k) named ++ others) ≡ given scope kind others
+  given_past_named : (s : Scope) (k : EntryKind) (named : List NamedEntry) (others : List Entry) → base_rights scope kind (map (named_entry s k) named ++ others) ≡ base_rights scope kind others
   given_past_named s k [] others = refl
   given_past_named s k (n ∷ ns) others =
       ap (λ b. option_map granted_by (cond b (Some (named_entry s k n)) (find (is_base_of scope kind) (map (named_entry s k) ns ++ others))))
       (and_false (same_scope s scope) (same_kind k kind && false) (and_false (same_kind k kind) false refl))
       ∙ given_past_named s k ns others
 
-  given_past_mask : (s : Scope) (mask : Option Rights) (others : List Entry) → is_own s Mask ≡ false → given scope kind (mask_entries s mask ++ others) ≡ given scope kind others
+  given_past_mask : (s : Scope) (mask : Option Rights) (others : List Entry) → is_own s Mask ≡ false → base_rights scope kind (mask_entries s mask ++ others) ≡ base_rights scope kind others
   given_past_mask s None others h = refl
   given_past_mask s (Some mask) others h = given_past s Mask mask others h
 
@@ -97,16 +97,16 @@ module _ (scope : Scope) (kind : EntryKind) where
 
 -- a spec says this list of a scope
 pub record Says (scope : Scope) (spec : List Entry) (list : EntryList) : Type 0 where
-  pub user : given scope User spec ≡ Some list.user
+  pub user : base_rights scope User spec ≡ Some list.user
   pub users : named_in scope User spec ≡ list.users
-  pub group : given scope Group spec ≡ Some list.group
+  pub group : base_rights scope Group spec ≡ Some list.group
   pub groups : named_in scope Group spec ≡ list.groups
-  pub mask : given scope Mask spec ≡ list.mask
-  pub other : given scope Other spec ≡ Some list.other
+  pub mask : base_rights scope Mask spec ≡ list.mask
+  pub other : base_rights scope Other spec ≡ Some list.other
 
 -- and others say nothing of it
 pub record IsSilent (scope : Scope) (others : List Entry) : Type 0 where
-  pub mask : given scope Mask others ≡ None
+  pub mask : base_rights scope Mask others ≡ None
   pub users : named_in scope User others ≡ []
   pub groups : named_in scope Group others ≡ []
 
@@ -120,16 +120,16 @@ module _ (scope : Scope) (list : EntryList) (others : List Entry) (parts : Good 
   abbrev from_group : List Entry
   from_group = base_entry scope Group list.group ∷ (map (named_entry scope Group) list.groups ++ from_mask)
 
-  to_group : (kind : EntryKind) → same_kind User kind ≡ false → given scope kind (before scope list others) ≡ given scope kind from_group
+  to_group : (kind : EntryKind) → same_kind User kind ≡ false → base_rights scope kind (before scope list others) ≡ base_rights scope kind from_group
   to_group kind h = given_past scope kind scope User list.user (map (named_entry scope User) list.users ++ from_group) (and_false (same_scope scope scope) (same_kind User kind) h)
       ∙ given_past_named scope kind scope User list.users from_group
 
-  to_mask : (kind : EntryKind) → same_kind User kind ≡ false → same_kind Group kind ≡ false → given scope kind (before scope list others) ≡ given scope kind from_mask
+  to_mask : (kind : EntryKind) → same_kind User kind ≡ false → same_kind Group kind ≡ false → base_rights scope kind (before scope list others) ≡ base_rights scope kind from_mask
   to_mask kind h k = to_group kind h
       ∙ given_past scope kind scope Group list.group (map (named_entry scope Group) list.groups ++ from_mask) (and_false (same_scope scope scope) (same_kind Group kind) k)
       ∙ given_past_named scope kind scope Group list.groups from_mask
 
-  mask_here : (mask : Option Rights) → option_map_or are_rights mask true ≡ true → given scope Mask (mask_entries scope mask ++ last) ≡ mask
+  mask_here : (mask : Option Rights) → option_map_or are_rights mask true ≡ true → base_rights scope Mask (mask_entries scope mask ++ last) ≡ mask
   mask_here None h = given_past scope Mask scope Other list.other others (and_false (same_scope scope scope) false refl) ∙ silent.mask
   mask_here (Some mask) h = given_here scope Mask mask last h
 
@@ -169,7 +169,7 @@ module _ (scope s : Scope) (list : EntryList) (others : List Entry) (apart : sam
   apart_from : (k kind : EntryKind) → (same_scope s scope && same_kind k kind) ≡ false
   apart_from k kind = ap (λ b. b && same_kind k kind) apart
 
-  given_beside : (kind : EntryKind) → given scope kind (before s list others) ≡ given scope kind others
+  given_beside : (kind : EntryKind) → base_rights scope kind (before s list others) ≡ base_rights scope kind others
   given_beside kind =
       let last = base_entry s Other list.other ∷ others in
       let from_mask = mask_entries s list.mask ++ last in
@@ -236,7 +236,7 @@ any_found p (e ∷ es) = by (p e) (any_found p es)
     by true others = refl
     by false others = others
 
-pub has_given : (scope : Scope) (kind : EntryKind) (spec : List Entry) (granted : Rights) → given scope kind spec ≡ Some granted → has_base scope kind spec ≡ true
+pub has_given : (scope : Scope) (kind : EntryKind) (spec : List Entry) (granted : Rights) → base_rights scope kind spec ≡ Some granted → has_base scope kind spec ≡ true
 has_given scope kind spec granted h = any_found (is_base_of scope kind) spec ∙ stays (find (is_base_of scope kind) spec) ∙ ap is_some h
   where
     stays : (entry : Option Entry) → is_some entry ≡ is_some (option_map granted_by entry)

@@ -11,8 +11,8 @@ use Rattle.acl_specs.specs.declared.entry.Scope.{Scope}
 use Rattle.acl_specs.specs.declared.entry.EntryKind.{EntryKind}
 use Rattle.acl_specs.specs.declared.entry.EntryKind.TheVariants.{User, Group, Other}
 use Rattle.access_lists.specs.declared.entry_list.NamedEntry.{NamedEntry}
-use Rattle.access_lists.specs.AccessControlList.{EntryList, IsEntryList, grant_rights, are_rights}
-use Rattle.partial_acl.specs.AclChange.{PartialList, all_of, after_addition, after_removal, given, granted_by, has_base, is_base_of, is_for, named_in, unless, with_name}
+use Rattle.access_lists.specs.Acl.{EntryList, IsEntryList, grant_rights, are_rights}
+use Rattle.partial_acl.specs.AclChange.{PartialList, all_of, after_addition, after_removal, base_rights, granted_by, has_base, is_base_of, is_for, named_in, unless, with_name}
 use Rattle.partial_acl.specs.Answers.{IsPartialList}
 use Rattle.partial_acl.proofs.Tests.{and, all_filter}
 use Rattle.partial_acl.proofs.NamedLists.{with_each_ascends, with_each_grants, filter_ascends}
@@ -21,7 +21,7 @@ use Rattle.partial_acl.proofs.Completing.{Good, good, GoodParts, good_parts, are
 granted_good : (entry : Entry) → are_rights (granted_by entry) ≡ true
 granted_good entry = let below : entry.rights.0 % 8 < 8 = omega arith in grind (arith, nat_tests)
 
-pub given_good : (scope : Scope) (kind : EntryKind) (spec : List Entry) → option_map_or are_rights (given scope kind spec) true ≡ true
+pub given_good : (scope : Scope) (kind : EntryKind) (spec : List Entry) → option_map_or are_rights (base_rights scope kind spec) true ≡ true
 given_good scope kind spec = by (find (is_base_of scope kind) spec)
   where
     by : (entry : Option Entry) → option_map_or are_rights (option_map granted_by entry) true ≡ true
@@ -58,9 +58,9 @@ added_good scope spec list h =
       groups_ascend = with_each_ascends list.groups (named_in scope Group spec) parts.groups_ascend;
       users_grant = with_each_grants list.users (named_in scope User spec) (named_good scope User spec) parts.users_grant;
       groups_grant = with_each_grants list.groups (named_in scope Group spec) (named_good scope Group spec) parts.groups_grant;
-      user = either_good (given scope User spec) list.user (given_good scope User spec) parts.user;
-      group = either_good (given scope Group spec) list.group (given_good scope Group spec) parts.group;
-      other = either_good (given scope Other spec) list.other (given_good scope Other spec) parts.other;
+      user = either_good (base_rights scope User spec) list.user (given_good scope User spec) parts.user;
+      group = either_good (base_rights scope Group spec) list.group (given_good scope Group spec) parts.group;
+      other = either_good (base_rights scope Other spec) list.other (given_good scope Other spec) parts.other;
     })
 
 pub removed_good : (scope : Scope) (spec : List Entry) (list : PartialList) → IsPartialList list → IsPartialList (after_removal scope spec list)

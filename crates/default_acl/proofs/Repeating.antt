@@ -24,8 +24,8 @@ use Rattle.hdfs_texts.specs.declared.fault.AclFault.TheVariants.{Duplicate, Name
 use Rattle.acl_specs.specs.declared.acl_change.AclChange.TheVariants.{Modify}
 use Rattle.hdfs_types.specs.declared.reply.Refusal.TheVariants.{TooManyEntries}
 use Rattle.access_lists.specs.declared.entry_list.NamedEntry.{NamedEntry}
-use Rattle.access_lists.specs.AccessControlList.{AccessControlList, EntryList, base_entries, common, fits}
-use Rattle.partial_acl.specs.AclChange.{PartialList, access_after, access_where, acl_after, after_addition, all_of, as_kept, completed, default_after, default_where, first_acl_fault, given, granted_by, is_for, mask_after, named_in, no_entries, put, touches, unless_fault, with_each, with_name}
+use Rattle.access_lists.specs.Acl.{Acl, EntryList, base_entries, intersection, fits_in_scope}
+use Rattle.partial_acl.specs.AclChange.{PartialList, access_after, access_where, acl_after, after_addition, all_of, as_kept, completed_list, default_after, default_where, first_acl_fault, base_rights, granted_by, is_for, mask_after, named_in, no_entries, with_entry, touches, unless_fault, with_each, with_name}
 use Rattle.partial_acl.specs.Answers.{named_count}
 use Rattle.default_acl.specs.Laws.{ModifyingAgainChangesNothing}
 use Rattle.partial_acl.proofs.Tests.{both}
@@ -48,40 +48,40 @@ less_back a b h = nat_list_cmp_total.antisymm b a ∙ ap ordering_reverse h
 greater_through : (a b c : List ℕ) → text_cmp a b ≡ Less → text_cmp c b ≡ Greater → text_cmp c a ≡ Greater
 greater_through a b c h k = greater_back a c (nat_list_cmp_total.trans a b c h (less_back c b k))
 
-put_stands : (new : NamedEntry) (entries : List NamedEntry) → Stands new (put new entries)
+put_stands : (new : NamedEntry) (entries : List NamedEntry) → Stands new (with_entry new entries)
 put_stands new [] = inl refl
 put_stands new (e ∷ es) = by (text_cmp new.name e.name) refl (put_stands new es)
   where
-    by : (o : Ordering) → text_cmp new.name e.name ≡ o → Stands new (put new es) → Stands new (cond (is_eq o) (new ∷ es) (cond (is_lt o) (new ∷ e ∷ es) (e ∷ put new es)))
+    by : (o : Ordering) → text_cmp new.name e.name ≡ o → Stands new (with_entry new es) → Stands new (cond (is_eq o) (new ∷ es) (cond (is_lt o) (new ∷ e ∷ es) (e ∷ with_entry new es)))
     by Less k others = inl refl
     by Equal k others = inl refl
     by Greater k others = inr (k, others)
 
-stands_is : (new : NamedEntry) (entries : List NamedEntry) → Stands new entries → put new entries ≡ entries
+stands_is : (new : NamedEntry) (entries : List NamedEntry) → Stands new entries → with_entry new entries ≡ entries
 stands_is new [] h = absurd h
 stands_is new (e ∷ es) h = elim h [
-  | inl is ↦ ap (λ b. cond b (new ∷ es) (cond (is_lt (text_cmp new.name e.name)) (new ∷ e ∷ es) (e ∷ put new es))) (ap (λ entry. same new.name entry.name) is ∙ same_self new.name)
+  | inl is ↦ ap (λ b. cond b (new ∷ es) (cond (is_lt (text_cmp new.name e.name)) (new ∷ e ∷ es) (e ∷ with_entry new es))) (ap (λ entry. same new.name entry.name) is ∙ same_self new.name)
       ∙ ap (λ entry. entry ∷ es) (sym is)
-  | inr others ↦ ap (λ o. cond (is_eq o) (new ∷ es) (cond (is_lt o) (new ∷ e ∷ es) (e ∷ put new es))) others.0 ∙ ap (λ list. e ∷ list) (stands_is new es others.1)
+  | inr others ↦ ap (λ o. cond (is_eq o) (new ∷ es) (cond (is_lt o) (new ∷ e ∷ es) (e ∷ with_entry new es))) others.0 ∙ ap (λ list. e ∷ list) (stands_is new es others.1)
 ]
 
-stands_beside : (new other : NamedEntry) (entries : List NamedEntry) → same other.name new.name ≡ false → Stands new entries → Stands new (put other entries)
+stands_beside : (new other : NamedEntry) (entries : List NamedEntry) → same other.name new.name ≡ false → Stands new entries → Stands new (with_entry other entries)
 stands_beside new other [] apart h = absurd h
 stands_beside new other (e ∷ es) apart h = by (text_cmp other.name e.name) refl h (λ k. stands_beside new other es apart k)
   where
-    at_once : (o : Ordering) → text_cmp other.name e.name ≡ o → e ≡ new → Stands new (cond (is_eq o) (other ∷ es) (cond (is_lt o) (other ∷ e ∷ es) (e ∷ put other es)))
+    at_once : (o : Ordering) → text_cmp other.name e.name ≡ o → e ≡ new → Stands new (cond (is_eq o) (other ∷ es) (cond (is_lt o) (other ∷ e ∷ es) (e ∷ with_entry other es)))
     at_once Less k is = inr (greater_back other.name new.name (ap (λ entry. text_cmp other.name entry.name) (sym is) ∙ k), inl is)
     at_once Equal k is = let tied : same other.name new.name ≡ true = ap (λ entry. same other.name entry.name) (sym is) ∙ ap is_eq k in cc
     at_once Greater k is = inl is
 
-    behind : (o : Ordering) → text_cmp other.name e.name ≡ o → text_cmp new.name e.name ≡ Greater → Stands new es → (Stands new es → Stands new (put other es))
-        → Stands new (cond (is_eq o) (other ∷ es) (cond (is_lt o) (other ∷ e ∷ es) (e ∷ put other es)))
+    behind : (o : Ordering) → text_cmp other.name e.name ≡ o → text_cmp new.name e.name ≡ Greater → Stands new es → (Stands new es → Stands new (with_entry other es))
+        → Stands new (cond (is_eq o) (other ∷ es) (cond (is_lt o) (other ∷ e ∷ es) (e ∷ with_entry other es)))
     behind Less k low there others = inr (greater_through other.name e.name new.name k low, inr (low, there))
     behind Equal k low there others = inr (ap (λ name. text_cmp new.name name) (same_is other.name e.name (ap is_eq k)) ∙ low, there)
     behind Greater k low there others = inr (low, others there)
 
-    by : (o : Ordering) → text_cmp other.name e.name ≡ o → Stands new (e ∷ es) → (Stands new es → Stands new (put other es))
-        → Stands new (cond (is_eq o) (other ∷ es) (cond (is_lt o) (other ∷ e ∷ es) (e ∷ put other es)))
+    by : (o : Ordering) → text_cmp other.name e.name ≡ o → Stands new (e ∷ es) → (Stands new es → Stands new (with_entry other es))
+        → Stands new (cond (is_eq o) (other ∷ es) (cond (is_lt o) (other ∷ e ∷ es) (e ∷ with_entry other es)))
     by o k there others = elim there [ inl is ↦ at_once o k is | inr rest ↦ behind o k rest.0 rest.1 others ]
 
 -- no two entries have one name
@@ -91,18 +91,18 @@ AreApart (e ∷ es) = (list_any (λ other. same other.name e.name) es ≡ false)
 
 stands_beside_each : (new : NamedEntry) (entries others : List NamedEntry) → list_any (λ other. same other.name new.name) others ≡ false → Stands new entries → Stands new (with_each entries others)
 stands_beside_each new entries [] apart h = h
-stands_beside_each new entries (o ∷ os) apart h = by (same o.name new.name) refl apart (λ there k. stands_beside_each new (put o entries) os there k)
+stands_beside_each new entries (o ∷ os) apart h = by (same o.name new.name) refl apart (λ there k. stands_beside_each new (with_entry o entries) os there k)
   where
     by : (b : Bool) → same o.name new.name ≡ b → (b || list_any (λ other. same other.name new.name) os) ≡ false
-        → (list_any (λ other. same other.name new.name) os ≡ false → Stands new (put o entries) → Stands new (with_each (put o entries) os)) → Stands new (with_each (put o entries) os)
+        → (list_any (λ other. same other.name new.name) os ≡ false → Stands new (with_entry o entries) → Stands new (with_each (with_entry o entries) os)) → Stands new (with_each (with_entry o entries) os)
     by true k there others = cc
     by false k there others = others there (stands_beside new o entries k h)
 
 pub each_again : (entries others : List NamedEntry) → AreApart others → with_each (with_each entries others) others ≡ with_each entries others
 each_again entries [] apart = refl
 each_again entries (o ∷ os) apart =
-    ap (λ list. with_each list os) (stands_is o (with_each (put o entries) os) (stands_beside_each o (put o entries) os apart.0 (put_stands o entries)))
-    ∙ each_again (put o entries) os apart.1
+    ap (λ list. with_each list os) (stands_is o (with_each (with_entry o entries) os) (stands_beside_each o (with_entry o entries) os apart.0 (put_stands o entries)))
+    ∙ each_again (with_entry o entries) os apart.1
 
 -- ---- a spec names nobody twice
 
@@ -194,7 +194,7 @@ spec_apart scope kind spec h = entries_apart scope kind spec (by (has_duplicate 
 
 -- ---- a list that was completed, once more
 
-base_again : (given old : Option Rights) (first second : Rights) → unwrap_or (option_or given (Some (unwrap_or (option_or given old) first))) second ≡ unwrap_or (option_or given old) first
+base_again : (named old : Option Rights) (first second : Rights) → unwrap_or (option_or named (Some (unwrap_or (option_or named old) first))) second ≡ unwrap_or (option_or named old) first
 base_again None old first second = refl
 base_again (Some new) old first second = refl
 
@@ -203,51 +203,51 @@ built mask user users group groups other = mask_after mask (record { user = user
 
 module _ (scope : Scope) (spec : List Entry) (mask : Option Rights) (users_apart : AreApart (named_in scope User spec)) (groups_apart : AreApart (named_in scope Group spec)) where
   completed_again : (first second : EntryList) (old : PartialList)
-      → completed mask second (after_addition scope spec (all_of (completed mask first (after_addition scope spec old)))) ≡ completed mask first (after_addition scope spec old)
+      → completed_list mask second (after_addition scope spec (all_of (completed_list mask first (after_addition scope spec old)))) ≡ completed_list mask first (after_addition scope spec old)
   completed_again first second old =
-      let once = completed mask first (after_addition scope spec old) in
-      let user = base_again (given scope User spec) old.user first.user second.user in
-      let group = base_again (given scope Group spec) old.group first.group second.group in
-      let other = base_again (given scope Other spec) old.other first.other second.other in
+      let once = completed_list mask first (after_addition scope spec old) in
+      let user = base_again (base_rights scope User spec) old.user first.user second.user in
+      let group = base_again (base_rights scope Group spec) old.group first.group second.group in
+      let other = base_again (base_rights scope Other spec) old.other first.other second.other in
       let users = each_again old.users (named_in scope User spec) users_apart in
       let groups = each_again old.groups (named_in scope Group spec) groups_apart in
-      ap (λ r. built mask r (with_each once.users (named_in scope User spec)) (unwrap_or (option_or (given scope Group spec) (Some once.group)) second.group)
-      (with_each once.groups (named_in scope Group spec)) (unwrap_or (option_or (given scope Other spec) (Some once.other)) second.other)) user
-      ∙ ap (λ l. built mask once.user l (unwrap_or (option_or (given scope Group spec) (Some once.group)) second.group)
-      (with_each once.groups (named_in scope Group spec)) (unwrap_or (option_or (given scope Other spec) (Some once.other)) second.other)) users
-      ∙ ap (λ r. built mask once.user once.users r (with_each once.groups (named_in scope Group spec)) (unwrap_or (option_or (given scope Other spec) (Some once.other)) second.other)) group
-      ∙ ap (λ l. built mask once.user once.users once.group l (unwrap_or (option_or (given scope Other spec) (Some once.other)) second.other)) groups
+      ap (λ r. built mask r (with_each once.users (named_in scope User spec)) (unwrap_or (option_or (base_rights scope Group spec) (Some once.group)) second.group)
+      (with_each once.groups (named_in scope Group spec)) (unwrap_or (option_or (base_rights scope Other spec) (Some once.other)) second.other)) user
+      ∙ ap (λ l. built mask once.user l (unwrap_or (option_or (base_rights scope Group spec) (Some once.group)) second.group)
+      (with_each once.groups (named_in scope Group spec)) (unwrap_or (option_or (base_rights scope Other spec) (Some once.other)) second.other)) users
+      ∙ ap (λ r. built mask once.user once.users r (with_each once.groups (named_in scope Group spec)) (unwrap_or (option_or (base_rights scope Other spec) (Some once.other)) second.other)) group
+      ∙ ap (λ l. built mask once.user once.users once.group l (unwrap_or (option_or (base_rights scope Other spec) (Some once.other)) second.other)) groups
       ∙ ap (λ r. built mask once.user once.users once.group once.groups r) other
 
 -- ---- an access list without named entries, once more
 
-group_again : (given mask : Option Rights) (old : Rights) →
-    let once = common (unwrap_or (option_or given (Some old)) old) (unwrap_or mask (unwrap_or (option_or given (Some old)) old)) in
-    let next = unwrap_or (option_or given (Some once)) once in
-    common next (unwrap_or mask next) ≡ once
+group_again : (named mask : Option Rights) (old : Rights) →
+    let once = intersection (unwrap_or (option_or named (Some old)) old) (unwrap_or mask (unwrap_or (option_or named (Some old)) old)) in
+    let next = unwrap_or (option_or named (Some once)) once in
+    intersection next (unwrap_or mask next) ≡ once
 group_again (Some new) mask old = refl
 group_again None None old = ap rights (ap (λ n. bit_and n n) (and_self old.0))
 group_again None (Some mask) old = ap rights (and_assoc mask.0 old.0 mask.0 ∙ ap (λ n. bit_and old.0 n) (and_self mask.0))
 
 none_put : (entries others : List NamedEntry) → length (with_each entries others) ≡ 0 → others ≡ []
 none_put entries [] h = refl
-none_put entries (o ∷ os) h = absurd (omega (arith, with_each_grows (put o entries) os, some_put o entries))
+none_put entries (o ∷ os) h = absurd (omega (arith, with_each_grows (with_entry o entries) os, some_put o entries))
   where
-    some_put : (new : NamedEntry) (entries : List NamedEntry) → 0 < length (put new entries)
+    some_put : (new : NamedEntry) (entries : List NamedEntry) → 0 < length (with_entry new entries)
     some_put new [] = omega arith
     some_put new (e ∷ es) = omega (arith, put_grows new (e ∷ es))
 
 module _ (spec : List Entry) (mask : Option Rights) (users_apart : AreApart (named_in Access User spec)) (groups_apart : AreApart (named_in Access Group spec)) where
   abbrev step : EntryList → EntryList
-  step old = as_kept (completed mask old (after_addition Access spec (all_of old)))
+  step old = as_kept (completed_list mask old (after_addition Access spec (all_of old)))
 
   abbrev named : EntryList → ℕ
   named old = named_count (after_addition Access spec (all_of old))
 
   extended_again : (old : EntryList) → nat_lt 0 (named old) ≡ true → step (step old) ≡ step old
   extended_again old h =
-      let kept : step old ≡ completed mask old (after_addition Access spec (all_of old)) = kept_named (completed mask old (after_addition Access spec (all_of old))) h in
-      ap step kept ∙ ap as_kept (completed_again Access spec mask users_apart groups_apart old (completed mask old (after_addition Access spec (all_of old))) (all_of old))
+      let kept : step old ≡ completed_list mask old (after_addition Access spec (all_of old)) = kept_named (completed_list mask old (after_addition Access spec (all_of old))) h in
+      ap step kept ∙ ap as_kept (completed_again Access spec mask users_apart groups_apart old (completed_list mask old (after_addition Access spec (all_of old))) (all_of old))
 
   plain_again : (old : EntryList) → nat_lt 0 (named old) ≡ false → step (step old) ≡ step old
   plain_again old h =
@@ -258,10 +258,10 @@ module _ (spec : List Entry) (mask : Option Rights) (users_apart : AreApart (nam
       let none : nat_lt 0 (named once) ≡ false =
       ap (λ l. nat_lt 0 (length (with_each [] l) + length (with_each [] (named_in Access Group spec)))) no_users ∙ ap (λ l. nat_lt 0 (length (with_each [] []) + length (with_each [] l))) no_groups in
       ap step kept ∙ kept_is_bases mask once (after_addition Access spec (all_of once)) none
-      ∙ ap (λ r. base_entries r (common (unwrap_or (option_or (given Access Group spec) (Some once.group)) once.group) (unwrap_or mask (unwrap_or (option_or (given Access Group spec) (Some once.group)) once.group)))
-      (unwrap_or (option_or (given Access Other spec) (Some once.other)) once.other)) (base_again (given Access User spec) (Some old.user) old.user once.user)
-      ∙ ap (λ r. base_entries once.user r (unwrap_or (option_or (given Access Other spec) (Some once.other)) once.other)) (group_again (given Access Group spec) mask old.group)
-      ∙ ap (λ r. base_entries once.user once.group r) (base_again (given Access Other spec) (Some old.other) old.other once.other)
+      ∙ ap (λ r. base_entries r (intersection (unwrap_or (option_or (base_rights Access Group spec) (Some once.group)) once.group) (unwrap_or mask (unwrap_or (option_or (base_rights Access Group spec) (Some once.group)) once.group)))
+      (unwrap_or (option_or (base_rights Access Other spec) (Some once.other)) once.other)) (base_again (base_rights Access User spec) (Some old.user) old.user once.user)
+      ∙ ap (λ r. base_entries once.user r (unwrap_or (option_or (base_rights Access Other spec) (Some once.other)) once.other)) (group_again (base_rights Access Group spec) mask old.group)
+      ∙ ap (λ r. base_entries once.user once.group r) (base_again (base_rights Access Other spec) (Some old.other) old.other once.other)
       ∙ sym kept
 
   step_again : (old : EntryList) → step (step old) ≡ step old
@@ -277,29 +277,29 @@ module _ (spec : List Entry) (is_spec : IsSpec spec) where
   access_again : (old : EntryList) → access_after (Modify spec) (access_after (Modify spec) old) ≡ access_after (Modify spec) old
   access_again old = by (touches Access spec)
     where
-      by : (b : Bool) → (let once = access_where b (given Access Mask spec) old (after_addition Access spec (all_of old)) in
-          access_where b (given Access Mask spec) once (after_addition Access spec (all_of once)) ≡ once)
-      by true = step_again spec (given Access Mask spec) (spec_apart Access User spec is_spec) (spec_apart Access Group spec is_spec) old
+      by : (b : Bool) → (let once = access_where b (base_rights Access Mask spec) old (after_addition Access spec (all_of old)) in
+          access_where b (base_rights Access Mask spec) once (after_addition Access spec (all_of once)) ≡ once)
+      by true = step_again spec (base_rights Access Mask spec) (spec_apart Access User spec is_spec) (spec_apart Access Group spec is_spec) old
       by false = refl
 
   default_again : (first second : EntryList) (old : Option EntryList) → default_after (Modify spec) second (default_after (Modify spec) first old) ≡ default_after (Modify spec) first old
   default_again first second old = by (touches Default spec)
     where
-      by : (b : Bool) → (let once = default_where b (given Default Mask spec) old first (after_addition Default spec (option_map_or all_of old no_entries)) in
-          default_where b (given Default Mask spec) once second (after_addition Default spec (option_map_or all_of once no_entries)) ≡ once)
-      by true = ap (λ list. Some list) (completed_again Default spec (given Default Mask spec) (spec_apart Default User spec is_spec) (spec_apart Default Group spec is_spec)
+      by : (b : Bool) → (let once = default_where b (base_rights Default Mask spec) old first (after_addition Default spec (option_map_or all_of old no_entries)) in
+          default_where b (base_rights Default Mask spec) once second (after_addition Default spec (option_map_or all_of once no_entries)) ≡ once)
+      by true = ap (λ list. Some list) (completed_again Default spec (base_rights Default Mask spec) (spec_apart Default User spec is_spec) (spec_apart Default Group spec is_spec)
           first second (option_map_or all_of old no_entries))
       by false = refl
 
-  acl_again : (acl : AccessControlList) → acl_after (Modify spec) (acl_after (Modify spec) acl) ≡ acl_after (Modify spec) acl
+  acl_again : (acl : Acl) → acl_after (Modify spec) (acl_after (Modify spec) acl) ≡ acl_after (Modify spec) acl
   acl_again acl =
       let access = access_after (Modify spec) acl.access in
       ap (λ list. record { sticky = acl.sticky; access = list; default = default_after (Modify spec) list (default_after (Modify spec) access acl.default) }) (access_again acl.access)
       ∙ ap (λ list. record { sticky = acl.sticky; access = access; default = list }) (default_again access access acl.default)
 
-accepted_is : (fault : Option AclFault) (after once : AccessControlList) → unless_fault fault after ≡ Ok once → after ≡ once
+accepted_is : (fault : Option AclFault) (after once : Acl) → unless_fault fault after ≡ Ok once → after ≡ once
 accepted_is (Some fault) after once h = cc
-accepted_is None after once h = by (fits after.access && option_map_or fits after.default true) h
+accepted_is None after once h = by (fits_in_scope after.access && option_map_or fits_in_scope after.default true) h
   where
     by : (b : Bool) → cond b (Ok after) (Err TooManyEntries) ≡ Ok once → after ≡ once
     by true k = cc

@@ -21,9 +21,9 @@ use Rattle.hdfs_texts.specs.declared.fault.AclFault.TheVariants.{NoBase}
 use Rattle.hdfs_types.specs.declared.reply.ObjectKind.TheVariants.{Directory}
 use Rattle.hdfs_types.specs.declared.reply.Refusal.TheVariants.{TooManyEntries}
 use Rattle.access_lists.specs.declared.entry_list.NamedEntry.{NamedEntry}
-use Rattle.access_lists.specs.AccessControlList.{AccessControlList, EntryList, IsEntryList, ascend, base_entries, common, entries, entries_in, fits, has_named, is_access_list, is_entry_list}
+use Rattle.access_lists.specs.Acl.{Acl, EntryList, IsEntryList, ascend, base_entries, intersection, entries, entries_in, fits_in_scope, has_named, is_access_list, is_entry_list}
 use Rattle.acl_entries.specs.SpecText.{is_printable, spec_of, spec_text}
-use Rattle.partial_acl.specs.AclChange.{acl_after, access_after, after_addition, all_of, as_kept, completed, default_after, default_where, first_acl_fault, given, has_base, named_in, no_entries, put, touches, unless_fault, acl_change, with_each}
+use Rattle.partial_acl.specs.AclChange.{acl_after, access_after, after_addition, all_of, as_kept, completed_list, default_after, default_where, first_acl_fault, base_rights, has_base, named_in, no_entries, with_entry, touches, unless_fault, acl_change, with_each}
 use Rattle.default_acl.specs.Laws.{SettingToEntriesCopies, WhatIsPrintedIsSetAgain, with_entries_of}
 use Rattle.partial_acl.proofs.Tests.{both, and}
 use Rattle.partial_acl.proofs.NamedLists.{ascend_tail, less_through, less_is}
@@ -40,12 +40,12 @@ last_is_greater e (f ∷ fs) new others h =
     let parts = both (is_lt (text_cmp e.name f.name)) (ascend (f ∷ (fs ++ new ∷ others))) h in
     less_through e.name f.name new.name parts.0 (last_is_greater f fs new others parts.1)
 
-put_last : (new : NamedEntry) (front others : List NamedEntry) → ascend (front ++ new ∷ others) ≡ true → put new front ≡ front ++ new ∷ []
+put_last : (new : NamedEntry) (front others : List NamedEntry) → ascend (front ++ new ∷ others) ≡ true → with_entry new front ≡ front ++ new ∷ []
 put_last new [] others h = refl
 put_last new (e ∷ es) others h =
     let order : text_cmp new.name e.name ≡ Greater =
     nat_list_cmp_total.antisymm new.name e.name ∙ ap ordering_reverse (less_is (text_cmp e.name new.name) (last_is_greater e es new others h)) in
-    ap (λ o. cond (is_eq o) (new ∷ es) (cond (is_lt o) (new ∷ e ∷ es) (e ∷ put new es))) order
+    ap (λ o. cond (is_eq o) (new ∷ es) (cond (is_lt o) (new ∷ e ∷ es) (e ∷ with_entry new es))) order
     ∙ ap (λ list. e ∷ list) (put_last new es others (ascend_tail e (es ++ new ∷ others) h))
 
 with_each_behind : (front others : List NamedEntry) → ascend (front ++ others) ≡ true → with_each front others ≡ front ++ others
@@ -62,7 +62,7 @@ mask_stays : (mask : Option Rights) (sum : Rights) → is_some mask ≡ true →
 mask_stays None sum h = cc
 mask_stays (Some mask) sum h = refl
 
-masked_again : (list other : EntryList) → is_some list.mask ≡ true → completed list.mask other (all_of list) ≡ list
+masked_again : (list other : EntryList) → is_some list.mask ≡ true → completed_list list.mask other (all_of list) ≡ list
 masked_again list other h = ap (λ mask. record { user = list.user; users = list.users; group = list.group; groups = list.groups; mask = mask; other = list.other }) (mask_stays list.mask _ h)
 
 no_mask : (mask : Option Rights) → is_none mask ≡ true → mask ≡ None
@@ -76,24 +76,24 @@ base_entries_are list users groups mask =
     ∙ ap (λ own. record { user = list.user; users = list.users; group = list.group; groups = list.groups; mask = own; other = list.other }) (sym mask)
 
 -- the union of the owning group alone is what it has
-alone : (group : Rights) → common group group ≡ group
+alone : (group : Rights) → intersection group group ≡ group
 alone group = ap rights (and_self group.0)
 
-plain_again : (list other : EntryList) → is_access_list list ≡ true → has_named list ≡ false → as_kept (completed list.mask other (all_of list)) ≡ list
+plain_again : (list other : EntryList) → is_access_list list ≡ true → has_named list ≡ false → as_kept (completed_list list.mask other (all_of list)) ≡ list
 plain_again list other h none =
     let unmasked : list.mask ≡ None = no_mask list.mask (ap (λ b. cond b (is_some list.mask) (is_none list.mask)) (sym none) ∙ h) in
     let users : list.users ≡ [] = empty_is list.users (grind (arith, nat_tests)) in
     let groups : list.groups ≡ [] = empty_is list.groups (grind (arith, nat_tests)) in
     kept_is_bases list.mask other (all_of list) none
-    ∙ ap (λ mask. base_entries list.user (common list.group (unwrap_or mask list.group)) list.other) unmasked
+    ∙ ap (λ mask. base_entries list.user (intersection list.group (unwrap_or mask list.group)) list.other) unmasked
     ∙ ap (λ granted. base_entries list.user granted list.other) (alone list.group)
     ∙ base_entries_are list users groups unmasked
 
-kept_again : (list other : EntryList) → is_access_list list ≡ true → as_kept (completed list.mask other (all_of list)) ≡ list
+kept_again : (list other : EntryList) → is_access_list list ≡ true → as_kept (completed_list list.mask other (all_of list)) ≡ list
 kept_again list other h = by (has_named list) refl
   where
-    by : (b : Bool) → has_named list ≡ b → as_kept (completed list.mask other (all_of list)) ≡ list
-    by true k = kept_named (completed list.mask other (all_of list)) k ∙ masked_again list other (masked_where_named list h k)
+    by : (b : Bool) → has_named list ≡ b → as_kept (completed_list list.mask other (all_of list)) ≡ list
+    by true k = kept_named (completed_list list.mask other (all_of list)) k ∙ masked_again list other (masked_where_named list h k)
     by false k = plain_again list other h k
 
 -- ---- what a spec adds to nothing, where it says a list
@@ -103,37 +103,37 @@ says_all scope spec list s parts =
     ap (λ own. record {
       user = option_or own None;
       users = with_each [] (named_in scope User spec);
-      group = option_or (given scope Group spec) None;
+      group = option_or (base_rights scope Group spec) None;
       groups = with_each [] (named_in scope Group spec);
-      other = option_or (given scope Other spec) None;
+      other = option_or (base_rights scope Other spec) None;
     }) s.user
     ∙ ap (λ named. record {
       user = Some list.user;
       users = named;
-      group = option_or (given scope Group spec) None;
+      group = option_or (base_rights scope Group spec) None;
       groups = with_each [] (named_in scope Group spec);
-      other = option_or (given scope Other spec) None;
+      other = option_or (base_rights scope Other spec) None;
     }) (ap (with_each []) s.users ∙ with_each_behind [] list.users parts.users_ascend)
     ∙ ap (λ own. record {
       user = Some list.user;
       users = list.users;
       group = option_or own None;
       groups = with_each [] (named_in scope Group spec);
-      other = option_or (given scope Other spec) None;
+      other = option_or (base_rights scope Other spec) None;
     }) s.group
     ∙ ap (λ named. record {
       user = Some list.user;
       users = list.users;
       group = Some list.group;
       groups = named;
-      other = option_or (given scope Other spec) None;
+      other = option_or (base_rights scope Other spec) None;
     }) (ap (with_each []) s.groups ∙ with_each_behind [] list.groups parts.groups_ascend)
     ∙ ap (λ own. record { user = Some list.user; users = list.users; group = Some list.group; groups = list.groups; other = option_or own None }) s.other
 
 says_completed : (scope : Scope) (spec : List Entry) (list other : EntryList) → Says scope spec list → Good list
-    → completed (given scope Mask spec) other (after_addition scope spec no_entries) ≡ completed list.mask other (all_of list)
+    → completed_list (base_rights scope Mask spec) other (after_addition scope spec no_entries) ≡ completed_list list.mask other (all_of list)
 says_completed scope spec list other s parts =
-    ap (λ mask. completed mask other (after_addition scope spec no_entries)) s.mask ∙ ap (λ added. completed list.mask other added) (says_all scope spec list s parts)
+    ap (λ mask. completed_list mask other (after_addition scope spec no_entries)) s.mask ∙ ap (λ added. completed_list list.mask other added) (says_all scope spec list s parts)
 
 -- ---- the entries of both scopes
 
@@ -182,7 +182,7 @@ module _ (access : EntryList) (default : Option EntryList) (good_access : IsEntr
       (once_before Access access (default_entries default) (good access good_access) rest.apart rest.once)
       (named_right_before Access access (default_entries default) ∙ rest.named_right))
 
-  no_fault : (old : AccessControlList) → first_acl_fault (Set spec) Directory old ≡ None
+  no_fault : (old : Acl) → first_acl_fault (Set spec) Directory old ≡ None
   no_fault old =
       ap (λ b. cond (not (b && (has_base Access Group spec && has_base Access Other spec))) (Some NoBase) None) (has_given Access User spec access.user says_access.user)
       ∙ ap (λ b. cond (not (b && has_base Access Other spec)) (Some NoBase) None) (has_given Access Group spec access.group says_access.group)
@@ -196,13 +196,13 @@ default_is : (access : EntryList) (default old : Option EntryList) (other : Entr
     → default_after (Set (entries_in Access access ++ default_entries default)) other old ≡ option_or default old
 default_is access None old other h k masked =
     let own = entries_in Access access ++ [] in
-    ap (λ b. default_where b (given Default Mask own) old other (after_addition Default own no_entries)) (touches_default access None h k)
+    ap (λ b. default_where b (base_rights Default Mask own) old other (after_addition Default own no_entries)) (touches_default access None h k)
 default_is access (Some list) old other h k masked =
     let own = entries_in Access access ++ entries_in Default list in
     let here : Says Default (entries_in Default list) list = says Default list [] (good list k) (record { mask = refl; users = refl; groups = refl }) in
     let says_default : Says Default own list =
     subst (λ all. Says Default all list) (spread_is access (Some list) h k) (says_beside Default Access access (entries_in Default list) refl list here) in
-    ap (λ b. default_where b (given Default Mask own) old other (after_addition Default own no_entries)) (touches_default access (Some list) h k)
+    ap (λ b. default_where b (base_rights Default Mask own) old other (after_addition Default own no_entries)) (touches_default access (Some list) h k)
     ∙ ap (λ all. Some all) (says_completed Default own list other says_default (good list k) ∙ masked_again list other masked)
 
 -- ---- the laws
@@ -217,9 +217,9 @@ copied acl old kept old_fits =
     ap (λ fault. unless_fault fault (acl_after (Set own) old)) (no_fault acl.access acl.default kept.access kept.default old)
     ∙ ap (unless_fault None) after
     ∙ ap (λ b. cond b (Ok (with_entries_of acl old)) (Err TooManyEntries))
-    (and (fits acl.access) (option_map_or fits (option_or acl.default old.default) true) (good acl.access kept.access).list_fits (either_fits acl.default kept.default))
+    (and (fits_in_scope acl.access) (option_map_or fits_in_scope (option_or acl.default old.default) true) (good acl.access kept.access).list_fits (either_fits acl.default kept.default))
   where
-    either_fits : (default : Option EntryList) → option_map_or is_entry_list default true ≡ true → option_map_or fits (option_or default old.default) true ≡ true
+    either_fits : (default : Option EntryList) → option_map_or is_entry_list default true ≡ true → option_map_or fits_in_scope (option_or default old.default) true ≡ true
     either_fits None h = old_fits
     either_fits (Some list) h = (good list h).list_fits
 

@@ -7,28 +7,25 @@ use Rattle.permission_bits.specs.Mode.{user_bits, group_bits, other_bits}
 use Rattle.permission_bits.specs.Rights.{rights}
 use Rattle.hdfs_types.specs.declared.reply.ObjectKind.{ObjectKind}
 use Rattle.hdfs_types.specs.declared.reply.ObjectKind.TheVariants.{File, Directory}
-use Rattle.access_lists.specs.AccessControlList.{AccessControlList, EntryList, common, acl_of_mode, sticky_bit}
+use Rattle.access_lists.specs.Acl.{Acl, EntryList, intersection, acl_of_mode, has_sticky_bit}
 use Rattle.partial_acl.specs.AclChange.{as_kept}
 
 -- owner, mask and others no more than the mode grants them; named entries and group as they stand
-abbrev pub cut_to : ℕ → EntryList → EntryList
-cut_to mode list = record {
-  user = common list.user (rights (user_bits mode));
-  users = list.users;
-  group = list.group;
-  groups = list.groups;
-  mask = option_map (λ mask. common mask (rights (group_bits mode))) list.mask;
-  other = common list.other (rights (other_bits mode));
+abbrev pub list_cut_to : ℕ → EntryList → EntryList
+list_cut_to mode list = record list {
+  user = intersection list.user (rights (user_bits mode));
+  mask = option_map (λ mask. intersection mask (rights (group_bits mode))) list.mask;
+  other = intersection list.other (rights (other_bits mode));
 }
 
 -- a directory takes the default list on
-abbrev pub passed_on : ObjectKind → EntryList → Option EntryList
-passed_on File list = None
-passed_on Directory list = Some list
+abbrev pub default_passed_on : ObjectKind → EntryList → Option EntryList
+default_passed_on File list = None
+default_passed_on Directory list = Some list
 
-abbrev pub inherited_from : Option EntryList → ℕ → ObjectKind → AccessControlList
-inherited_from None mode kind = acl_of_mode mode kind
-inherited_from (Some list) mode kind = record { sticky = sticky_bit mode kind; access = as_kept (cut_to mode list); default = passed_on kind list }
+abbrev pub acl_from_default : Option EntryList → ℕ → ObjectKind → Acl
+acl_from_default None mode kind = acl_of_mode mode kind
+acl_from_default (Some list) mode kind = record { sticky = has_sticky_bit mode kind; access = as_kept (list_cut_to mode list); default = default_passed_on kind list }
 
-abbrev pub inherited : AccessControlList → ℕ → ObjectKind → AccessControlList
-inherited parent mode kind = inherited_from parent.default mode kind
+abbrev pub inherited_acl : Acl → ℕ → ObjectKind → Acl
+inherited_acl parent mode kind = acl_from_default parent.default mode kind

@@ -14,59 +14,59 @@ use Rattle.acl_specs.specs.declared.entry.Scope.TheVariants.{Access}
 use Rattle.acl_specs.specs.declared.acl_change.AclChange.TheVariants.{Set, Modify, Clear}
 use Rattle.hdfs_types.specs.declared.reply.ObjectKind.{ObjectKind}
 use Rattle.hdfs_types.specs.declared.reply.ObjectKind.TheVariants.{File, Directory}
-use Rattle.access_lists.specs.AccessControlList.{AccessControlList, IsAccessControlList, IsEntryList, base_entry, entries, fits, has_acl, is_entry_list, shown_mode}
+use Rattle.access_lists.specs.Acl.{Acl, IsAcl, IsEntryList, base_entry, entries, fits_in_scope, has_acl, is_entry_list, shown_mode}
 use Rattle.access_lists.specs.JudgedEntry.{judged_by, judged_entry}
 use Rattle.acl_entries.specs.SpecText.{is_printable, spec_of, spec_text}
 use Rattle.partial_acl.specs.AclChange.{acl_after, acl_change, with_mode}
-use Rattle.default_acl.specs.Inheritance.{inherited}
+use Rattle.default_acl.specs.Inheritance.{inherited_acl}
 
 -- ---- modes
 
 abbrev pub DirectoriesShowTheirMode : Type 0
-DirectoriesShowTheirMode = (mode : ℕ) (acl : AccessControlList) → IsTrue (is_mode mode) → shown_mode (with_mode mode Directory acl) ≡ mode
+DirectoriesShowTheirMode = (mode : ℕ) (acl : Acl) → IsTrue (is_mode mode) → shown_mode (with_mode mode Directory acl) ≡ mode
 
 abbrev pub FilesShowTheirMode : Type 0
-FilesShowTheirMode = (mode : ℕ) (acl : AccessControlList) → IsTrue (is_mode mode) → shown_mode (with_mode mode File acl) ≡ without_sticky mode
+FilesShowTheirMode = (mode : ℕ) (acl : Acl) → IsTrue (is_mode mode) → shown_mode (with_mode mode File acl) ≡ without_sticky mode
 
 -- ---- changes
 
 -- no named entries and no default list
 abbrev pub ClearedListsArePlain : Type 0
-ClearedListsArePlain = (acl : AccessControlList) → has_acl (acl_after Clear acl) ≡ false
+ClearedListsArePlain = (acl : Acl) → has_acl (acl_after Clear acl) ≡ false
 
 abbrev pub ModifyingAgainChangesNothing : Type 0
-ModifyingAgainChangesNothing = (spec : List Entry) (kind : ObjectKind) (acl once : AccessControlList)
+ModifyingAgainChangesNothing = (spec : List Entry) (kind : ObjectKind) (acl once : Acl)
     → IsSpec spec → acl_change (Modify spec) kind acl ≡ Ok once → acl_change (Modify spec) kind once ≡ Ok once
 
 -- an access control list as its type keeps it
-pub record IsKept (acl : AccessControlList) : Type 0 where
-  pub masks : IsAccessControlList acl
+pub record IsKeptAcl (acl : Acl) : Type 0 where
+  pub masks : IsAcl acl
   pub access : IsEntryList acl.access
   pub default : IsTrue (option_map_or is_entry_list acl.default true)
 
 -- one that has another's entries instead of its own; where the other has no default list, its own stays, since a spec that names
 -- nothing of a scope leaves it
-abbrev pub with_entries_of : AccessControlList → AccessControlList → AccessControlList
-with_entries_of acl old = record { sticky = old.sticky; access = acl.access; default = option_or acl.default old.default }
+abbrev pub with_entries_of : Acl → Acl → Acl
+with_entries_of acl old = record old { access = acl.access; default = option_or acl.default old.default }
 
 -- a default list that stays has to fit too
 abbrev pub SettingToEntriesCopies : Type 0
-SettingToEntriesCopies = (acl old : AccessControlList) → IsKept acl → IsTrue (option_map_or fits old.default true)
+SettingToEntriesCopies = (acl old : Acl) → IsKeptAcl acl → IsTrue (option_map_or fits_in_scope old.default true)
     → acl_change (Set (entries acl)) Directory old ≡ Ok (with_entries_of acl old)
 
 -- the text of a list's entries is read as a spec again, and setting a list to what is read gives the same entries
 abbrev pub WhatIsPrintedIsSetAgain : Type 0
-WhatIsPrintedIsSetAgain = (acl old : AccessControlList) → IsKept acl → IsTrue (list_all is_printable (entries acl)) → IsTrue (option_map_or fits old.default true)
+WhatIsPrintedIsSetAgain = (acl old : Acl) → IsKeptAcl acl → IsTrue (list_all is_printable (entries acl)) → IsTrue (option_map_or fits_in_scope old.default true)
     → (spec_of true (spec_text (entries acl)) ≡ Ok (entries acl))
     × ((spec : List Entry) → spec_of true (spec_text (entries acl)) ≡ Ok spec → acl_change (Set spec) Directory old ≡ Ok (with_entries_of acl old))
 
 -- ---- inheritance
 
 abbrev pub DirectoriesTakeDefaultListsOn : Type 0
-DirectoriesTakeDefaultListsOn = (parent : AccessControlList) (mode : ℕ) → (inherited parent mode Directory).default ≡ parent.default
+DirectoriesTakeDefaultListsOn = (parent : Acl) (mode : ℕ) → (inherited_acl parent mode Directory).default ≡ parent.default
 
 abbrev pub FilesHaveNoDefaultList : Type 0
-FilesHaveNoDefaultList = (parent : AccessControlList) (mode : ℕ) → (inherited parent mode File).default ≡ None
+FilesHaveNoDefaultList = (parent : Acl) (mode : ℕ) → (inherited_acl parent mode File).default ≡ None
 
 -- ---- the entry that decides
 
@@ -75,17 +75,17 @@ abbrev pub is_of_masked_class : Entry → Bool
 is_of_masked_class entry = is_some entry.name || same_kind entry.kind Group
 
 abbrev pub MasksBoundWhatIsGranted : Type 0
-MasksBoundWhatIsGranted = (owner group : List ℕ) (acl : AccessControlList) (caller : List ℕ) (groups : List (List ℕ)) (need : Rights)
+MasksBoundWhatIsGranted = (owner group : List ℕ) (acl : Acl) (caller : List ℕ) (groups : List (List ℕ)) (need : Rights)
     → (judged_entry owner group acl caller groups need).granted ≡ true → is_of_masked_class (judged_entry owner group acl caller groups need).entry ≡ true
     → option_map_or (λ mask. covers mask.0 need.0) acl.access.mask true ≡ true
 
 -- neither the owner nor a named user, and in no group that the list names
-pub record IsStranger (owner group : List ℕ) (acl : AccessControlList) (caller : List ℕ) (groups : List (List ℕ)) : Type 0 where
+pub record IsStranger (owner group : List ℕ) (acl : Acl) (caller : List ℕ) (groups : List (List ℕ)) : Type 0 where
   pub no_owner : same caller owner ≡ false
   pub no_named_user : list_any (λ entry. same caller entry.name) acl.access.users ≡ false
   pub not_in_group : has_group groups group ≡ false
   pub in_no_named_group : list_any (λ entry. has_group groups entry.name) acl.access.groups ≡ false
 
 abbrev pub StrangersAreOthers : Type 0
-StrangersAreOthers = (owner group : List ℕ) (acl : AccessControlList) (caller : List ℕ) (groups : List (List ℕ)) (need : Rights)
+StrangersAreOthers = (owner group : List ℕ) (acl : Acl) (caller : List ℕ) (groups : List (List ℕ)) (need : Rights)
     → IsStranger owner group acl caller groups → judged_entry owner group acl caller groups need ≡ judged_by (base_entry Access Other acl.access.other) None need

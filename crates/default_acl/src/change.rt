@@ -1,12 +1,13 @@
-ghost use Rattle.std.specs.Prelude.{◌≡◌, ◌&&◌, false, None, OnOk, OnErr, IsOk, Ok};
-ghost use Rattle.std.specs.Option.{option_copied};
+ghost use Rattle.std.specs.Prelude.{◌≡◌, ◌&&◌, true, false, Some, OnOk, OnErr, IfOk, IsOk, Ok};
+ghost use Rattle.std.specs.Option.{option_copied, option_map_or};
 ghost use Rattle.hdfs_types.specs.declared.reply.ObjectKind.{ObjectKind};
 ghost use Rattle.acl_specs.specs.declared.acl_change.AclChange.TheVariants.{Set, Modify, Remove, RemoveDefault, Clear};
 ghost use Rattle.acl_specs.specs.declared.entry.Scope.TheVariants.{Access, Default};
-ghost use Rattle.acl_specs.specs.declared.entry.EntryKind.TheVariants.{Mask};
-ghost use Rattle.access_lists.specs.AccessControlList.{AccessControlList, IsAccessControlList};
+ghost use Rattle.acl_specs.specs.declared.entry.EntryKind.TheVariants.{User, Group, Mask, Other};
+ghost use Rattle.access_lists.specs.Acl.{Acl, IsAcl};
 ghost use Rattle.partial_acl.specs.Answers.{Changes, Makes, MakesAny, IsPartialList};
 ghost use Rattle.partial_acl.specs.AclChange as definition;
+ghost use Rattle.default_acl.specs.Forms.{change_of};
 
 use access_lists::acl::Acl;
 use access_lists::entry_list::{Bases, EntryList};
@@ -21,61 +22,51 @@ use partial_acl::partial::PartialList;
 use partial_acl::scope::{given, has_base, touches};
 use std::alloc::{AllocError, Global};
 
+/// A form of `setfacl` that comes with a spec.
+#[derive(Clone, Copy)]
+enum Form {
+    Set,
+    Modify,
+    Remove,
+}
+
 // ---- refusals
 
-/// Whether a spec has default entries for a file.
-fn is_default_on_file(spec: &[Entry], kind: ObjectKind) -> bool
-    ensures { result ≡ (definition.is_file kind && definition.touches Default spec.now) }
+/// Whether a spec has an entry of the owner, the owning group or all others in the access scope.
+fn has_any_base(spec: &[Entry]) -> bool
+    ensures { result ≡ definition.removes_base (Remove spec.now) }
 {
-    kind == ObjectKind::File && touches(Scope::Default, spec)
-}
-
-/// Why a list can't be set to a spec.
-fn fault_of_set(spec: &[Entry], kind: ObjectKind) -> Option<AclFault>
-    ensures { (acl : AccessControlList) → result ≡ definition.first_acl_fault (Set spec.now) kind acl }
-{
-    if is_default_on_file(spec, kind) {
-        return Some(AclFault::DefaultOnFile);
-    }
-    if !touches(Scope::Access, spec) {
-        return None;
-    }
-    if has_base(Scope::Access, EntryKind::User, spec)
-        && has_base(Scope::Access, EntryKind::Group, spec)
-        && has_base(Scope::Access, EntryKind::Other, spec)
-    {
-        return None;
-    }
-    Some(AclFault::NoBase)
-}
-
-/// Why a list can't be modified by a spec.
-fn fault_of_modify(spec: &[Entry], kind: ObjectKind) -> Option<AclFault>
-    ensures { (acl : AccessControlList) → result ≡ definition.first_acl_fault (Modify spec.now) kind acl }
-{
-    if is_default_on_file(spec, kind) {
-        return Some(AclFault::DefaultOnFile);
-    }
-    None
-}
-
-/// Why the entries of a spec can't be taken away.
-fn fault_of_remove(spec: &[Entry], kind: ObjectKind, acl: &Acl) -> Option<AclFault>
-    ensures { result ≡ definition.first_acl_fault (Remove spec.now) kind acl.now }
-{
-    if is_default_on_file(spec, kind) {
-        return Some(AclFault::DefaultOnFile);
-    }
-    if has_base(Scope::Access, EntryKind::User, spec)
+    has_base(Scope::Access, EntryKind::User, spec)
         || has_base(Scope::Access, EntryKind::Group, spec)
         || has_base(Scope::Access, EntryKind::Other, spec)
-    {
-        return Some(AclFault::BaseRemoved);
+}
+
+/// Whether a spec has the entries of the owner, the owning group and all others in the access scope.
+fn has_all_bases(spec: &[Entry]) -> bool
+    ensures { result ≡ (definition.has_base Access User spec.now && (definition.has_base Access Group spec.now && definition.has_base Access Other spec.now)) }
+{
+    has_base(Scope::Access, EntryKind::User, spec)
+        && has_base(Scope::Access, EntryKind::Group, spec)
+        && has_base(Scope::Access, EntryKind::Other, spec)
+}
+
+/// Why a list can't be changed by a form with a spec.
+fn fault_of(form: Form, spec: &[Entry], kind: ObjectKind, acl: &Acl) -> Option<AclFault>
+    ensures { result ≡ definition.first_acl_fault (change_of form spec.now) kind acl.now }
+{
+    if kind == ObjectKind::File && touches(Scope::Default, spec) {
+        return Some(AclFault::DefaultOnFile);
     }
-    if has_base(Scope::Access, EntryKind::Mask, spec) && acl.is_extended() {
-        return Some(AclFault::MaskRemoved);
+    match form {
+        Form::Set if touches(Scope::Access, spec) && !has_all_bases(spec) => {
+            Some(AclFault::NoBase)
+        }
+        Form::Remove if has_any_base(spec) => Some(AclFault::BaseRemoved),
+        Form::Remove if has_base(Scope::Access, EntryKind::Mask, spec) && acl.is_extended() => {
+            Some(AclFault::MaskRemoved)
+        }
+        _ => None,
     }
-    None
 }
 
 // ---- the lists after a change
@@ -98,7 +89,7 @@ fn added_access(
     old: &EntryList,
 ) -> Result<EntryList, AclChangeFault>
     requires { IsPartialList staying }
-    ensures { Makes result (definition.as_kept (definition.completed (definition.given Access Mask spec.now) old.now (definition.after_addition Access spec.now staying))) }
+    ensures { Makes result (definition.as_kept (definition.completed_list (definition.base_rights Access Mask spec.now) old.now (definition.after_addition Access spec.now staying))) }
 {
     let list = staying.with(Scope::Access, spec)?;
     let mask = given(Scope::Access, EntryKind::Mask, spec);
@@ -113,103 +104,83 @@ fn added_default(
     access: &EntryList,
 ) -> Result<Option<EntryList>, AclChangeFault>
     requires { IsPartialList staying }
-    ensures { MakesAny result (Some (definition.completed (definition.given Default Mask spec.now) access.now (definition.after_addition Default spec.now staying))) }
+    ensures { MakesAny result (Some (definition.completed_list (definition.base_rights Default Mask spec.now) access.now (definition.after_addition Default spec.now staying))) }
 {
     let list = staying.with(Scope::Default, spec)?;
     let mask = given(Scope::Default, EntryKind::Mask, spec);
     Ok(Some(completed(alloc, mask, access, list)?))
 }
 
-fn access_after_set(
+/// The entries of a list but its mask; none where there is no list.
+fn all_in(alloc: Global, list: Option<&EntryList>) -> Result<PartialList, AllocError>
+    ensures all { IfOk result (λ all. all ≡ option_map_or definition.all_of (option_copied list.entry) definition.no_entries) }
+    ensures entries { IfOk result (λ all. IsPartialList all) }
+{
+    match list {
+        Some(list) => PartialList::all_of(alloc, list),
+        None => Ok(PartialList::new(alloc)),
+    }
+}
+
+/// The access list after a change.
+fn access_after(
     alloc: Global,
+    form: Form,
     spec: &[Entry],
     old: &EntryList,
 ) -> Result<EntryList, AclChangeFault>
-    ensures { Makes result (definition.access_after (Set spec.now) old.now) }
-{
-    if touches(Scope::Access, spec) {
-        return added_access(alloc, spec, PartialList::new(alloc), old);
-    }
-    Ok(copy_of(old)?)
-}
-
-fn default_after_set(
-    alloc: Global,
-    spec: &[Entry],
-    access: &EntryList,
-    old: Option<&EntryList>,
-) -> Result<Option<EntryList>, AclChangeFault>
-    ensures { MakesAny result (definition.default_after (Set spec.now) access.now (option_copied old.entry)) }
-{
-    if touches(Scope::Default, spec) {
-        return added_default(alloc, spec, PartialList::new(alloc), access);
-    }
-    copy_of_default(old)
-}
-
-fn access_after_modify(
-    alloc: Global,
-    spec: &[Entry],
-    old: &EntryList,
-) -> Result<EntryList, AclChangeFault>
-    ensures { Makes result (definition.access_after (Modify spec.now) old.now) }
+    ensures { Makes result (definition.access_after (change_of form spec.now) old.now) }
 {
     if !touches(Scope::Access, spec) {
         return Ok(copy_of(old)?);
     }
-    added_access(alloc, spec, PartialList::all_of(alloc, old)?, old)
+    match form {
+        Form::Set => added_access(alloc, spec, PartialList::new(alloc), old),
+        Form::Modify => added_access(alloc, spec, PartialList::all_of(alloc, old)?, old),
+        Form::Remove => {
+            let list = PartialList::without(alloc, old, Scope::Access, spec)?;
+            kept(alloc, None, old, list)
+        }
+    }
 }
 
-fn default_after_modify(
+/// What a removal leaves of a default list.
+fn default_left(
     alloc: Global,
     spec: &[Entry],
     access: &EntryList,
-    old: Option<&EntryList>,
-) -> Result<Option<EntryList>, AclChangeFault>
-    ensures { MakesAny result (definition.default_after (Modify spec.now) access.now (option_copied old.entry)) }
-{
-    if !touches(Scope::Default, spec) {
-        return copy_of_default(old);
-    }
-    let Some(list) = old else {
-        return added_default(alloc, spec, PartialList::new(alloc), access);
-    };
-    added_default(alloc, spec, PartialList::all_of(alloc, list)?, access)
-}
-
-fn access_after_remove(
-    alloc: Global,
-    spec: &[Entry],
     old: &EntryList,
-) -> Result<EntryList, AclChangeFault>
-    ensures { Makes result (definition.access_after (Remove spec.now) old.now) }
-{
-    if !touches(Scope::Access, spec) {
-        return Ok(copy_of(old)?);
-    }
-    let list = PartialList::without(alloc, old, Scope::Access, spec)?;
-    kept(alloc, None, old, list)
-}
-
-fn default_after_remove(
-    alloc: Global,
-    spec: &[Entry],
-    access: &EntryList,
-    old: Option<&EntryList>,
 ) -> Result<Option<EntryList>, AclChangeFault>
-    ensures { MakesAny result (definition.default_after (Remove spec.now) access.now (option_copied old.entry)) }
+    ensures { MakesAny result (definition.default_left true (Some old.now) access.now (definition.after_removal Default spec.now (definition.all_of old.now))) }
 {
-    let Some(old_list) = old else {
-        return Ok(None);
-    };
-    if !touches(Scope::Default, spec) {
-        return copy_of_default(old);
-    }
-    let list = PartialList::without(alloc, old_list, Scope::Default, spec)?;
+    let list = PartialList::without(alloc, old, Scope::Default, spec)?;
     if list.is_empty() {
         return Ok(None);
     }
     Ok(Some(completed(alloc, None, access, list)?))
+}
+
+/// The default list after a change.
+fn default_after(
+    alloc: Global,
+    form: Form,
+    spec: &[Entry],
+    access: &EntryList,
+    old: Option<&EntryList>,
+) -> Result<Option<EntryList>, AclChangeFault>
+    ensures { MakesAny result (definition.default_after (change_of form spec.now) access.now (option_copied old.entry)) }
+{
+    if !touches(Scope::Default, spec) {
+        return copy_of_default(old);
+    }
+    match form {
+        Form::Set => added_default(alloc, spec, PartialList::new(alloc), access),
+        Form::Modify => added_default(alloc, spec, all_in(alloc, old)?, access),
+        Form::Remove => match old {
+            Some(list) => default_left(alloc, spec, access, list),
+            None => Ok(None),
+        },
+    }
 }
 
 /// Puts other lists in place of those that stand; the sticky bit stays.
@@ -219,7 +190,7 @@ fn replace(
     access: EntryList,
     default: Option<EntryList>,
 ) -> Result<(), AllocError>
-    requires { IsAccessControlList (record { sticky = acl.old.sticky; access = access; default = default }) }
+    requires { IsAcl (record { sticky = acl.old.sticky; access = access; default = default }) }
     ensures ok { OnOk result (acl.new ≡ record { sticky = acl.old.sticky; access = access; default = default }) }
     ensures err { OnErr result (acl.new ≡ acl.old) }
 {
@@ -230,13 +201,33 @@ fn replace(
 
 // ---- the changes
 
+/// Changes a list by a form with a spec: what refuses it first, then both lists aside, and then one assignment.
+fn change_by(
+    alloc: Global,
+    acl: &mut Acl,
+    kind: ObjectKind,
+    form: Form,
+    spec: &Spec,
+) -> Result<(), AclChangeFault>
+    ensures { Changes result (definition.acl_change (change_of form spec.now) kind acl.old) acl.old acl.new }
+{
+    let entries = spec.as_slice();
+    if let Some(fault) = fault_of(form, entries, kind, acl) {
+        return Err(AclChangeFault::Refused(Refusal::BadAcl(fault)));
+    }
+    let access = access_after(alloc, form, entries, acl.access())?;
+    let default = default_after(alloc, form, entries, &access, acl.default_list())?;
+    replace(alloc, acl, access, default)?;
+    Ok(())
+}
+
 /// Sets the scopes that a spec names to its entries. An access list is set with the entries of owner, owning group and others; a
 /// default list takes missing ones from the access list. A mask that isn't named is the union of its class.
 ///
 /// Costs a few passes over the spec. Changes nothing where it fails.
 ///
 /// # Errors
-/// `BadAcl` with `DefaultOnFile` or `NoBase`, else `TooManyEntries` where a scope would have more than 32; and want of memory.
+/// `BadAcl` with `DefaultOnFile` or `NoBase`, else `TooManyEntries` where a scope would have more than 32, or out of memory.
 pub fn set(
     alloc: Global,
     acl: &mut Acl,
@@ -245,14 +236,7 @@ pub fn set(
 ) -> Result<(), AclChangeFault>
     ensures { Changes result (definition.acl_change (Set spec.now) kind acl.old) acl.old acl.new }
 {
-    let entries = spec.as_slice();
-    if let Some(fault) = fault_of_set(entries, kind) {
-        return Err(AclChangeFault::Refused(Refusal::BadAcl(fault)));
-    }
-    let access = access_after_set(alloc, entries, acl.access())?;
-    let default = default_after_set(alloc, entries, &access, acl.default_list())?;
-    replace(alloc, acl, access, default)?;
-    Ok(())
+    change_by(alloc, acl, kind, Form::Set, spec)
 }
 
 /// Adds the entries of a spec, each instead of one of the same scope, kind and name. In a scope that the spec names, a mask that it
@@ -261,7 +245,7 @@ pub fn set(
 /// Costs a few passes over the spec. Changes nothing where it fails.
 ///
 /// # Errors
-/// `BadAcl` with `DefaultOnFile`, else `TooManyEntries` where a scope would have more than 32; and want of memory.
+/// `BadAcl` with `DefaultOnFile`, else `TooManyEntries` where a scope would have more than 32, or out of memory.
 pub fn modify(
     alloc: Global,
     acl: &mut Acl,
@@ -270,14 +254,7 @@ pub fn modify(
 ) -> Result<(), AclChangeFault>
     ensures { Changes result (definition.acl_change (Modify spec.now) kind acl.old) acl.old acl.new }
 {
-    let entries = spec.as_slice();
-    if let Some(fault) = fault_of_modify(entries, kind) {
-        return Err(AclChangeFault::Refused(Refusal::BadAcl(fault)));
-    }
-    let access = access_after_modify(alloc, entries, acl.access())?;
-    let default = default_after_modify(alloc, entries, &access, acl.default_list())?;
-    replace(alloc, acl, access, default)?;
-    Ok(())
+    change_by(alloc, acl, kind, Form::Modify, spec)
 }
 
 /// Takes the entries of a spec away, whatever their rights; one that isn't there is no fault. In a scope that the spec names the mask
@@ -288,7 +265,7 @@ pub fn modify(
 ///
 /// # Errors
 /// `BadAcl` with `DefaultOnFile`, `BaseRemoved` or `MaskRemoved`, else `TooManyEntries` where a scope would have more than 32; and
-/// want of memory.
+/// out of memory.
 pub fn remove(
     alloc: Global,
     acl: &mut Acl,
@@ -297,14 +274,7 @@ pub fn remove(
 ) -> Result<(), AclChangeFault>
     ensures { Changes result (definition.acl_change (Remove spec.now) kind acl.old) acl.old acl.new }
 {
-    let entries = spec.as_slice();
-    if let Some(fault) = fault_of_remove(entries, kind, acl) {
-        return Err(AclChangeFault::Refused(Refusal::BadAcl(fault)));
-    }
-    let access = access_after_remove(alloc, entries, acl.access())?;
-    let default = default_after_remove(alloc, entries, &access, acl.default_list())?;
-    replace(alloc, acl, access, default)?;
-    Ok(())
+    change_by(alloc, acl, kind, Form::Remove, spec)
 }
 
 /// Takes the default list away. Takes no memory, and is never refused.
@@ -312,7 +282,7 @@ pub fn remove_default(acl: &mut Acl)
     ensures list { acl.new ≡ definition.acl_after RemoveDefault acl.old }
     ensures accepted { (kind : ObjectKind) → definition.acl_change RemoveDefault kind acl.old ≡ Ok acl.new }
 {
-    // a call on the list tells the prover that its entries fit
+    // a call on the list shows the prover that its entries fit
     let _user = acl.access().user();
     acl.remove_default();
 }

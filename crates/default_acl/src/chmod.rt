@@ -1,5 +1,5 @@
 ghost use Rattle.std.specs.Prelude.{◌≡◌};
-ghost use Rattle.access_lists.specs.AccessControlList.{IsEntryList};
+ghost use Rattle.access_lists.specs.Acl.{IsEntryList};
 ghost use Rattle.partial_acl.specs.AclChange.{with_mode};
 
 use access_lists::acl::{Acl, bases_of};
@@ -12,7 +12,7 @@ fn beside_mask(bases: Bases, access: &EntryList) -> Bases
     ensures bases { result ≡ record { user = bases.user; group = access.now.group; other = bases.other } }
     ensures entries { IsEntryList access.now }
 {
-    // a call on the list tells the prover what each list keeps
+    // a call on the list shows the prover what each list keeps
     let _user = access.user();
     Bases {
         user: bases.user,

@@ -2,7 +2,7 @@ ghost use Rattle.std.specs.Prelude.{◌≡◌, None, IfOk, IsOk};
 ghost use Rattle.std.specs.Option.{option_map};
 ghost use Rattle.permission_bits.specs.Mode.{group_bits};
 ghost use Rattle.permission_bits.specs.Rights.{rights};
-ghost use Rattle.access_lists.specs.AccessControlList.{common};
+ghost use Rattle.access_lists.specs.Acl.{intersection};
 ghost use Rattle.partial_acl.specs.AclChange.{as_kept};
 ghost use Rattle.default_acl.specs.Inheritance as definition;
 
@@ -18,7 +18,7 @@ use std::alloc::{AllocError, Global};
 
 /// A mask of which a mode leaves what it grants the group.
 fn cut_mask(mask: Option<Rights>, mode: Mode) -> Option<Rights>
-    ensures { result ≡ option_map (λ own. common own (rights (group_bits mode))) mask }
+    ensures { result ≡ option_map (λ own. intersection own (rights (group_bits mode))) mask }
 {
     match mask {
         Some(mask) => Some(mask.intersection(mode.group())),
@@ -28,7 +28,7 @@ fn cut_mask(mask: Option<Rights>, mode: Mode) -> Option<Rights>
 
 /// The access list of what is made with a mode below a default list.
 fn cut_to(alloc: Global, mode: Mode, list: &EntryList) -> Result<EntryList, AllocError>
-    ensures { IfOk result (λ access. access ≡ as_kept (definition.cut_to mode list.now)) }
+    ensures { IfOk result (λ access. access ≡ as_kept (definition.list_cut_to mode list.now)) }
 {
     let user = list.user().intersection(mode.user());
     let other = list.other().intersection(mode.other());
@@ -53,7 +53,7 @@ fn cut_to(alloc: Global, mode: Mode, list: &EntryList) -> Result<EntryList, Allo
 
 /// What a directory takes on as its own default list.
 fn passed_on(kind: ObjectKind, list: &EntryList) -> Result<Option<EntryList>, AllocError>
-    ensures { IfOk result (λ default. default ≡ definition.passed_on kind list.now) }
+    ensures { IfOk result (λ default. default ≡ definition.default_passed_on kind list.now) }
 {
     match kind {
         ObjectKind::File => Ok(None),
@@ -66,15 +66,15 @@ fn passed_on(kind: ObjectKind, list: &EntryList) -> Result<Option<EntryList>, Al
 /// fail, where the directory has no default list.
 ///
 /// # Errors
-/// Want of memory.
+/// Out of memory.
 pub fn inherit(alloc: Global, parent: &Acl, mode: Mode, kind: ObjectKind) -> Result<Acl, AllocError>
-    ensures list { IfOk result (λ acl. acl ≡ definition.inherited parent.now mode kind) }
+    ensures list { IfOk result (λ acl. acl ≡ definition.inherited_acl parent.now mode kind) }
     ensures plain { parent.now.default ≡ None → IsOk result }
 {
     let Some(list) = parent.default_list() else {
         return Ok(Acl::from_mode(mode, kind));
     };
-    // a call on the parent tells the prover that its default list has a mask
+    // a call on the parent shows the prover that its default list has a mask
     let _access = parent.access();
     let access = cut_to(alloc, mode, list)?;
     let default = passed_on(kind, list)?;

@@ -3,8 +3,8 @@ use Rattle.std.proofs.Common.{◌≡◌, ℕ, Bool, List, length, filter, map, O
 use Rattle.hdfs_types.specs.declared.op.Op.TheVariants as op
 use Rattle.hdfs_types.specs.declared.file.LastBlock.{LastBlock}
 use Rattle.hdfs_types.specs.declared.file.FileState.TheVariants.{Closed, Open}
-use Rattle.lease_manager.specs.Lease.{renewed}
-use Rattle.principals.specs.Principals.{Principals}
+use Rattle.lease_manager.specs.Leases.{renewals_with}
+use Rattle.principals.specs.Users.{Users}
 use Rattle.namespace_rows.specs.declared.row.Row.{Row}
 use Rattle.namespace_rows.specs.declared.row.Change.TheVariants as change
 use Rattle.namespace_rows.specs.Rows.{row_at, ancestor}
@@ -30,9 +30,9 @@ KeepsExact rows before left after = (last : List ℕ → Option ℕ) → IsExact
 less_of : (clients others : List (List ℕ)) (before after : Writers) → clients ≡ others → EachLess clients before after → EachLess others before after
 less_of clients others before after is less = subst (λ some. EachLess some before after) is less
 
-pub effected_create : (path : List (List ℕ)) (mode replication : ℕ) (over : Bool) (caller : List ℕ) (now : ℕ) (rows left : List Row) (clients : List (List ℕ)) (before between after : Writers) (users : Principals)
+pub effected_create : (path : List (List ℕ)) (mode replication : ℕ) (over : Bool) (caller : List ℕ) (now : ℕ) (rows left : List Row) (clients : List (List ℕ)) (before between after : Writers) (users : Users)
     → IsNamespace rows → IsFree (op.Create path mode replication over) caller rows users → left ≡ with_new path mode (Some (new_file replication caller)) caller (ancestor path rows) rows
-    → between.leases.renewals ≡ renewed caller now before.leases.renewals → OneMore caller before between → clients ≡ holders (rows_under path rows) → EachLess clients between after → KeepsLeased between after
+    → between.leases.renewals ≡ renewals_with caller now before.leases.renewals → OneMore caller before between → clients ≡ holders (rows_under path rows) → EachLess clients between after → KeepsLeased between after
     → IsEffected (op.Create path mode replication over) caller now rows before left after
 effected_create path mode replication over caller now rows left clients before between after users namespace free made renewals more is less kept =
     record {
@@ -43,7 +43,7 @@ effected_create path mode replication over caller now rows left clients before b
       };
     }
 
-pub effected_reopen : (path : List (List ℕ)) (client caller : List ℕ) (now : ℕ) (rows left : List Row) (before after : Writers) (users : Principals) → IsNamespace rows → IsFree (op.Append path) caller rows users
+pub effected_reopen : (path : List (List ℕ)) (client caller : List ℕ) (now : ℕ) (rows left : List Row) (before after : Writers) (users : Users) → IsNamespace rows → IsFree (op.Append path) caller rows users
     → holder_at (row_at path rows) ≡ None → client ≡ caller → left ≡ rewritten path (change.State (Open client)) rows → OneMore caller before after
     → ((last : List ℕ → Option ℕ) → IsLeased last before → IsLeased (renewed_at caller now last) after) → IsEffected (op.Append path) caller now rows before left after
 effected_reopen path client caller now rows left before after users namespace free closed is made more renews =

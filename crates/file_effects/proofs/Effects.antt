@@ -11,7 +11,7 @@ use Rattle.hdfs_types.specs.declared.file.FileState.TheVariants.{Closed, Open, R
 use Rattle.hdfs_types.specs.declared.file.LastBlock.{LastBlock}
 use Rattle.hdfs_types.specs.declared.reply.Refusal.{Refusal}
 use Rattle.hdfs_types.specs.declared.reply.Refusal.TheVariants.{IsDirectory, IsRoot, NoLease, NotDirectory}
-use Rattle.principals.specs.Principals.{Principals}
+use Rattle.principals.specs.Users.{Users}
 use Rattle.namespace_rows.specs.declared.file_row.FileRow.{FileRow}
 use Rattle.namespace_rows.specs.declared.row.Row.{Row}
 use Rattle.namespace_rows.specs.declared.row.Change.TheVariants as change
@@ -57,7 +57,7 @@ module _ (path : List (List ℕ)) (rows : List Row) where
       by None e = refl
       by (Some row) e = cc
 
-pub free_create : (path : List (List ℕ)) (mode replication : ℕ) (over : Bool) (caller : List ℕ) (rows : List Row) (users : Principals) → IsFree (op.Create path mode replication over) caller rows users
+pub free_create : (path : List (List ℕ)) (mode replication : ℕ) (over : Bool) (caller : List ℕ) (rows : List Row) (users : Users) → IsFree (op.Create path mode replication over) caller rows users
     → (beneath_file path rows ≡ None) × (directory_there (row_at path rows) ≡ None) × (file_there over (row_at path rows) ≡ None)
 free_create path mode replication over caller rows users free =
     let a = beneath_file path rows in
@@ -104,7 +104,7 @@ file_at_path path rows namespace there file = by (row_at path rows) refl there f
         let found = file_of_row row (found_suits path rows row (namespace_tests rows namespace).suit e) (kind_of (is_directory row) k) in
         record { row = row; file = found.0; at = e; has = found.1 }
 
-pub free_append : (path : List (List ℕ)) (caller : List ℕ) (rows : List Row) (users : Principals) → IsNamespace rows → IsFree (op.Append path) caller rows users → IsFileAt path rows
+pub free_append : (path : List (List ℕ)) (caller : List ℕ) (rows : List Row) (users : Users) → IsNamespace rows → IsFree (op.Append path) caller rows users → IsFileAt path rows
 free_append path caller rows users namespace free =
     let a = beneath_file path rows in
     let b = nothing_at (row_at path rows) in
@@ -112,7 +112,7 @@ free_append path caller rows users namespace free =
     let bc = none_then a _ free.1 in
     file_at_path path rows namespace (none_first b _ bc) (none_first c _ (none_then b _ bc))
 
-pub free_complete : (path : List (List ℕ)) (stated : Option LastBlock) (caller : List ℕ) (rows : List Row) (users : Principals) → IsNamespace rows → IsFree (op.Complete path stated) caller rows users → holder_at (row_at path rows) ≡ Some caller
+pub free_complete : (path : List (List ℕ)) (stated : Option LastBlock) (caller : List ℕ) (rows : List Row) (users : Users) → IsNamespace rows → IsFree (op.Complete path stated) caller rows users → holder_at (row_at path rows) ≡ Some caller
 free_complete path stated caller rows users namespace free =
     let a = beneath_file path rows in
     let b = nothing_at (row_at path rows) in
@@ -135,7 +135,7 @@ free_complete path stated caller rows users namespace free =
         by true at k = ap (λ who. Some who) (sym (same_is caller holder at))
         by false at k = cc
 
-pub free_delete : (path : List (List ℕ)) (recursive : Bool) (caller : List ℕ) (rows : List Row) (users : Principals) → IsFree (op.Delete path recursive) caller rows users → not (is_root path) ≡ true
+pub free_delete : (path : List (List ℕ)) (recursive : Bool) (caller : List ℕ) (rows : List Row) (users : Users) → IsFree (op.Delete path recursive) caller rows users → not (is_root path) ≡ true
 free_delete path recursive caller rows users free = by (is_root path) (none_first (refused_where (is_root path) IsRoot) _ free.1)
   where
     by : (b : Bool) → refused_where b IsRoot ≡ None → not b ≡ true

@@ -11,8 +11,8 @@ use Rattle.hdfs_texts.specs.Text.{same}
 use Rattle.hdfs_texts.proofs.Texts.{same_is, same_self}
 use Rattle.hdfs_types.specs.declared.reply.ObjectKind.TheVariants.{File}
 use Rattle.hdfs_types.specs.declared.reply.Refusal.TheVariants.{IsDirectory}
-use Rattle.access_lists.specs.AccessControlList.{AccessControlList}
-use Rattle.default_acl.specs.Inheritance.{inherited}
+use Rattle.access_lists.specs.Acl.{Acl}
+use Rattle.default_acl.specs.Inheritance.{inherited_acl}
 use Rattle.namespace_rows.specs.declared.file_row.FileRow.{FileRow}
 use Rattle.namespace_rows.specs.declared.row.Row.{Row}
 use Rattle.namespace_rows.specs.First.{first}
@@ -176,7 +176,7 @@ parent_stands (name ∷ names) above rows tree there is =
     subst (λ p. is_missing p rows ≡ false) (one (front name names) above is) (parent_found name names rows (held_by (name ∷ names) above rows tree there is))
 
 replaced : (path front : List (List ℕ)) (rows : List Row) (above : Row) (mode : ℕ) (file : FileRow) (owner : List ℕ) → IsTree rows → parent_of path ≡ Some front → row_at front rows ≡ Some above → above.path ≡ front
-    → with_sub_tree rows (record { path = path; kind = File; owner = owner; group = above.group; acl = inherited above.acl mode File; file = Some file } ∷ []) ≡ with_new path mode (Some file) owner (ancestor path rows) rows
+    → with_sub_tree rows (record { path = path; kind = File; owner = owner; group = above.group; acl = inherited_acl above.acl mode File; file = Some file } ∷ []) ≡ with_new path mode (Some file) owner (ancestor path rows) rows
 replaced [] before rows above mode file owner tree parent is at = cc
 replaced (name ∷ names) before rows above mode file owner tree parent is at =
     let same_front = one (front name names) before parent in
@@ -186,8 +186,8 @@ replaced (name ∷ names) before rows above mode file owner tree parent is at =
     ∙ ap (λ l. with_sub_tree rows (new_rows above owner mode (Some file) l)) (ap (λ p. drop (length p) (name ∷ names)) on_front ∙ front_left name names)
     ∙ ap (λ p. with_sub_tree rows (new_at above.acl above.group owner mode (Some file) p ∷ [])) (ap (λ p. p ++ last ∷ []) on_front ∙ front_and_last name names))
 
-pub replaced_file : (path front : List (List ℕ)) (rows : List Row) (above : Row) (mode : ℕ) (file : FileRow) (owner made_owner group : List ℕ) (acl : AccessControlList) → IsTree rows → parent_of path ≡ Some front → row_at front rows ≡ Some above → above.path ≡ front
-    → made_owner ≡ owner → group ≡ above.group → acl ≡ inherited above.acl mode File
+pub replaced_file : (path front : List (List ℕ)) (rows : List Row) (above : Row) (mode : ℕ) (file : FileRow) (owner made_owner group : List ℕ) (acl : Acl) → IsTree rows → parent_of path ≡ Some front → row_at front rows ≡ Some above → above.path ≡ front
+    → made_owner ≡ owner → group ≡ above.group → acl ≡ inherited_acl above.acl mode File
     → with_sub_tree rows (record { path = path; kind = File; owner = made_owner; group = group; acl = acl; file = Some file } ∷ []) ≡ with_new path mode (Some file) owner (ancestor path rows) rows
 replaced_file path front rows above mode file owner made_owner group acl tree parent is at owned grouped listed = rw (owned, grouped, listed) (replaced path front rows above mode file owner tree parent is at)
 

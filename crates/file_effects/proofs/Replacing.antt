@@ -2,7 +2,7 @@
 use Rattle.std.proofs.Common.{◌≡◌, ℕ, Bool, true, false, List, [], Option, Some, None, refl, sym, ap, cond}
 use Rattle.hdfs_types.specs.declared.op.Op.TheVariants as op
 use Rattle.hdfs_types.specs.declared.reply.Refusal.TheVariants.{IsDirectory, Exists}
-use Rattle.principals.specs.Principals.{Principals}
+use Rattle.principals.specs.Users.{Users}
 use Rattle.namespace_rows.specs.declared.row.Row.{Row}
 use Rattle.namespace_rows.specs.Namespace.{IsNamespace}
 use Rattle.namespace_rows.specs.Rows.{is_none, is_directory, row_at}
@@ -21,7 +21,7 @@ absent (Some row) d f = by (is_directory row) d f
     by true d f = cc
     by false d f = cc
 
-pub nothing_replaced : (path : List (List ℕ)) (mode replication : ℕ) (caller : List ℕ) (rows : List Row) (users : Principals) → IsNamespace rows → IsFree (op.Create path mode replication false) caller rows users
+pub nothing_replaced : (path : List (List ℕ)) (mode replication : ℕ) (caller : List ℕ) (rows : List Row) (users : Users) → IsNamespace rows → IsFree (op.Create path mode replication false) caller rows users
     → [] ≡ holders (rows_under path rows)
 nothing_replaced path mode replication caller rows users namespace free =
     let clear = free_create path mode replication false caller rows users free in

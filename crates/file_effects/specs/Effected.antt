@@ -1,8 +1,8 @@
--- What an operation that nothing stands against leaves of the namespace, and of the clients who have files open.
+-- What an operation that nothing refuses leaves of the namespace, and of the clients who have files open.
 use Rattle.std.specs.Prelude.{◌≡◌, ℕ, Bool, ◌&&◌, List, length, if◌then◌else◌, Option, Some, None}
 use Rattle.hdfs_texts.specs.Text.{same}
 use Rattle.hdfs_types.specs.declared.op.Op.{Op}
-use Rattle.principals.specs.Principals.{Principals}
+use Rattle.principals.specs.Users.{Users}
 use Rattle.namespace_rows.specs.declared.row.Row.{Row}
 use Rattle.flat_rows.specs.declared.verdict.Verdict.TheVariants.{Done}
 use Rattle.namespace_rows.specs.Files.{open_files}
@@ -21,11 +21,11 @@ pub record IsExact (last : List ℕ → Option ℕ) (rows : List Row) (writers :
 abbrev pub renewed_where : Bool → List ℕ → ℕ → (List ℕ → Option ℕ) → List ℕ → Option ℕ
 renewed_where renewed caller now last client = if renewed && same caller client then Some now else last client
 
--- nothing stands against the operation
-abbrev pub IsFree : Op → List ℕ → List Row → Principals → Type 0
+-- nothing refuses the operation
+abbrev pub IsFree : Op → List ℕ → List Row → Users → Type 0
 IsFree op caller rows users = (leases : LeaseFacts) × (first_refusal leases caller op rows users ≡ None)
 
--- what an operation leaves that nothing stands against
+-- what an operation leaves that nothing refuses
 pub record IsEffected (op : Op) (caller : List ℕ) (now : ℕ) (rows : List Row) (writers : Writers) (rows_left : List Row) (writers_left : Writers) : Type 0 where
   pub tree : (leases : LeaseFacts) → rows_left ≡ rows_after leases op caller rows
   pub exact : (leases : LeaseFacts) (last : List ℕ → Option ℕ) → IsExact last rows writers → IsExact (renewed_where (renews op (Done (reply_of leases op rows))) caller now last) rows_left writers_left

@@ -11,8 +11,8 @@ ghost use Rattle.hdfs_types.specs.WritingVerbs.{writes_or_deletes};
 ghost use Rattle.hdfs_texts.specs.Text.{same};
 ghost use Rattle.hdfs_types.specs.declared.file.FileState.TheVariants.{Closed};
 ghost use Rattle.hdfs_types.specs.declared.op.Op.TheVariants as op;
-ghost use Rattle.lease_manager.specs.Lease as lease;
-ghost use Rattle.principals.specs.Principals.{Principals};
+ghost use Rattle.lease_manager.specs.Leases as lease;
+ghost use Rattle.principals.specs.Users.{Users};
 ghost use Rattle.file_effects.specs.Effected.{IsExact, IsFree, IsEffected};
 ghost use Rattle.file_writers.specs.Writers.{count_of, moment_of, HasRoom, IsAlike};
 
@@ -78,16 +78,16 @@ fn create_first(
     caller: &Who,
     now: Moment,
 ) -> Result<(), AllocError>
-    requires latest { lease.latest writers.old.leases.renewals ≤ now }
+    requires latest { lease.latest_moment writers.old.leases.renewals ≤ now }
     requires room { HasRoom writers.old.files caller.now }
     requires absent { moment_of writers.old.leases.renewals caller.now ≡ None }
     requires clear { file_above path.now tree.old ≡ None }
     requires file { directory_there (row_at path.now tree.old) ≡ None }
     ensures tree { OnOk result (tree.new ≡ with_new path.now mode (Some (new_file replication caller.now)) caller.now (ancestor path.now tree.old) tree.old) }
     ensures files { OnOk result ((other : List ℕ) → count_of writers.new.files other ≡ (if same caller.now other then count_of writers.old.files caller.now + 1 else count_of writers.old.files other)) }
-    ensures renewals { OnOk result (writers.new.leases.renewals ≡ lease.renewed caller.now now writers.old.leases.renewals) }
+    ensures renewals { OnOk result (writers.new.leases.renewals ≡ lease.renewals_with caller.now now writers.old.leases.renewals) }
     ensures limits { writers.new.leases.limits ≡ writers.old.leases.limits }
-    ensures latest { OnOk result (lease.latest writers.new.leases.renewals ≡ now) }
+    ensures latest { OnOk result (lease.latest_moment writers.new.leases.renewals ≡ now) }
     ensures err { OnErr result ((tree.new ≡ tree.old) × (writers.new.leases ≡ writers.old.leases) × (writers.new.files ≡ writers.old.files)) }
 {
     writers.leases.take(caller, now)?;
@@ -110,16 +110,16 @@ fn create_another(
     caller: &Who,
     now: Moment,
 ) -> Result<(), AllocError>
-    requires latest { lease.latest writers.old.leases.renewals ≤ now }
+    requires latest { lease.latest_moment writers.old.leases.renewals ≤ now }
     requires room { HasRoom writers.old.files caller.now }
     requires held { IsSome (lease.renewal_of caller.now writers.old.leases.renewals) }
     requires clear { file_above path.now tree.old ≡ None }
     requires file { directory_there (row_at path.now tree.old) ≡ None }
     ensures tree { OnOk result (tree.new ≡ with_new path.now mode (Some (new_file replication caller.now)) caller.now (ancestor path.now tree.old) tree.old) }
     ensures files { OnOk result ((other : List ℕ) → count_of writers.new.files other ≡ (if same caller.now other then count_of writers.old.files caller.now + 1 else count_of writers.old.files other)) }
-    ensures renewals { OnOk result (writers.new.leases.renewals ≡ lease.renewed caller.now now writers.old.leases.renewals) }
+    ensures renewals { OnOk result (writers.new.leases.renewals ≡ lease.renewals_with caller.now now writers.old.leases.renewals) }
     ensures limits { writers.new.leases.limits ≡ writers.old.leases.limits }
-    ensures latest { OnOk result (lease.latest writers.new.leases.renewals ≡ now) }
+    ensures latest { OnOk result (lease.latest_moment writers.new.leases.renewals ≡ now) }
     ensures err { OnErr result ((tree.new ≡ tree.old) × (writers.new.leases ≡ writers.old.leases) × (writers.new.files ≡ writers.old.files)) }
 {
     make_file(alloc, tree, path, mode, replication, caller)?;
@@ -141,14 +141,14 @@ fn create_open(
     caller: &Who,
     now: Moment,
 ) -> Result<(), AllocError>
-    requires latest { lease.latest writers.old.leases.renewals ≤ now }
+    requires latest { lease.latest_moment writers.old.leases.renewals ≤ now }
     requires clear { file_above path.now tree.old ≡ None }
     requires file { directory_there (row_at path.now tree.old) ≡ None }
     ensures tree { OnOk result (tree.new ≡ with_new path.now mode (Some (new_file replication caller.now)) caller.now (ancestor path.now tree.old) tree.old) }
     ensures files { OnOk result ((other : List ℕ) → count_of writers.new.files other ≡ (if same caller.now other then count_of writers.old.files caller.now + 1 else count_of writers.old.files other)) }
-    ensures renewals { OnOk result (writers.new.leases.renewals ≡ lease.renewed caller.now now writers.old.leases.renewals) }
+    ensures renewals { OnOk result (writers.new.leases.renewals ≡ lease.renewals_with caller.now now writers.old.leases.renewals) }
     ensures limits { writers.new.leases.limits ≡ writers.old.leases.limits }
-    ensures latest { OnOk result (lease.latest writers.new.leases.renewals ≡ now) }
+    ensures latest { OnOk result (lease.latest_moment writers.new.leases.renewals ≡ now) }
     ensures err { OnErr result ((tree.new ≡ tree.old) × IsAlike writers.old writers.new) }
 {
     writers.files.make_room(caller)?;
@@ -165,7 +165,7 @@ fn replaced_holders(
     path: &Path,
     over: bool,
 ) -> Result<Vec<Who>, AllocError>
-    requires free { (mode : ℕ) × (replication : ℕ) × (caller : List ℕ) × (users : Principals) × IsFree (op.Create path.now mode replication over) caller tree.now users }
+    requires free { (mode : ℕ) × (replication : ℕ) × (caller : List ℕ) × (users : Users) × IsFree (op.Create path.now mode replication over) caller tree.now users }
     requires namespace { IsNamespace tree.now }
     ensures { IfOk result (λ clients. clients.items ≡ holders (rows_under path.now tree.now)) }
 {
@@ -188,12 +188,12 @@ fn create(
     caller: &Who,
     now: Moment,
 ) -> Result<(), AllocError>
-    requires latest { lease.latest writers.old.leases.renewals ≤ now }
-    requires free { (users : Principals) × IsFree (op.Create path.now mode replication over) caller.now tree.old users }
+    requires latest { lease.latest_moment writers.old.leases.renewals ≤ now }
+    requires free { (users : Users) × IsFree (op.Create path.now mode replication over) caller.now tree.old users }
     requires namespace { IsNamespace tree.old }
     ensures ok { OnOk result (IsEffected (op.Create path.now mode replication over) caller.now now tree.old writers.old tree.new writers.new) }
     ensures limits { writers.new.leases.limits ≡ writers.old.leases.limits }
-    ensures latest { OnOk result (lease.latest writers.new.leases.renewals ≤ now) }
+    ensures latest { OnOk result (lease.latest_moment writers.new.leases.renewals ≤ now) }
     ensures err { OnErr result ((tree.new ≡ tree.old) × IsAlike writers.old writers.new) }
 {
     let clients = replaced_holders(alloc, tree, path, over)?;
@@ -213,13 +213,13 @@ fn reopen(
     caller: &Who,
     now: Moment,
 ) -> Result<(), AllocError>
-    requires latest { lease.latest writers.old.leases.renewals ≤ now }
-    requires free { (users : Principals) × IsFree (op.Append path.now) caller.now tree.old users }
+    requires latest { lease.latest_moment writers.old.leases.renewals ≤ now }
+    requires free { (users : Users) × IsFree (op.Append path.now) caller.now tree.old users }
     requires closed { holder_at (row_at path.now tree.old) ≡ None }
     requires namespace { IsNamespace tree.old }
     ensures ok { OnOk result (IsEffected (op.Append path.now) caller.now now tree.old writers.old tree.new writers.new) }
     ensures limits { writers.new.leases.limits ≡ writers.old.leases.limits }
-    ensures latest { OnOk result (lease.latest writers.new.leases.renewals ≤ now) }
+    ensures latest { OnOk result (lease.latest_moment writers.new.leases.renewals ≤ now) }
     ensures err { OnErr result ((tree.new ≡ tree.old) × IsAlike writers.old writers.new) }
 {
     let client = caller.clone()?;
@@ -238,7 +238,7 @@ pub(crate) fn close(tree: &mut Tree, writers: &mut Writers, path: &Path, client:
     ensures tree { tree.new ≡ rewritten path.now (change.State Closed) tree.old }
     ensures exact { (last : List ℕ → Option ℕ) → IsExact last tree.old writers.old → IsExact last tree.new writers.new }
     ensures limits { writers.new.leases.limits ≡ writers.old.leases.limits }
-    ensures latest { lease.latest writers.new.leases.renewals ≤ lease.latest writers.old.leases.renewals }
+    ensures latest { lease.latest_moment writers.new.leases.renewals ≤ lease.latest_moment writers.old.leases.renewals }
 {
     writers.close(client);
     tree.rewrite(path, Change::State(FileState::Closed));
@@ -257,7 +257,7 @@ fn release(
     ensures tree { tree.new ≡ rewritten path.now (change.State Closed) tree.old }
     ensures exact { (last : List ℕ → Option ℕ) → IsExact last tree.old writers.old → IsExact last tree.new writers.new }
     ensures limits { writers.new.leases.limits ≡ writers.old.leases.limits }
-    ensures latest { lease.latest writers.new.leases.renewals ≤ lease.latest writers.old.leases.renewals }
+    ensures latest { lease.latest_moment writers.new.leases.renewals ≤ lease.latest_moment writers.old.leases.renewals }
 {
     close(tree, writers, path, client);
     open_paths.close(path, client);
@@ -272,12 +272,12 @@ fn append(
     caller: &Who,
     now: Moment,
 ) -> Result<(), AllocError>
-    requires latest { lease.latest writers.old.leases.renewals ≤ now }
-    requires free { (users : Principals) × IsFree (op.Append path.now) caller.now tree.old users }
+    requires latest { lease.latest_moment writers.old.leases.renewals ≤ now }
+    requires free { (users : Users) × IsFree (op.Append path.now) caller.now tree.old users }
     requires namespace { IsNamespace tree.old }
     ensures ok { OnOk result (IsEffected (op.Append path.now) caller.now now tree.old writers.old tree.new writers.new) }
     ensures limits { writers.new.leases.limits ≡ writers.old.leases.limits }
-    ensures latest { OnOk result (lease.latest writers.new.leases.renewals ≤ now) }
+    ensures latest { OnOk result (lease.latest_moment writers.new.leases.renewals ≤ now) }
     ensures err { OnErr result ((tree.new ≡ tree.old) × IsAlike writers.old writers.new) }
 {
     let Some(holder) = holder_of(tree, path)? else {
@@ -298,7 +298,7 @@ fn delete(
     requires { not (is_root path.now) ≡ true }
     ensures ok { (recursive : Bool) (caller : List ℕ) (now : ℕ) → OnOk result (IsEffected (op.Delete path.now recursive) caller now tree.old writers.old tree.new writers.new) }
     ensures limits { writers.new.leases.limits ≡ writers.old.leases.limits }
-    ensures latest { lease.latest writers.new.leases.renewals ≤ lease.latest writers.old.leases.renewals }
+    ensures latest { lease.latest_moment writers.new.leases.renewals ≤ lease.latest_moment writers.old.leases.renewals }
     ensures err { OnErr result ((tree.new ≡ tree.old) × IsAlike writers.old writers.new) }
 {
     let clients = holders_at(alloc, tree, path)?;
@@ -308,10 +308,10 @@ fn delete(
     Ok(())
 }
 
-/// Does an operation that writes files, or a deletion, where nothing stands against it.
+/// Does an operation that writes files, or a deletion, where nothing refuses it.
 ///
 /// # Errors
-/// Want of memory, and nothing has changed.
+/// Out of memory; nothing has changed.
 pub fn effect(
     alloc: Global,
     tree: &mut Tree,
@@ -321,13 +321,13 @@ pub fn effect(
     caller: &Who,
     now: Moment,
 ) -> Result<(), AllocError>
-    requires latest { lease.latest writers.old.leases.renewals ≤ now }
+    requires latest { lease.latest_moment writers.old.leases.renewals ≤ now }
     requires verb { writes_or_deletes op.now ≡ true }
-    requires free { (users : Principals) × IsFree op.now caller.now tree.old users }
+    requires free { (users : Users) × IsFree op.now caller.now tree.old users }
     requires namespace { IsNamespace tree.old }
     ensures ok { OnOk result (IsEffected op.now caller.now now tree.old writers.old tree.new writers.new) }
     ensures limits { writers.new.leases.limits ≡ writers.old.leases.limits }
-    ensures latest { OnOk result (lease.latest writers.new.leases.renewals ≤ now) }
+    ensures latest { OnOk result (lease.latest_moment writers.new.leases.renewals ≤ now) }
     ensures err { OnErr result ((tree.new ≡ tree.old) × IsAlike writers.old writers.new) }
 {
     match op {

@@ -4,7 +4,7 @@ ghost use Rattle.namespace_rows.specs.Files.{holders};
 ghost use Rattle.namespace_rows.specs.Namespace.{IsNamespace};
 ghost use Rattle.namespace_rows.specs.Rows.{row_at};
 ghost use Rattle.inode_nodes.specs.Expired.{is_among, past_hard};
-ghost use Rattle.lease_manager.specs.Lease as lease;
+ghost use Rattle.lease_manager.specs.Leases as lease;
 ghost use Rattle.file_effects.specs.Expiry.{AreClosable, AreExpired, can_close, open_of};
 ghost use Rattle.file_effects.specs.Effected.{IsExact};
 ghost use Rattle.file_writers.specs.Writers.{IsAlike};
@@ -98,7 +98,7 @@ fn have_open(writers: &Writers, clients: &[Who], number: usize) -> bool
     left == 0
 }
 
-/// Closes these files, which are all that these clients have open, and tells how many. Takes no memory.
+/// Closes these files, which are all that these clients have open, and returns how many. Takes no memory.
 fn expire_known(
     tree: &mut Tree,
     writers: &mut Writers,
@@ -110,7 +110,7 @@ fn expire_known(
     requires all { open_of writers.old.files past.now ≡ length files.now.entries }
     ensures done { (last : List ℕ → Option ℕ) → IsExact last tree.old writers.old → AreExpired last past.now tree.old result tree.new writers.new }
     ensures limits { writers.new.leases.limits ≡ writers.old.leases.limits }
-    ensures latest { lease.latest writers.new.leases.renewals ≤ lease.latest writers.old.leases.renewals }
+    ensures latest { lease.latest_moment writers.new.leases.renewals ≤ lease.latest_moment writers.old.leases.renewals }
 {
     for (path, client) in files.iter() {
         close(tree, writers, path, client);
@@ -128,11 +128,11 @@ fn holders_past(alloc: Global, tree: &Tree, past: &[Who]) -> Result<Vec<Who>, Al
     copies(alloc, &clients)
 }
 
-/// Closes the files of these clients, but where the length of the last block isn't committed, and tells how many. Costs the
+/// Closes the files of these clients, but where the length of the last block isn't committed, and returns how many. Costs the
 /// whole tree.
 ///
 /// # Errors
-/// Want of memory, and nothing has changed.
+/// Out of memory; nothing has changed.
 fn expire_all(
     alloc: Global,
     tree: &mut Tree,
@@ -141,7 +141,7 @@ fn expire_all(
 ) -> Result<u64, AllocError>
     ensures done { IfOk result (λ closed. (last : List ℕ → Option ℕ) → IsExact last tree.old writers.old → AreExpired last past.now tree.old closed tree.new writers.new) }
     ensures limits { writers.new.leases.limits ≡ writers.old.leases.limits }
-    ensures latest { lease.latest writers.new.leases.renewals ≤ lease.latest writers.old.leases.renewals }
+    ensures latest { lease.latest_moment writers.new.leases.renewals ≤ lease.latest_moment writers.old.leases.renewals }
     ensures err { OnErr result ((tree.new ≡ tree.old) × IsAlike writers.old writers.new) }
 {
     let clients = holders_past(alloc, tree, past)?;
@@ -164,7 +164,7 @@ fn expire_where(
     requires closable { AreClosable past.now tree.old files.now }
     ensures done { IfOk result (λ closed. (last : List ℕ → Option ℕ) → IsExact last tree.old writers.old → AreExpired last past.now tree.old closed tree.new writers.new) }
     ensures limits { writers.new.leases.limits ≡ writers.old.leases.limits }
-    ensures latest { lease.latest writers.new.leases.renewals ≤ lease.latest writers.old.leases.renewals }
+    ensures latest { lease.latest_moment writers.new.leases.renewals ≤ lease.latest_moment writers.old.leases.renewals }
     ensures err { OnErr result ((tree.new ≡ tree.old) × IsAlike writers.old writers.new) }
 {
     if have_open(writers, past, files.len()) {
@@ -182,11 +182,11 @@ fn forget_each(writers: &Writers, open_paths: &mut OpenPaths, clients: &[Who]) {
     }
 }
 
-/// Closes the files of these clients, but where the length of the last block isn't committed, and tells how many. Costs these
+/// Closes the files of these clients, but where the length of the last block isn't committed, and returns how many. Costs these
 /// files; the whole tree where some of them aren't known or aren't closed.
 ///
 /// # Errors
-/// Want of memory, and nothing has changed.
+/// Out of memory; nothing has changed.
 pub fn expire(
     alloc: Global,
     tree: &mut Tree,
@@ -197,7 +197,7 @@ pub fn expire(
     requires namespace { IsNamespace tree.old }
     ensures done { IfOk result (λ closed. (last : List ℕ → Option ℕ) → IsExact last tree.old writers.old → AreExpired last past.now tree.old closed tree.new writers.new) }
     ensures limits { writers.new.leases.limits ≡ writers.old.leases.limits }
-    ensures latest { lease.latest writers.new.leases.renewals ≤ lease.latest writers.old.leases.renewals }
+    ensures latest { lease.latest_moment writers.new.leases.renewals ≤ lease.latest_moment writers.old.leases.renewals }
     ensures err { OnErr result ((tree.new ≡ tree.old) × IsAlike writers.old writers.new) }
 {
     let files = closable(alloc, tree, open_paths, past)?;

@@ -1,5 +1,5 @@
 //! What a verb that writes files, a deletion or a tick changes of the namespace, and of the clients who have files open, where
-//! nothing stands against it.
+//! nothing refuses it.
 #![tactic(auto)]
 
 pub mod effect;

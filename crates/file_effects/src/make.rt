@@ -3,7 +3,7 @@ ghost use Rattle.flat_rows.specs.FileOutcome.{LeaseFacts, directory_there};
 ghost use Rattle.flat_rows.specs.Outcome as spec;
 ghost use Rattle.namespace_rows.specs.Rows.{row_at, is_missing, file_above, ancestor};
 ghost use Rattle.hdfs_types.specs.declared.op.Op.TheVariants as op;
-ghost use Rattle.access_lists.specs.AccessControlList.{suits_file};
+ghost use Rattle.access_lists.specs.Acl.{suits_file};
 ghost use Rattle.file_effects.specs.Inheriting.{IsInherited};
 
 use access_lists::acl::Acl;
@@ -38,7 +38,7 @@ fn taken_over(
     ensures suits { IfOk result (λ parts. suits_file parts.acl ≡ true) }
     ensures made { IfOk result (IsInherited path.now mode owner.now tree.now) }
 {
-    // a call on the tree tells the prover that its rows are a tree
+    // a call on the tree shows the prover that its rows are a tree
     let _root = tree.root();
     let Some(front) = path.parent(alloc)? else {
         unreachable!()
@@ -76,7 +76,7 @@ fn replace_file(
 /// directories above it. Costs the path (HDFS Architecture, "The File System Namespace").
 ///
 /// # Errors
-/// Want of memory, and nothing has changed.
+/// Out of memory; nothing has changed.
 pub fn make_file(
     alloc: Global,
     tree: &mut Tree,

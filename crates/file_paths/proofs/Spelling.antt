@@ -4,18 +4,18 @@ use Rattle.std.specs.List.{list_all, flat_map, join_with_byte, slice_split, onto
 use Rattle.std.proofs.lemmas.Bool.Decides.{nat_tests}
 use Rattle.std.proofs.lemmas.Grind.{common_steps}
 use Rattle.file_paths.specs.Name.{is_name, is_name_byte}
-use Rattle.file_paths.specs.Path.{IsPath, is_path, path_of, path_after_slash, path_text, pieces, names_of, component}
-use Rattle.file_paths.proofs.Paths.{guard_some, behind_spelled, pieces_path, path_text-pieces}
+use Rattle.file_paths.specs.Path.{IsPath, is_path, is_slash, path_of, path_after_slash, path_of_names, path_text, component}
+use Rattle.file_paths.proofs.Paths.{guard_some, is_its_path, path_behind, path_names, path_text-pieces}
 
 -- a name has no slash, so it is the first piece
-first_piece : (n rest : List ℕ) → list_all is_name_byte n ≡ true → pieces (n ++ 47 ∷ rest) ≡ n ∷ pieces rest
+first_piece : (n rest : List ℕ) → list_all is_name_byte n ≡ true → slice_split is_slash (n ++ 47 ∷ rest) ≡ n ∷ slice_split is_slash rest
 first_piece [] rest h = refl
 first_piece (b ∷ n) rest h =
     let tail : list_all is_name_byte n ≡ true = grind (arith, nat_tests) in
     let no_slash : eqb b 47 ≡ false = grind (arith, nat_tests) in
     rw (no_slash, first_piece n rest tail) refl
 
-one_piece : (n : List ℕ) → list_all is_name_byte n ≡ true → pieces n ≡ n ∷ []
+one_piece : (n : List ℕ) → list_all is_name_byte n ≡ true → slice_split is_slash n ≡ n ∷ []
 one_piece [] h = refl
 one_piece (b ∷ n) h =
     let tail : list_all is_name_byte n ≡ true = grind (arith, nat_tests) in
@@ -25,37 +25,25 @@ one_piece (b ∷ n) h =
 name_bytes : (n : List ℕ) → is_name n ≡ true → list_all is_name_byte n ≡ true
 name_bytes n h = grind (arith, nat_tests)
 
-pieces_of_names : (n : List ℕ) (ns : List (List ℕ)) → list_all is_name (n ∷ ns) ≡ true → pieces (n ++ flat_map component ns) ≡ n ∷ ns
+pieces_of_names : (n : List ℕ) (ns : List (List ℕ)) → list_all is_name (n ∷ ns) ≡ true → slice_split is_slash (n ++ flat_map component ns) ≡ n ∷ ns
 pieces_of_names n [] h =
     let own : is_name n ≡ true = grind (arith, nat_tests) in
-    ap pieces (append-nil n) ∙ one_piece n (name_bytes n own)
+    ap (slice_split is_slash) (append-nil n) ∙ one_piece n (name_bytes n own)
 pieces_of_names n (m ∷ ns) h =
     let own : is_name n ≡ true = grind (arith, nat_tests) in
     let others : list_all is_name (m ∷ ns) ≡ true = grind (arith, nat_tests) in
     first_piece n (m ++ flat_map component ns) (name_bytes n own) ∙ ap (λ ps. n ∷ ps) (pieces_of_names m ns others)
 
-record Tests (p : List (List ℕ)) : Type 0 where
-  few : length p ≤ 1000
-  short : length (path_text p) ≤ 8000
-  names : list_all is_name p ≡ true
-
-tests_of : (p : List (List ℕ)) → IsPath p → Tests p
-tests_of p h = record { few = grind (arith, nat_tests); short = grind (arith, nat_tests); names = grind (arith, nat_tests) }
-
 some_name : (n : List ℕ) (ns : List (List ℕ)) → list_all is_name (n ∷ ns) ≡ true → 0 < length n
 some_name n ns h = grind (arith, nat_tests)
-
-named : (p : List (List ℕ)) → list_all is_name p ≡ true → names_of p ≡ Some p
-named p h = rw h refl
 
 pub read_again : (p : List (List ℕ)) → IsPath p → path_of (path_text p) ≡ Some p
 read_again [] h = refl
 read_again (n ∷ ns) h =
-    let t = tests_of (n ∷ ns) h in
+    let names = path_names (n ∷ ns) h in
     let rest = n ++ flat_map component ns in
-    let some : 0 < length rest = omega (arith, some_name n ns t.names, length-append n (flat_map component ns)) in
-    let short : length rest ≤ 7999 = omega (arith, t.short) in
-    behind_spelled rest (n ∷ ns) some short t.few (ap names_of (pieces_of_names n ns t.names) ∙ named (n ∷ ns) t.names)
+    let some : 0 < length rest = omega (arith, some_name n ns names, length-append n (flat_map component ns)) in
+    path_behind rest some ∙ (ap path_of_names (pieces_of_names n ns names) ∙ is_its_path (n ∷ ns) true h)
 
 guarded : {X : Type 0} (b : Bool) (o : Option X) (y : X) → cond b o None ≡ Some y → (b ≡ true) × (o ≡ Some y)
 guarded true o y e = (refl, e)
@@ -64,7 +52,7 @@ guarded false o y e = cc
 behind_text : (rest : List ℕ) (p : List (List ℕ)) → path_after_slash rest ≡ Some p → IsPath p × (path_text p ≡ 47 ∷ rest)
 behind_text [] p e = let root : [] ≡ p = cc in (subst IsPath root refl, ap path_text (sym root))
 behind_text (b ∷ rest) p e =
-    let ps = pieces (b ∷ rest) in
+    let ps = slice_split is_slash (b ∷ rest) in
     let parts = guard_some (is_path ps) ps p e in
     (subst IsPath parts.1 parts.0, ap path_text (sym parts.1) ∙ path_text-pieces (b ∷ rest))
 

@@ -21,22 +21,17 @@ is_path names = nat_le (length names) 1000 && nat_le (length (path_text names)) 
 abbrev pub IsPath : List (List ℕ) → Type 0
 IsPath names = IsTrue (is_path names)
 
--- the pieces between the slashes of a text
-abbrev pub pieces : List ℕ → List (List ℕ)
-pieces text = slice_split (λ byte. byte == 47) text
-
--- the names that the pieces are, where each is one
-abbrev pub names_of : List (List ℕ) → Option (List (List ℕ))
-names_of pieces = if list_all is_name pieces then Some pieces else None
+abbrev pub is_slash : ℕ → Bool
+is_slash byte = byte == 47
 
 -- the path of such names, if it is one
 abbrev pub path_of_names : List (List ℕ) → Option (List (List ℕ))
 path_of_names names = if is_path names then Some names else None
 
--- the path whose text is a slash and then this
+-- the path whose text is a slash and then this: its names stand between slashes
 abbrev pub path_after_slash : List ℕ → Option (List (List ℕ))
 path_after_slash [] = Some []
-path_after_slash (byte ∷ text) = path_of_names (pieces (byte ∷ text))
+path_after_slash (byte ∷ text) = path_of_names (slice_split is_slash (byte ∷ text))
 
 -- the path that a text spells: absolute, with no slash at its end and none twice
 abbrev pub path_of : List ℕ → Option (List (List ℕ))

@@ -1,4 +1,4 @@
-ghost use Rattle.std.specs.Prelude.{◌≡◌, Some};
+ghost use Rattle.std.specs.Prelude.{◌≡◌, Some, IfOk};
 ghost use Rattle.std.proofs.Common.{rules};
 ghost use Rattle.std.specs.Cmp.{partial_order_from_own_ties};
 ghost use Rattle.std.specs.Cmp.Rules.{comparing};
@@ -56,7 +56,8 @@ fn is_dots(bytes: &[u8]) -> bool
     }
 }
 
-fn is_name(text: &str) -> bool
+/// Whether a text is a name. Takes no memory.
+pub(crate) fn is_name(text: &str) -> bool
     ensures { result ≡ spec.is_name text.now }
 {
     let bytes = text.as_bytes();
@@ -73,13 +74,21 @@ impl Name {
     /// Reads a name, in a time linear in the text.
     ///
     /// # Errors
-    /// `BadPath` where the text is no name, and want of memory.
+    /// `BadPath` where the text is no name, whether there is memory or not; else out of memory.
     pub fn parse(alloc: Global, text: &str) -> Result<Name, ParseFault>
         ensures { Parses IllFormed.BadPath result (name_of text.now) }
     {
         if !is_name(text) {
             return Err(ParseFault::IllFormed(IllFormed::BadPath));
         }
+        Ok(Name::copied(alloc, text)?)
+    }
+
+    /// A copy of a text that is a name.
+    pub(crate) fn copied(alloc: Global, text: &str) -> Result<Name, AllocError>
+        requires { IsName text.now }
+        ensures { IfOk result (λ name. name ≡ text.now) }
+    {
         Ok(Name {
             text: String::from_str(alloc, text)?,
         })

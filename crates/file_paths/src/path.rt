@@ -1,6 +1,8 @@
-ghost use Rattle.std.specs.Prelude.{◌≡◌, ℕ, List, ◌≤◌, ◌<◌, IfOk, map, length, take, [], ◌∷◌, ◌++◌, Some, MatchOption};
-ghost use Rattle.hdfs_texts.specs.Parsed.{Parses, ParsesBy};
-ghost use Rattle.file_paths.specs.Path.{IsPath, IsRelative, path_of, path_text, pieces, names_of, parent_of};
+ghost use Rattle.std.specs.Prelude.{◌≡◌, ℕ, List, ◌≤◌, ◌<◌, true, IfOk, length, take, [], ◌∷◌, ◌++◌, Some, MatchOption};
+ghost use Rattle.std.specs.List.{list_all, slice_split};
+ghost use Rattle.hdfs_texts.specs.Parsed.{Parses};
+ghost use Rattle.file_paths.specs.Name.{is_name};
+ghost use Rattle.file_paths.specs.Path.{IsPath, IsRelative, is_slash, path_of, path_text, parent_of};
 ghost use Rattle.file_paths.specs.Path as spec;
 ghost use Rattle.file_paths.specs.PathOrder.{path_cmp, same_path, paths_total};
 ghost use Rattle.std.proofs.Common.{rules};
@@ -8,7 +10,7 @@ ghost use Rattle.std.specs.Cmp.{partial_order_from_agreeing_total};
 ghost use Rattle.std.specs.Cmp.Rules.{comparing};
 ghost use Rattle.std.specs.Ordering.{as_partial_cmp};
 
-use crate::name::Name;
+use crate::name::{Name, is_name};
 use hdfs_texts::fault::{IllFormed, ParseFault};
 use std::alloc::{AllocError, Global};
 use std::cmp::Ordering;
@@ -34,11 +36,7 @@ impl Model for Path {
     ghost invariant = { λ path. IsPath path.names.items };
 }
 
-fn pieces_of(alloc: Global, text: &str) -> Result<Vec<&str>, AllocError>
-    ensures { IfOk result (λ found. map (λ piece. piece.now) found.items ≡ pieces text.now) }
-{
-    text.split('/').collect(alloc)
-}
+const NO_PATH: ParseFault = ParseFault::IllFormed(IllFormed::BadPath);
 
 /// What stands behind the slash that an absolute path begins with.
 fn behind_slash(text: &str) -> Option<&str>
@@ -47,21 +45,38 @@ fn behind_slash(text: &str) -> Option<&str>
     text.strip_prefix('/')
 }
 
-fn names_in(alloc: Global, pieces: &[&str]) -> Result<Vec<Name>, ParseFault>
-    ensures { ParsesBy (λ names. names.items) IllFormed.BadPath result (names_of (map (λ piece. piece.now) pieces.now)) }
+/// How many pieces stand between the slashes of a text.
+fn piece_count(text: &str) -> usize
+    ensures { result ≡ length (slice_split is_slash text.now) }
 {
-    let mut names = Vec::with_capacity(alloc, pieces.len())?;
-    for piece in pieces {
-        names.push(Name::parse(alloc, piece)?)?;
-    }
-    Ok(names)
+    text.split('/').count()
 }
 
-fn names_between_slashes(alloc: Global, text: &str) -> Result<Vec<Name>, ParseFault>
-    ensures { ParsesBy (λ names. names.items) IllFormed.BadPath result (names_of (pieces text.now)) }
+/// Whether each piece between the slashes of a text is a name.
+fn are_names(text: &str) -> bool
+    ensures { result ≡ list_all is_name (slice_split is_slash text.now) }
 {
-    let pieces = pieces_of(alloc, text)?;
-    names_in(alloc, &pieces)
+    text.split('/').all(|piece| is_name(piece))
+}
+
+/// Whether a text, which is a slash with `rest` behind it, is that of a path other than the root. Takes no memory.
+fn is_path(text: &str, rest: &str) -> bool
+    requires { text.now ≡ 47 ∷ rest.now }
+    ensures { result ≡ spec.is_path (slice_split is_slash rest.now) }
+{
+    text.len() <= Path::MAX_BYTES && piece_count(rest) <= Path::MAX_NAMES && are_names(rest)
+}
+
+/// The names between the slashes of a text.
+fn names_in(alloc: Global, text: &str) -> Result<Vec<Name>, AllocError>
+    requires { list_all is_name (slice_split is_slash text.now) ≡ true }
+    ensures { IfOk result (λ names. names.items ≡ slice_split is_slash text.now) }
+{
+    let mut names = Vec::with_capacity(alloc, piece_count(text))?;
+    for piece in text.split('/') {
+        names.push(Name::copied(alloc, piece)?)?;
+    }
+    Ok(names)
 }
 
 impl Path {
@@ -83,24 +98,22 @@ impl Path {
     /// Reads an absolute path, in a time linear in the text. The root is `/`, and no other path ends in a slash.
     ///
     /// # Errors
-    /// `BadPath` where the text is no path within the limits, and want of memory.
+    /// `BadPath` where the text is no path within the limits, whether there is memory or not; else out of memory.
     pub fn parse(alloc: Global, text: &str) -> Result<Path, ParseFault>
         ensures { Parses IllFormed.BadPath result (path_of text.now) }
     {
         let Some(rest) = behind_slash(text) else {
-            return Err(ParseFault::IllFormed(IllFormed::BadPath));
+            return Err(NO_PATH);
         };
         if rest.is_empty() {
             return Ok(Path::root(alloc));
         }
-        if text.len() > Path::MAX_BYTES {
-            return Err(ParseFault::IllFormed(IllFormed::BadPath));
+        if !is_path(text, rest) {
+            return Err(NO_PATH);
         }
-        let names = names_between_slashes(alloc, rest)?;
-        if names.len() > Path::MAX_NAMES {
-            return Err(ParseFault::IllFormed(IllFormed::BadPath));
-        }
-        Ok(Path { names })
+        Ok(Path {
+            names: names_in(alloc, rest)?,
+        })
     }
 
     /// The path of these names, from the root down. Takes no memory.

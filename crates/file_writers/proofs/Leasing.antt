@@ -5,7 +5,7 @@ use Rattle.std.proofs.lemmas.List.Elements.{filter-append}
 use Rattle.std.proofs.lemmas.List.{length-append}
 use Rattle.hdfs_texts.specs.Text.{same}
 use Rattle.hdfs_texts.proofs.Texts.{same_is, same_symm}
-use Rattle.lease_manager.specs.Lease.{released, renewed}
+use Rattle.lease_manager.specs.Leases.{renewals_without, renewals_with}
 use Rattle.file_writers.specs.declared.writers.Writers.{Writers}
 use Rattle.file_writers.specs.Writers.{count_of, moment_of, IsLeased, renewed_at}
 use Rattle.file_writers.proofs.Moments.{moment_released, moment_renewed}
@@ -16,7 +16,7 @@ more n = lt-ltb 0 (n + 1) (omega arith)
 abbrev CountsOne : ℕ → (old new : Writers) → List ℕ → Type 0
 CountsOne n old new client = (other : List ℕ) → count_of new.files other ≡ cond (same client other) n (count_of old.files other)
 
-pub leased_open : (old new : Writers) (client : List ℕ) (now : ℕ) (last : List ℕ → Option ℕ) → new.leases.renewals ≡ renewed client now old.leases.renewals
+pub leased_open : (old new : Writers) (client : List ℕ) (now : ℕ) (last : List ℕ → Option ℕ) → new.leases.renewals ≡ renewals_with client now old.leases.renewals
     → ((other : List ℕ) → count_of new.files other ≡ cond (same client other) (count_of old.files client + 1) (count_of old.files other)) → IsLeased last old → IsLeased (renewed_at client now last) new
 leased_open old new client now last renewals counts leased other =
     ap (λ rs. moment_of rs other) renewals ∙ (moment_renewed client now old.leases.renewals other
@@ -26,7 +26,7 @@ leased_open old new client now last renewals counts leased other =
     by true = ap (λ c. cond c (Some now) None) (sym (more (count_of old.files client)))
     by false = leased other
 
-pub leased_renew : (old new : Writers) (client : List ℕ) (now : ℕ) (last : List ℕ → Option ℕ) → new.leases.renewals ≡ renewed client now old.leases.renewals → new.files ≡ old.files
+pub leased_renew : (old new : Writers) (client : List ℕ) (now : ℕ) (last : List ℕ → Option ℕ) → new.leases.renewals ≡ renewals_with client now old.leases.renewals → new.files ≡ old.files
     → 0 < count_of old.files client → IsLeased last old → IsLeased (renewed_at client now last) new
 leased_renew old new client now last renewals files some leased other =
     ap (λ rs. moment_of rs other) renewals ∙ (moment_renewed client now old.leases.renewals other
@@ -58,7 +58,7 @@ none_left n h = ap (nat_lt 0) (zero_is n h)
     zero_is n h = omega (arith, h)
 
 -- and with its last file it loses it
-pub leased_ended : (old new : Writers) (client : List ℕ) (last : List ℕ → Option ℕ) → new.leases.renewals ≡ released client old.leases.renewals
+pub leased_ended : (old new : Writers) (client : List ℕ) (last : List ℕ → Option ℕ) → new.leases.renewals ≡ renewals_without client old.leases.renewals
     → ((other : List ℕ) → count_of new.files other ≡ cond (same client other) (count_of old.files client - 1) (count_of old.files other)) → count_of old.files client - 1 ≤ 0 → IsLeased last old → IsLeased last new
 leased_ended old new client last renewals counts none leased other =
     ap (λ rs. moment_of rs other) renewals ∙ (moment_released client old.leases.renewals other

@@ -3,7 +3,7 @@ use Rattle.std.specs.Prelude.{◌≡◌, ◌<◌, ◌-◌, ◌^◌, ℕ, nat_lt,
 use Rattle.std.specs.Map.{lookup}
 use Rattle.std.specs.Option.{option_map, IsSome}
 use Rattle.hdfs_texts.specs.Text.{same}
-use Rattle.lease_manager.specs.Lease.{Renewal, renewal_of}
+use Rattle.lease_manager.specs.Leases.{Renewal, renewal_of}
 use Rattle.file_writers.specs.declared.writers.Writers.{Writers}
 
 abbrev pub count_of : List (List ℕ × ℕ) → List ℕ → ℕ

@@ -95,7 +95,7 @@ impl OpenPaths {
     /// The paths of the files that a client has open. Costs these files.
     ///
     /// # Errors
-    /// Want of memory.
+    /// Out of memory.
     pub fn of_client(&self, client: &Who) -> Result<Vec<Path>, AllocError> {
         let mut paths = Vec::new(self.alloc);
         let Some(texts) = self.clients.get(client) else {

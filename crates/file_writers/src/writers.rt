@@ -1,6 +1,6 @@
 ghost use Rattle.std.specs.Prelude.{◌≡◌, ◌≤◌, ◌<◌, ◌+◌, ◌-◌, ℕ, [], List, Option, if◌then◌else◌, filter, length, OnOk, OnErr};
 ghost use Rattle.hdfs_texts.specs.Text.{same};
-ghost use Rattle.lease_manager.specs.Lease as lease;
+ghost use Rattle.lease_manager.specs.Leases as lease;
 ghost use Rattle.file_writers.specs.Writers.{count_of, moment_of, IsLeased, IsAlike, renewed_at};
 
 use crate::open_files::OpenFiles;
@@ -31,13 +31,13 @@ impl Writers {
     /// Notes that a client has opened a file, which also renews its lease, or begins one.
     ///
     /// # Errors
-    /// Want of memory, and nothing has changed.
+    /// Out of memory; nothing has changed.
     pub fn open(&mut self, client: &Who, now: Moment) -> Result<(), AllocError>
-        requires { lease.latest self.old.leases.renewals ≤ now }
+        requires { lease.latest_moment self.old.leases.renewals ≤ now }
         ensures files { OnOk result ((other : List ℕ) → count_of self.new.files other ≡ (if same client.now other then count_of self.old.files client.now + 1 else count_of self.old.files other)) }
         ensures leased { OnOk result ((last : List ℕ → Option ℕ) → IsLeased last self.old → IsLeased (renewed_at client.now now last) self.new) }
         ensures limits { self.new.leases.limits ≡ self.old.leases.limits }
-        ensures latest { OnOk result (lease.latest self.new.leases.renewals ≡ now) }
+        ensures latest { OnOk result (lease.latest_moment self.new.leases.renewals ≡ now) }
         ensures err { OnErr result (IsAlike self.old self.new) }
     {
         self.files.make_room(client)?;
@@ -49,13 +49,13 @@ impl Writers {
     /// Renews a client's lease.
     ///
     /// # Errors
-    /// Want of memory where the client has no lease, and nothing has changed.
+    /// Out of memory where the client has no lease; nothing has changed.
     pub fn renew(&mut self, client: &Who, now: Moment) -> Result<(), AllocError>
-        requires { lease.latest self.old.leases.renewals ≤ now }
+        requires { lease.latest_moment self.old.leases.renewals ≤ now }
         ensures files { self.new.files ≡ self.old.files }
         ensures leased { OnOk result ((last : List ℕ → Option ℕ) → 0 < count_of self.old.files client.now → IsLeased last self.old → IsLeased (renewed_at client.now now last) self.new) }
         ensures limits { self.new.leases.limits ≡ self.old.leases.limits }
-        ensures latest { OnOk result (lease.latest self.new.leases.renewals ≡ now) }
+        ensures latest { OnOk result (lease.latest_moment self.new.leases.renewals ≡ now) }
         ensures err { OnErr result (self.new.leases ≡ self.old.leases) }
     {
         self.leases.take(client, now)?;
@@ -67,7 +67,7 @@ impl Writers {
         ensures files { (other : List ℕ) → count_of self.new.files other ≡ (if same client.now other then count_of self.old.files client.now - 1 else count_of self.old.files other) }
         ensures leased { (last : List ℕ → Option ℕ) → IsLeased last self.old → IsLeased last self.new }
         ensures limits { self.new.leases.limits ≡ self.old.leases.limits }
-        ensures latest { lease.latest self.new.leases.renewals ≤ lease.latest self.old.leases.renewals }
+        ensures latest { lease.latest_moment self.new.leases.renewals ≤ lease.latest_moment self.old.leases.renewals }
     {
         self.files.take(client);
         if self.files.count(client) > 0 {
@@ -81,7 +81,7 @@ impl Writers {
         ensures files { (other : List ℕ) → count_of self.new.files other ≡ count_of self.old.files other - length (filter (same other) clients.now) }
         ensures leased { (last : List ℕ → Option ℕ) → IsLeased last self.old → IsLeased last self.new }
         ensures limits { self.new.leases.limits ≡ self.old.leases.limits }
-        ensures latest { lease.latest self.new.leases.renewals ≤ lease.latest self.old.leases.renewals }
+        ensures latest { lease.latest_moment self.new.leases.renewals ≤ lease.latest_moment self.old.leases.renewals }
     {
         for client in clients {
             self.close(client);

@@ -9,14 +9,14 @@ use Rattle.std.specs.Ordering.{is_lt, is_eq}
 use Rattle.file_paths.specs.Path.{is_path, is_prefix}
 use Rattle.file_paths.specs.PathOrder.{path_cmp, same_path, paths_total}
 use Rattle.file_paths.proofs.Fronts.{front_path}
-use Rattle.access_lists.specs.AccessControlList.{AccessControlList}
+use Rattle.access_lists.specs.Acl.{Acl}
 use Rattle.namespace_rows.specs.declared.file_row.FileRow.{FileRow}
 use Rattle.namespace_rows.specs.declared.row.Row.{Row}
 use Rattle.namespace_rows.specs.declared.row.Change.{Change}
 use Rattle.namespace_rows.specs.declared.row.Change.TheVariants as change
 use Rattle.hdfs_types.specs.declared.file.FileState.{FileState}
 use Rattle.std.specs.Option.{option_map}
-use Rattle.access_lists.specs.AccessControlList.{suits_file}
+use Rattle.access_lists.specs.Acl.{suits_file}
 use Rattle.namespace_rows.specs.Files.{with_state, with_replication}
 use Rattle.namespace_rows.specs.First.{first}
 use Rattle.namespace_rows.specs.Rows.{is_directory, row_at, ancestor, is_before, is_beyond, replaced, with_sub_tree}
@@ -174,13 +174,13 @@ changed_kind (change.Replication replication) row = refl
 
 -- and what it suits stays suited
 
-listed_suits : (b : Bool) (old acl : AccessControlList) (file : Option FileRow) → suits_parts b old file ≡ true → (b || suits_file acl) ≡ true → suits_parts b acl file ≡ true
+listed_suits : (b : Bool) (old acl : Acl) (file : Option FileRow) → suits_parts b old file ≡ true → (b || suits_file acl) ≡ true → suits_parts b acl file ≡ true
 listed_suits true old acl None h k = refl
 listed_suits true old acl (Some file) h k = cc
 listed_suits false old acl None h k = cc
 listed_suits false old acl (Some file) h k = k
 
-filed_suits : (f : FileRow → FileRow) (b : Bool) (acl : AccessControlList) (file : Option FileRow) → suits_parts b acl file ≡ true → suits_parts b acl (option_map f file) ≡ true
+filed_suits : (f : FileRow → FileRow) (b : Bool) (acl : Acl) (file : Option FileRow) → suits_parts b acl file ≡ true → suits_parts b acl (option_map f file) ≡ true
 filed_suits f true acl None h = refl
 filed_suits f true acl (Some file) h = cc
 filed_suits f false acl None h = cc

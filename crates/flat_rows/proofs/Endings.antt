@@ -3,29 +3,29 @@ use Rattle.std.proofs.Common.{◌≡◌, ℕ, Bool, true, false, not, List, [], 
 use Rattle.std.specs.List.{last_or, flat_map}
 use Rattle.std.specs.Option.{is_some, option_or}
 use Rattle.hdfs_types.specs.declared.op.Op.{Op}
-use Rattle.principals.specs.Principals.{Principals, Asking, caller_of}
+use Rattle.principals.specs.Users.{Users, Caller, caller_of}
 use Rattle.namespace_rows.specs.declared.row.Row.{Row}
 use Rattle.required_rights.specs.declared.need.By.{By}
 use Rattle.required_rights.specs.declared.need.By.TheVariants.{Superuser}
 use Rattle.flat_rows.specs.declared.trail.Judged.{Judged}
 use Rattle.namespace_rows.specs.First.{first_answer}
 use Rattle.required_rights.specs.RequiredRights.{required_rights}
-use Rattle.flat_rows.specs.Denied.{Denied, Decided, deciding, denial_at}
+use Rattle.flat_rows.specs.Denial.{Denial, Decided, deciding, denial_at}
 use Rattle.flat_rows.specs.Decision.{Ask, asks_of, denial_of, judged, up_to_denied, decision, trail}
 use Rattle.flat_rows.specs.Laws.{are_granted, failed, ends_failed, is_failed, EndsAs}
 use Rattle.namespace_rows.proofs.Tests.{both, and}
 
 -- a need as it is judged, beside its denial or none
-abbrev Judges : Judged → Option Denied → Type 0
+abbrev Judges : Judged → Option Denial → Type 0
 Judges need None = need.granted ≡ true
 Judges need (Some denied) = need ≡ failed denied
 
 -- needs up to the first denial, beside it or none
-abbrev Ends : List Judged → Option Denied → Type 0
+abbrev Ends : List Judged → Option Denial → Type 0
 Ends needs None = are_granted needs ≡ true
 Ends needs (Some denied) = EndsAs needs denied
 
-module _ (caller : Asking) (ask : Ask) where
+module _ (caller : Caller) (ask : Ask) where
   abbrev as_judged : Decided → Judged
   as_judged what = record { path = ask.row.path; need = ask.need; by = what.by; granted = what.granted }
 
@@ -45,7 +45,7 @@ module _ (caller : Asking) (ask : Ask) where
   judges = of_caller caller.is_superuser
 
 -- one more need in front
-more : (need : Judged) (here : Option Denied) (needs : List Judged) (later : Option Denied) → Judges need here → Ends needs later
+more : (need : Judged) (here : Option Denial) (needs : List Judged) (later : Option Denial) → Judges need here → Ends needs later
     → Ends (need ∷ cond need.granted needs []) (option_or here later)
 more need (Some denied) needs later is ends = rw is (record { met = []; granted = refl; ends = refl })
 more need None needs None met ends = rw met ends
@@ -55,7 +55,7 @@ more need None needs (Some denied) met ends = record {
   ends = ap (λ (b : Bool). need ∷ cond b needs []) met ∙ ap (λ (xs : List Judged). need ∷ xs) ends.ends;
 }
 
-up_to_denial : (caller : Asking) (asks : List Ask) → Ends (up_to_denied (map (judged caller) asks)) (first_answer (denial_of caller) asks)
+up_to_denial : (caller : Caller) (asks : List Ask) → Ends (up_to_denied (map (judged caller) asks)) (first_answer (denial_of caller) asks)
 up_to_denial caller [] = refl
 up_to_denial caller (ask ∷ asks) =
     more (judged caller ask) (denial_of caller ask) (up_to_denied (map (judged caller) asks)) (first_answer (denial_of caller) asks) (judges caller ask) (up_to_denial caller asks)
@@ -69,19 +69,19 @@ last_granted : (first : Option Judged) (needs : List Judged) → is_failed first
 last_granted first [] met all = met
 last_granted first (need ∷ needs) met all = let parts = both need.granted (are_granted needs) all in last_granted (Some need) needs (ap not parts.0) parts.1
 
-last_tells : (needs : List Judged) (decided : Option Denied) → Ends needs decided → ends_failed needs ≡ is_some decided
+last_tells : (needs : List Judged) (decided : Option Denial) → Ends needs decided → ends_failed needs ≡ is_some decided
 last_tells needs None ends = last_granted None needs refl ends
 last_tells needs (Some denied) ends = ap ends_failed ends.ends ∙ ap is_failed (last_behind None ends.met (failed denied))
 
-module _ (rows : List Row) (users : Principals) (caller : List ℕ) (op : Op) where
+module _ (rows : List Row) (users : Users) (caller : List ℕ) (op : Op) where
   trail_ends : Ends (trail rows users caller op) (decision rows users caller op)
   trail_ends = up_to_denial (caller_of users caller) (flat_map (asks_of rows) (required_rights op))
 
-pub ends_where_decided : (rows : List Row) (users : Principals) (caller : List ℕ) (op : Op) → ends_failed (trail rows users caller op) ≡ is_some (decision rows users caller op)
+pub ends_where_decided : (rows : List Row) (users : Users) (caller : List ℕ) (op : Op) → ends_failed (trail rows users caller op) ≡ is_some (decision rows users caller op)
 ends_where_decided rows users caller op = last_tells (trail rows users caller op) (decision rows users caller op) (trail_ends rows users caller op)
 
-pub ends_as_denied : (rows : List Row) (users : Principals) (caller : List ℕ) (op : Op) (denied : Denied) → decision rows users caller op ≡ Some denied → EndsAs (trail rows users caller op) denied
+pub ends_as_denied : (rows : List Row) (users : Users) (caller : List ℕ) (op : Op) (denied : Denial) → decision rows users caller op ≡ Some denied → EndsAs (trail rows users caller op) denied
 ends_as_denied rows users caller op denied is = rw is at (trail_ends rows users caller op)
 
-pub granted_where_undenied : (rows : List Row) (users : Principals) (caller : List ℕ) (op : Op) → decision rows users caller op ≡ None → are_granted (trail rows users caller op) ≡ true
+pub granted_where_undenied : (rows : List Row) (users : Users) (caller : List ℕ) (op : Op) → decision rows users caller op ≡ None → are_granted (trail rows users caller op) ≡ true
 granted_where_undenied rows users caller op is = rw is at (trail_ends rows users caller op)

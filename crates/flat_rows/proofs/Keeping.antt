@@ -9,16 +9,16 @@ use Rattle.acl_specs.specs.declared.acl_change.AclChange.{AclChange}
 use Rattle.hdfs_types.specs.declared.reply.Refusal.{Refusal}
 use Rattle.hdfs_types.specs.declared.reply.Refusal.TheVariants.{BadPath, NotFound, IsRoot, UnderItself}
 use Rattle.file_paths.specs.Path.{is_prefix}
-use Rattle.access_lists.specs.AccessControlList.{AccessControlList}
+use Rattle.access_lists.specs.Acl.{Acl}
 use Rattle.partial_acl.specs.AclChange.{acl_change, with_mode}
-use Rattle.principals.specs.Principals.{Principals}
+use Rattle.principals.specs.Users.{Users}
 use Rattle.namespace_rows.specs.declared.row.Row.{Row}
 use Rattle.namespace_rows.specs.declared.file_row.FileRow.{FileRow}
 use Rattle.namespace_rows.specs.declared.row.Change.TheVariants as change
 use Rattle.namespace_rows.specs.Rows.{row_at, is_none, directory_of, ancestor}
 use Rattle.namespace_rows.specs.Namespace.{IsNamespace, is_root}
 use Rattle.flat_rows.specs.Changes.{changed, are_paths}
-use Rattle.flat_rows.specs.Denied as denied
+use Rattle.flat_rows.specs.Denial as denied
 use Rattle.flat_rows.specs.Decision.{decision}
 use Rattle.namespace_rows.specs.Files.{is_open_by, with_replication}
 use Rattle.flat_rows.specs.FileOutcome.{LeaseFacts}
@@ -74,11 +74,11 @@ module _ (client : List ℕ) (rows : List Row) (namespace : IsNamespace rows) wh
   kept_acl path form None = refl
   kept_acl path form (Some row) = by (acl_change form row.kind row.acl)
     where
-      by : (made : Result AccessControlList Refusal) → count (with_list_at path made rows) ≡ count rows
+      by : (made : Result Acl Refusal) → count (with_list_at path made rows) ≡ count rows
       by (Ok acl) = tally_rewritten client path (change.List acl) (λ r. refl) rows
       by (Err refusal) = refl
 
-  module _ (leases : LeaseFacts) (users : Principals) (caller : List ℕ) where
+  module _ (leases : LeaseFacts) (users : Users) (caller : List ℕ) where
     kept_done : (what : Op) → keeps_leases what ≡ true → first_refusal leases caller what rows users ≡ None → count (rows_after leases what caller rows) ≡ count rows
     kept_done (op.Mkdirs path mode) k e = kept_made path mode caller (row_at path rows) refl
     kept_done (op.Rename from to) k e =
@@ -113,6 +113,6 @@ module _ (client : List ℕ) (rows : List Row) (namespace : IsNamespace rows) wh
         by_refusal None e = kept_done what k e
         by_refusal (Some refusal) e = refl
 
-        by_decision : (denial : Option denied.Denied) → count (denied_or_outcome leases rows users caller what denial).rows ≡ count rows
+        by_decision : (denial : Option denied.Denial) → count (denied_or_outcome leases rows users caller what denial).rows ≡ count rows
         by_decision None = by_refusal (first_refusal leases caller what rows users) refl
         by_decision (Some denial) = refl

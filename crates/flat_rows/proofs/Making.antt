@@ -29,7 +29,7 @@ differ e = cc
 
 -- ---- the last of ascending rows
 
-abbrev upto : Row → Row → Bool
+abbrev pub upto : Row → Row → Bool
 upto above row = is_lt (path_cmp row.path above.path) || same_path row.path above.path
 
 first_upto : (above x : Row) (xs : List Row) → is_before_all x xs ≡ true → last_or (Some x) xs ≡ Some above → upto above x ≡ true
@@ -40,14 +40,14 @@ first_upto above x [] low e = or_right (is_lt (path_cmp x.path above.path)) _ (a
 first_upto above x (y ∷ ys) low e =
     or_left _ _ (last_all (λ r. is_lt (path_cmp x.path r.path)) above (y ∷ ys) None (λ r h. cc) low e)
 
-all_upto : (above : Row) (xs : List Row) → is_ascending xs ≡ true → last_or None xs ≡ Some above → list_all (upto above) xs ≡ true
+pub all_upto : (above : Row) (xs : List Row) → is_ascending xs ≡ true → last_or None xs ≡ Some above → list_all (upto above) xs ≡ true
 all_upto above [] up e = refl
 all_upto above (x ∷ []) up e = and _ _ (first_upto above x [] refl e) refl
 all_upto above (x ∷ y ∷ ys) up e =
     let ups = both (is_before_all x (y ∷ ys)) (is_ascending (y ∷ ys)) up in
     and _ _ (first_upto above x (y ∷ ys) ups.0 e) (all_upto above (y ∷ ys) ups.1 e)
 
-not_upto : (above : Row) (name : List ℕ) (row : Row) → row.path ≡ above.path ++ name ∷ [] → upto above row ≡ false
+pub not_upto : (above : Row) (name : List ℕ) (row : Row) → row.path ≡ above.path ++ name ∷ [] → upto above row ≡ false
 not_upto above name row e = by (is_lt (path_cmp row.path above.path)) (same_path row.path above.path) refl refl
   where
     longer : path_cmp above.path row.path ≡ Less
@@ -63,7 +63,7 @@ not_upto above name row e = by (is_lt (path_cmp row.path above.path)) (same_path
 
 -- ---- the first component that is missing
 
-beneath_more : (p : List (List ℕ)) (n : List ℕ) (ns : List (List ℕ)) (next : List ℕ) → is_beneath (p ++ n ∷ next ∷ ns) (p ++ n ∷ []) ≡ true
+pub beneath_more : (p : List (List ℕ)) (n : List ℕ) (ns : List (List ℕ)) (next : List ℕ) → is_beneath (p ++ n ∷ next ∷ ns) (p ++ n ∷ []) ≡ true
 beneath_more [] n ns next = and _ _ (same_self n) refl
 beneath_more (m ∷ ms) n ns next = and _ _ (same_self m) (beneath_more ms n ns next)
 

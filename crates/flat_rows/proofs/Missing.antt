@@ -44,7 +44,7 @@ missing_any path (r ∷ rs) = by (at path r) (missing_any path rs)
     by true e = refl
     by false e = e
 
-child_shorter : (q a : List (List ℕ)) → is_child q a ≡ true → suc (length a) ≤ length q
+pub child_shorter : (q a : List (List ℕ)) → is_child q a ≡ true → suc (length a) ≤ length q
 child_shorter [] a c = cc
 child_shorter (n ∷ []) [] c = omega arith
 child_shorter (n ∷ m ∷ ms) [] c = cc

@@ -8,8 +8,8 @@ use Rattle.file_paths.specs.Path.{is_prefix, is_beneath}
 use Rattle.file_paths.specs.PathOrder.{path_cmp, same_path, paths_total}
 use Rattle.hdfs_texts.proofs.Texts.{same_is, same_self}
 use Rattle.hdfs_types.specs.declared.reply.ObjectKind.TheVariants.{File}
-use Rattle.access_lists.specs.AccessControlList.{AccessControlList, EntryList, suits_file}
-use Rattle.default_acl.specs.Inheritance.{inherited, inherited_from}
+use Rattle.access_lists.specs.Acl.{Acl, EntryList, suits_file}
+use Rattle.default_acl.specs.Inheritance.{inherited_acl, acl_from_default}
 use Rattle.namespace_rows.specs.declared.file_row.FileRow.{FileRow}
 use Rattle.namespace_rows.specs.declared.row.Row.{Row}
 use Rattle.namespace_rows.specs.First.{first}
@@ -122,11 +122,11 @@ ancestor_above path rows above found =
 
 -- what is made suits its kind
 
-new_suits : (above : AccessControlList) (mode : ℕ) (file : Option FileRow) → suits_parts (is_directory_kind (kind_of_new file)) (inherited above mode (kind_of_new file)) file ≡ true
+new_suits : (above : Acl) (mode : ℕ) (file : Option FileRow) → suits_parts (is_directory_kind (kind_of_new file)) (inherited_acl above mode (kind_of_new file)) file ≡ true
 new_suits above mode None = refl
 new_suits above mode (Some file) = by above.default
   where
-    by : (default : Option EntryList) → suits_file (inherited_from default mode File) ≡ true
+    by : (default : Option EntryList) → suits_file (acl_from_default default mode File) ≡ true
     by None = refl
     by (Some list) = refl
 

@@ -5,7 +5,7 @@ use Rattle.std.specs.List.{list_all}
 use Rattle.std.specs.Option.{option_map}
 use Rattle.file_paths.specs.Path.{is_path, is_prefix}
 use Rattle.file_paths.specs.PathOrder.{same_path}
-use Rattle.access_lists.specs.AccessControlList.{suits_file}
+use Rattle.access_lists.specs.Acl.{suits_file}
 use Rattle.namespace_rows.specs.declared.row.Row.{Row}
 use Rattle.namespace_rows.specs.declared.row.Change.{Change}
 use Rattle.namespace_rows.specs.declared.row.Change.TheVariants as change

@@ -5,7 +5,7 @@ use Rattle.std.specs.Prelude.{ℕ, Bool, true, List, [], ◌∷◌, if◌then◌
 use Rattle.std.specs.List.{flat_map}
 use Rattle.std.specs.Option.{option_to_list}
 use Rattle.hdfs_types.specs.declared.op.Op.{Op}
-use Rattle.principals.specs.Principals.{Principals, Asking, caller_of}
+use Rattle.principals.specs.Users.{Users, Caller, caller_of}
 use Rattle.namespace_rows.specs.declared.row.Row.{Row}
 use Rattle.required_rights.specs.declared.need.Need.{Need}
 use Rattle.required_rights.specs.declared.need.By.TheVariants as by
@@ -17,7 +17,7 @@ use Rattle.flat_rows.specs.declared.trail.Judged.{Judged}
 use Rattle.namespace_rows.specs.First.{first_answer}
 use Rattle.namespace_rows.specs.Rows.{is_missing, has_directory, has_file, has_sticky_parent, has_other_owner, row_at, directories_above, directories_beneath, ancestor, directory_of, owner_above}
 use Rattle.required_rights.specs.RequiredRights.{Demand, required_rights}
-use Rattle.flat_rows.specs.Denied.{Decided, Denied, deciding, denial_at}
+use Rattle.flat_rows.specs.Denial.{Decided, Denial, deciding, denial_at}
 
 -- the rows of the components that have a role on a path, in path order
 abbrev pub rows_in_role : Role → List (List ℕ) → List Row → List Row
@@ -52,20 +52,20 @@ abbrev pub asks_of : List Row → Demand → List Ask
 asks_of rows demand = map (ask_at rows demand.need) (components rows demand)
 
 -- a superuser meets every need
-abbrev pub decided : Asking → Ask → Decided
+abbrev pub decided : Caller → Ask → Decided
 decided caller ask = if caller.is_superuser then record { by = by.Superuser; granted = true } else deciding ask.need ask.row ask.above caller.name caller.groups
 
-abbrev pub denial_of : Asking → Ask → Option Denied
+abbrev pub denial_of : Caller → Ask → Option Denial
 denial_of caller ask = if caller.is_superuser then None else denial_at ask.need ask.row ask.above caller.name caller.groups
 
 -- the first denial that demands meet
-abbrev pub denial_among : List Row → Asking → List Demand → Option Denied
+abbrev pub denial_among : List Row → Caller → List Demand → Option Denial
 denial_among rows caller demands = first_answer (denial_of caller) (flat_map (asks_of rows) demands)
 
-abbrev pub decision : List Row → Principals → List ℕ → Op → Option Denied
+abbrev pub decision : List Row → Users → List ℕ → Op → Option Denial
 decision rows users caller op = denial_among rows (caller_of users caller) (required_rights op)
 
-abbrev pub judged : Asking → Ask → Judged
+abbrev pub judged : Caller → Ask → Judged
 judged caller ask = let what = decided caller ask in record { path = ask.row.path; need = ask.need; by = what.by; granted = what.granted }
 
 -- up to the first that isn't granted
@@ -74,5 +74,5 @@ up_to_denied [] = []
 up_to_denied (need ∷ needs) = need ∷ (if need.granted then up_to_denied needs else [])
 
 -- the needs that are judged, in their order, up to the first that fails
-abbrev pub trail : List Row → Principals → List ℕ → Op → List Judged
+abbrev pub trail : List Row → Users → List ℕ → Op → List Judged
 trail rows users caller op = up_to_denied (map (judged (caller_of users caller)) (flat_map (asks_of rows) (required_rights op)))

@@ -1,11 +1,11 @@
 -- How a denial and a judged need are printed.
 use Rattle.std.specs.Prelude.{ℕ, List, ◌∷◌, ◌++◌, codes, if◌then◌else◌}
 use Rattle.file_paths.specs.Path.{path_text}
-use Rattle.flat_rows.specs.Denied.{Denied}
+use Rattle.flat_rows.specs.Denial.{Denial}
 use Rattle.flat_rows.specs.declared.trail.Judged.{Judged}
 use Rattle.required_rights.specs.NeedText.{need_text, by_text}
 
-abbrev pub denial_text : Denied → List ℕ
+abbrev pub denial_text : Denial → List ℕ
 denial_text denial = path_text denial.row.path ++ (32 ∷ (need_text denial.need ++ (codes " by " ++ by_text denial.by)))
 
 abbrev pub judged_text : Judged → List ℕ

@@ -2,14 +2,14 @@
 use Rattle.std.specs.Prelude.{◌≡◌, Bool, true, false, not, List, [], ◌∷◌, ◌++◌, Option, Some, None}
 use Rattle.std.specs.List.{list_all, last_or}
 use Rattle.flat_rows.specs.declared.trail.Judged.{Judged}
-use Rattle.flat_rows.specs.Denied.{Denied}
+use Rattle.flat_rows.specs.Denial.{Denial}
 
 -- each of the needs is met
 abbrev pub are_granted : List Judged → Bool
 are_granted needs = list_all (λ need. need.granted) needs
 
 -- the need of a denial, as it is judged
-abbrev pub failed : Denied → Judged
+abbrev pub failed : Denial → Judged
 failed denied = record { path = denied.row.path; need = denied.need; by = denied.by; granted = false }
 
 abbrev pub is_failed : Option Judged → Bool
@@ -21,7 +21,7 @@ abbrev pub ends_failed : List Judged → Bool
 ends_failed needs = is_failed (last_or None needs)
 
 -- all needs are met but the last, which is that of the denial
-pub record EndsAs (needs : List Judged) (denied : Denied) : Type 0 where
+pub record EndsAs (needs : List Judged) (denied : Denial) : Type 0 where
   pub met : List Judged
   pub granted : are_granted met ≡ true
   pub ends : needs ≡ met ++ failed denied ∷ []

@@ -1,8 +1,9 @@
-pub mod Denied
+pub mod Denial
 pub mod DenialText
 pub mod Decision
 pub mod Laws
 pub mod Kept
 pub mod Changes
+pub mod Verdicts
 pub mod FileOutcome
 pub mod Outcome

@@ -16,11 +16,11 @@ use Rattle.hdfs_types.specs.declared.reply.Reply.{Reply}
 use Rattle.hdfs_types.specs.declared.reply.Reply.TheVariants as reply
 use Rattle.hdfs_types.specs.declared.reply.Refusal.{Refusal}
 use Rattle.hdfs_types.specs.declared.reply.Refusal.TheVariants.{BadPath, NotFound, NotDirectory, Exists, NotEmpty, IsRoot, UnderItself, NoLease, TooFewNodes}
-use Rattle.access_lists.specs.AccessControlList.{AccessControlList, shown_mode, has_acl, entries}
+use Rattle.access_lists.specs.Acl.{Acl, shown_mode, has_acl, entries}
 use Rattle.acl_entries.specs.SpecText.{spec_text}
 use Rattle.partial_acl.specs.AclChange.{acl_change, with_mode}
-use Rattle.default_acl.specs.Inheritance.{inherited}
-use Rattle.principals.specs.Principals.{Principals, refusal_of_new, refusal_of_known, with_user, with_groups}
+use Rattle.default_acl.specs.Inheritance.{inherited_acl}
+use Rattle.principals.specs.Users.{Users, refusal_of_new, refusal_of_known, with_user, with_groups}
 use Rattle.namespace_rows.specs.declared.row.Row.{Row}
 use Rattle.flat_rows.specs.declared.verdict.Verdict.{Verdict}
 use Rattle.flat_rows.specs.declared.verdict.Verdict.TheVariants.{Done, Denied, Refused}
@@ -32,14 +32,14 @@ use Rattle.namespace_rows.specs.declared.row.Change.TheVariants as change
 use Rattle.flat_rows.specs.Changes.{rows_under, child_names, last_name, without, moved_row, moved, rewritten, are_paths}
 use Rattle.namespace_rows.specs.Files.{new_file, has_open_file}
 use Rattle.flat_rows.specs.FileOutcome.{LeaseFacts, directory_there, file_there, of_file, refused_takeover, refused_write, refused_commit, detail_of_row, bytes_of, bytes_at, appended_reply, holder_at, state_after_append, is_expired, closed_where_expired}
-use Rattle.flat_rows.specs.Denied as denied
+use Rattle.flat_rows.specs.Denial as denied
 use Rattle.flat_rows.specs.Decision.{decision}
 
 -- what is answered, and the rows and users after it
 pub record Step : Type 0 where
   pub verdict : Verdict
   pub rows : List Row
-  pub users : Principals
+  pub users : Users
 
 -- a file stands above the path
 abbrev pub beneath_file : List (List ℕ) → List Row → Option Refusal
@@ -90,7 +90,7 @@ abbrev pub rows_moved : List (List ℕ) → List (List ℕ) → List Row → Lis
 rows_moved from to rows = map (moved_row from to) (rows_under from rows)
 
 -- the first refusal that applies
-abbrev pub first_refusal : LeaseFacts → List ℕ → Op → List Row → Principals → Option Refusal
+abbrev pub first_refusal : LeaseFacts → List ℕ → Op → List Row → Users → Option Refusal
 first_refusal leases caller (op.Mkdirs path mode) rows users = first_some (beneath_file path rows ∷ file_at (row_at path rows) ∷ [])
 first_refusal leases caller (op.Stat path) rows users = refusal_of_missing path rows
 first_refusal leases caller (op.List path) rows users = refusal_of_missing path rows
@@ -185,9 +185,9 @@ kind_of_new None = Directory
 kind_of_new (Some file) = File
 
 -- what is made in a directory with this access control list inherits from it
-abbrev pub new_at : AccessControlList → List ℕ → List ℕ → ℕ → Option FileRow → List (List ℕ) → Row
+abbrev pub new_at : Acl → List ℕ → List ℕ → ℕ → Option FileRow → List (List ℕ) → Row
 new_at above group owner mode file path =
-    record { path = path; kind = kind_of_new file; owner = owner; group = group; acl = inherited above mode (kind_of_new file); file = file }
+    record { path = path; kind = kind_of_new file; owner = owner; group = group; acl = inherited_acl above mode (kind_of_new file); file = file }
 
 -- a new row has its parent's group
 abbrev pub new_row : Row → List ℕ → ℕ → Option FileRow → List ℕ → Row
@@ -219,7 +219,7 @@ with_owner_at path owner group None rows = rows
 with_owner_at path owner group (Some row) rows = rewritten path (change.Owner (unwrap_or owner row.owner) (unwrap_or group row.group)) rows
 
 -- the rows with the access control list of what stands at a path changed
-abbrev pub with_list_at : List (List ℕ) → Result AccessControlList Refusal → List Row → List Row
+abbrev pub with_list_at : List (List ℕ) → Result Acl Refusal → List Row → List Row
 with_list_at path (Ok acl) rows = rewritten path (change.List acl) rows
 with_list_at path (Err refusal) rows = rows
 
@@ -249,7 +249,7 @@ rows_after leases (op.SetReplication path replication) caller rows = rewritten p
 rows_after leases op.Renew caller rows = rows
 rows_after leases op.Tick caller rows = map (closed_where_expired leases) rows
 
-abbrev pub users_after : Op → Principals → Principals
+abbrev pub users_after : Op → Users → Users
 users_after (op.AddUser user groups) users = with_user users user groups
 users_after (op.SetGroups user groups) users = with_groups users user groups
 users_after (op.Mkdirs path mode) users = users
@@ -271,18 +271,18 @@ users_after (op.SetReplication path replication) users = users
 users_after op.Renew users = users
 users_after op.Tick users = users
 
-abbrev pub refused_or_done : LeaseFacts → List Row → Principals → List ℕ → Op → Option Refusal → Step
+abbrev pub refused_or_done : LeaseFacts → List Row → Users → List ℕ → Op → Option Refusal → Step
 refused_or_done leases rows users caller op None = record { verdict = Done (reply_of leases op rows); rows = rows_after leases op caller rows; users = users_after op users }
 refused_or_done leases rows users caller op (Some refusal) = record { verdict = Refused refusal; rows = rows; users = users }
 
 -- a refusal leaves rows and users as they are
-abbrev pub outcome : LeaseFacts → List Row → Principals → List ℕ → Op → Step
+abbrev pub outcome : LeaseFacts → List Row → Users → List ℕ → Op → Step
 outcome leases rows users caller op = refused_or_done leases rows users caller op (first_refusal leases caller op rows users)
 
-abbrev pub denied_or_outcome : LeaseFacts → List Row → Principals → List ℕ → Op → Option denied.Denied → Step
+abbrev pub denied_or_outcome : LeaseFacts → List Row → Users → List ℕ → Op → Option denied.Denial → Step
 denied_or_outcome leases rows users caller op None = outcome leases rows users caller op
 denied_or_outcome leases rows users caller op (Some denial) = record { verdict = Denied denial; rows = rows; users = users }
 
 -- the decision first, and then the outcome
-abbrev pub step : LeaseFacts → List Row → Principals → List ℕ → Op → Step
+abbrev pub step : LeaseFacts → List Row → Users → List ℕ → Op → Step
 step leases rows users caller op = denied_or_outcome leases rows users caller op (decision rows users caller op)

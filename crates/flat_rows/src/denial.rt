@@ -1,5 +1,5 @@
 ghost use Rattle.std.specs.Prelude.{◌≡◌, false, Some, IfOk};
-ghost use Rattle.flat_rows.specs.Denied.{IsDenied, deciding, denial_at};
+ghost use Rattle.flat_rows.specs.Denial.{IsDenied, deciding, denial_at};
 
 use file_paths::path::Path;
 use namespace_rows::row::Row;
@@ -12,20 +12,32 @@ use std::marker::Model;
 
 /// A need that failed: what was needed, what decided, the row of the component, and for whom it was judged. The row,
 /// judged for the caller with these groups, is what denies the need, so a denial carries its own evidence (HDFS Permissions
-/// Guide, "Permission Checks").
+/// Guide, "Permission Checks"). It keeps its evidence in a box: most verdicts are no denials, and are moved about.
 #[derive(Drop)]
 pub struct Denial {
+    evidence: Box<Evidence>,
+}
+
+/// The row of the component, and what the denial says beside it.
+#[derive(Drop)]
+struct Evidence {
+    row: Row,
+    cause: Cause,
+}
+
+/// What a denial says beside the row.
+#[derive(Drop)]
+struct Cause {
     need: Need,
     by: By,
-    row: Row,
     caller: Who,
     groups: Groups,
 }
 
 impl Model for Denial {
-    ghost use Rattle.flat_rows.specs.Denied.{Denied, IsDenied};
+    ghost use Rattle.flat_rows.specs.Denial.{Denial, IsDenied};
 
-    ghost Value = { Denied };
+    ghost Value = { Denial };
 
     ghost use Rattle.flat_rows.specs.Kept.{denied_of};
 
@@ -70,15 +82,6 @@ pub fn by_of(
     }
 }
 
-/// What a denial says beside the row.
-#[derive(Drop)]
-struct Cause {
-    need: Need,
-    by: By,
-    caller: Who,
-    groups: Groups,
-}
-
 /// What the denial of the need at the row says beside it, for a caller with these groups who is no superuser.
 fn cause_at(
     alloc: Global,
@@ -115,65 +118,48 @@ impl Denial {
             return Ok(None);
         }
         let cause = cause_at(alloc, need, &row, above, caller, groups)?;
-        Ok(Some(Denial {
-            need: cause.need,
-            by: cause.by,
-            row,
-            caller: cause.caller,
-            groups: cause.groups,
-        }))
-    }
-
-    /// A copy of what the denial says beside the row.
-    fn cause(&self) -> Result<Cause, AllocError>
-        ensures { IfOk result (λ cause. cause ≡ record { need = self.now.need; by = self.now.by; caller = self.now.caller; groups = self.now.groups }) }
-    {
-        Ok(Cause {
-            caller: self.caller.clone()?,
-            groups: self.groups.clone()?,
-            need: self.need.clone()?,
-            by: self.by.clone()?,
-        })
+        let evidence = Box::new(alloc, Evidence { row, cause })?;
+        Ok(Some(Denial { evidence }))
     }
 
     /// The path of the component at which the need failed.
     pub fn path(&self) -> &Path
         ensures { result.now ≡ self.now.row.path }
     {
-        &self.row.path
+        &self.evidence.row.path
     }
 
     pub fn need(&self) -> &Need
         ensures { result.now ≡ self.now.need }
     {
-        &self.need
+        &self.evidence.cause.need
     }
 
     /// What decided.
     pub fn by(&self) -> &By
         ensures { result.now ≡ self.now.by }
     {
-        &self.by
+        &self.evidence.cause.by
     }
 
     /// The row of the component, as it was when it was judged.
     pub fn row(&self) -> &Row
         ensures { result.now ≡ self.now.row }
     {
-        &self.row
+        &self.evidence.row
     }
 
     pub fn caller(&self) -> &Who
         ensures { result.now ≡ self.now.caller }
     {
-        &self.caller
+        &self.evidence.cause.caller
     }
 
     /// The groups that the caller had.
     pub fn groups(&self) -> &[Who]
         ensures { result.now ≡ self.now.groups }
     {
-        self.groups.as_slice()
+        self.evidence.cause.groups.as_slice()
     }
 }
 
@@ -182,31 +168,51 @@ pub fn granted(denial: &Denial) -> bool
     ensures never { result ≡ false }
     ensures evidence { IsDenied denial.now }
 {
-    let above = match &denial.by {
+    let cause = &denial.evidence.cause;
+    let above = match &cause.by {
         By::Owners(_, above) => above,
-        _ => &denial.caller,
+        _ => &cause.caller,
     };
     is_met(
-        &denial.need,
-        &denial.row,
+        &cause.need,
+        &denial.evidence.row,
         above,
-        &denial.caller,
-        denial.groups.as_slice(),
+        &cause.caller,
+        cause.groups.as_slice(),
     )
+}
+
+impl Clone for Cause {
+    ghost is_clone = { λ cause copy. copy ≡ cause };
+
+    fn clone(&self) -> Result<Cause, AllocError> {
+        Ok(Cause {
+            caller: self.caller.clone()?,
+            groups: self.groups.clone()?,
+            need: self.need.clone()?,
+            by: self.by.clone()?,
+        })
+    }
+}
+
+impl Clone for Evidence {
+    ghost is_clone = { λ evidence copy. copy ≡ evidence };
+
+    fn clone(&self) -> Result<Evidence, AllocError> {
+        let cause = self.cause.clone()?;
+        Ok(Evidence {
+            row: self.row.clone()?,
+            cause,
+        })
+    }
 }
 
 impl Clone for Denial {
     ghost is_clone = { λ denial copy. copy ≡ denial };
 
     fn clone(&self) -> Result<Denial, AllocError> {
-        let cause = self.cause()?;
-        let row = self.row.clone()?;
         Ok(Denial {
-            need: cause.need,
-            by: cause.by,
-            row,
-            caller: cause.caller,
-            groups: cause.groups,
+            evidence: self.evidence.clone()?,
         })
     }
 }
@@ -218,9 +224,9 @@ impl fmt::Display for Denial {
     ghost output = { λ denial. Some (denial_text denial) };
 
     fn fmt<W: fmt::Write>(&self, f: &mut fmt::Formatter<W>) -> fmt::Result {
-        let path = &self.row.path;
-        let need = &self.need;
-        let by = &self.by;
+        let path = &self.evidence.row.path;
+        let need = &self.evidence.cause.need;
+        let by = &self.evidence.cause.by;
         write!(f, "{path} {need} by {by}")
     }
 }

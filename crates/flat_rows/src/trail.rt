@@ -1,9 +1,9 @@
 ghost use Rattle.std.specs.Prelude.{◌≡◌, ℕ, true, List, Some, None, IfOk, map};
 ghost use Rattle.std.specs.Option.{is_some};
 ghost use Rattle.hdfs_types.specs.declared.op.Op as asked;
-ghost use Rattle.principals.specs.Principals.{Principals};
+ghost use Rattle.principals.specs.Users.{Users};
 ghost use Rattle.namespace_rows.specs.declared.row.Row.{Row};
-ghost use Rattle.flat_rows.specs.Denied.{Denied};
+ghost use Rattle.flat_rows.specs.Denial.{Denial};
 ghost use Rattle.flat_rows.specs.Decision as spec;
 ghost use Rattle.flat_rows.specs.Laws as law;
 
@@ -113,7 +113,7 @@ pub fn trail(
 /// A trail ends as the decision: its last need isn't met exactly where the decision is a denial. Then component, need and
 /// what decided are those of the denial, and all needs before are met; where nothing is denied, all are.
 pub fn trails_end_as_decisions()
-    ensures fails { (rows : List Row) (users : Principals) (caller : List ℕ) (op : asked.Op) → law.ends_failed (spec.trail rows users caller op) ≡ is_some (spec.decision rows users caller op) }
-    ensures denied { (rows : List Row) (users : Principals) (caller : List ℕ) (op : asked.Op) (denied : Denied) → spec.decision rows users caller op ≡ Some denied → law.EndsAs (spec.trail rows users caller op) denied }
-    ensures granted { (rows : List Row) (users : Principals) (caller : List ℕ) (op : asked.Op) → spec.decision rows users caller op ≡ None → law.are_granted (spec.trail rows users caller op) ≡ true }
+    ensures fails { (rows : List Row) (users : Users) (caller : List ℕ) (op : asked.Op) → law.ends_failed (spec.trail rows users caller op) ≡ is_some (spec.decision rows users caller op) }
+    ensures denied { (rows : List Row) (users : Users) (caller : List ℕ) (op : asked.Op) (denied : Denial) → spec.decision rows users caller op ≡ Some denied → law.EndsAs (spec.trail rows users caller op) denied }
+    ensures granted { (rows : List Row) (users : Users) (caller : List ℕ) (op : asked.Op) → spec.decision rows users caller op ≡ None → law.are_granted (spec.trail rows users caller op) ≡ true }
 {}

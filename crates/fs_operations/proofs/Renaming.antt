@@ -7,7 +7,7 @@ use Rattle.file_paths.specs.PathOrder.{same_path}
 use Rattle.hdfs_texts.proofs.Texts.{same_self}
 use Rattle.hdfs_types.specs.declared.op.Op.TheVariants.{Rename}
 use Rattle.hdfs_types.specs.declared.reply.Refusal.{Refusal}
-use Rattle.principals.specs.Principals.{Principals}
+use Rattle.principals.specs.Users.{Users}
 use Rattle.namespace_rows.specs.declared.row.Row.{Row}
 use Rattle.namespace_rows.specs.First.{first}
 use Rattle.namespace_rows.specs.Rows.{is_directory, is_none, is_missing, row_at, if_directory, directory_of}
@@ -52,7 +52,7 @@ pub record Free (from to : List (List ℕ)) (rows : List Row) : Type 0 where
   pub beside : not (is_prefix from to) ≡ true
   pub within : are_paths (rows_moved from to rows) ≡ true
 
-pub unrefused_rename : (leases : LeaseFacts) (caller : List ℕ) (from to : List (List ℕ)) (rows : List Row) (users : Principals) → first_refusal leases caller (Rename from to) rows users ≡ None → Free from to rows
+pub unrefused_rename : (leases : LeaseFacts) (caller : List ℕ) (from to : List (List ℕ)) (rows : List Row) (users : Users) → first_refusal leases caller (Rename from to) rows users ≡ None → Free from to rows
 unrefused_rename leases caller from to rows users h =
     let a = neither _ _ h in
     let b = neither (beneath_file from rows) _ a.1 in

@@ -10,7 +10,7 @@ use Rattle.hdfs_texts.specs.declared.fault.AclFault.TheVariants.{DefaultOnFile, 
 use Rattle.hdfs_types.specs.declared.reply.ObjectKind.{ObjectKind}
 use Rattle.hdfs_types.specs.declared.reply.ObjectKind.TheVariants.{File, Directory}
 use Rattle.hdfs_types.specs.declared.reply.Refusal.TheVariants.{TooManyEntries}
-use Rattle.access_lists.specs.AccessControlList.{AccessControlList, EntryList, suits_file}
+use Rattle.access_lists.specs.Acl.{Acl, EntryList, suits_file}
 use Rattle.partial_acl.specs.AclChange.{acl_change, acl_after, unless_fault, first_acl_fault, lacks_base, removes_base, removes_mask, touches, spec_in, default_after, access_after, with_mode}
 use Rattle.namespace_rows.specs.declared.row.Row.{Row}
 use Rattle.namespace_rows.specs.declared.file_row.FileRow.{FileRow}
@@ -23,7 +23,7 @@ use Rattle.inode_visits.specs.Tree.{IsTree}
 use Rattle.perm_walk.proofs.Standing.{row_suits}
 
 -- a list suits a file or a directory
-abbrev suits : ObjectKind → AccessControlList → Bool
+abbrev suits : ObjectKind → Acl → Bool
 suits File acl = suits_file acl
 suits Directory acl = true
 
@@ -35,22 +35,22 @@ own_suits row h = by row.kind row.file h
     by File (Some file) h = h
     by Directory file h = refl
 
-suited_list : (row : Row) (acl : AccessControlList) → suits row.kind acl ≡ true → suits_change (given.List acl) (Some row) ≡ true
+suited_list : (row : Row) (acl : Acl) → suits row.kind acl ≡ true → suits_change (given.List acl) (Some row) ≡ true
 suited_list row acl h = by row.kind h
   where
     by : (kind : ObjectKind) → suits kind acl ≡ true → (is_directory_kind kind || suits_file acl) ≡ true
     by File h = h
     by Directory h = refl
 
-mode_suits : (mode : ℕ) (kind : ObjectKind) (acl : AccessControlList) → suits kind acl ≡ true → suits kind (with_mode mode kind acl) ≡ true
+mode_suits : (mode : ℕ) (kind : ObjectKind) (acl : Acl) → suits kind acl ≡ true → suits kind (with_mode mode kind acl) ≡ true
 mode_suits mode File acl h = (both (not acl.sticky) (is_none acl.default) h).1
 mode_suits mode Directory acl h = refl
 
-fitting : (b : Bool) (acl new : AccessControlList) → cond b (Ok acl) (Err TooManyEntries) ≡ Ok new → acl ≡ new
+fitting : (b : Bool) (acl new : Acl) → cond b (Ok acl) (Err TooManyEntries) ≡ Ok new → acl ≡ new
 fitting true acl new h = cc
 fitting false acl new h = cc
 
-accepted : (fault : Option AclFault) (acl new : AccessControlList) → unless_fault fault acl ≡ Ok new → acl ≡ new
+accepted : (fault : Option AclFault) (acl new : Acl) → unless_fault fault acl ≡ Ok new → acl ≡ new
 accepted (Some fault) acl new h = cc
 accepted None acl new h = fitting _ acl new h
 
@@ -61,16 +61,16 @@ untouched (Remove spec) access default h none = rw h none
 untouched RemoveDefault access default h none = refl
 untouched Clear access default h none = refl
 
-abbrev other_fault : AclChange → AccessControlList → Option AclFault
+abbrev other_fault : AclChange → Acl → Option AclFault
 other_fault change acl =
     if lacks_base change then Some NoBase else
     if removes_base change then Some BaseRemoved else
     if removes_mask change acl.access then Some MaskRemoved else None
 
-refused : (fault : AclFault) (acl new : AccessControlList) → unless_fault (Some fault) acl ≡ Ok new → suits_file new ≡ true
+refused : (fault : AclFault) (acl new : Acl) → unless_fault (Some fault) acl ≡ Ok new → suits_file new ≡ true
 refused fault acl new h = cc
 
-change_suits : (change : AclChange) (kind : ObjectKind) (acl new : AccessControlList) → suits kind acl ≡ true → acl_change change kind acl ≡ Ok new → suits kind new ≡ true
+change_suits : (change : AclChange) (kind : ObjectKind) (acl new : Acl) → suits kind acl ≡ true → acl_change change kind acl ≡ Ok new → suits kind new ≡ true
 change_suits change Directory acl new h is = refl
 change_suits change File acl new h is = by (touches Default (spec_in change)) refl
   where
@@ -82,13 +82,13 @@ change_suits change File acl new h is = by (touches Default (spec_in change)) re
     by false e = subst (λ a. suits_file a ≡ true) (accepted (first_acl_fault change File acl) (acl_after change acl) new is)
         (and _ _ parts.0 (untouched change (access_after change acl.access) acl.default e parts.1))
 
-pub list_of_mode_suits : (mode : ℕ) (path : List (List ℕ)) (rows : List Row) (row : Row) (acl : AccessControlList) → IsTree rows → row_at path rows ≡ Some row → acl ≡ with_mode mode row.kind row.acl
+pub list_of_mode_suits : (mode : ℕ) (path : List (List ℕ)) (rows : List Row) (row : Row) (acl : Acl) → IsTree rows → row_at path rows ≡ Some row → acl ≡ with_mode mode row.kind row.acl
     → suits_change (given.List acl) (row_at path rows) ≡ true
 list_of_mode_suits mode path rows row acl tree is made =
     ap (suits_change (given.List acl)) is ∙ ap (λ a. suits_change (given.List a) (Some row)) made
     ∙ suited_list row (with_mode mode row.kind row.acl) (mode_suits mode row.kind row.acl (own_suits row (row_suits path rows row tree is)))
 
-pub changed_list_suits : (change : AclChange) (path : List (List ℕ)) (rows : List Row) (row : Row) (acl : AccessControlList) → IsTree rows → row_at path rows ≡ Some row → acl_change change row.kind row.acl ≡ Ok acl
+pub changed_list_suits : (change : AclChange) (path : List (List ℕ)) (rows : List Row) (row : Row) (acl : Acl) → IsTree rows → row_at path rows ≡ Some row → acl_change change row.kind row.acl ≡ Ok acl
     → suits_change (given.List acl) (row_at path rows) ≡ true
 changed_list_suits change path rows row acl tree is made =
     ap (suits_change (given.List acl)) is ∙ suited_list row acl (change_suits change row.kind row.acl acl (own_suits row (row_suits path rows row tree is)) made)

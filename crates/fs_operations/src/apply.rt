@@ -46,7 +46,7 @@ fn tell(
     }
 }
 
-/// Decides an operation with its needs, and does it where no need fails and nothing stands against it.
+/// Decides an operation with its needs, and does it where no need fails and nothing refuses it.
 fn perform(
     alloc: Global,
     tree: &mut Tree,
@@ -82,14 +82,14 @@ fn perform(
     }
 }
 
-/// Decides a request that leaves leases as they are, and does it where no need fails and nothing stands against it: first the
+/// Decides a request that leaves leases as they are, and does it where no need fails and nothing refuses it: first the
 /// first need that fails, then the first refusal of the operation's list, then done. A denied or refused request changes nothing.
 /// Costs the paths that it names, one look-up in a map for each name; `stat` and `open` also the blocks of the file, `ls` what is
 /// listed, `du` the sub-tree with its blocks, and `rename` the sub-tree only where the new path is deeper or longer (HDFS
 /// Architecture, "The File System Namespace"; HDFS Permissions Guide, "Permission Checks").
 ///
 /// # Errors
-/// Want of memory, and nothing has changed.
+/// Out of memory; nothing has changed.
 pub fn apply(
     alloc: Global,
     tree: &mut Tree,
@@ -107,7 +107,7 @@ pub fn apply(
 /// Answers a look, which changes nothing, over what is lent: as `apply` does.
 ///
 /// # Errors
-/// Want of memory.
+/// Out of memory.
 pub fn answer_look(
     alloc: Global,
     tree: &Tree,

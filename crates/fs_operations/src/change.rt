@@ -1,5 +1,5 @@
 ghost use Rattle.std.specs.Prelude.{◌≡◌, ℕ, List, IfOk, OnErr, unwrap_or};
-ghost use Rattle.principals.specs.Principals.{Principals, caller_of};
+ghost use Rattle.principals.specs.Users.{Users, caller_of};
 ghost use Rattle.partial_acl.specs.AclChange.{acl_change};
 ghost use Rattle.flat_rows.specs.FileOutcome.{LeaseFacts};
 ghost use Rattle.flat_rows.specs.Outcome as spec;
@@ -42,7 +42,7 @@ pub(crate) fn mkdirs(
     mode: Mode,
 ) -> Result<Verdict, AllocError>
     requires { AreOn path.now needs.now }
-    ensures ok { (leases : LeaseFacts) (users : Principals) → IfOk result (λ verdict. record { verdict = verdict; rows = tree.new; users = users } ≡ judged_step leases tree.old users caller.now needs.now (Op.Mkdirs path.now mode)) }
+    ensures ok { (leases : LeaseFacts) (users : Users) → IfOk result (λ verdict. record { verdict = verdict; rows = tree.new; users = users } ≡ judged_step leases tree.old users caller.now needs.now (Op.Mkdirs path.now mode)) }
     ensures err { OnErr result (tree.new ≡ tree.old) }
 {
     let reach = match walk_along(alloc, tree, caller, needs, path)? {
@@ -72,7 +72,7 @@ pub(crate) fn set_mode(
     mode: Mode,
 ) -> Result<Verdict, AllocError>
     requires { AreOn path.now needs.now }
-    ensures ok { (leases : LeaseFacts) (users : Principals) → IfOk result (λ verdict. record { verdict = verdict; rows = tree.new; users = users } ≡ judged_step leases tree.old users caller.now needs.now (Op.SetMode path.now mode)) }
+    ensures ok { (leases : LeaseFacts) (users : Users) → IfOk result (λ verdict. record { verdict = verdict; rows = tree.new; users = users } ≡ judged_step leases tree.old users caller.now needs.now (Op.SetMode path.now mode)) }
     ensures err { OnErr result (tree.new ≡ tree.old) }
 {
     let reach = match walk_along(alloc, tree, caller, needs, path)? {
@@ -116,7 +116,7 @@ pub(crate) fn set_acl(
     change: &AclChange,
 ) -> Result<Verdict, AllocError>
     requires { AreOn path.now needs.now }
-    ensures ok { (leases : LeaseFacts) (users : Principals) → IfOk result (λ verdict. record { verdict = verdict; rows = tree.new; users = users } ≡ judged_step leases tree.old users caller.now needs.now (Op.SetAcl path.now change.now)) }
+    ensures ok { (leases : LeaseFacts) (users : Users) → IfOk result (λ verdict. record { verdict = verdict; rows = tree.new; users = users } ≡ judged_step leases tree.old users caller.now needs.now (Op.SetAcl path.now change.now)) }
     ensures err { OnErr result (tree.new ≡ tree.old) }
 {
     let reach = match walk_along(alloc, tree, caller, needs, path)? {
@@ -170,7 +170,7 @@ pub(crate) fn set_owner(
     group: &Option<Who>,
 ) -> Result<Verdict, AllocError>
     requires { AreOn path.now needs.now }
-    ensures ok { (leases : LeaseFacts) (users : Principals) → IfOk result (λ verdict. record { verdict = verdict; rows = tree.new; users = users } ≡ judged_step leases tree.old users caller.now needs.now (Op.SetOwner path.now owner.now group.now)) }
+    ensures ok { (leases : LeaseFacts) (users : Users) → IfOk result (λ verdict. record { verdict = verdict; rows = tree.new; users = users } ≡ judged_step leases tree.old users caller.now needs.now (Op.SetOwner path.now owner.now group.now)) }
     ensures err { OnErr result (tree.new ≡ tree.old) }
 {
     let reach = match walk_along(alloc, tree, caller, needs, path)? {
@@ -196,7 +196,7 @@ pub(crate) fn set_replication(
     replication: Repl,
 ) -> Result<Verdict, AllocError>
     requires { AreOn path.now needs.now }
-    ensures ok { (leases : LeaseFacts) (users : Principals) → IfOk result (λ verdict. record { verdict = verdict; rows = tree.new; users = users } ≡ judged_step leases tree.old users caller.now needs.now (Op.SetReplication path.now replication)) }
+    ensures ok { (leases : LeaseFacts) (users : Users) → IfOk result (λ verdict. record { verdict = verdict; rows = tree.new; users = users } ≡ judged_step leases tree.old users caller.now needs.now (Op.SetReplication path.now replication)) }
     ensures err { OnErr result (tree.new ≡ tree.old) }
 {
     let reach = match walk_along(alloc, tree, caller, needs, path)? {
@@ -221,7 +221,7 @@ fn refusal_of_rename(
 ) -> Result<Option<Refusal>, AllocError>
     requires from { IsReach from.now tree.now from_reach }
     requires to { IsReach to.now tree.now to_reach }
-    ensures { (leases : LeaseFacts) (user : List ℕ) (users : Principals) → IfOk result (λ refusal. refusal ≡ spec.first_refusal leases user (Op.Rename from.now to.now) tree.now users) }
+    ensures { (leases : LeaseFacts) (user : List ℕ) (users : Users) → IfOk result (λ refusal. refusal ≡ spec.first_refusal leases user (Op.Rename from.now to.now) tree.now users) }
 {
     if from.depth() == 0 || to.depth() == 0 {
         return Ok(Some(Refusal::IsRoot));
@@ -257,7 +257,7 @@ pub(crate) fn rename(
     from: &Path,
     to: &Path,
 ) -> Result<Verdict, AllocError>
-    ensures ok { (leases : LeaseFacts) (users : Principals) → IfOk result (λ verdict. record { verdict = verdict; rows = tree.new; users = users } ≡ judged_step leases tree.old users caller.now needs.now (Op.Rename from.now to.now)) }
+    ensures ok { (leases : LeaseFacts) (users : Users) → IfOk result (λ verdict. record { verdict = verdict; rows = tree.new; users = users } ≡ judged_step leases tree.old users caller.now needs.now (Op.Rename from.now to.now)) }
     ensures err { OnErr result (tree.new ≡ tree.old) }
 {
     let (from_reach, to_reach) = match walk_along_both(alloc, tree, caller, needs, from, to)? {

@@ -1,6 +1,6 @@
 ghost use Rattle.std.specs.Prelude.{◌≡◌, ◌<◌, ◌^◌, ◌-◌, ℕ, List, Some, None, IfOk, map};
 ghost use Rattle.std.specs.Option.{option_copied};
-ghost use Rattle.principals.specs.Principals.{Principals};
+ghost use Rattle.principals.specs.Users.{Users};
 ghost use Rattle.flat_rows.specs.FileOutcome.{LeaseFacts, detail_of_row};
 ghost use Rattle.flat_rows.specs.Changes as changes;
 ghost use Rattle.flat_rows.specs.Outcome as spec;
@@ -23,7 +23,7 @@ use principals::caller::Caller;
 use required_rights::demand::Needs;
 use std::alloc::{AllocError, Global};
 
-/// What is told of a file alone.
+/// What is reported of a file alone.
 fn detail_of(file: Option<&FileRow>) -> Result<Option<FileDetail>, AllocError>
     ensures { IfOk result (λ detail. detail ≡ detail_of_row (option_copied file.entry)) }
 {
@@ -51,7 +51,7 @@ fn status_of(component: &Component) -> Result<Reply, AllocError>
     }))
 }
 
-/// Tells what has a path. Costs also the blocks of a file.
+/// Reports what has a path. Costs also the blocks of a file.
 pub(crate) fn stat(
     alloc: Global,
     tree: &Tree,
@@ -60,7 +60,7 @@ pub(crate) fn stat(
     path: &Path,
 ) -> Result<Verdict, AllocError>
     requires { AreOn path.now needs.now }
-    ensures { (leases : LeaseFacts) (users : Principals) → IfOk result (λ verdict. record { verdict = verdict; rows = tree.now; users = users } ≡ judged_step leases tree.now users caller.now needs.now (Op.Stat path.now)) }
+    ensures { (leases : LeaseFacts) (users : Users) → IfOk result (λ verdict. record { verdict = verdict; rows = tree.now; users = users } ≡ judged_step leases tree.now users caller.now needs.now (Op.Stat path.now)) }
 {
     let reach = match walk_along(alloc, tree, caller, needs, path)? {
         Walked::Denied(denial) => return Ok(Verdict::Denied(denial)),
@@ -82,7 +82,7 @@ fn acl_status_of(alloc: Global, component: &Component) -> Result<Reply, AllocErr
     Ok(Reply::Acl(AclStatus::new(owner, group, text)))
 }
 
-/// Tells the access control list of what has a path.
+/// Reports the access control list of what has a path.
 pub(crate) fn get_acl(
     alloc: Global,
     tree: &Tree,
@@ -91,7 +91,7 @@ pub(crate) fn get_acl(
     path: &Path,
 ) -> Result<Verdict, AllocError>
     requires { AreOn path.now needs.now }
-    ensures { (leases : LeaseFacts) (users : Principals) → IfOk result (λ verdict. record { verdict = verdict; rows = tree.now; users = users } ≡ judged_step leases tree.now users caller.now needs.now (Op.GetAcl path.now)) }
+    ensures { (leases : LeaseFacts) (users : Users) → IfOk result (λ verdict. record { verdict = verdict; rows = tree.now; users = users } ≡ judged_step leases tree.now users caller.now needs.now (Op.GetAcl path.now)) }
 {
     let reach = match walk_along(alloc, tree, caller, needs, path)? {
         Walked::Denied(denial) => return Ok(Verdict::Denied(denial)),
@@ -147,7 +147,7 @@ pub(crate) fn list(
     path: &Path,
 ) -> Result<Verdict, AllocError>
     requires { AreOn path.now needs.now }
-    ensures { (leases : LeaseFacts) (users : Principals) → IfOk result (λ verdict. record { verdict = verdict; rows = tree.now; users = users } ≡ judged_step leases tree.now users caller.now needs.now (Op.List path.now)) }
+    ensures { (leases : LeaseFacts) (users : Users) → IfOk result (λ verdict. record { verdict = verdict; rows = tree.now; users = users } ≡ judged_step leases tree.now users caller.now needs.now (Op.List path.now)) }
 {
     let reach = match walk_along(alloc, tree, caller, needs, path)? {
         Walked::Denied(denial) => return Ok(Verdict::Denied(denial)),
@@ -162,7 +162,7 @@ pub(crate) fn list(
     }
 }
 
-/// What there is at a path and beneath it; a number that can't be told counts as want of memory.
+/// What there is at a path and beneath it; a count above 64 bits fails as if out of memory.
 fn content_at(tree: &Tree, path: &Path) -> Result<ContentSummary, AllocError>
     ensures { IfOk result (λ content. Reply.Summary content ≡ spec.summary_of (changes.rows_under path.now tree.now)) }
 {
@@ -186,7 +186,7 @@ pub(crate) fn summary(
     path: &Path,
 ) -> Result<Verdict, AllocError>
     requires { AreOn path.now needs.now }
-    ensures { (leases : LeaseFacts) (users : Principals) → IfOk result (λ verdict. record { verdict = verdict; rows = tree.now; users = users } ≡ judged_step leases tree.now users caller.now needs.now (Op.Summary path.now)) }
+    ensures { (leases : LeaseFacts) (users : Users) → IfOk result (λ verdict. record { verdict = verdict; rows = tree.now; users = users } ≡ judged_step leases tree.now users caller.now needs.now (Op.Summary path.now)) }
 {
     let reach = match walk_along(alloc, tree, caller, needs, path)? {
         Walked::Denied(denial) => return Ok(Verdict::Denied(denial)),
@@ -207,7 +207,7 @@ pub(crate) fn open(
     path: &Path,
 ) -> Result<Verdict, AllocError>
     requires { AreOn path.now needs.now }
-    ensures { (leases : LeaseFacts) (users : Principals) → IfOk result (λ verdict. record { verdict = verdict; rows = tree.now; users = users } ≡ judged_step leases tree.now users caller.now needs.now (Op.Open path.now)) }
+    ensures { (leases : LeaseFacts) (users : Users) → IfOk result (λ verdict. record { verdict = verdict; rows = tree.now; users = users } ≡ judged_step leases tree.now users caller.now needs.now (Op.Open path.now)) }
 {
     let reach = match walk_along(alloc, tree, caller, needs, path)? {
         Walked::Denied(denial) => return Ok(Verdict::Denied(denial)),

@@ -30,7 +30,7 @@ fn expect_ok(output: &str, script: Script) -> Result<(), Fault> {
     }
 }
 
-/// Runs both texts on a NameNode of their own, where each line is answered `ok`, and tells how long the second took. What they are
+/// Runs both texts on a NameNode of their own, where each line is answered `ok`, and returns how long the second took. What they are
 /// answered is printed where that is wanted.
 pub fn run_alone(rt: &HostRuntime, script: Script, is_shown: bool) -> Result<Duration, Fault> {
     let run = time_script(rt, lines_of(script.before), lines_of(script.timed))?;

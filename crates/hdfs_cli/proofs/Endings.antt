@@ -1,7 +1,8 @@
 -- What is written of a script that was not run to its end, or not all written.
-use Rattle.std.proofs.Common.{◌≡◌, ℕ, zero, suc, ◌+◌, Bool, true, false, List, [], ◌∷◌, ◌++◌, take, Option, Some, None, Result, Ok, Err, refl, sym, ap, ◌∙◌, arith, append_assoc, append-nil, eqb}
+use Rattle.std.proofs.Common.{◌≡◌, ℕ, zero, suc, ◌+◌, ◌<◌, Bool, true, false, List, [], ◌∷◌, ◌++◌, take, length, Option, Some, None, Result, Ok, Err, refl, sym, ap, ◌∙◌, arith, append_assoc, append-nil, eqb, subst}
 use Rattle.std.specs.Prelude.{fold, OnOk, OnErr, IfSome, if◌then◌else◌}
 use Rattle.std.specs.Io.KnownBytes.{Appends}
+use Rattle.std.specs.String.{string_bytes}
 use Rattle.std.proofs.lemmas.List.Splits.{length-slice_split}
 use Rattle.std.proofs.lemmas.List.Concat.{flat_map-append}
 use Rattle.history.specs.Config.{standard}
@@ -10,18 +11,29 @@ use Rattle.script_text.specs.Script.{request_of}
 use Rattle.script_text.specs.AnswerText.{answer_line}
 use Rattle.hdfs_cli.specs.Channel.{AppendsFront}
 use Rattle.hdfs_cli.specs.Output.{State, Numbered, opening, answered, after_answer, after_line, answers_of_first, text_of, output_of}
-use Rattle.hdfs_cli.specs.Ended.{IsAnswersBefore, AppendsAnswersBefore}
+use Rattle.hdfs_cli.specs.declared.script.ScriptFault.{ScriptFault}
+use Rattle.hdfs_cli.specs.declared.script.ScriptFault.TheVariants.{OutOfMemory, CannotRead}
+use Rattle.hdfs_cli.specs.declared.script.Session.{Session}
+use Rattle.hdfs_cli.specs.Ended.{IsAnswersOfFirst, AppendsAnswersOfFirst}
+use Rattle.hdfs_cli.specs.Shown.{Shows}
 
 pub appends_none : (old : Option (List ℕ)) → Appends old old []
 appends_none None = tt
 appends_none (Some x) = sym (append-nil x)
 
-pub none_before : (script : List ℕ) → IsAnswersBefore script []
-none_before script = record { count = 0; within = omega (arith, length-slice_split (λ b. eqb b 10) script); is = refl }
+has_lines : (script : List ℕ) → 0 < length (lines_of script)
+has_lines script = omega (arith, length-slice_split (λ b. eqb b 10) script)
 
-pub nothing_written : (known old : Option (List ℕ)) → IfSome known (λ script. AppendsAnswersBefore old old script)
+served_at : (script : List ℕ) (number count : ℕ) (text : List ℕ) → number ≡ count → count < length (lines_of script) → text ≡ text_of (answers_of_first count script) → IsAnswersOfFirst number script text
+served_at script number count text n within is =
+    record { within = subst (λ k. k < length (lines_of script)) (sym n) within; is = is ∙ ap (λ k. text_of (answers_of_first k script)) (sym n) }
+
+pub none_served : (script : List ℕ) (session : Session) → Shows opening session → IsAnswersOfFirst session.number script (string_bytes session.out)
+none_served script session shows = served_at script session.number 0 (string_bytes session.out) shows.number (has_lines script) shows.text
+
+pub nothing_written : (known old : Option (List ℕ)) → IfSome known (λ script. AppendsAnswersOfFirst 0 old old script)
 nothing_written None old = tt
-nothing_written (Some script) old = record { text = []; before = none_before script; written = appends_none old }
+nothing_written (Some script) old = record { within = has_lines script; written = appends_none old }
 
 -- answers are only added
 
@@ -55,14 +67,14 @@ pub record Front (text whole : List ℕ) : Type 0 where
   pub more : List ℕ
   pub is : whole ≡ text ++ more
 
-pub before_is_front : (script text : List ℕ) → IsAnswersBefore script text → Front text (output_of script)
-before_is_front script text b =
-    let rest = goes_first opening (lines_of script) b.count in
-    record { more = text_of rest.more; is = ap text_of rest.is ∙ flat_map-append (λ numbered. answer_line numbered.number numbered.answer) (answers_of_first b.count script) rest.more ∙ ap (λ t. t ++ text_of rest.more) (sym b.is) }
+pub first_is_front : (served : ℕ) (script text : List ℕ) → IsAnswersOfFirst served script text → Front text (output_of script)
+first_is_front served script text b =
+    let rest = goes_first opening (lines_of script) served in
+    record { more = text_of rest.more; is = ap text_of rest.is ∙ flat_map-append (λ numbered. answer_line numbered.number numbered.answer) (answers_of_first served script) rest.more ∙ ap (λ t. t ++ text_of rest.more) (sym b.is) }
 
-pub ended_front : {S E : Type 0} (r : Result S E) (script text : List ℕ) → OnOk r (text ≡ output_of script) → OnErr r (IsAnswersBefore script text) → Front text (output_of script)
-ended_front (Ok s) script text ok err = record { more = []; is = sym ok ∙ sym (append-nil text) }
-ended_front (Err e) script text ok err = before_is_front script text err
+pub ended_front : {S E : Type 0} (r : Result S E) (served : ℕ) (script text : List ℕ) → OnOk r (text ≡ output_of script) → OnErr r (IsAnswersOfFirst served script text) → Front text (output_of script)
+ended_front (Ok s) served script text ok err = record { more = []; is = sym ok ∙ sym (append-nil text) }
+ended_front (Err e) served script text ok err = first_is_front served script text err
 
 -- a front of a front
 
@@ -87,3 +99,23 @@ pub partly_written : (known old new : Option (List ℕ)) (script text : List ℕ
     → IfSome known (λ input. AppendsFront old new (output_of input))
 partly_written None old new script text h front written = tt
 partly_written (Some input) old new script text h front written = rw (← h) (front_written old new text (output_of script) front written)
+
+-- the answers of the lines that were run
+
+pub first_written : (known old new : Option (List ℕ)) (served : ℕ) (script text : List ℕ) → IfSome known (λ input. script ≡ input) → IsAnswersOfFirst served script text → Appends old new text
+    → IfSome known (λ input. AppendsAnswersOfFirst served old new input)
+first_written None old new served script text h first written = tt
+first_written (Some input) old new served script text h first written = rw (← h) (record { within = first.within; written = moved old new text (text_of (answers_of_first served script)) first.is written })
+
+-- a fault before the script was run
+
+abbrev pub fault_in : {S : Type 0} → Result S ScriptFault → ScriptFault
+fault_in (Ok s) = CannotRead
+fault_in (Err fault) = fault
+
+abbrev pub served_in : {S : Type 0} → Result S ScriptFault → ℕ
+served_in (Err (OutOfMemory served)) = served
+served_in r = 0
+
+pub nothing_at : (known old : Option (List ℕ)) (served : ℕ) → served ≡ 0 → IfSome known (λ script. AppendsAnswersOfFirst served old old script)
+nothing_at known old served e = subst (λ n. IfSome known (λ script. AppendsAnswersOfFirst n old old script)) (sym e) (nothing_written known old)

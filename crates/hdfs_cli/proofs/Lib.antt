@@ -3,3 +3,4 @@ pub mod Known
 pub mod Lines
 pub mod Endings
 pub mod Fronts
+pub mod Hinting

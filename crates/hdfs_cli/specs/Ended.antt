@@ -4,14 +4,12 @@ use Rattle.std.specs.Io.KnownBytes.{Appends}
 use Rattle.script_words.specs.Words.{lines_of}
 use Rattle.hdfs_cli.specs.Output.{text_of, answers_of_first}
 
--- the answers of the lines before one of the script's, and nothing else
-pub record IsAnswersBefore (script text : List ℕ) : Type 0 where
-  pub count : ℕ
-  pub within : count < length (lines_of script)
-  pub is : text ≡ text_of (answers_of_first count script)
+-- the answers of so many first lines of the script, which has more
+pub record IsAnswersOfFirst (served : ℕ) (script text : List ℕ) : Type 0 where
+  pub within : served < length (lines_of script)
+  pub is : text ≡ text_of (answers_of_first served script)
 
--- such answers were written, and nothing else
-pub record AppendsAnswersBefore (old new : Option (List ℕ)) (script : List ℕ) : Type 0 where
-  pub text : List ℕ
-  pub before : IsAnswersBefore script text
-  pub written : Appends old new text
+-- they were written, all of them, and nothing else
+pub record AppendsAnswersOfFirst (served : ℕ) (old new : Option (List ℕ)) (script : List ℕ) : Type 0 where
+  pub within : served < length (lines_of script)
+  pub written : Appends old new (text_of (answers_of_first served script))

@@ -8,7 +8,7 @@ use Rattle.flat_rows.specs.declared.trail.Judged.{Judged}
 use Rattle.flat_rows.specs.DenialText.{judged_text}
 use Rattle.flat_rows.specs.Decision.{trail}
 use Rattle.history.specs.declared.entry.HistoryEntry.{HistoryEntry}
-use Rattle.history.specs.Config.{Settings, standard}
+use Rattle.history.specs.Config.{Config, standard}
 use Rattle.history.specs.State.{rows_of, users_of}
 use Rattle.hdfs_cli.specs.declared.explain.Explained.{Explained}
 use Rattle.hdfs_cli.specs.declared.explain.Explained.TheVariants.{Trail, NoRequest}
@@ -38,7 +38,7 @@ abbrev pub trail_text : List Judged → List ℕ
 trail_text needs = flat_map judged_line needs ++ (if list_all (λ need. need.granted) needs then codes "granted\n" else [])
 
 -- on the namespace and the users that the entries give
-abbrev pub trail_on : Settings → List HistoryEntry → Request → List Judged
+abbrev pub trail_on : Config → List HistoryEntry → Request → List Judged
 trail_on config entries request = trail (rows_of config entries) (users_of entries) request.caller request.op
 
 abbrev pub trail_of : State → Request → List Judged

@@ -3,3 +3,4 @@ pub mod Output
 pub mod Shown
 pub mod Ended
 pub mod Explanation
+pub mod Hinted

@@ -5,7 +5,7 @@ use Rattle.std.specs.List.{flat_map, list_any}
 use Rattle.hdfs_texts.specs.declared.fault.IllFormed.{IllFormed}
 use Rattle.hdfs_types.specs.declared.op.Request.{Request}
 use Rattle.history.specs.declared.entry.HistoryEntry.{HistoryEntry}
-use Rattle.history.specs.Config.{Settings, standard}
+use Rattle.history.specs.Config.{Config, standard}
 use Rattle.history.specs.LegalHistory.{verdict_of}
 use Rattle.script_text.specs.declared.answer.Answer.{Answer}
 use Rattle.script_text.specs.declared.answer.Answer.TheVariants.{Bad, Given}
@@ -32,12 +32,12 @@ pub record Answered : Type 0 where
   pub entries : List HistoryEntry
 
 -- the entry that a request makes behind these. A script is one pass, so the index is the number of entries before it.
-abbrev pub entry_behind : Settings → List HistoryEntry → Request → HistoryEntry
+abbrev pub entry_behind : Config → List HistoryEntry → Request → HistoryEntry
 entry_behind config earlier request =
     record { place = length earlier + 1; pass = 0; index = length earlier; request = request; verdict = verdict_of config earlier request }
 
 -- an ill-formed line makes none
-abbrev pub answered : Settings → List HistoryEntry → Result Request IllFormed → Answered
+abbrev pub answered : Config → List HistoryEntry → Result Request IllFormed → Answered
 answered config entries (Err fault) = record { answer = Bad fault; entries = entries }
 answered config entries (Ok request) = record { answer = Given (verdict_of config entries request); entries = entry_behind config entries request ∷ entries }
 

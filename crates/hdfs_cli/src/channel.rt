@@ -12,7 +12,8 @@ pub enum ReadFault {
     CannotRead,
 }
 
-/// All that the reader has left. A reader that hasn't ended after 4,294,967,295 reads can't be read.
+/// All that the reader has left. A read that was interrupted is tried again; a reader that fails otherwise can't be read, nor one that
+/// hasn't ended after 4,294,967,295 reads.
 pub fn read_all<R: Read>(alloc: Global, reader: &mut R) -> Result<Vec<u8>, ReadFault>
     ensures { IfOk result (λ bytes. IfSome (R.remaining reader.old) (λ input. bytes.items ≡ input)) }
 {
@@ -49,7 +50,9 @@ fn write_some<W: Write>(writer: &mut W, text: &[u8]) -> Result<usize, WriteFault
     }
 }
 
-/// Writes the text. After a fault a front of it was written, and nothing else.
+/// Writes the text, and flushes the writer. A write that was interrupted is tried again; one that takes nothing is a fault, and so is
+/// one that fails, a flush that does, and a writer that hasn't taken all after 2^64 - 1 writes. After a fault a front of the text was
+/// written, and nothing else.
 pub fn write_text<W: Write>(writer: &mut W, text: &[u8]) -> Result<(), WriteFault>
     ensures all { OnOk result (Appends (W.contents writer.old) (W.contents writer.new) text.now) }
     ensures front { AppendsFront (W.contents writer.old) (W.contents writer.new) text.now }

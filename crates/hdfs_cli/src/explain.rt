@@ -33,7 +33,7 @@ pub enum Explained {
 }
 
 /// The request of a line, where it makes one.
-fn request_in(alloc: Global, line: &str) -> Result<Option<Request>, AllocError>
+pub(crate) fn request_in(alloc: Global, line: &str) -> Result<Option<Request>, AllocError>
     ensures { IfOk result (λ request. request ≡ spec.request_in line.now) }
 {
     let line = without_return(line);
@@ -43,7 +43,7 @@ fn request_in(alloc: Global, line: &str) -> Result<Option<Request>, AllocError>
     Ok(read_line(alloc, line)?.ok())
 }
 
-/// Prints the needs, a line each, and tells whether all are met.
+/// Prints the needs, a line each, and returns whether all are met.
 fn print_needs(needs: &[Judged], out: &mut String) -> Result<bool, AllocError>
     ensures text { OnOk result (string_bytes out.new ≡ string_bytes out.old ++ flat_map spec.judged_line needs.now) }
     ensures granted { IfOk result (λ granted. granted ≡ list_all (λ need. need.granted) needs.now) }
@@ -83,7 +83,11 @@ pub fn rows_of(alloc: Global, tree: &Tree) -> Result<Rows, AllocError>
 }
 
 /// The needs of a request that are judged on what the core holds. Costs the whole namespace.
-fn trail_on(alloc: Global, core: &NameCore, request: &Request) -> Result<Vec<Judged>, AllocError>
+pub(crate) fn trail_on(
+    alloc: Global,
+    core: &NameCore,
+    request: &Request,
+) -> Result<Vec<Judged>, AllocError>
     ensures { IfOk result (λ needs. needs.items ≡ spec.trail_on core.now.config core.now.entries request.now) }
 {
     let rows = rows_of(alloc, core.tree())?;
@@ -195,12 +199,12 @@ pub fn explain<R: Read, W: Write>(
     ensures ok { IfOk result (λ found. IfSome (R.remaining reader.old) (λ script. IsUtf8 script × Appends (W.contents writer.old) (W.contents writer.new) (spec.explanation number script) × (found ≡ spec.found number script))) }
     ensures unread { result ≡ Err ScriptFault.CannotRead → Keeps (W.contents writer.old) (W.contents writer.new) }
     ensures not_text { result ≡ Err ScriptFault.NotUtf8 → Keeps (W.contents writer.old) (W.contents writer.new) × IfSome (R.remaining reader.old) (λ script. ¬ (IsUtf8 script)) }
-    ensures no_memory { result ≡ Err ScriptFault.OutOfMemory → Keeps (W.contents writer.old) (W.contents writer.new) }
+    ensures no_memory { (served : ℕ) → result ≡ Err (ScriptFault.OutOfMemory served) → Keeps (W.contents writer.old) (W.contents writer.new) × (served ≡ 0) }
     ensures unwritten { result ≡ Err ScriptFault.CannotWrite → IfSome (R.remaining reader.old) (λ script. AppendsFront (W.contents writer.old) (W.contents writer.new) (spec.explanation number script)) }
 {
     let script = read_script(alloc, reader)?;
     let Ok(explanation) = explain_line(alloc, &script, number) else {
-        return Err(ScriptFault::OutOfMemory);
+        return Err(ScriptFault::OutOfMemory { served: 0 });
     };
     write_text(writer, explanation.text.as_bytes()).map_err(|_| ScriptFault::CannotWrite)?;
     Ok(explanation.found)

@@ -6,8 +6,8 @@ ghost use Rattle.history.specs.Config.{standard};
 ghost use Rattle.script_text.specs.AnswerText.{answer_line, is_bad};
 ghost use Rattle.hdfs_cli.specs.Channel.{AppendsFront};
 ghost use Rattle.hdfs_cli.specs.Output as spec;
-ghost use Rattle.hdfs_cli.specs.Shown.{Shows};
-ghost use Rattle.hdfs_cli.specs.Ended.{IsAnswersBefore, AppendsAnswersBefore};
+ghost use Rattle.hdfs_cli.specs.Shown.{Shows, KeepsLines, HoldsFirst};
+ghost use Rattle.hdfs_cli.specs.Ended.{IsAnswersOfFirst, AppendsAnswersOfFirst};
 ghost use Rattle.script_words.specs.Words as words;
 
 use crate::channel::{ReadFault, read_all, write_text};
@@ -47,7 +47,8 @@ impl Status {
 /// Why a script was not run to its end, or not all that it prints was written.
 #[derive(Clone, Copy, Debug, PartialEq, Eq)]
 pub enum ScriptFault {
-    OutOfMemory,
+    /// Memory ran out behind so many lines: all of them were run. `explain` writes no answers, and says 0.
+    OutOfMemory { served: usize },
     CannotRead,
     NotUtf8,
     CannotWrite,
@@ -107,7 +108,7 @@ fn print_answer(
 #[derive(Drop)]
 pub(crate) struct Session {
     pub(crate) core: NameCore,
-    /// How many lines were run.
+    /// How many lines were run. One in which memory ran out isn't among them.
     number: usize,
     /// Whether one of them was ill-formed.
     has_bad: bool,
@@ -120,7 +121,7 @@ impl Session {
     /// A NameNode that has answered nothing.
     ///
     /// # Errors
-    /// Want of memory.
+    /// Out of memory.
     pub(crate) fn open(alloc: Global) -> Result<Session, AllocError>
         ensures { IfOk result (Shows spec.opening) }
     {
@@ -149,38 +150,41 @@ impl Session {
         out
     }
 
-    /// Prints an answer behind the number of the line.
+    /// Prints the answer to the next line behind its number, and counts the line.
     fn print(&mut self, answer: &Answer) -> Result<(), AllocError>
-        ensures kept { (self.new.number ≡ self.old.number) × (self.new.core ≡ self.old.core) }
-        ensures ok { OnOk result (string_bytes self.new.out ≡ string_bytes self.old.out ++ answer_line self.old.number answer.now) }
+        requires { self.old.number + 1 < 2 ^ 64 }
+        ensures kept { self.new.core ≡ self.old.core }
+        ensures number { OnOk result (self.new.number ≡ self.old.number + 1) }
+        ensures ok { OnOk result (string_bytes self.new.out ≡ string_bytes self.old.out ++ answer_line (self.old.number + 1) answer.now) }
         ensures bad { OnOk result (self.new.has_bad ≡ (self.old.has_bad || is_bad answer.now)) }
-        ensures err { OnErr result (string_bytes self.new.out ≡ string_bytes self.old.out) }
+        ensures err { OnErr result (KeepsLines self.old self.new) }
     {
-        print_answer(self.number, answer, &mut self.line, &mut self.out)?;
+        print_answer(self.number + 1, answer, &mut self.line, &mut self.out)?;
+        self.number += 1;
         self.has_bad = self.has_bad || answer.is_bad();
         Ok(())
     }
 
-    /// Answers what the next line says. Where memory runs out the output stays as it was.
+    /// Answers what the next line says. Where memory runs out the line isn't counted, and the output stays as it was.
     fn answer(&mut self, said: &Result<Request, IllFormed>) -> Result<(), AllocError>
         requires { self.old.number + 1 < 2 ^ 64 }
-        ensures number { self.new.number ≡ self.old.number + 1 }
+        ensures number { OnOk result (self.new.number ≡ self.old.number + 1) }
         ensures ok { (state : spec.State) → Shows state self.old → OnOk result (Shows (spec.after_answer state (spec.answered standard state.entries said.now)) self.new) }
-        ensures err { OnErr result (string_bytes self.new.out ≡ string_bytes self.old.out) }
+        ensures err { OnErr result (KeepsLines self.old self.new) }
     {
-        self.number += 1;
         let answer = answer_to(&mut self.core, said)?;
         let printed = self.print(&answer);
         drop(answer);
         printed
     }
 
-    /// Runs a line, and adds its answer to the output where it has one. Where memory runs out the output stays as it was.
+    /// Runs a line, and adds its answer to the output where it has one. Where memory runs out the line isn't counted, and the
+    /// output stays as it was.
     fn serve(&mut self, alloc: Global, line: &str) -> Result<(), AllocError>
         requires { self.old.number + 1 < 2 ^ 64 }
         ensures number { OnOk result (self.new.number ≡ self.old.number + 1) }
         ensures ok { (state : spec.State) → Shows state self.old → OnOk result (Shows (spec.after_line state line.now) self.new) }
-        ensures err { OnErr result (string_bytes self.new.out ≡ string_bytes self.old.out) }
+        ensures err { OnErr result (KeepsLines self.old self.new) }
     {
         let line = without_return(line);
         if is_skipped(line) {
@@ -193,11 +197,11 @@ impl Session {
         answered
     }
 
-    /// Runs the lines. An `Err` leaves what the lines before the one that failed print.
+    /// Runs the lines. Where memory runs out, the session has counted those before, and holds what they print.
     fn serve_all(&mut self, alloc: Global, lines: &[&str]) -> Result<(), AllocError>
         requires { self.old.number + length lines.now < 2 ^ 64 }
         ensures ok { (state : spec.State) → Shows state self.old → OnOk result (Shows (spec.behind_lines state (map (λ line. line.now) lines.now)) self.new) }
-        ensures err { (state : spec.State) → Shows state self.old → OnErr result ((count : ℕ) × (count < length lines.now) × (string_bytes self.new.out ≡ spec.text_of (spec.behind_lines state (take count (map (λ line. line.now) lines.now))).answers)) }
+        ensures err { (state : spec.State) → Shows state self.old → OnErr result (HoldsFirst state (map (λ line. line.now) lines.now) self.new) }
     {
         for line in lines {
             self.serve(alloc, line)?;
@@ -206,7 +210,8 @@ impl Session {
     }
 }
 
-/// Runs the lines of a script from its beginning. An `Err` leaves what the lines before the one that failed print.
+/// Runs the lines of a script from its beginning. Where memory runs out, the session has counted those before, and holds what they
+/// print.
 pub(crate) fn run_lines(
     alloc: Global,
     session: &mut Session,
@@ -214,18 +219,19 @@ pub(crate) fn run_lines(
 ) -> Result<(), AllocError>
     requires { Shows spec.opening session.old }
     ensures ok { OnOk result (Shows (spec.after_lines (map (λ line. line.now) lines.now)) session.new) }
-    ensures err { OnErr result ((count : ℕ) × (count < length lines.now) × (string_bytes session.new.out ≡ spec.text_of (spec.after_lines (take count (map (λ line. line.now) lines.now))).answers)) }
+    ensures err { OnErr result (HoldsFirst spec.opening (map (λ line. line.now) lines.now) session.new) }
 {
     session.serve_all(alloc, lines)
 }
 
-/// Runs the lines of a text behind those that were run. An `Err` leaves what the lines before the one that failed print.
+/// Runs the lines of a text behind those that were run. Where memory runs out, the session has counted those before, and holds what
+/// they print.
 ///
 /// # Errors
-/// Want of memory, and of numbers for so many lines.
+/// Out of memory, or more lines than numbers of 64 bits.
 pub(crate) fn run_more(alloc: Global, session: &mut Session, text: &str) -> Result<(), AllocError>
     ensures ok { (state : spec.State) → Shows state session.old → OnOk result (Shows (spec.behind_lines state (words.lines_of text.now)) session.new) }
-    ensures err { (state : spec.State) → Shows state session.old → OnErr result ((count : ℕ) × (count < length (words.lines_of text.now)) × (string_bytes session.new.out ≡ spec.text_of (spec.behind_lines state (take count (words.lines_of text.now))).answers)) }
+    ensures err { (state : spec.State) → Shows state session.old → OnErr result (HoldsFirst state (words.lines_of text.now) session.new) }
 {
     let lines = pieces_between(alloc, text, '\n')?;
     if lines.len() > usize::MAX - session.number {
@@ -234,21 +240,24 @@ pub(crate) fn run_more(alloc: Global, session: &mut Session, text: &str) -> Resu
     session.serve_all(alloc, &lines)
 }
 
-/// Runs a script on a NameNode that has answered nothing. An `Err` leaves what its lines before the one that failed print.
+/// Runs a script on a NameNode that has answered nothing. Where memory runs out, the session has counted the lines before, and holds
+/// what they print.
 fn run_text(alloc: Global, session: &mut Session, script: &str) -> Result<Status, AllocError>
     requires { Shows spec.opening session.old }
     ensures ok { OnOk result (string_bytes session.new.out ≡ spec.output_of script.now) }
     ensures status { IfOk result (λ status. status ≡ spec.status_of (spec.answers_of script.now)) }
-    ensures err { OnErr result (IsAnswersBefore script.now (string_bytes session.new.out)) }
+    ensures err { OnErr result (IsAnswersOfFirst session.new.number script.now (string_bytes session.new.out)) }
 {
     let lines = pieces_between(alloc, script, '\n')?;
     run_lines(alloc, session, &lines)?;
     Ok(Status::by(session.has_bad))
 }
 
-/// What a script prints, and how it ended. Where memory ran out, the text is what the lines before print.
+/// What a script prints, and how it ended. Where memory ran out, the text is what the lines that were run print.
 #[derive(Drop)]
 struct ScriptRun {
+    /// How many lines were run.
+    served: usize,
     text: String,
     ended: Result<Status, AllocError>,
 }
@@ -257,11 +266,12 @@ struct ScriptRun {
 fn run_alone(alloc: Global, script: &str) -> Result<ScriptRun, AllocError>
     ensures ok { IfOk result (λ ran. OnOk ran.ended (string_bytes ran.text ≡ spec.output_of script.now)) }
     ensures status { IfOk result (λ ran. IfOk ran.ended (λ status. status ≡ spec.status_of (spec.answers_of script.now))) }
-    ensures err { IfOk result (λ ran. OnErr ran.ended (IsAnswersBefore script.now (string_bytes ran.text))) }
+    ensures err { IfOk result (λ ran. OnErr ran.ended (IsAnswersOfFirst ran.served script.now (string_bytes ran.text))) }
 {
     let mut session = Session::open(alloc)?;
     let ended = run_text(alloc, &mut session, script);
     Ok(ScriptRun {
+        served: session.number,
         text: session.into_output(),
         ended,
     })
@@ -270,15 +280,16 @@ fn run_alone(alloc: Global, script: &str) -> Result<ScriptRun, AllocError>
 /// The text of a script, read whole.
 ///
 /// # Errors
-/// `CannotRead` where the reader fails, or hasn't ended after 4,294,967,295 reads, `NotUtf8` and `OutOfMemory`.
+/// `CannotRead` where the reader fails, or hasn't ended after 4,294,967,295 reads, `NotUtf8`, and `OutOfMemory` behind no line.
 pub(crate) fn read_script<R: Read>(alloc: Global, reader: &mut R) -> Result<String, ScriptFault>
     ensures ok { IfOk result (λ script. IfSome (R.remaining reader.old) (λ input. string_bytes script ≡ input)) }
     ensures not_text { result ≡ Err ScriptFault.NotUtf8 → IfSome (R.remaining reader.old) (λ input. ¬ (IsUtf8 input)) }
     ensures read_only { result ≢ Err ScriptFault.CannotWrite }
+    ensures unserved { (served : ℕ) → result ≡ Err (ScriptFault.OutOfMemory served) → served ≡ 0 }
 {
     let bytes = match read_all(alloc, reader) {
         Ok(bytes) => bytes,
-        Err(ReadFault::OutOfMemory) => return Err(ScriptFault::OutOfMemory),
+        Err(ReadFault::OutOfMemory) => return Err(ScriptFault::OutOfMemory { served: 0 }),
         Err(ReadFault::CannotRead) => return Err(ScriptFault::CannotRead),
     };
     match String::from_utf8(bytes) {
@@ -292,8 +303,8 @@ pub(crate) fn read_script<R: Read>(alloc: Global, reader: &mut R) -> Result<Stri
 ///
 /// # Errors
 /// `CannotRead` where the reader fails, or hasn't ended after 4,294,967,295 reads, and `NotUtf8`: nothing is written.
-/// `OutOfMemory`: the answers of the lines before the one that failed are written. `CannotWrite`: a front of the text is
-/// written.
+/// `OutOfMemory`: the answers of the first `served` lines are written, all of them, and nothing else. `CannotWrite`: a front of the
+/// text is written.
 pub fn run_script<R: Read, W: Write>(
     alloc: Global,
     reader: &mut R,
@@ -302,13 +313,19 @@ pub fn run_script<R: Read, W: Write>(
     ensures ok { IfOk result (λ status. IfSome (R.remaining reader.old) (λ script. IsUtf8 script × Appends (W.contents writer.old) (W.contents writer.new) (spec.output_of script) × (status ≡ spec.status_of (spec.answers_of script)))) }
     ensures unread { result ≡ Err ScriptFault.CannotRead → Keeps (W.contents writer.old) (W.contents writer.new) }
     ensures not_text { result ≡ Err ScriptFault.NotUtf8 → Keeps (W.contents writer.old) (W.contents writer.new) × IfSome (R.remaining reader.old) (λ script. ¬ (IsUtf8 script)) }
-    ensures no_memory { result ≡ Err ScriptFault.OutOfMemory → IfSome (R.remaining reader.old) (λ script. AppendsAnswersBefore (W.contents writer.old) (W.contents writer.new) script) }
+    ensures no_memory { (served : ℕ) → result ≡ Err (ScriptFault.OutOfMemory served) → IfSome (R.remaining reader.old) (λ script. AppendsAnswersOfFirst served (W.contents writer.old) (W.contents writer.new) script) }
     ensures unwritten { result ≡ Err ScriptFault.CannotWrite → IfSome (R.remaining reader.old) (λ script. AppendsFront (W.contents writer.old) (W.contents writer.new) (spec.output_of script)) }
 {
-    let script = read_script(alloc, reader)?;
+    let script = match read_script(alloc, reader) {
+        Ok(script) => script,
+        Err(fault) => return Err(fault),
+    };
     let Ok(ran) = run_alone(alloc, &script) else {
-        return Err(ScriptFault::OutOfMemory);
+        return Err(ScriptFault::OutOfMemory { served: 0 });
     };
     write_text(writer, ran.text.as_bytes()).map_err(|_| ScriptFault::CannotWrite)?;
-    ran.ended.map_err(|_| ScriptFault::OutOfMemory)
+    match ran.ended {
+        Ok(status) => Ok(status),
+        Err(_) => Err(ScriptFault::OutOfMemory { served: ran.served }),
+    }
 }

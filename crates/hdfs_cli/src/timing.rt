@@ -30,7 +30,7 @@ impl From<AllocError> for TimingFault {
     }
 }
 
-/// Runs the lines of a text behind those that were run, and tells how long they took.
+/// Runs the lines of a text behind those that were run, and returns how long they took.
 fn time_more<R: Clock + AllocGlobal>(
     rt: &R,
     session: &mut Session,
@@ -62,7 +62,7 @@ fn time_behind<R: Clock + AllocGlobal>(
 /// text took, from its lines to their answers in memory. No clause speaks of the time.
 ///
 /// # Errors
-/// Want of memory, and a clock that can't be read.
+/// Out of memory, or a clock that can't be read.
 pub fn time_script<R: Clock + AllocGlobal>(
     rt: &R,
     before: &str,

@@ -4,7 +4,7 @@ use Rattle.std.specs.Fmt.{decimal}
 use Rattle.std.specs.List.{flat_map}
 use Rattle.permission_bits.specs.Mode.{mode_text}
 use Rattle.file_paths.specs.Path.{path_text}
-use Rattle.hdfs_types.specs.AclStatus.{AclStatusParts}
+use Rattle.hdfs_types.specs.AclStatus.{AclStatus}
 use Rattle.hdfs_texts.specs.Faults.{acl_fault_text}
 use Rattle.hdfs_types.specs.declared.reply.ObjectKind.{ObjectKind}
 use Rattle.hdfs_types.specs.declared.reply.ObjectKind.TheVariants.{File, Directory}
@@ -32,7 +32,7 @@ abbrev pub status_text : FileStatus → List ℕ
 status_text status =
     object_kind_text status.kind ++ (32 ∷ (mode_text status.mode ++ (acl_mark status.has_acl ++ (32 ∷ (status.owner ++ (32 ∷ (status.group ++ file_text status.file)))))))
 
-abbrev pub acl_status_text : AclStatusParts → List ℕ
+abbrev pub acl_status_text : AclStatus → List ℕ
 acl_status_text status = status.owner ++ (32 ∷ (status.group ++ (32 ∷ status.spec)))
 
 -- each name behind a blank

@@ -47,7 +47,7 @@ impl fmt::Display for FileState {
     }
 }
 
-/// What `stat` tells of a file beside what it tells of a directory.
+/// What `stat` reports of a file beside what it reports of a directory.
 #[derive(Drop)]
 pub struct FileDetail {
     pub replication: Repl,

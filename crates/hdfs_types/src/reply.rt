@@ -17,7 +17,7 @@ pub enum ObjectKind {
     Directory,
 }
 
-/// What `stat` tells of a file or a directory.
+/// What `stat` reports of a file or a directory.
 #[derive(Drop)]
 pub struct FileStatus {
     pub kind: ObjectKind,
@@ -26,11 +26,11 @@ pub struct FileStatus {
     pub has_acl: bool,
     pub owner: Who,
     pub group: Who,
-    /// What is told of a file alone; `None` for a directory.
+    /// What is reported of a file alone; `None` for a directory.
     pub file: Option<FileDetail>,
 }
 
-/// A copy of what is told of a file; of a directory nothing is.
+/// A copy of what is reported of a file; nothing of a directory.
 fn copied(detail: &Option<FileDetail>) -> Result<Option<FileDetail>, AllocError>
     ensures { IfOk result (λ copy. copy ≡ detail.now) }
 {
@@ -154,7 +154,7 @@ impl fmt::Display for ContentSummary {
     }
 }
 
-/// What `getfacl` tells of a file or a directory: the owner, the owning group, and the entries of its access control list.
+/// What `getfacl` reports of a file or a directory: the owner, the owning group, and the entries of its access control list.
 #[derive(Drop)]
 pub struct AclStatus {
     owner: Who,
@@ -164,9 +164,9 @@ pub struct AclStatus {
 
 impl Model for AclStatus {
     ghost use Rattle.std.specs.String.{string_bytes};
-    ghost use Rattle.hdfs_types.specs.AclStatus.{AclStatusParts};
+    ghost use Rattle.hdfs_types.specs.AclStatus.{AclStatus};
 
-    ghost Value = { AclStatusParts };
+    ghost Value = { AclStatus };
 
     ghost view = { λ status. record { owner = status.owner; group = status.group; spec = string_bytes status.spec } };
 }
@@ -235,7 +235,7 @@ pub struct Expired {
 /// What the NameNode answers to a request that it has done.
 #[derive(Drop)]
 pub enum Reply {
-    /// It is done, and there is nothing to tell.
+    /// It is done, and there is nothing to report.
     Empty,
     Status(FileStatus),
     Acl(AclStatus),
@@ -272,7 +272,7 @@ impl Clone for Reply {
     }
 }
 
-/// Why the NameNode doesn't do what no missing right forbids: the state of the namespace stands against it.
+/// Why the NameNode doesn't do what no missing right forbids: the state of the namespace refuses it.
 #[derive(Drop)]
 pub enum Refusal {
     /// A path would pass the limits: code 1.

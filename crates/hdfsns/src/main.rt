@@ -2,13 +2,20 @@
 #![tactic(auto)]
 
 use clap::error::ErrorKind;
-use clap::{Arg, ArgMatches, Command, Error, value_parser};
+use clap::{Arg, ArgAction, ArgMatches, Command, Error, value_parser};
 use hdfs_cli::explain::{Explained, explain};
+use hdfs_cli::explain_hints::hints_on_explained;
+use hdfs_cli::hints::hints_on_script;
 use hdfs_cli::script::{ScriptFault, Status, run_script};
 use hdfs_cli::token::show_token;
+use hdfs_cli::verbs::help_text;
 use std::alloc::{AllocError, Global};
+use std::io::Read;
 use std::process::ExitCode;
 use std::{env, fs, io};
+
+/// The program's version, and the one line that `rt version` prints of the kit that proves and builds it.
+const VERSION: &str = "1.0.0 (rattle-kit-13b)";
 
 /// The exit status where a line of the script, or the token, was ill-formed.
 const ILL_FORMED: u8 = 1;
@@ -25,10 +32,23 @@ fn script<'a>(alloc: Global) -> Arg<'a> {
         .required(true)
 }
 
-fn run_command<'a>(alloc: Global) -> Result<Command<'a>, AllocError> {
+fn hints<'a>(alloc: Global, help: &'a str) -> Arg<'a> {
+    Arg::new(alloc, "hints")
+        .long("hints")
+        .action(ArgAction::SetTrue)
+        .help(help)
+}
+
+fn run_command<'a>(alloc: Global, verbs: &'a str) -> Result<Command<'a>, AllocError> {
+    let hints = hints(
+        alloc,
+        "Also says on standard error what is wrong with each ill-formed line",
+    );
     Command::new(alloc, "run")
         .about("Runs a script of requests, and prints an answer for each line")
-        .arg(script(alloc))
+        .after_help(verbs)
+        .arg(script(alloc))?
+        .arg(hints)
 }
 
 fn line<'a>(alloc: Global) -> Arg<'a> {
@@ -39,12 +59,17 @@ fn line<'a>(alloc: Global) -> Arg<'a> {
 }
 
 fn explain_command<'a>(alloc: Global) -> Result<Command<'a>, AllocError> {
+    let hints = hints(
+        alloc,
+        "Also says on standard error what the answer leaves open, such as why a line is no request",
+    );
     Command::new(alloc, "explain")
         .about(
             "Runs the lines before a line, and prints each need of its request up to the first that fails",
         )
         .arg(script(alloc))?
-        .arg(line(alloc))
+        .arg(line(alloc))?
+        .arg(hints)
 }
 
 fn digits<'a>(alloc: Global) -> Arg<'a> {
@@ -61,22 +86,24 @@ fn token_command<'a>(alloc: Global) -> Result<Command<'a>, AllocError> {
 
 /// The command line with the first of the subcommands. Each of the three is added in a function of its own: a function that has
 /// them all at once takes far longer to prove.
-fn with_run<'a>(alloc: Global) -> Result<Command<'a>, AllocError> {
-    let run = run_command(alloc)?;
+fn with_run<'a>(alloc: Global, verbs: &'a str) -> Result<Command<'a>, AllocError> {
+    let run = run_command(alloc, verbs)?;
     Command::new(alloc, "hdfsns")
         .about("The namesystem of HDFS, proved")
+        .version(VERSION)
         .subcommand_required(true)
         .subcommand(run)
 }
 
-fn with_explain<'a>(alloc: Global) -> Result<Command<'a>, AllocError> {
+fn with_explain<'a>(alloc: Global, verbs: &'a str) -> Result<Command<'a>, AllocError> {
     let explain = explain_command(alloc)?;
-    with_run(alloc)?.subcommand(explain)
+    with_run(alloc, verbs)?.subcommand(explain)
 }
 
-fn command<'a>(alloc: Global) -> Result<Command<'a>, AllocError> {
+/// The whole command line. The text is the help on the verbs of scripts.
+fn command<'a>(alloc: Global, verbs: &'a str) -> Result<Command<'a>, AllocError> {
     let token = token_command(alloc)?;
-    with_explain(alloc)?.subcommand(token)
+    with_explain(alloc, verbs)?.subcommand(token)
 }
 
 /// Runs the script that a path or `-` names.
@@ -105,7 +132,7 @@ fn explain_line(rt: &HostRuntime, path: &str, number: u32) -> Result<Explained, 
 
 fn report(rt: &HostRuntime, fault: ScriptFault, path: &str) {
     let _ = match fault {
-        ScriptFault::OutOfMemory => eprintln!(rt; "hdfsns: out of memory"),
+        ScriptFault::OutOfMemory { .. } => eprintln!(rt; "hdfsns: out of memory"),
         ScriptFault::CannotRead => eprintln!(rt; "hdfsns: cannot read {path}"),
         ScriptFault::NotUtf8 => eprintln!(rt; "hdfsns: not UTF-8"),
         ScriptFault::CannotWrite => eprintln!(rt; "hdfsns: cannot write"),
@@ -113,7 +140,7 @@ fn report(rt: &HostRuntime, fault: ScriptFault, path: &str) {
 }
 
 fn no_memory(rt: &HostRuntime) -> ExitCode {
-    report(rt, ScriptFault::OutOfMemory, "");
+    report(rt, ScriptFault::OutOfMemory { served: 0 }, "");
     ExitCode::from(FAULT)
 }
 
@@ -124,9 +151,9 @@ fn exit_code(status: Status) -> ExitCode {
     }
 }
 
-/// Answers a script that a path or `-` names.
-fn answer_script(rt: &HostRuntime, path: &str) -> ExitCode {
-    match run(rt, path) {
+/// The exit code of a run; a fault is reported.
+fn code_of_run(rt: &HostRuntime, path: &str, ended: Result<Status, ScriptFault>) -> ExitCode {
+    match ended {
         Ok(status) => exit_code(status),
         Err(fault) => {
             report(rt, fault, path);
@@ -135,9 +162,14 @@ fn answer_script(rt: &HostRuntime, path: &str) -> ExitCode {
     }
 }
 
-/// Prints the needs of a line of a script.
-fn answer_line(rt: &HostRuntime, path: &str, number: u32) -> ExitCode {
-    match explain_line(rt, path, number) {
+/// The exit code of an explanation; that there is none is reported, and so is a fault.
+fn code_of_explanation(
+    rt: &HostRuntime,
+    path: &str,
+    number: u32,
+    found: Result<Explained, ScriptFault>,
+) -> ExitCode {
+    match found {
         Ok(Explained::Trail(status)) => exit_code(status),
         Ok(Explained::NoRequest) => {
             let _ = eprintln!(rt; "hdfsns: line {number} is no request");
@@ -147,6 +179,86 @@ fn answer_line(rt: &HostRuntime, path: &str, number: u32) -> ExitCode {
             report(rt, fault, path);
             ExitCode::from(FAULT)
         }
+    }
+}
+
+/// Answers a script that a path or `-` names.
+fn answer_script(rt: &HostRuntime, path: &str) -> ExitCode {
+    code_of_run(rt, path, run(rt, path))
+}
+
+/// Prints the needs of a line of a script.
+fn answer_line(rt: &HostRuntime, path: &str, number: u32) -> ExitCode {
+    code_of_explanation(rt, path, number, explain_line(rt, path, number))
+}
+
+/// What hints call the script that a path or `-` names.
+fn name_of(path: &str) -> &str {
+    if path == "-" { "standard input" } else { path }
+}
+
+/// The bytes of the script that a path or `-` names.
+fn bytes_of(rt: &HostRuntime, path: &str) -> io::Result<Vec<u8>> {
+    if path != "-" {
+        return fs::read(rt, path);
+    }
+    let mut bytes = Vec::new(rt.alloc());
+    rt.reader().read_to_end(&mut bytes)?;
+    Ok(bytes)
+}
+
+/// Reports that a script can't be read, and the system's reason.
+fn cannot_read(rt: &HostRuntime, path: &str, error: &io::Error) -> ExitCode {
+    if error.kind() == io::ErrorKind::OutOfMemory {
+        return no_memory(rt);
+    }
+    report(rt, ScriptFault::CannotRead, path);
+    let name = name_of(path);
+    let _ = eprintln!(rt; "{name}: {error}");
+    ExitCode::from(FAULT)
+}
+
+/// Prints hints behind what was reported.
+fn with_hints(rt: &HostRuntime, code: ExitCode, hints: Result<String, AllocError>) -> ExitCode {
+    match hints {
+        Ok(text) => {
+            let _ = eprint!(rt; "{text}");
+            code
+        }
+        Err(_) => no_memory(rt),
+    }
+}
+
+/// Answers a script, and prints the hints on it.
+fn answer_bytes(rt: &HostRuntime, path: &str, script: &[u8]) -> ExitCode {
+    let mut reader = script;
+    let ended = run_script(rt.alloc(), &mut reader, &mut io::writer(rt));
+    let code = code_of_run(rt, path, ended);
+    with_hints(rt, code, hints_on_script(rt.alloc(), name_of(path), script))
+}
+
+/// Prints the needs of a line, and the hints on it.
+fn explain_bytes(rt: &HostRuntime, path: &str, script: &[u8], number: u32) -> ExitCode {
+    let mut reader = script;
+    let found = explain(rt.alloc(), &mut reader, number, &mut io::writer(rt));
+    let code = code_of_explanation(rt, path, number, found);
+    let hints = hints_on_explained(rt.alloc(), name_of(path), script, number);
+    with_hints(rt, code, hints)
+}
+
+/// Answers a script that a path or `-` names, with hints.
+fn answer_script_with_hints(rt: &HostRuntime, path: &str) -> ExitCode {
+    match bytes_of(rt, path) {
+        Ok(script) => answer_bytes(rt, path, script.as_slice()),
+        Err(error) => cannot_read(rt, path, &error),
+    }
+}
+
+/// Prints the needs of a line of a script, with hints.
+fn answer_line_with_hints(rt: &HostRuntime, path: &str, number: u32) -> ExitCode {
+    match bytes_of(rt, path) {
+        Ok(script) => explain_bytes(rt, path, script.as_slice(), number),
+        Err(error) => cannot_read(rt, path, &error),
     }
 }
 
@@ -171,21 +283,56 @@ fn word<'a>(matches: &'a ArgMatches, subcommand: &str, name: &str) -> Option<&'a
     matches.subcommand_matches(subcommand)?.get_str(name)
 }
 
-fn line_number(matches: &ArgMatches) -> Option<u32> {
+fn has_hints(matches: &ArgMatches, subcommand: &str) -> bool {
+    match matches.subcommand_matches(subcommand) {
+        Some(found) => found.get_flag("hints"),
+        None => false,
+    }
+}
+
+/// The number of the line that is to be explained: digits alone, without the sign that a parsed number may have.
+fn line_number(matches: &ArgMatches, digits: &str) -> Option<u32> {
+    if !digits.as_bytes().iter().all(|byte| byte.is_ascii_digit()) {
+        return None;
+    }
     matches
         .subcommand_matches("explain")?
         .get_one::<u32>("LINE")
 }
 
+fn refuse_number(rt: &HostRuntime, word: &str) -> ExitCode {
+    let _ = eprintln!(rt;
+        "error: invalid value '{word}' for '<LINE>': invalid digit found in string\n\nFor more information, try '--help'."
+    );
+    ExitCode::from(BAD_COMMAND_LINE)
+}
+
+fn run_or_hint(rt: &HostRuntime, matches: &ArgMatches, path: &str) -> ExitCode {
+    if has_hints(matches, "run") {
+        answer_script_with_hints(rt, path)
+    } else {
+        answer_script(rt, path)
+    }
+}
+
+fn explain_or_hint(rt: &HostRuntime, matches: &ArgMatches, path: &str) -> ExitCode {
+    let digits = word(matches, "explain", "LINE").unwrap_or("");
+    let Some(number) = line_number(matches, digits) else {
+        return refuse_number(rt, digits);
+    };
+    if has_hints(matches, "explain") {
+        answer_line_with_hints(rt, path, number)
+    } else {
+        answer_line(rt, path, number)
+    }
+}
+
 fn run_matches(rt: &HostRuntime, matches: &ArgMatches) -> ExitCode {
     if let Some(path) = word(matches, "run", "SCRIPT") {
-        return answer_script(rt, path);
+        return run_or_hint(rt, matches, path);
     }
     if let Some(path) = word(matches, "explain", "SCRIPT") {
-        return match line_number(matches) {
-            Some(number) => answer_line(rt, path, number),
-            None => ExitCode::from(BAD_COMMAND_LINE),
-        };
+        return explain_or_hint(rt, matches, path);
     }
     if let Some(digits) = word(matches, "token", "HEX") {
         return answer_token(rt, digits);
@@ -206,7 +353,10 @@ fn refuse(rt: &HostRuntime, error: &Error) -> ExitCode {
 }
 
 fn answer(rt: &HostRuntime, words: &[String]) -> ExitCode {
-    let Ok(command) = command(rt.alloc()) else {
+    let Ok(verbs) = help_text(rt.alloc()) else {
+        return no_memory(rt);
+    };
+    let Ok(command) = command(rt.alloc(), verbs.as_str()) else {
         return no_memory(rt);
     };
     match command.try_get_matches_from(words) {

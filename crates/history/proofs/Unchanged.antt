@@ -5,24 +5,24 @@ use Rattle.hdfs_types.specs.Request.{is_look}
 use Rattle.hdfs_types.specs.declared.op.Op.{Op}
 use Rattle.hdfs_types.specs.declared.op.Op.TheVariants.{Mkdirs, Stat, List as Lists, Summary, GetAcl, Delete, Rename, SetMode, SetOwner, SetAcl, AddUser, SetGroups, Create, Append, AddBlock, Complete, Open, SetReplication, Renew, Tick}
 use Rattle.hdfs_types.specs.declared.reply.Reply.{Reply}
-use Rattle.principals.specs.Principals.{Principals}
+use Rattle.principals.specs.Users.{Users}
 use Rattle.namespace_rows.specs.declared.row.Row.{Row}
 use Rattle.flat_rows.specs.declared.verdict.Verdict.{Verdict}
 use Rattle.flat_rows.specs.declared.verdict.Verdict.TheVariants.{Done, Denied, Refused}
 use Rattle.flat_rows.specs.FileOutcome.{LeaseFacts}
 use Rattle.history.specs.declared.entry.HistoryEntry.{HistoryEntry}
-use Rattle.history.specs.Config.{Settings, limits_of}
+use Rattle.history.specs.Config.{Config, limits_of}
 use Rattle.history.specs.ClockAndLease.{renews, last_renewal, clock_of, lease_in, facts_at}
 use Rattle.history.specs.State.{users_by, users_of, rows_by, rows_of}
 use Rattle.history.specs.Laws.{is_done, IsSame}
 
 -- what an operation with a verdict does
 pub record Rests (op : Op) (verdict : Verdict) : Type 0 where
-  pub users : (users : Principals) → users_by op verdict users ≡ users
+  pub users : (users : Users) → users_by op verdict users ≡ users
   pub rows : (leases : LeaseFacts) (caller : List ℕ) (rows : List Row) → rows_by leases op caller verdict rows ≡ rows
   pub renewals : renews op verdict ≡ false
 
-pub same_where_rests : (config : Settings) (entry : HistoryEntry) (earlier : List HistoryEntry) → Rests entry.request.op entry.verdict → IsSame config entry earlier
+pub same_where_rests : (config : Config) (entry : HistoryEntry) (earlier : List HistoryEntry) → Rests entry.request.op entry.verdict → IsSame config entry earlier
 same_where_rests config entry earlier rests =
     record {
       users = rests.users (users_of earlier);
@@ -36,7 +36,7 @@ not_done_rests op (Denied denial) h = record { users = λ users. refl; rows = λ
 not_done_rests op (Refused refusal) h = record { users = λ users. refl; rows = λ leases caller rows. refl; renewals = refl }
 
 -- a reply changes nothing, and what isn't done neither
-rests : (op : Op) → ((users : Principals) (told : Reply) → users_by op (Done told) users ≡ users) → ((leases : LeaseFacts) (caller : List ℕ) (told : Reply) (rows : List Row) → rows_by leases op caller (Done told) rows ≡ rows)
+rests : (op : Op) → ((users : Users) (told : Reply) → users_by op (Done told) users ≡ users) → ((leases : LeaseFacts) (caller : List ℕ) (told : Reply) (rows : List Row) → rows_by leases op caller (Done told) rows ≡ rows)
     → ((told : Reply) → renews op (Done told) ≡ false) → (verdict : Verdict) → Rests op verdict
 rests op users rows renewals (Done told) = record { users = λ some. users some told; rows = λ leases caller some. rows leases caller told some; renewals = renewals told }
 rests op users rows renewals (Denied denial) = not_done_rests op (Denied denial) refl

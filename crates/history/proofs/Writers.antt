@@ -11,13 +11,13 @@ use Rattle.hdfs_types.specs.declared.file.FileState.{FileState}
 use Rattle.hdfs_types.specs.declared.file.FileState.TheVariants.{Closed, Open, Recovering}
 use Rattle.hdfs_types.specs.declared.reply.Refusal.{Refusal}
 use Rattle.hdfs_types.specs.declared.reply.Refusal.TheVariants.{LeaseHeld, NotDirectory, IsDirectory}
-use Rattle.principals.specs.Principals.{Principals}
+use Rattle.principals.specs.Users.{Users}
 use Rattle.namespace_rows.specs.declared.file_row.FileBlock.{FileBlock}
 use Rattle.namespace_rows.specs.declared.file_row.FileRow.{FileRow}
 use Rattle.namespace_rows.specs.declared.row.Row.{Row}
 use Rattle.flat_rows.specs.declared.verdict.Verdict.{Verdict}
 use Rattle.flat_rows.specs.declared.verdict.Verdict.TheVariants.{Refused}
-use Rattle.flat_rows.specs.Denied as denied
+use Rattle.flat_rows.specs.Denial as denied
 use Rattle.flat_rows.specs.Decision.{decision}
 use Rattle.namespace_rows.specs.Rows.{row_at, file_above, is_directory}
 use Rattle.namespace_rows.specs.Namespace.{is_ascending, is_before_all}
@@ -88,11 +88,11 @@ held : (leases : LeaseFacts) (caller writer : List ℕ) (at : Option Row) → ho
 held leases caller writer None h live = cc
 held leases caller writer (Some row) h live = held_by_file leases caller writer row.file h live
 
-module _ (leases : LeaseFacts) (rows : List Row) (users : Principals) (caller : List ℕ) (path : List (List ℕ)) where
+module _ (leases : LeaseFacts) (rows : List Row) (users : Users) (caller : List ℕ) (path : List (List ℕ)) where
   abbrev append : Op
   append = op.Append path
 
-  abbrev after : Option denied.Denied → Verdict
+  abbrev after : Option denied.Denial → Verdict
   after denial = (denied_or_outcome leases rows users caller append denial).verdict
 
   abbrev under : Option Refusal → Verdict
@@ -108,7 +108,7 @@ module _ (leases : LeaseFacts) (rows : List Row) (users : Principals) (caller : 
   pub turned_away : (writer : List ℕ) → holder_at (row_at path rows) ≡ Some writer → leases.is_live writer ≡ true → is_done (step leases rows users caller append).verdict ≡ false
   turned_away writer at live = by (decision rows users caller append)
     where
-      by : (denial : Option denied.Denied) → is_done (after denial) ≡ false
+      by : (denial : Option denied.Denial) → is_done (after denial) ≡ false
       by (Some denial) = refl
       by None = last_applies (beneath_file path rows) (nothing_at (row_at path rows)) (directory_there (row_at path rows)) (of_file (refused_takeover leases caller) (row_at path rows)) (LeaseHeld writer) (held leases caller writer (row_at path rows) at live)
 

@@ -13,7 +13,7 @@ use Rattle.flat_rows.specs.declared.verdict.Verdict.{Verdict}
 use Rattle.flat_rows.specs.declared.verdict.Verdict.TheVariants.{Done, Denied, Refused}
 use Rattle.namespace_rows.specs.Files.{has_open_file}
 use Rattle.flat_rows.specs.FileOutcome.{LeaseFacts}
-use Rattle.lease_manager.specs.Lease.{Limits, lease_state}
+use Rattle.lease_manager.specs.Leases.{Limits, lease_state}
 use Rattle.lease_manager.specs.declared.leases.LeaseState.{LeaseState}
 use Rattle.lease_manager.specs.declared.leases.LeaseState.TheVariants.{Live, PastSoft, PastHard}
 use Rattle.history.specs.declared.entry.HistoryEntry.{HistoryEntry}

@@ -1,11 +1,11 @@
 -- What a NameNode opens with.
 -- (The limits of leases and of silent DataNodes are those of HDFS, but that the hard limit is 20 minutes.)
 use Rattle.std.specs.Prelude.{ℕ, ◌-◌, ◌^◌, Bool, nat_lt, IsTrue}
-use Rattle.lease_manager.specs.Lease.{Limits}
+use Rattle.lease_manager.specs.Leases.{Limits}
 use Rattle.history.specs.declared.config.Durations.{Durations}
 use Rattle.history.specs.declared.config.Counters.{Counters}
 
-pub record Settings : Type 0 where
+pub record Config : Type 0 where
   pub durations : Durations
   -- in bytes
   pub replica_limit : ℕ
@@ -15,10 +15,10 @@ pub record Settings : Type 0 where
 abbrev pub are_counters : Counters → Bool
 are_counters first = nat_lt first.serial (2 ^ 32 - 1)
 
-abbrev pub AreSettings : Settings → Type 0
-AreSettings settings = IsTrue (are_counters settings.first)
+abbrev pub IsConfig : Config → Type 0
+IsConfig settings = IsTrue (are_counters settings.first)
 
-abbrev pub standard : Settings
+abbrev pub standard : Config
 standard =
     record {
       durations = record { soft_limit = 60000; hard_limit = 1200000; retry_limit = 60000; dead_limit = 630000; token_lifetime = 36000000 };
@@ -26,5 +26,5 @@ standard =
       first = record { block = 1; stamp = 1001; serial = 1 };
     }
 
-abbrev pub limits_of : Settings → Limits
+abbrev pub limits_of : Config → Limits
 limits_of settings = record { soft = settings.durations.soft_limit; hard = settings.durations.hard_limit }

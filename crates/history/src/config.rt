@@ -40,15 +40,15 @@ pub struct Config {
 }
 
 impl Model for Config {
-    ghost use Rattle.history.specs.Config.{Settings, AreSettings};
+    ghost use Rattle.history.specs.Config.{Config, IsConfig};
 
-    ghost Value = { Settings };
+    ghost Value = { Config };
 
     ghost use Rattle.history.specs.Kept.{settings_of, inside_of};
 
     ghost view = { settings_of };
 
-    ghost invariant = { λ config. AreSettings (settings_of config) };
+    ghost invariant = { λ config. IsConfig (settings_of config) };
 
     ghost inverse = { inside_of };
 }
@@ -106,7 +106,7 @@ impl Config {
     /// The first numbers that are given.
     pub fn first(self) -> Counters
         ensures first { result ≡ self.first }
-        ensures counters { spec.AreSettings self }
+        ensures counters { spec.IsConfig self }
     {
         self.first
     }

@@ -13,7 +13,7 @@ pub struct HistoryEntry {
     pub verdict: Verdict,
 }
 
-/// What a caller is told: the request, the verdict on it, and the place of the last entry that the verdict rests on.
+/// What a caller is answered: the request, the verdict on it, and the place of the last entry that the verdict rests on.
 #[derive(Drop)]
 pub struct Answer {
     pub place: u64,

@@ -21,7 +21,7 @@ use Rattle.namespace_rows.proofs.Namespaces.{ascending_filter}
 use Rattle.inode_nodes.specs.Kept.{branch_of, rows_in}
 use Rattle.inode_nodes.specs.declared.node.Held.TheVariants.{Directory}
 use Rattle.inode_nodes.specs.declared.node.Node.TheInside.{Inside}
-use Rattle.inode_nodes.specs.Branch.{Branch, flatten, rows, rows_or, row_of, top_of, under, placed}
+use Rattle.inode_nodes.specs.Node.{Node, flatten, rows, rows_or, row_of, top_of, under, placed}
 use Rattle.inode_nodes.specs.Part.{IsWhole}
 use Rattle.inode_nodes.proofs.Filters.{Entries, filter-map, inside}
 use Rattle.inode_nodes.proofs.Wholes.{filter_within}
@@ -55,7 +55,7 @@ child_keys (e ∷ es) h =
     let none : filter (child []) (more ++ flatten es) ≡ filter (child []) (flatten es) = filter-append (child []) more (flatten es) ∙ ap (λ l. l ++ filter (child []) (flatten es)) (deeper e.0 e.1.beneath low.0) in
     ap (λ l. e.0 ∷ l) (child_keys es (ascending_behind more (flatten es) hs.1) ∙ ap (map (λ row. last_name row.path)) (sym none))
 
-pub held_keys : (i : Inside) (m : BTreeMap (List ℕ) Branch) (b : Branch) → branch_of i ≡ b → i.held ≡ Directory m → is_ascending (rows b) ≡ true → keys_of m.entries ≡ child_names [] (rows b)
+pub held_keys : (i : Inside) (m : BTreeMap (List ℕ) Node) (b : Node) → branch_of i ≡ b → i.held ≡ Directory m → is_ascending (rows b) ≡ true → keys_of m.entries ≡ child_names [] (rows b)
 held_keys i m b seen is up =
     let beneath : flatten m.entries ≡ b.beneath = sym (ap rows_in is) ∙ ap (λ x. x.beneath) seen in
     child_keys m.entries (ap is_ascending beneath ∙ (both (is_before_all (row_of [] b.top) b.beneath) (is_ascending b.beneath) up).1) ∙ ap (child_names []) beneath
@@ -70,7 +70,7 @@ placed_ascending : (path : List (List ℕ)) (rs : List Row) → is_ascending (ma
 placed_ascending path [] = refl
 placed_ascending path (r ∷ rs) = ap (λ b. b && is_ascending (map (placed path) rs)) (placed_before path r rs) ∙ ap (λ b. is_before_all r rs && b) (placed_ascending path rs)
 
-pub part_ascending : (path : List (List ℕ)) (all : List Row) (b : Branch) → IsWhole path all (Some b) → is_ascending all ≡ true → is_ascending (rows b) ≡ true
+pub part_ascending : (path : List (List ℕ)) (all : List Row) (b : Node) → IsWhole path all (Some b) → is_ascending all ≡ true → is_ascending (rows b) ≡ true
 part_ascending path all b whole up = sym (placed_ascending path (rows b)) ∙ sym (ap is_ascending whole) ∙ ascending_filter (inside path) all up
 
 child_inside : (path : List (List ℕ)) (row : Row) → child path row ≡ true → inside path row ≡ true
@@ -101,7 +101,7 @@ placed_names path (r ∷ rs) = by r.path (placed_names path rs)
     by (n ∷ []) e = ap (λ k. k ∷ map (λ row. last_name row.path) (map (placed path) (filter (child []) rs))) (last_longer path n) ∙ ap (λ l. n ∷ l) e
     by (n ∷ m ∷ ms) e = e
 
-pub child_names_whole : (path : List (List ℕ)) (all : List Row) (part : Option Branch) → IsWhole path all part → child_names [] (rows_or part) ≡ child_names path all
+pub child_names_whole : (path : List (List ℕ)) (all : List Row) (part : Option Node) → IsWhole path all part → child_names [] (rows_or part) ≡ child_names path all
 child_names_whole path all part whole =
     sym (placed_names path (rows_or part))
     ∙ ap (map (λ row. last_name row.path)) (sym (filter-map (child path) (child []) (placed path) (λ r. child_placed path r.path) (rows_or part)) ∙ sym (ap (filter (child path)) whole) ∙ filter_within (child path) (inside path) (child_inside path) all)

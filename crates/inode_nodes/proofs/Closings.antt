@@ -11,7 +11,7 @@ use Rattle.flat_rows.specs.Changes.{changed}
 use Rattle.flat_rows.specs.FileOutcome.{LeaseFacts, is_past_hard, is_expired_file, is_expired, closed_where_expired}
 use Rattle.namespace_rows.specs.Files.{ends_uncommitted, holder_of}
 use Rattle.inode_nodes.specs.Expired.{is_among, past_hard}
-use Rattle.inode_nodes.specs.Branch.{Branch, flatten, rows, row_of, top_of, under}
+use Rattle.inode_nodes.specs.Node.{Node, flatten, rows, row_of, top_of, under}
 use Rattle.inode_nodes.proofs.Filters.{Entries, flatten-append}
 
 module _ (leases : LeaseFacts) where
@@ -27,22 +27,22 @@ module _ (leases : LeaseFacts) where
   closed_rows n (r ∷ rs) = ap (λ row. row ∷ map (closed_where_expired leases) (map (under n) rs)) (closed_under n r) ∙ ap (λ l. under n (closed_where_expired leases r) ∷ l) (closed_rows n rs)
 
   -- each branch has its files closed
-  pub closed_entries : (f : Branch → Branch) → ((b : Branch) → rows (f b) ≡ map (closed_where_expired leases) (rows b)) → (es : Entries) → flatten (map (λ e. (e.0, f e.1)) es) ≡ map (closed_where_expired leases) (flatten es)
+  pub closed_entries : (f : Node → Node) → ((b : Node) → rows (f b) ≡ map (closed_where_expired leases) (rows b)) → (es : Entries) → flatten (map (λ e. (e.0, f e.1)) es) ≡ map (closed_where_expired leases) (flatten es)
   closed_entries f is [] = refl
   closed_entries f is (e ∷ es) =
       ap (λ l. map (under e.0) l ++ flatten (map (λ x. (x.0, f x.1)) es)) (is e.1) ∙ ap (λ l. l ++ flatten (map (λ x. (x.0, f x.1)) es)) (sym (closed_rows e.0 (rows e.1)))
       ∙ ap (λ l. map (closed_where_expired leases) (map (under e.0) (rows e.1)) ++ l) (closed_entries f is es) ∙ sym (map-append (closed_where_expired leases) (map (under e.0) (rows e.1)) (flatten es))
 
-pub same_keys : (f : Branch → Branch) (es : Entries) → keys_of (map (λ e. (e.0, f e.1)) es) ≡ keys_of es
+pub same_keys : (f : Node → Node) (es : Entries) → keys_of (map (λ e. (e.0, f e.1)) es) ≡ keys_of es
 same_keys f [] = refl
 same_keys f (e ∷ es) = ap (λ l. e.0 ∷ l) (same_keys f es)
 
 -- a branch of a directory has fewer rows beneath it than the directory
-pub fewer : (es before after : Entries) (n : List ℕ) (b : Branch) → es ≡ before ++ (n, b) ∷ after → length b.beneath < length (flatten es)
+pub fewer : (es before after : Entries) (n : List ℕ) (b : Node) → es ≡ before ++ (n, b) ∷ after → length b.beneath < length (flatten es)
 fewer es before after n b is =
     omega (arith, ap (λ (x : Entries). length (flatten x)) is ∙ ap length (flatten-append before ((n, b) ∷ after)), length-append (flatten before) (map (under n) (rows b) ++ flatten after), length-append (map (under n) (rows b)) (flatten after), length-map (rows b) (under n))
 
-pub all_closed : (leases : LeaseFacts) (b : Branch) → row_of [] (top_of (closed_where_expired leases (row_of [] b.top))) ∷ map (closed_where_expired leases) b.beneath ≡ map (closed_where_expired leases) (rows b)
+pub all_closed : (leases : LeaseFacts) (b : Node) → row_of [] (top_of (closed_where_expired leases (row_of [] b.top))) ∷ map (closed_where_expired leases) b.beneath ≡ map (closed_where_expired leases) (rows b)
 all_closed leases b = ap (λ row. row ∷ map (closed_where_expired leases) b.beneath) (by (is_expired leases (row_of [] b.top)))
   where
     by : (t : Bool) → row_of [] (top_of (cond t (changed (change.State Closed) (row_of [] b.top)) (row_of [] b.top))) ≡ cond t (changed (change.State Closed) (row_of [] b.top)) (row_of [] b.top)

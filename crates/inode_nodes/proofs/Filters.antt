@@ -8,12 +8,12 @@ use Rattle.file_paths.specs.Path.{is_prefix}
 use Rattle.file_paths.specs.PathOrder.{same_path}
 use Rattle.namespace_rows.specs.declared.row.Row.{Row}
 use Rattle.namespace_rows.specs.Rows.{is_before, is_beyond}
-use Rattle.inode_nodes.specs.Branch.{Branch, flatten, rows, under}
+use Rattle.inode_nodes.specs.Node.{Node, flatten, rows, under}
 use Rattle.inode_nodes.specs.Part.{Splits}
 use Rattle.inode_nodes.proofs.Split.{R, Side}
 
 abbrev pub Entries : Type 0
-Entries = List (List ℕ × Branch)
+Entries = List (List ℕ × Node)
 
 pub append_rows : (a b c : List Row) → (a ++ b) ++ c ≡ a ++ (b ++ c)
 append_rows [] b c = refl
@@ -57,7 +57,7 @@ module _ (p : Row → Bool) where
       filter-append p (map (under e.0) (rows e.1)) (flatten es)
       ∙ rw (map_picked b (under e.0) (λ r. h e.0 r s.0) (rows e.1), side_picked b o n h es s.1) (both_picked b (map (under e.0) (rows e.1)) (flatten es))
 
-pub filter-flatten : (p q : Row → Bool) (n : List ℕ) (low high : Bool) → Splits p q n low high → (es fs : Entries) (b : Branch) → Side Greater n es → Side Less n fs
+pub filter-flatten : (p q : Row → Bool) (n : List ℕ) (low high : Bool) → Splits p q n low high → (es fs : Entries) (b : Node) → Side Greater n es → Side Less n fs
     → filter p (flatten (es ++ ((n, b) ∷ fs))) ≡ pick low (flatten es) ++ (map (under n) (filter q (rows b)) ++ pick high (flatten fs))
 filter-flatten p q n low high h es fs b s t =
     ap (filter p) (flatten-append es ((n, b) ∷ fs)) ∙ filter-append p (flatten es) (map (under n) (rows b) ++ flatten fs)

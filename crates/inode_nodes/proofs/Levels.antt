@@ -12,7 +12,7 @@ use Rattle.namespace_rows.specs.declared.row.Change.TheVariants as change
 use Rattle.namespace_rows.specs.declared.row.Row.{Row}
 use Rattle.namespace_rows.specs.Rows.{is_before, is_beyond, replaced}
 use Rattle.flat_rows.specs.Changes.{without, changed, rewritten}
-use Rattle.inode_nodes.specs.Branch.{Branch, Top, flatten, rows, row_of, under, placed}
+use Rattle.inode_nodes.specs.Node.{Node, Top, flatten, rows, row_of, under, placed}
 use Rattle.inode_nodes.specs.Change.{grafted}
 use Rattle.inode_nodes.proofs.Split.{R, Side, split, at, entry}
 use Rattle.inode_nodes.proofs.Filters.{Entries, flatten-append, append_rows, self, filter-flatten, filter-missing, before-splits, beyond-splits, outside-splits, outside}
@@ -23,17 +23,17 @@ OnRows = List Row → List Row
 
 -- f changes the rows at the name as g changes those of the branch, and leaves the top of the directory
 pub record IsLevel (n : List ℕ) (f g : OnRows) : Type 0 where
-  pub level : (es fs : Entries) (b c : Branch) → Side Greater n es → Side Less n fs → rows c ≡ g (rows b) → f (flatten (es ++ ((n, b) ∷ fs))) ≡ flatten (es ++ ((n, c) ∷ fs))
+  pub level : (es fs : Entries) (b c : Node) → Side Greater n es → Side Less n fs → rows c ≡ g (rows b) → f (flatten (es ++ ((n, b) ∷ fs))) ≡ flatten (es ++ ((n, c) ∷ fs))
   pub top : (t : Top) (rs : List Row) → f (row_of [] t ∷ rs) ≡ row_of [] t ∷ f rs
 
 abbrev pub Sorted : Entries → Type 0
 Sorted es = IsStrictlySortedBy R (keys_of es)
 
-some_entry : (n : List ℕ) (found : Option Branch) (b : Branch) (fs : Entries) → found ≡ Some b → entry n found ++ fs ≡ (n, b) ∷ fs
+some_entry : (n : List ℕ) (found : Option Node) (b : Node) (fs : Entries) → found ≡ Some b → entry n found ++ fs ≡ (n, b) ∷ fs
 some_entry n found b fs h = ap (λ f. entry n f ++ fs) h
 
 -- the map after a child was changed through `get_mut`
-pub set_entry : (f g : OnRows) (n : List ℕ) → IsLevel n f g → (es : Entries) (b c : Branch) → Sorted es → lookup (at n) es ≡ Some b → rows c ≡ g (rows b) → flatten (set_value (at n) es c) ≡ f (flatten es)
+pub set_entry : (f g : OnRows) (n : List ℕ) → IsLevel n f g → (es : Entries) (b c : Node) → Sorted es → lookup (at n) es ≡ Some b → rows c ≡ g (rows b) → flatten (set_value (at n) es c) ≡ f (flatten es)
 set_entry f g n d es b c sorted there is =
     let s = split n es sorted in
     let found : s.found ≡ Some b = sym s.found_is ∙ there in
@@ -65,7 +65,7 @@ replaced-level n ns block = record {
   top = λ t rs. refl;
 }
 
-pub grafted-level : (n : List ℕ) (ns : List (List ℕ)) (new : Branch) → IsLevel n (grafted (n ∷ ns) new) (grafted ns new)
+pub grafted-level : (n : List ℕ) (ns : List (List ℕ)) (new : Node) → IsLevel n (grafted (n ∷ ns) new) (grafted ns new)
 grafted-level n ns new =
     subst (λ block. IsLevel n (replaced (n ∷ ns) block) (grafted ns new)) (sym (placed_under n ns (rows new))) (replaced-level n ns (map (placed ns) (rows new)))
 
@@ -88,16 +88,16 @@ none-beyond (r ∷ rs) = not_beyond r.path (r ∷ filter (is_beyond []) rs) (fil
 pub replaced_top : (block rs : List Row) → block ≡ replaced [] block rs
 replaced_top block rs = sym (rw (none-before rs, none-beyond rs) (append-nil block))
 
-pub grafted_top : (new : Branch) (rs : List Row) → rows new ≡ grafted [] new rs
+pub grafted_top : (new : Node) (rs : List Row) → rows new ≡ grafted [] new rs
 grafted_top new rs = sym (placed_top (rows new)) ∙ replaced_top (map (placed []) (rows new)) rs
 
 -- the map after an insertion
-pub put_entry : (n : List ℕ) (es : Entries) (new : Branch) → Sorted es → flatten (insert_entry R es n new) ≡ replaced (n ∷ []) (map (under n) (rows new)) (flatten es)
+pub put_entry : (n : List ℕ) (es : Entries) (new : Node) → Sorted es → flatten (insert_entry R es n new) ≡ replaced (n ∷ []) (map (under n) (rows new)) (flatten es)
 put_entry n es new sorted =
     let s = split n es sorted in
     ap flatten (s.inserted new) ∙ sym (ap (λ x. replaced (n ∷ []) (map (under n) (rows new)) (flatten x)) s.whole ∙ by s.found s.before s.after s.low s.high)
   where
-    by : (found : Option Branch) (es fs : Entries) → Side Greater n es → Side Less n fs → replaced (n ∷ []) (map (under n) (rows new)) (flatten (es ++ (entry n found ++ fs))) ≡ flatten (es ++ ((n, new) ∷ fs))
+    by : (found : Option Node) (es fs : Entries) → Side Greater n es → Side Less n fs → replaced (n ∷ []) (map (under n) (rows new)) (flatten (es ++ (entry n found ++ fs))) ≡ flatten (es ++ ((n, new) ∷ fs))
     by (Some b) es fs s t = (replaced-level n [] (rows new)).level es fs b new s t (replaced_top (rows new) (rows b))
     by None es fs s t =
         joined n _ _ (rows new) (flatten es) [] [] (flatten fs) (rows new)
@@ -129,7 +129,7 @@ cut_entry n es sorted =
     let s = split n es sorted in
     ap flatten s.removed ∙ sym (ap (λ x. without (n ∷ []) (flatten x)) s.whole ∙ by s.found s.before s.after s.low s.high)
   where
-    by : (found : Option Branch) (es fs : Entries) → Side Greater n es → Side Less n fs → without (n ∷ []) (flatten (es ++ (entry n found ++ fs))) ≡ flatten (es ++ fs)
+    by : (found : Option Node) (es fs : Entries) → Side Greater n es → Side Less n fs → without (n ∷ []) (flatten (es ++ (entry n found ++ fs))) ≡ flatten (es ++ fs)
     by None es fs s t = (without-kept n []).kept es fs s t
     by (Some b) es fs s t =
         filter-flatten (outside (n ∷ [])) (outside []) n true true (outside-splits n []) es fs b s t ∙ rw (none-outside (rows b)) (sym (flatten-append es fs))

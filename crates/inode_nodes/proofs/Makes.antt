@@ -9,14 +9,14 @@ use Rattle.std.specs.Option.{option_map}
 use Rattle.permission_bits.specs.Mode.{for_missing_parent}
 use Rattle.file_paths.specs.Path.{is_beneath}
 use Rattle.hdfs_types.specs.declared.reply.ObjectKind.TheVariants.{Directory}
-use Rattle.access_lists.specs.AccessControlList.{AccessControlList}
-use Rattle.default_acl.specs.Inheritance.{inherited}
+use Rattle.access_lists.specs.Acl.{Acl}
+use Rattle.default_acl.specs.Inheritance.{inherited_acl}
 use Rattle.namespace_rows.specs.declared.file_row.FileRow.{FileRow}
 use Rattle.namespace_rows.specs.declared.row.Row.{Row}
 use Rattle.namespace_rows.specs.First.{first}
 use Rattle.namespace_rows.specs.Rows.{is_directory, is_missing, file_above, ancestor, with_sub_tree, replaced}
 use Rattle.flat_rows.specs.Outcome.{mode_of_new, file_of_new, new_at, new_row, new_rows, with_new}
-use Rattle.inode_nodes.specs.Branch.{Branch, Top, flatten, rows, row_of, under}
+use Rattle.inode_nodes.specs.Node.{Node, Top, flatten, rows, row_of, under}
 use Rattle.inode_nodes.specs.Part.{Splits, IsPart}
 use Rattle.inode_nodes.specs.Change.{chain}
 use Rattle.inode_nodes.proofs.Split.{R, at}
@@ -25,7 +25,7 @@ use Rattle.inode_nodes.proofs.Parts.{part-lookup}
 use Rattle.inode_nodes.proofs.Levels.{IsLevel, Sorted, set_entry, put_entry, replaced-level}
 use Rattle.inode_nodes.proofs.Through.{missing_at}
 
-part_of : (n : List ℕ) (es : Entries) (o : Option Branch) → Sorted es → lookup (at n) es ≡ o → IsPart n (flatten es) o
+part_of : (n : List ℕ) (es : Entries) (o : Option Node) → Sorted es → lookup (at n) es ≡ o → IsPart n (flatten es) o
 part_of n es o sorted found = subst (IsPart n (flatten es)) found (part-lookup n es sorted)
 
 -- what stands above a path
@@ -46,10 +46,10 @@ none_first : (f : Row → Row) (rs : List Row) → first (map f rs) ≡ None →
 none_first f [] h = refl
 none_first f (r ∷ rs) h = cc
 
-pub clear_beneath : (n : List ℕ) (ns : List (List ℕ)) (es : Entries) (b : Branch) → Sorted es → lookup (at n) es ≡ Some b → file_above (n ∷ ns) (flatten es) ≡ None → file_above ns (rows b) ≡ None
+pub clear_beneath : (n : List ℕ) (ns : List (List ℕ)) (es : Entries) (b : Node) → Sorted es → lookup (at n) es ≡ Some b → file_above (n ∷ ns) (flatten es) ≡ None → file_above ns (rows b) ≡ None
 clear_beneath n ns es b sorted found h = none_first (under n) (filter (above_file ns) (rows b)) (sym (ap first ((part_of n es (Some b) sorted found).seen (above_file (n ∷ ns)) (above_file ns) (above_file-splits n ns))) ∙ h)
 
-pub missing_beneath : (n : List ℕ) (ns : List (List ℕ)) (es : Entries) (b : Branch) → Sorted es → lookup (at n) es ≡ Some b → is_missing (n ∷ ns) (flatten es) ≡ true → is_missing ns (rows b) ≡ true
+pub missing_beneath : (n : List ℕ) (ns : List (List ℕ)) (es : Entries) (b : Node) → Sorted es → lookup (at n) es ≡ Some b → is_missing (n ∷ ns) (flatten es) ≡ true → is_missing ns (rows b) ≡ true
 missing_beneath n ns es b sorted found h = sym (missing_at n ns es (Some b) sorted found) ∙ h
 
 none_above : (rs : List Row) → filter (above []) rs ≡ []
@@ -63,7 +63,7 @@ last_map f r (s ∷ rs) = last_map f s rs
 ancestor_here : (n : List ℕ) (ns : List (List ℕ)) (t : Top) (es : Entries) → Sorted es → lookup (at n) es ≡ None → ancestor (n ∷ ns) (row_of [] t ∷ flatten es) ≡ Some (row_of [] t)
 ancestor_here n ns t es sorted found = ap (last_or (Some (row_of [] t))) ((part_of n es None sorted found).seen (above (n ∷ ns)) (above ns) (above-splits n ns))
 
-ancestor_beneath : (n k : List ℕ) (ks : List (List ℕ)) (t : Top) (es : Entries) (b : Branch) → Sorted es → lookup (at n) es ≡ Some b → ancestor (n ∷ k ∷ ks) (row_of [] t ∷ flatten es) ≡ option_map (under n) (ancestor (k ∷ ks) (rows b))
+ancestor_beneath : (n k : List ℕ) (ks : List (List ℕ)) (t : Top) (es : Entries) (b : Node) → Sorted es → lookup (at n) es ≡ Some b → ancestor (n ∷ k ∷ ks) (row_of [] t ∷ flatten es) ≡ option_map (under n) (ancestor (k ∷ ks) (rows b))
 ancestor_beneath n k ks t es b sorted found =
     ap (last_or (Some (row_of [] t))) ((part_of n es (Some b) sorted found).seen (above (n ∷ k ∷ ks)) (above (k ∷ ks)) (above-splits n (k ∷ ks))) ∙ last_map (under n) (row_of [] b.top) (filter (above (k ∷ ks)) b.beneath)
 
@@ -81,7 +81,7 @@ sub_tree-level n [] = same-level n
 sub_tree-level n (t ∷ ts) = replaced-level n t.path (t ∷ ts)
 
 -- a directory that holds one branch
-pub held_one : (t : Top) (n : List ℕ) (inner : Branch) (es : Entries) → es ≡ (n, inner) ∷ [] → row_of [] t ∷ flatten es ≡ row_of [] t ∷ map (under n) (rows inner)
+pub held_one : (t : Top) (n : List ℕ) (inner : Node) (es : Entries) → es ≡ (n, inner) ∷ [] → row_of [] t ∷ flatten es ≡ row_of [] t ∷ map (under n) (rows inner)
 held_one t n inner es is = ap (λ (x : Entries). row_of [] t ∷ flatten x) is ∙ ap (λ l. row_of [] t ∷ l) (append-nil (map (under n) (rows inner)))
 
 module _ (owner : List ℕ) (mode : ℕ) (file : Option FileRow) where
@@ -93,10 +93,10 @@ module _ (owner : List ℕ) (mode : ℕ) (file : Option FileRow) where
   chain_under n ns t = ap (λ x. new_row (row_of [] t) owner (mode_of_new mode ns) (file_of_new file ns) n ∷ x) (under_new n (new_at t.acl t.group owner (mode_of_new mode ns) (file_of_new file ns) []) ns)
 
   -- a directory of this list, as it is made
-  abbrev made_with : AccessControlList → List ℕ → Row
+  abbrev made_with : Acl → List ℕ → Row
   made_with acl group = row_of [] (record { kind = Directory; owner = owner; group = group; acl = acl; file = None })
 
-  pub chain_on : (parent acl : AccessControlList) (group : List ℕ) (n : List ℕ) (ns names : List (List ℕ)) (inner : Branch) → acl ≡ inherited parent (for_missing_parent mode) Directory
+  pub chain_on : (parent acl : Acl) (group : List ℕ) (n : List ℕ) (ns names : List (List ℕ)) (inner : Node) → acl ≡ inherited_acl parent (for_missing_parent mode) Directory
       → names ≡ n ∷ ns → rows inner ≡ chain acl group owner mode file ns → made_with acl group ∷ map (under n) (rows inner) ≡ chain parent group owner mode file names
   chain_on parent acl group n ns names inner list is within =
       ap (λ x. made_with acl group ∷ x) (ap (map (under n)) within ∙ chain_under n ns (record { kind = Directory; owner = owner; group = group; acl = acl; file = None }))
@@ -106,13 +106,13 @@ module _ (owner : List ℕ) (mode : ℕ) (file : Option FileRow) where
   abbrev pub made : List (List ℕ) → List Row → List Row
   made path all = with_new path mode file owner (ancestor path all) all
 
-  pub make_here : (n : List ℕ) (ns : List (List ℕ)) (t : Top) (c : Branch) (es fs : Entries) → Sorted es → lookup (at n) es ≡ None → rows c ≡ chain t.acl t.group owner mode file ns → fs ≡ insert_entry R es n c
+  pub make_here : (n : List ℕ) (ns : List (List ℕ)) (t : Top) (c : Node) (es fs : Entries) → Sorted es → lookup (at n) es ≡ None → rows c ≡ chain t.acl t.group owner mode file ns → fs ≡ insert_entry R es n c
       → row_of [] t ∷ flatten fs ≡ made (n ∷ ns) (row_of [] t ∷ flatten es)
   make_here n ns t c es fs sorted found is inserted =
       ap (λ x. row_of [] t ∷ flatten x) inserted ∙ ap (λ x. row_of [] t ∷ x) (put_entry n es c sorted ∙ ap (λ block. replaced (n ∷ []) block (flatten es)) (ap (map (under n)) is ∙ chain_under n ns t))
       ∙ ap (λ o. with_new (n ∷ ns) mode file owner o (row_of [] t ∷ flatten es)) (sym (ancestor_here n ns t es sorted found))
 
-  make_beneath : (n k : List ℕ) (ks : List (List ℕ)) (t : Top) (b c : Branch) (es fs : Entries) → Sorted es → lookup (at n) es ≡ Some b → rows c ≡ made (k ∷ ks) (rows b) → fs ≡ set_value (at n) es c
+  make_beneath : (n k : List ℕ) (ks : List (List ℕ)) (t : Top) (b c : Node) (es fs : Entries) → Sorted es → lookup (at n) es ≡ Some b → rows c ≡ made (k ∷ ks) (rows b) → fs ≡ set_value (at n) es c
       → row_of [] t ∷ flatten fs ≡ made (n ∷ k ∷ ks) (row_of [] t ∷ flatten es)
   make_beneath n k ks t b c es fs sorted found is written =
       by (ancestor (k ∷ ks) (rows b)) is ∙ ap (λ o. with_new (n ∷ k ∷ ks) mode file owner o (row_of [] t ∷ flatten es)) (sym (ancestor_beneath n k ks t es b sorted found))
@@ -125,7 +125,7 @@ module _ (owner : List ℕ) (mode : ℕ) (file : Option FileRow) where
           ∙ ap (λ x. row_of [] t ∷ x) (set_entry (λ rs. with_sub_tree rs (map (under n) block)) (λ rs. with_sub_tree rs block) n (sub_tree-level n block) es b c sorted found e)
           ∙ sym ((sub_tree-level n block).top t (flatten es)) ∙ ap (with_sub_tree (row_of [] t ∷ flatten es)) (under_new n a (drop (length a.path) (k ∷ ks)))
 
-  pub make_through : (n : List ℕ) (ns : List (List ℕ)) (t : Top) (b c : Branch) (es fs : Entries) → Sorted es → is_missing (n ∷ ns) (flatten es) ≡ true → lookup (at n) es ≡ Some b → rows c ≡ made ns (rows b) → fs ≡ set_value (at n) es c
+  pub make_through : (n : List ℕ) (ns : List (List ℕ)) (t : Top) (b c : Node) (es fs : Entries) → Sorted es → is_missing (n ∷ ns) (flatten es) ≡ true → lookup (at n) es ≡ Some b → rows c ≡ made ns (rows b) → fs ≡ set_value (at n) es c
       → row_of [] t ∷ flatten fs ≡ made (n ∷ ns) (row_of [] t ∷ flatten es)
   make_through n [] t b c es fs sorted missing found is written = absurd (false≢true (missing_beneath n [] es b sorted found missing))
   make_through n (k ∷ ks) t b c es fs sorted missing found is written = make_beneath n k ks t b c es fs sorted found is written

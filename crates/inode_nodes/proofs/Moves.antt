@@ -17,7 +17,7 @@ use Rattle.flat_rows.specs.Changes.{rows_under, without, moved_row, moved}
 use Rattle.namespace_rows.proofs.Tests.{both}
 use Rattle.namespace_rows.proofs.PathOrders.{tied_starts, starts_upto}
 use Rattle.flat_rows.proofs.Moves.{front_at, front_inside}
-use Rattle.inode_nodes.specs.Branch.{Branch, rows, rows_or, row_of, placed, with_rows}
+use Rattle.inode_nodes.specs.Node.{Node, rows, rows_or, row_of, placed, with_rows}
 use Rattle.inode_nodes.specs.Part.{IsWhole}
 use Rattle.inode_nodes.specs.Change.{grafted}
 use Rattle.inode_nodes.proofs.Filters.{inside, outside, standing, pick}
@@ -69,7 +69,7 @@ and_false false = refl
 
 -- the stand-in hides nothing beside it
 
-module _ (to : List (List ℕ)) (s : Branch) (rs : List Row) where
+module _ (to : List (List ℕ)) (s : Node) (rs : List Row) where
   abbrev block : List Row
   block = map (placed to) (rows s)
 
@@ -90,7 +90,7 @@ module _ (to : List (List ℕ)) (s : Branch) (rs : List Row) where
       ∙ ap (λ t. t ++ filter (is_beyond to) (filter (is_beyond to) rs)) (none_of (is_beyond to) (placed to) (λ r. rw (front_inside to r.path) (and_false (is_lt (path_cmp to (to ++ r.path))))) (rows s))
       ∙ filter_const (is_beyond to) (is_beyond to) true (λ r h. h) rs
 
-filled : (to from : List (List ℕ)) (s b : Branch) (rs : List Row) → grafted to b (without from (grafted to s rs)) ≡ grafted to b (without from rs)
+filled : (to from : List (List ℕ)) (s b : Node) (rs : List Row) → grafted to b (without from (grafted to s rs)) ≡ grafted to b (without from rs)
 filled to from s b rs =
     let one : filter (is_before to) (without from (grafted to s rs)) ≡ filter (is_before to) (without from rs) =
     filter_swap (is_before to) (outside from) (grafted to s rs) ∙ ap (filter (outside from)) (first_part to s rs) ∙ filter_swap (outside from) (is_before to) rs in
@@ -137,7 +137,7 @@ side_outside (t ∷ ts) (f ∷ fs) (q ∷ qs) a b h =
     by Greater e c d rest = rw e refl
 
 -- what stands beside a stand-in without rows beneath it
-module _ (to from : List (List ℕ)) (apart : is_prefix to from ≡ false) (beside : is_prefix from to ≡ false) (s : Branch) (leaf : s.beneath ≡ []) (rs : List Row) where
+module _ (to from : List (List ℕ)) (apart : is_prefix to from ≡ false) (beside : is_prefix from to ≡ false) (s : Node) (leaf : s.beneath ≡ []) (rs : List Row) where
   stand_in : filter (inside from) (map (placed to) (rows s)) ≡ []
   stand_in = ap (λ l. filter (inside from) (placed to (row_of [] s.top) ∷ map (placed to) l)) leaf ∙ rw (append-nil to, beside) refl
 
@@ -173,7 +173,7 @@ not_standing to r h = by (path_cmp to r.path) h
     by Equal k = cc
     by Greater k = refl
 
-pub there_after : (to from : List (List ℕ)) (s : Branch) (rs : List Row) → is_prefix from to ≡ false → is_missing to (without from (grafted to s rs)) ≡ false
+pub there_after : (to from : List (List ℕ)) (s : Node) (rs : List Row) → is_prefix from to ≡ false → is_missing to (without from (grafted to s rs)) ≡ false
 there_after to from s rs beside =
     let top : Row = placed to (row_of [] s.top) in
     let more : List Row = map (placed to) s.beneath ++ filter (is_beyond to) rs in
@@ -191,11 +191,11 @@ moved_placed from to [] = refl
 moved_placed from to (r ∷ rs) =
     ap (λ p. record { path = to ++ p; kind = r.kind; owner = r.owner; group = r.group; acl = r.acl; file = r.file } ∷ map (moved_row from to) (map (placed from) rs)) (drop-append_seam from r.path) ∙ ap (λ t. placed to r ∷ t) (moved_placed from to rs)
 
-moved_top : (f : List ℕ) (fs above : List (List ℕ)) (name : List ℕ) (b : Branch) → row_of [] b.top ∷ moved (f ∷ fs) (above ++ name ∷ []) b.beneath ≡ moved (f ∷ fs) (above ++ name ∷ []) (rows b)
+moved_top : (f : List ℕ) (fs above : List (List ℕ)) (name : List ℕ) (b : Node) → row_of [] b.top ∷ moved (f ∷ fs) (above ++ name ∷ []) b.beneath ≡ moved (f ∷ fs) (above ++ name ∷ []) (rows b)
 moved_top f fs [] name b = refl
 moved_top f fs (n ∷ ns) name b = refl
 
-pub moved_rows : (f : List ℕ) (fs above : List (List ℕ)) (name : List ℕ) (b b1 b2 b3 s part : Branch) (o : Option Branch) → is_prefix (above ++ name ∷ []) (f ∷ fs) ≡ false → is_prefix (f ∷ fs) (above ++ name ∷ []) ≡ false → s.beneath ≡ []
+pub moved_rows : (f : List ℕ) (fs above : List (List ℕ)) (name : List ℕ) (b b1 b2 b3 s part : Node) (o : Option Node) → is_prefix (above ++ name ∷ []) (f ∷ fs) ≡ false → is_prefix (f ∷ fs) (above ++ name ∷ []) ≡ false → s.beneath ≡ []
     → b1 ≡ with_rows b (grafted (above ++ name ∷ []) s b.beneath) → IsWhole (f ∷ fs) b1.beneath o → o ≡ Some part → b2 ≡ with_rows b1 (without (f ∷ fs) b1.beneath) → b3 ≡ with_rows b2 (grafted (above ++ name ∷ []) part b2.beneath)
     → rows b3 ≡ moved (f ∷ fs) (above ++ name ∷ []) (rows b)
 moved_rows f fs above name b b1 b2 b3 s part o apart beside leaf put whole some taken fill =
@@ -207,7 +207,7 @@ moved_rows f fs above name b b1 b2 b3 s part o apart beside leaf put whole some 
     let two_calls : b2 ≡ with_rows b (without from (grafted to s b.beneath)) = taken ∙ ap (λ x. with_rows x (without from x.beneath)) put in
     ap rows fill ∙ ap (λ x. rows (with_rows x (grafted to part x.beneath))) two_calls ∙ ap (λ l. row_of [] b.top ∷ l) (filled to from s part b.beneath ∙ ap (λ l. replaced to l (without from b.beneath)) same_block) ∙ moved_top f fs above name b
 
-pub taken_some : (f : List ℕ) (fs above : List (List ℕ)) (name : List ℕ) (b b1 s : Branch) (o : Option Branch) → is_prefix (above ++ name ∷ []) (f ∷ fs) ≡ false → is_prefix (f ∷ fs) (above ++ name ∷ []) ≡ false → s.beneath ≡ []
+pub taken_some : (f : List ℕ) (fs above : List (List ℕ)) (name : List ℕ) (b b1 s : Node) (o : Option Node) → is_prefix (above ++ name ∷ []) (f ∷ fs) ≡ false → is_prefix (f ∷ fs) (above ++ name ∷ []) ≡ false → s.beneath ≡ []
     → b1 ≡ with_rows b (grafted (above ++ name ∷ []) s b.beneath) → IsWhole (f ∷ fs) b1.beneath o → o ≡ None → is_missing (f ∷ fs) (rows b) ≡ false → ⊥
 taken_some f fs above name b b1 s o apart beside leaf put whole none there =
     let from : List (List ℕ) = f ∷ fs in
@@ -215,7 +215,7 @@ taken_some f fs above name b b1 s o apart beside leaf put whole none there =
     sym (under_stand_in (above ++ name ∷ []) from apart beside s leaf b.beneath) ∙ sym (ap (λ x. rows_under from x.beneath) put) ∙ subst (λ x. rows_under from b1.beneath ≡ map (placed from) (rows_or x)) none whole in
     false≢true (sym there ∙ ap (λ l. is_none (first l)) (sym (filter_within (standing from) (inside from) (standing_inside from) b.beneath) ∙ ap (filter (standing from)) under))
 
-pub fill_there : (f : List ℕ) (fs above : List (List ℕ)) (name : List ℕ) (b b1 b2 s : Branch) → is_prefix (f ∷ fs) (above ++ name ∷ []) ≡ false → b1 ≡ with_rows b (grafted (above ++ name ∷ []) s b.beneath) → b2 ≡ with_rows b1 (without (f ∷ fs) b1.beneath)
+pub fill_there : (f : List ℕ) (fs above : List (List ℕ)) (name : List ℕ) (b b1 b2 s : Node) → is_prefix (f ∷ fs) (above ++ name ∷ []) ≡ false → b1 ≡ with_rows b (grafted (above ++ name ∷ []) s b.beneath) → b2 ≡ with_rows b1 (without (f ∷ fs) b1.beneath)
     → is_missing (above ++ name ∷ []) b2.beneath ≡ false
 fill_there f fs above name b b1 b2 s beside put taken =
     ap (λ x. is_missing (above ++ name ∷ []) x.beneath) (taken ∙ ap (λ x. with_rows x (without (f ∷ fs) x.beneath)) put) ∙ there_after (above ++ name ∷ []) (f ∷ fs) s b.beneath beside

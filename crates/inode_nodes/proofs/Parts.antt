@@ -11,12 +11,12 @@ use Rattle.flat_rows.specs.Changes.{rows_under}
 use Rattle.inode_nodes.specs.Kept.{branch_of, rows_in, IsSorted}
 use Rattle.inode_nodes.specs.declared.node.Held.TheVariants.{File, Directory}
 use Rattle.inode_nodes.specs.declared.node.Node.TheInside.{Inside}
-use Rattle.inode_nodes.specs.Branch.{Branch, flatten, rows, rows_or, under, placed}
+use Rattle.inode_nodes.specs.Node.{Node, flatten, rows, rows_or, under, placed}
 use Rattle.inode_nodes.specs.Part.{IsPart, IsWhole}
 use Rattle.inode_nodes.proofs.Split.{R, Side, split, at, entry}
 use Rattle.inode_nodes.proofs.Filters.{Entries, filter-flatten, filter-missing, inside, inside-splits}
 
-by_found : (n : List ℕ) (found : Option Branch) (es fs : Entries) → Side Greater n es → Side Less n fs → IsPart n (flatten (es ++ (entry n found ++ fs))) found
+by_found : (n : List ℕ) (found : Option Node) (es fs : Entries) → Side Greater n es → Side Less n fs → IsPart n (flatten (es ++ (entry n found ++ fs))) found
 by_found n None es fs s t = record { seen = λ p q h. filter-missing p q n false false h es fs s t }
 by_found n (Some b) es fs s t = record { seen = λ p q h. filter-flatten p q n false false h es fs b s t ∙ append-nil (map (under n) (filter q (rows b))) }
 
@@ -25,11 +25,11 @@ part-lookup n es sorted =
     let s = split n es sorted in
     subst (λ x. IsPart n (flatten x) (lookup (at n) es)) (sym s.whole) (subst (λ o. IsPart n (flatten (s.before ++ (entry n s.found ++ s.after))) o) (sym s.found_is) (by_found n s.found s.before s.after s.low s.high))
 
-pub held_parts : (n : List ℕ) (i : Inside) (m : BTreeMap (List ℕ) Branch) (b : Branch) (o : Option Branch) → branch_of i ≡ b → i.held ≡ Directory m → IsSorted i.held → lookup (at n) m.entries ≡ o → IsPart n b.beneath o
+pub held_parts : (n : List ℕ) (i : Inside) (m : BTreeMap (List ℕ) Node) (b : Node) (o : Option Node) → branch_of i ≡ b → i.held ≡ Directory m → IsSorted i.held → lookup (at n) m.entries ≡ o → IsPart n b.beneath o
 held_parts n i m b o seen is sorted found =
     subst (λ x. IsPart n x.beneath o) seen (subst (λ h. IsPart n (rows_in h) o) (sym is) (subst (IsPart n (flatten m.entries)) found (part-lookup n m.entries (subst IsSorted is sorted))))
 
-pub file_parts : (n : List ℕ) (i : Inside) (file : FileRow) (b : Branch) → branch_of i ≡ b → i.held ≡ File file → IsPart n b.beneath None
+pub file_parts : (n : List ℕ) (i : Inside) (file : FileRow) (b : Node) → branch_of i ≡ b → i.held ≡ File file → IsPart n b.beneath None
 file_parts n i file b seen is = subst (λ x. IsPart n x.beneath None) seen (subst (λ h. IsPart n (rows_in h) None) (sym is) (record { seen = λ p q h. refl }))
 
 -- wholes
@@ -46,12 +46,12 @@ all_inside : (rs : List Row) → rows_under [] rs ≡ rs
 all_inside [] = refl
 all_inside (r ∷ rs) = ap (λ t. r ∷ t) (all_inside rs)
 
-pub whole_itself : (names : List (List ℕ)) (o : Option Branch) → names ≡ [] → IsWhole names (rows_or o) o
+pub whole_itself : (names : List (List ℕ)) (o : Option Node) → names ≡ [] → IsWhole names (rows_or o) o
 whole_itself names o none = subst (λ ns. IsWhole ns (rows_or o) o) (sym none) (all_inside (rows_or o) ∙ sym (placed_top (rows_or o)))
 
-pub whole_at : (n : List ℕ) (ns : List (List ℕ)) (rs : List Row) (o p : Option Branch) → IsPart n rs o → IsWhole ns (rows_or o) p → IsWhole (n ∷ ns) rs p
+pub whole_at : (n : List ℕ) (ns : List (List ℕ)) (rs : List Row) (o p : Option Node) → IsPart n rs o → IsWhole ns (rows_or o) p → IsWhole (n ∷ ns) rs p
 whole_at n ns rs o p part whole = part.seen (inside (n ∷ ns)) (inside ns) (inside-splits n ns) ∙ ap (map (under n)) whole ∙ sym (placed_under n ns (rows_or p))
 
 -- a step of a descent along a path
-pub whole_onward : (path : List (List ℕ)) (i : ℕ) (n : List ℕ) (b : Branch) (o p : Option Branch) → i < length path → n ≡ get_or path i n → IsPart n b.beneath o → IsWhole (drop (i + 1) path) (rows_or o) p → IsWhole (drop i path) (rows b) p
+pub whole_onward : (path : List (List ℕ)) (i : ℕ) (n : List ℕ) (b : Node) (o p : Option Node) → i < length path → n ≡ get_or path i n → IsPart n b.beneath o → IsWhole (drop (i + 1) path) (rows_or o) p → IsWhole (drop i path) (rows b) p
 whole_onward path i n b o p h is part whole = subst (λ ns. IsWhole ns (rows b) p) (sym (drop_more path i n h ∙ ap (λ m. m ∷ drop (i + 1) path) (sym is))) (whole_at n (drop (i + 1) path) b.beneath o p part whole)

@@ -21,7 +21,7 @@ use Rattle.inode_nodes.specs.Kept.{branch_of, rows_in, IsSorted}
 use Rattle.inode_nodes.specs.declared.node.Held.{Held}
 use Rattle.inode_nodes.specs.declared.node.Held.TheVariants.{File, Directory}
 use Rattle.inode_nodes.specs.declared.node.Node.TheInside.{Inside}
-use Rattle.inode_nodes.specs.Branch.{Branch, Top, flatten, rows, rows_or, row_of, under, with_rows}
+use Rattle.inode_nodes.specs.Node.{Node, Top, flatten, rows, rows_or, row_of, under, with_rows}
 use Rattle.inode_nodes.specs.Part.{Splits, IsPart, IsWhole}
 use Rattle.inode_nodes.specs.Change.{grafted, holds_parent, changed_top}
 use Rattle.inode_nodes.proofs.Split.{R, at}
@@ -51,15 +51,15 @@ pub no_names : (names : List (List ℕ)) → length names ≡ 0 → names ≡ []
 no_names [] h = refl
 no_names (n ∷ ns) h = absurd (omega (arith, h))
 
-pub held_sorted : (h : Held) (m : BTreeMap (List ℕ) Branch) → h ≡ Directory m → IsSorted h → Sorted m.entries
+pub held_sorted : (h : Held) (m : BTreeMap (List ℕ) Node) → h ≡ Directory m → IsSorted h → Sorted m.entries
 held_sorted h m is s = subst IsSorted is s
 
 -- a child that was given back as it was
-pub same_through : (n : List ℕ) (b c : Branch) (es fs : Entries) → lookup (at n) es ≡ Some b → c ≡ b → fs ≡ set_value (at n) es c → flatten fs ≡ flatten es
+pub same_through : (n : List ℕ) (b c : Node) (es fs : Entries) → lookup (at n) es ≡ Some b → c ≡ b → fs ≡ set_value (at n) es c → flatten fs ≡ flatten es
 same_through n b c es fs found same written = ap flatten (written ∙ ap (set_value (at n) es) same ∙ set_value_same (at n) es b found)
 
 -- a child that was changed at a longer path
-pub level_through : (f g : List Row → List Row) (n : List ℕ) → IsLevel n f g → ((t : Top) (rs : List Row) → g (row_of [] t ∷ rs) ≡ row_of [] t ∷ g rs) → (b c : Branch) (es fs : Entries) → Sorted es → lookup (at n) es ≡ Some b
+pub level_through : (f g : List Row → List Row) (n : List ℕ) → IsLevel n f g → ((t : Top) (rs : List Row) → g (row_of [] t ∷ rs) ≡ row_of [] t ∷ g rs) → (b c : Node) (es fs : Entries) → Sorted es → lookup (at n) es ≡ Some b
     → c ≡ with_rows b (g b.beneath) → fs ≡ set_value (at n) es c → flatten fs ≡ f (flatten es)
 level_through f g n d top b c es fs sorted found changed written =
     ap flatten written ∙ set_entry f g n d es b c sorted found (ap rows changed ∙ sym (top b.top b.beneath))
@@ -82,7 +82,7 @@ some_map : (f : Row → Row) (rs : List Row) → some_row (map f rs) ≡ some_ro
 some_map f [] = refl
 some_map f (r ∷ rs) = refl
 
-pub any_part : (p q : Row → Bool) (n : List ℕ) (rs : List Row) (o : Option Branch) → Splits p q n false false → IsPart n rs o → list_any p rs ≡ list_any q (rows_or o)
+pub any_part : (p q : Row → Bool) (n : List ℕ) (rs : List Row) (o : Option Node) → Splits p q n false false → IsPart n rs o → list_any p rs ≡ list_any q (rows_or o)
 any_part p q n rs o splits part = any_some p rs ∙ ap some_row (part.seen p q splits) ∙ some_map (under n) (filter q (rows_or o)) ∙ sym (any_some q (rows_or o))
 
 -- the directory that holds the path
@@ -94,17 +94,17 @@ holding-splits n m ms = record { lows = λ o r h. rw h refl; highs = λ o r h. r
 
 -- putting
 
-pub parent_held : (above : List (List ℕ)) (name : List ℕ) (b : Branch) → IsTrue (has_parent (above ++ name ∷ []) (rows b)) → IsTrue (holds_parent above name b.beneath)
+pub parent_held : (above : List (List ℕ)) (name : List ℕ) (b : Node) → IsTrue (has_parent (above ++ name ∷ []) (rows b)) → IsTrue (holds_parent above name b.beneath)
 parent_held [] name b h = refl
 parent_held (n ∷ []) name b h = h
 parent_held (n ∷ m ∷ ms) name b h = h
 
-pub held_parent : (above : List (List ℕ)) (name : List ℕ) (i : Inside) (m : BTreeMap (List ℕ) Branch) (b : Branch) → branch_of i ≡ b → i.held ≡ Directory m → IsTrue (has_parent (above ++ name ∷ []) (rows b))
+pub held_parent : (above : List (List ℕ)) (name : List ℕ) (i : Inside) (m : BTreeMap (List ℕ) Node) (b : Node) → branch_of i ≡ b → i.held ≡ Directory m → IsTrue (has_parent (above ++ name ∷ []) (rows b))
     → IsTrue (holds_parent above name (flatten m.entries))
 held_parent above name i m b seen is h =
     subst (λ x. IsTrue (holds_parent above name (rows_in x))) is (subst (λ x. IsTrue (holds_parent above name x.beneath)) (sym seen) (parent_held above name b h))
 
-pub file_holds_none : (above : List (List ℕ)) (name : List ℕ) (i : Inside) (file : FileRow) (b : Branch) → branch_of i ≡ b → i.held ≡ File file → IsTrue (has_parent (above ++ name ∷ []) (rows b)) → ⊥
+pub file_holds_none : (above : List (List ℕ)) (name : List ℕ) (i : Inside) (file : FileRow) (b : Node) → branch_of i ≡ b → i.held ≡ File file → IsTrue (has_parent (above ++ name ∷ []) (rows b)) → ⊥
 file_holds_none above name i file b seen is h = go above (subst (λ x. IsTrue (has_parent (above ++ name ∷ []) (rows (branch_of (record { owner = i.owner; group = i.group; acl = i.acl; held = x }))))) is (subst (λ x. IsTrue (has_parent (above ++ name ∷ []) (rows x))) (sym seen) h))
   where
     go : (above : List (List ℕ)) → IsTrue (has_parent (above ++ name ∷ []) (rows (branch_of (record { owner = i.owner; group = i.group; acl = i.acl; held = File file })))) → ⊥
@@ -112,12 +112,12 @@ file_holds_none above name i file b seen is h = go above (subst (λ x. IsTrue (h
     go (n ∷ []) k = false≢true k
     go (n ∷ m ∷ ms) k = false≢true k
 
-parent_at : (n : List ℕ) (ns : List (List ℕ)) (name : List ℕ) (es : Entries) (o : Option Branch) → Sorted es → lookup (at n) es ≡ o → holds_parent (n ∷ ns) name (flatten es) ≡ has_parent (ns ++ name ∷ []) (rows_or o)
+parent_at : (n : List ℕ) (ns : List (List ℕ)) (name : List ℕ) (es : Entries) (o : Option Node) → Sorted es → lookup (at n) es ≡ o → holds_parent (n ∷ ns) name (flatten es) ≡ has_parent (ns ++ name ∷ []) (rows_or o)
 parent_at n [] name es o sorted found = any_part (holding (n ∷ name ∷ [])) (holding (name ∷ [])) n (flatten es) o (holding-splits n name []) (subst (IsPart n (flatten es)) found (part-lookup n es sorted))
 parent_at n (m ∷ ms) name es o sorted found =
     any_part (holding (n ∷ m ∷ (ms ++ name ∷ []))) (holding (m ∷ (ms ++ name ∷ []))) n (flatten es) o (holding-splits n m (ms ++ name ∷ [])) (subst (IsPart n (flatten es)) found (part-lookup n es sorted))
 
-pub child_holds : (n : List ℕ) (ns names : List (List ℕ)) (name : List ℕ) (es : Entries) (o : Option Branch) → Sorted es → names ≡ n ∷ ns → lookup (at n) es ≡ o → IsTrue (holds_parent names name (flatten es)) → IsTrue (has_parent (ns ++ name ∷ []) (rows_or o))
+pub child_holds : (n : List ℕ) (ns names : List (List ℕ)) (name : List ℕ) (es : Entries) (o : Option Node) → Sorted es → names ≡ n ∷ ns → lookup (at n) es ≡ o → IsTrue (holds_parent names name (flatten es)) → IsTrue (has_parent (ns ++ name ∷ []) (rows_or o))
 child_holds n ns names name es o sorted is found h = subst IsTrue (parent_at n ns name es o sorted found) (subst (λ xs. IsTrue (holds_parent xs name (flatten es))) is h)
 
 pub none_holds : (n : List ℕ) (ns names : List (List ℕ)) (name : List ℕ) (es : Entries) → Sorted es → names ≡ n ∷ ns → lookup (at n) es ≡ None → IsTrue (holds_parent names name (flatten es)) → ⊥
@@ -129,18 +129,18 @@ none_map : (f : Row → Row) (rs : List Row) → is_none (first (map f rs)) ≡ 
 none_map f [] = refl
 none_map f (r ∷ rs) = refl
 
-pub missing_at : (n : List ℕ) (ns : List (List ℕ)) (es : Entries) (o : Option Branch) → Sorted es → lookup (at n) es ≡ o → is_missing (n ∷ ns) (flatten es) ≡ is_missing ns (rows_or o)
+pub missing_at : (n : List ℕ) (ns : List (List ℕ)) (es : Entries) (o : Option Node) → Sorted es → lookup (at n) es ≡ o → is_missing (n ∷ ns) (flatten es) ≡ is_missing ns (rows_or o)
 missing_at n ns es o sorted found =
     ap (λ l. is_none (first l)) ((part-lookup n es sorted).seen (standing (n ∷ ns)) (standing ns) (standing-splits n ns)) ∙ none_map (under n) (filter (standing ns) (rows_or (lookup (at n) es))) ∙ ap (λ x. is_missing ns (rows_or x)) found
 
-pub held_there : (path : List (List ℕ)) (i : Inside) (m : BTreeMap (List ℕ) Branch) (b : Branch) → branch_of i ≡ b → i.held ≡ Directory m → is_missing path b.beneath ≡ false → is_missing path (flatten m.entries) ≡ false
+pub held_there : (path : List (List ℕ)) (i : Inside) (m : BTreeMap (List ℕ) Node) (b : Node) → branch_of i ≡ b → i.held ≡ Directory m → is_missing path b.beneath ≡ false → is_missing path (flatten m.entries) ≡ false
 held_there path i m b seen is h = subst (λ x. is_missing path (rows_in x) ≡ false) is (subst (λ x. is_missing path x.beneath ≡ false) (sym seen) h)
 
-there_within : (ns : List (List ℕ)) (name : List ℕ) (b : Branch) → is_missing (ns ++ name ∷ []) (rows b) ≡ false → is_missing (ns ++ name ∷ []) b.beneath ≡ false
+there_within : (ns : List (List ℕ)) (name : List ℕ) (b : Node) → is_missing (ns ++ name ∷ []) (rows b) ≡ false → is_missing (ns ++ name ∷ []) b.beneath ≡ false
 there_within [] name b h = h
 there_within (m ∷ ms) name b h = h
 
-pub there_beneath : (n : List ℕ) (ns names : List (List ℕ)) (name : List ℕ) (es : Entries) (b : Branch) → Sorted es → names ≡ n ∷ ns → lookup (at n) es ≡ Some b → is_missing (names ++ name ∷ []) (flatten es) ≡ false
+pub there_beneath : (n : List ℕ) (ns names : List (List ℕ)) (name : List ℕ) (es : Entries) (b : Node) → Sorted es → names ≡ n ∷ ns → lookup (at n) es ≡ Some b → is_missing (names ++ name ∷ []) (flatten es) ≡ false
     → is_missing (ns ++ name ∷ []) b.beneath ≡ false
 there_beneath n ns names name es b sorted is found h =
     there_within ns name b (sym (missing_at n (ns ++ name ∷ []) es (Some b) sorted found) ∙ ap (λ xs. is_missing (xs ++ name ∷ []) (flatten es)) (sym is) ∙ h)
@@ -151,20 +151,20 @@ not_beneath n ns names name es sorted is found h = false≢true (sym h ∙ ap (�
 pub not_here : (names : List (List ℕ)) (name : List ℕ) (es : Entries) → Sorted es → names ≡ [] → lookup (at name) es ≡ None → is_missing (names ++ name ∷ []) (flatten es) ≡ false → ⊥
 not_here names name es sorted is found h = false≢true (sym h ∙ ap (λ xs. is_missing (xs ++ name ∷ []) (flatten es)) is ∙ missing_at name [] es None sorted found)
 
-pub put_top : (above : List (List ℕ)) (name : List ℕ) (new : Branch) (t : Top) (rs : List Row) → grafted (above ++ name ∷ []) new (row_of [] t ∷ rs) ≡ row_of [] t ∷ grafted (above ++ name ∷ []) new rs
+pub put_top : (above : List (List ℕ)) (name : List ℕ) (new : Node) (t : Top) (rs : List Row) → grafted (above ++ name ∷ []) new (row_of [] t ∷ rs) ≡ row_of [] t ∷ grafted (above ++ name ∷ []) new rs
 put_top [] name new t rs = refl
 put_top (n ∷ ns) name new t rs = refl
 
-pub put_through : (n : List ℕ) (ns names : List (List ℕ)) (name : List ℕ) (new b c : Branch) (es fs : Entries) → Sorted es → names ≡ n ∷ ns → lookup (at n) es ≡ Some b → c ≡ with_rows b (grafted (ns ++ name ∷ []) new b.beneath) → fs ≡ set_value (at n) es c
+pub put_through : (n : List ℕ) (ns names : List (List ℕ)) (name : List ℕ) (new b c : Node) (es fs : Entries) → Sorted es → names ≡ n ∷ ns → lookup (at n) es ≡ Some b → c ≡ with_rows b (grafted (ns ++ name ∷ []) new b.beneath) → fs ≡ set_value (at n) es c
     → flatten fs ≡ grafted (names ++ name ∷ []) new (flatten es)
 put_through n ns names name new b c es fs sorted is found changed written =
     level_through (grafted (n ∷ (ns ++ name ∷ [])) new) (grafted (ns ++ name ∷ []) new) n (grafted-level n (ns ++ name ∷ []) new) (put_top ns name new) b c es fs sorted found changed written
     ∙ ap (λ xs. grafted (xs ++ name ∷ []) new (flatten es)) (sym is)
 
-pub put_here : (names : List (List ℕ)) (name : List ℕ) (new : Branch) (es fs : Entries) → Sorted es → names ≡ [] → fs ≡ insert_entry R es name new → flatten fs ≡ grafted (names ++ name ∷ []) new (flatten es)
+pub put_here : (names : List (List ℕ)) (name : List ℕ) (new : Node) (es fs : Entries) → Sorted es → names ≡ [] → fs ≡ insert_entry R es name new → flatten fs ≡ grafted (names ++ name ∷ []) new (flatten es)
 put_here names name new es fs sorted is inserted = ap flatten inserted ∙ put_entry name es new sorted ∙ ap (λ xs. grafted (xs ++ name ∷ []) new (flatten es)) (sym is)
 
-pub fill_here : (names : List (List ℕ)) (name : List ℕ) (b c : Branch) (es fs : Entries) → Sorted es → names ≡ [] → lookup (at name) es ≡ Some b → fs ≡ set_value (at name) es c → flatten fs ≡ grafted (names ++ name ∷ []) c (flatten es)
+pub fill_here : (names : List (List ℕ)) (name : List ℕ) (b c : Node) (es fs : Entries) → Sorted es → names ≡ [] → lookup (at name) es ≡ Some b → fs ≡ set_value (at name) es c → flatten fs ≡ grafted (names ++ name ∷ []) c (flatten es)
 fill_here names name b c es fs sorted is found written =
     ap flatten written ∙ set_entry (grafted (name ∷ []) c) (grafted [] c) name (grafted-level name [] c) es b c sorted found (grafted_top c (rows b)) ∙ ap (λ xs. grafted (xs ++ name ∷ []) c (flatten es)) (sym is)
 
@@ -173,17 +173,17 @@ fill_here names name b c es fs sorted is found written =
 pub take_here : (n : List ℕ) (names : List (List ℕ)) (es fs : Entries) → Sorted es → names ≡ [] → fs ≡ remove_entry (at n) es → flatten fs ≡ without (n ∷ names) (flatten es)
 take_here n names es fs sorted is removed = ap flatten removed ∙ cut_entry n es sorted ∙ ap (λ xs. without (n ∷ xs) (flatten es)) (sym is)
 
-pub take_through : (n m : List ℕ) (ms names : List (List ℕ)) (b c : Branch) (es fs : Entries) → Sorted es → names ≡ m ∷ ms → lookup (at n) es ≡ Some b → c ≡ with_rows b (without (m ∷ ms) b.beneath) → fs ≡ set_value (at n) es c → flatten fs ≡ without (n ∷ names) (flatten es)
+pub take_through : (n m : List ℕ) (ms names : List (List ℕ)) (b c : Node) (es fs : Entries) → Sorted es → names ≡ m ∷ ms → lookup (at n) es ≡ Some b → c ≡ with_rows b (without (m ∷ ms) b.beneath) → fs ≡ set_value (at n) es c → flatten fs ≡ without (n ∷ names) (flatten es)
 take_through n m ms names b c es fs sorted is found changed written =
     level_through (without (n ∷ m ∷ ms)) (without (m ∷ ms)) n (without-level n (m ∷ ms)) (λ t rs. refl) b c es fs sorted found changed written ∙ ap (λ xs. without (n ∷ xs) (flatten es)) (sym is)
 
-pub taken_here : (n : List ℕ) (names : List (List ℕ)) (es : Entries) (o : Option Branch) → Sorted es → names ≡ [] → lookup (at n) es ≡ o → IsWhole (n ∷ names) (flatten es) o
+pub taken_here : (n : List ℕ) (names : List (List ℕ)) (es : Entries) (o : Option Node) → Sorted es → names ≡ [] → lookup (at n) es ≡ o → IsWhole (n ∷ names) (flatten es) o
 taken_here n names es o sorted is found = whole_at n names (flatten es) o o (subst (IsPart n (flatten es)) found (part-lookup n es sorted)) (whole_itself names o is)
 
 pub taken_none : (n : List ℕ) (names : List (List ℕ)) (es : Entries) → Sorted es → lookup (at n) es ≡ None → IsWhole (n ∷ names) (flatten es) None
 taken_none n names es sorted found = whole_at n names (flatten es) None None (subst (IsPart n (flatten es)) found (part-lookup n es sorted)) refl
 
-pub taken_through : (n m : List ℕ) (ms names : List (List ℕ)) (es : Entries) (b : Branch) (p : Option Branch) → Sorted es → names ≡ m ∷ ms → lookup (at n) es ≡ Some b → IsWhole (m ∷ ms) b.beneath p → IsWhole (n ∷ names) (flatten es) p
+pub taken_through : (n m : List ℕ) (ms names : List (List ℕ)) (es : Entries) (b : Node) (p : Option Node) → Sorted es → names ≡ m ∷ ms → lookup (at n) es ≡ Some b → IsWhole (m ∷ ms) b.beneath p → IsWhole (n ∷ names) (flatten es) p
 taken_through n m ms names es b p sorted is found whole =
     subst (λ xs. IsWhole (n ∷ xs) (flatten es) p) (sym is) (whole_at n (m ∷ ms) (flatten es) (Some b) p (subst (IsPart n (flatten es)) found (part-lookup n es sorted)) whole)
 
@@ -210,14 +210,14 @@ module _ (c : Change) where
   untouched_in (File file) = refl
   untouched_in (Directory m) = untouched m.entries
 
-  pub untouched_beneath : (i : Inside) (b : Branch) → branch_of i ≡ b → rewritten [] c b.beneath ≡ b.beneath
+  pub untouched_beneath : (i : Inside) (b : Node) → branch_of i ≡ b → rewritten [] c b.beneath ≡ b.beneath
   untouched_beneath i b seen = subst (λ x. rewritten [] c x.beneath ≡ x.beneath) seen (untouched_in i.held)
 
-  pub rewrite_top : (names : List (List ℕ)) (b d : Branch) → names ≡ [] → rewritten [] c b.beneath ≡ b.beneath → d ≡ record { top = changed_top c b.top; beneath = b.beneath } → rows d ≡ rewritten names c (rows b)
+  pub rewrite_top : (names : List (List ℕ)) (b d : Node) → names ≡ [] → rewritten [] c b.beneath ≡ b.beneath → d ≡ record { top = changed_top c b.top; beneath = b.beneath } → rows d ≡ rewritten names c (rows b)
   rewrite_top names b d none beneath given =
       ap rows given ∙ ap (λ l. row_of [] (changed_top c b.top) ∷ l) (sym beneath) ∙ ap (λ r. r ∷ rewritten [] c b.beneath) (top_given c b.top) ∙ ap (λ xs. rewritten xs c (rows b)) (sym none)
 
-  pub rewrite_through : (n : List ℕ) (ns : List (List ℕ)) (b d : Branch) (es fs : Entries) → Sorted es → lookup (at n) es ≡ Some b → rows d ≡ rewritten ns c (rows b) → fs ≡ set_value (at n) es d → flatten fs ≡ rewritten (n ∷ ns) c (flatten es)
+  pub rewrite_through : (n : List ℕ) (ns : List (List ℕ)) (b d : Node) (es fs : Entries) → Sorted es → lookup (at n) es ≡ Some b → rows d ≡ rewritten ns c (rows b) → fs ≡ set_value (at n) es d → flatten fs ≡ rewritten (n ∷ ns) c (flatten es)
   rewrite_through n ns b d es fs sorted found same written =
       ap flatten written ∙ set_entry (rewritten (n ∷ ns) c) (rewritten ns c) n (rewritten-level c n ns) es b d sorted found same
 

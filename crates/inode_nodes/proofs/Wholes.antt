@@ -10,7 +10,7 @@ use Rattle.namespace_rows.specs.First.{first}
 use Rattle.namespace_rows.specs.Rows.{row_at}
 use Rattle.namespace_rows.proofs.PathOrders.{same_path_is}
 use Rattle.flat_rows.proofs.NewDirectories.{starts_self}
-use Rattle.inode_nodes.specs.Branch.{Branch, rows_or, row_of, placed}
+use Rattle.inode_nodes.specs.Node.{Node, rows_or, row_of, placed}
 use Rattle.inode_nodes.specs.Part.{IsWhole}
 use Rattle.inode_nodes.proofs.Filters.{self, filter-map, inside, standing}
 
@@ -36,15 +36,15 @@ same_placed [] q = refl
 same_placed (n ∷ ns) q = rw (self n) (same_placed ns q)
 
 -- the rows of the whole that have the path
-pub found_at : (path : List (List ℕ)) (all : List Row) (part : Option Branch) → IsWhole path all part → filter (standing path) all ≡ map (placed path) (filter (standing []) (rows_or part))
+pub found_at : (path : List (List ℕ)) (all : List Row) (part : Option Node) → IsWhole path all part → filter (standing path) all ≡ map (placed path) (filter (standing []) (rows_or part))
 found_at path all part whole =
     sym (filter_within (standing path) (inside path) (standing_inside path) all) ∙ ap (filter (standing path)) whole ∙ filter-map (standing path) (standing []) (placed path) (λ r. same_placed path r.path) (rows_or part)
 
-pub row_at_whole : (path : List (List ℕ)) (all : List Row) (part : Option Branch) → IsWhole path all part → option_map (λ b. row_of path b.top) part ≡ row_at path all
+pub row_at_whole : (path : List (List ℕ)) (all : List Row) (part : Option Node) → IsWhole path all part → option_map (λ b. row_of path b.top) part ≡ row_at path all
 row_at_whole path all None whole = sym (ap first (found_at path all None whole))
 row_at_whole path all (Some b) whole = ap (λ p. Some (row_of p b.top)) (sym (append-nil path)) ∙ sym (ap first (found_at path all (Some b) whole))
 
-pub row_found : (names path : List (List ℕ)) (rs all : List Row) (o part : Option Branch) → names ≡ path → rs ≡ all → o ≡ part → IsWhole names rs o → option_map (λ b. row_of path b.top) part ≡ row_at path all
+pub row_found : (names path : List (List ℕ)) (rs all : List Row) (o part : Option Node) → names ≡ path → rs ≡ all → o ≡ part → IsWhole names rs o → option_map (λ b. row_of path b.top) part ≡ row_at path all
 row_found names path rs all o part is seen found whole =
     subst (λ p. option_map (λ b. row_of p b.top) part ≡ row_at p all) is
     (subst (λ r. option_map (λ b. row_of names b.top) part ≡ row_at names r) seen (subst (λ x. option_map (λ b. row_of names b.top) x ≡ row_at names rs) found (row_at_whole names rs o whole)))

@@ -1,6 +1,6 @@
 -- What a change of one branch leaves of the rows that it is a part of.
 use Rattle.std.specs.Prelude.{ℕ, Bool, true, List, [], ◌∷◌, ◌++◌, map, Option}
-use Rattle.access_lists.specs.AccessControlList.{AccessControlList}
+use Rattle.access_lists.specs.Acl.{Acl}
 use Rattle.namespace_rows.specs.declared.file_row.FileRow.{FileRow}
 use Rattle.namespace_rows.specs.declared.row.Change.{Change}
 use Rattle.namespace_rows.specs.declared.row.Row.{Row}
@@ -8,10 +8,10 @@ use Rattle.namespace_rows.specs.Rows.{replaced}
 use Rattle.namespace_rows.specs.Namespace.{has_parent}
 use Rattle.flat_rows.specs.Changes.{changed}
 use Rattle.flat_rows.specs.Outcome.{mode_of_new, file_of_new, new_at, new_rows}
-use Rattle.inode_nodes.specs.Branch.{Top, Branch, rows, row_of, top_of, placed}
+use Rattle.inode_nodes.specs.Node.{Top, Node, rows, row_of, top_of, placed}
 
 -- the rows with the branch at the path, and nothing else there
-abbrev pub grafted : List (List ℕ) → Branch → List Row → List Row
+abbrev pub grafted : List (List ℕ) → Node → List Row → List Row
 grafted path branch all = replaced path (map (placed path) (rows branch)) all
 
 -- of the rows that a directory holds, one is the directory that holds a name beneath these, where it isn't the directory itself
@@ -20,7 +20,7 @@ holds_parent [] name beneath = true
 holds_parent (first ∷ names) name beneath = has_parent (first ∷ (names ++ name ∷ [])) beneath
 
 -- what is made, with what is made at these names beneath it
-abbrev pub chain : AccessControlList → List ℕ → List ℕ → ℕ → Option FileRow → List (List ℕ) → List Row
+abbrev pub chain : Acl → List ℕ → List ℕ → ℕ → Option FileRow → List (List ℕ) → List Row
 chain above group owner mode file names = let top = new_at above group owner (mode_of_new mode names) (file_of_new file names) [] in top ∷ new_rows top owner mode file names
 
 -- a top with one of its parts changed

@@ -7,7 +7,7 @@ use Rattle.hdfs_types.specs.declared.reply.ObjectKind.{ObjectKind}
 use Rattle.hdfs_types.specs.declared.reply.ObjectKind.TheVariants as kind
 use Rattle.namespace_rows.specs.declared.file_row.FileRow.{FileRow}
 use Rattle.namespace_rows.specs.declared.row.Row.{Row}
-use Rattle.inode_nodes.specs.Branch.{Branch, flatten}
+use Rattle.inode_nodes.specs.Node.{Node, flatten}
 use Rattle.inode_nodes.specs.declared.node.Held.{Held}
 use Rattle.inode_nodes.specs.declared.node.Held.TheVariants.{File, Directory}
 use Rattle.inode_nodes.specs.declared.node.Node.TheInside.{Inside}
@@ -24,7 +24,7 @@ abbrev pub rows_in : Held → List Row
 rows_in (File file) = []
 rows_in (Directory map) = flatten map.entries
 
-abbrev pub branch_of : Inside → Branch
+abbrev pub branch_of : Inside → Node
 branch_of node = record { top = record { kind = kind_of node.held; owner = node.owner; group = node.group; acl = node.acl; file = file_of node.held }; beneath = rows_in node.held }
 
 -- the names of a directory ascend

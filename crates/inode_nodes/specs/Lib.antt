@@ -1,4 +1,4 @@
-pub mod Branch
+pub mod Node
 pub mod Kept
 pub mod Falls
 pub mod Part

@@ -9,7 +9,7 @@ ghost use Rattle.namespace_rows.specs.Files.{with_state, with_replication};
 ghost use Rattle.flat_rows.specs.FileOutcome.{is_expired_file, closed_where_expired};
 ghost use Rattle.flat_rows.specs.Outcome.{kind_of_new, with_new};
 ghost use Rattle.flat_rows.specs.Changes.{without, moved, rewritten};
-ghost use Rattle.inode_nodes.specs.Branch.{Top, rows, row_of, under, flatten, with_rows};
+ghost use Rattle.inode_nodes.specs.Node.{Top, rows, row_of, under, flatten, with_rows};
 ghost use Rattle.inode_nodes.specs.Part.{IsWhole};
 ghost use Rattle.inode_nodes.specs.Change.{grafted, holds_parent, chain, changed_top};
 ghost use Rattle.inode_nodes.specs.Expired.{past_hard, closed_branch};

@@ -3,7 +3,7 @@ ghost use Rattle.std.specs.Option.{option_copied};
 ghost use Rattle.access_lists.specs.JudgedEntry.{judged_entry};
 ghost use Rattle.namespace_rows.specs.Files.{holder_of_file};
 ghost use Rattle.flat_rows.specs.Outcome.{is_alone, kind_of_new};
-ghost use Rattle.inode_nodes.specs.Branch.{rows};
+ghost use Rattle.inode_nodes.specs.Node.{rows};
 ghost use Rattle.inode_nodes.specs.Part.{IsPart, IsWhole};
 
 use access_lists::access_check::chosen;
@@ -37,9 +37,9 @@ pub enum Held {
 }
 
 impl Model for Node {
-    ghost use Rattle.inode_nodes.specs.Branch.{Branch};
+    ghost use Rattle.inode_nodes.specs.Node.{Node};
 
-    ghost Value = { Branch };
+    ghost Value = { Node };
 
     ghost use Rattle.std.specs.Prelude.{length};
     ghost use Rattle.inode_nodes.specs.Kept.{branch_of, IsSorted};

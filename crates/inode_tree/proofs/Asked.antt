@@ -13,7 +13,7 @@ use Rattle.namespace_rows.specs.Namespace.{is_ascending}
 use Rattle.flat_rows.specs.Changes.{rows_under, child_names, are_paths}
 use Rattle.namespace_rows.proofs.Tests.{both, all_kept}
 use Rattle.namespace_rows.proofs.Namespaces.{namespace_tests}
-use Rattle.inode_nodes.specs.Branch.{Branch, rows, rows_or, placed}
+use Rattle.inode_nodes.specs.Node.{Node, rows, rows_or, placed}
 use Rattle.inode_nodes.specs.Part.{IsWhole}
 use Rattle.inode_visits.specs.Tree.{IsTree}
 use Rattle.inode_visits.specs.Visits.{told, counts_of}
@@ -40,7 +40,7 @@ first_passes p q rs row h found = by (filter p rs) (all_kept p q rs h) found
         one x e = cc
 
 -- what was found at these names, in a tree whose rows are all of these
-module _ (names path : List (List ℕ)) (is : names ≡ path) (root : Branch) (all : List Row) (seen : rows root ≡ all) (tree : IsTree (rows root)) (o : Option Branch) (whole : IsWhole names (rows root) o) where
+module _ (names path : List (List ℕ)) (is : names ≡ path) (root : Node) (all : List Row) (seen : rows root ≡ all) (tree : IsTree (rows root)) (o : Option Node) (whole : IsWhole names (rows root) o) where
   under : rows_under path all ≡ map (placed path) (rows_or o)
   under = sym (ap (λ p. rows_under p all) is) ∙ sym (ap (rows_under names) seen) ∙ whole ∙ ap (λ p. map (placed p) (rows_or o)) is
 
@@ -66,7 +66,7 @@ module _ (names path : List (List ℕ)) (is : names ≡ path) (root : Branch) (a
   paths_there : are_paths (map (placed path) (rows_or o)) ≡ true
   paths_there = sym (ap are_paths under) ∙ all_kept (inside path) (λ row. is_path row.path) all (ap are_paths (sym seen) ∙ tree.paths)
 
-  pub rows_there : (b : Branch) → o ≡ Some b → IsTrue (are_paths (map (placed path) (rows b)))
+  pub rows_there : (b : Node) → o ≡ Some b → IsTrue (are_paths (map (placed path) (rows b)))
   rows_there b found = subst (λ x. are_paths (map (placed path) (rows_or x)) ≡ true) found paths_there
 
   -- the row that was found has a path
@@ -74,7 +74,7 @@ module _ (names path : List (List ℕ)) (is : names ≡ path) (root : Branch) (a
   found_path p row same found =
       first_passes p (λ r. is_path r.path) (map (placed path) (rows_or o)) (placed path row) paths_there (ap first (filter-map p p (placed path) same (rows_or o)) ∙ first_placed path (filter p (rows_or o)) ∙ ap (option_map (placed path)) found)
 
-  pub ascending_there : (b : Branch) → o ≡ Some b → is_ascending (rows b) ≡ true
+  pub ascending_there : (b : Node) → o ≡ Some b → is_ascending (rows b) ≡ true
   ascending_there b found = part_ascending names (rows root) b (subst (IsWhole names (rows root)) found whole) (namespace_tests (rows root) tree.namespace).ascending
 
   pub names_there : child_names [] (rows_or o) ≡ child_names path all

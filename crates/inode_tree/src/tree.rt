@@ -1,7 +1,7 @@
 ghost use Rattle.std.specs.Prelude.{◌≡◌, [], ◌∷◌, ◌||◌, map, filter, not, None, IsTrue, IfOk, OnOk, OnErr};
 ghost use Rattle.std.specs.Option.{option_map};
 ghost use Rattle.file_paths.specs.Path.{is_prefix};
-ghost use Rattle.access_lists.specs.AccessControlList.{suits_file};
+ghost use Rattle.access_lists.specs.Acl.{suits_file};
 ghost use Rattle.namespace_rows.specs.Opening.{root_row};
 ghost use Rattle.namespace_rows.specs.Rows.{row_at, is_directory_kind, is_missing, file_above, ancestor, with_sub_tree};
 ghost use Rattle.namespace_rows.specs.Namespace.{has_parent, is_root};
@@ -11,7 +11,7 @@ ghost use Rattle.flat_rows.specs.Outcome.{is_alone, kind_of_new, with_new};
 ghost use Rattle.flat_rows.specs.Changes.{rows_under, without, moved_row, moved, rewritten, suits_change, are_paths, child_names};
 ghost use Rattle.namespace_rows.specs.First.{first};
 ghost use Rattle.inode_visits.specs.Visits.{counts_of, is_closed};
-ghost use Rattle.inode_nodes.specs.Branch.{rows, row_of};
+ghost use Rattle.inode_nodes.specs.Node.{rows, row_of};
 ghost use Rattle.inode_nodes.specs.Expired.{past_hard};
 ghost use Rattle.inode_nodes.specs.Part.{IsWhole};
 ghost use Rattle.inode_visits.specs.Tree.{branch_at, IsTree};
@@ -44,7 +44,7 @@ pub struct Tree {
 impl Model for Tree {
     ghost use Rattle.std.specs.Prelude.{List};
     ghost use Rattle.namespace_rows.specs.declared.row.Row.{Row};
-    ghost use Rattle.inode_nodes.specs.Branch.{rows};
+    ghost use Rattle.inode_nodes.specs.Node.{rows};
     ghost use Rattle.inode_visits.specs.Tree.{IsTree};
 
     ghost Value = { List Row };
@@ -112,7 +112,7 @@ impl Tree {
     /// needed. Costs also what stands there, up to what is found, and takes memory only for what is found.
     ///
     /// # Errors
-    /// Want of memory.
+    /// Out of memory.
     pub fn first_closed(
         &self,
         path: &[Name],
@@ -134,7 +134,7 @@ impl Tree {
     /// Copies of the rows at a path and beneath it, in path order. Costs also these rows.
     ///
     /// # Errors
-    /// Want of memory.
+    /// Out of memory.
     pub fn rows_under(&self, path: &Path) -> Result<Vec<Row>, AllocError>
         ensures { IfOk result (λ rows. rows.items ≡ rows_under path.now self.now) }
     {
@@ -148,7 +148,7 @@ impl Tree {
     /// The names of what a directory holds, in the order of names; a file holds nothing. Costs also what it holds.
     ///
     /// # Errors
-    /// Want of memory.
+    /// Out of memory.
     pub fn children(&self, path: &Path) -> Result<Vec<&Name>, AllocError>
         ensures { IfOk result (λ names. map (λ name. name.now) names.items ≡ child_names path.now self.now) }
     {
@@ -162,7 +162,7 @@ impl Tree {
     /// there.
     ///
     /// # Errors
-    /// Want of memory.
+    /// Out of memory.
     pub fn holders_under(&self, path: &Path) -> Result<Vec<&Who>, AllocError>
         ensures { IfOk result (λ found. map (λ who. who.now) found.items ≡ holders (rows_under path.now self.now)) }
     {
@@ -176,7 +176,7 @@ impl Tree {
     /// open file these clients.
     ///
     /// # Errors
-    /// Want of memory.
+    /// Out of memory.
     pub fn holders_expired(&self, past: &[Who]) -> Result<Vec<&Who>, AllocError>
         ensures { IfOk result (λ found. map (λ who. who.now) found.items ≡ holders (filter (is_expired (past_hard past.now)) self.now)) }
     {
@@ -204,7 +204,7 @@ impl Tree {
     /// Puts a file, where what it has is given, or else a directory that holds nothing, at a path, instead of what stood there.
     ///
     /// # Errors
-    /// Want of memory, and nothing has changed.
+    /// Out of memory; nothing has changed.
     pub fn insert(
         &mut self,
         path: &Path,
@@ -231,7 +231,7 @@ impl Tree {
     /// Permissions Guide, "Overview").
     ///
     /// # Errors
-    /// Want of memory, and nothing has changed.
+    /// Out of memory; nothing has changed.
     pub fn make(
         &mut self,
         path: &Path,
@@ -262,7 +262,7 @@ impl Tree {
     /// Moves what stands at a path, with all that is beneath it, to another path. Costs the two paths, and not what is moved.
     ///
     /// # Errors
-    /// Want of memory, and nothing has changed.
+    /// Out of memory; nothing has changed.
     pub fn move_to(&mut self, from: &Path, to: &Path) -> Result<(), AllocError>
         requires there { IsTrue (not (is_missing from.now self.old)) }
         requires free { IsTrue (is_missing to.now self.old) }

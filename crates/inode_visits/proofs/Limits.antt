@@ -10,7 +10,7 @@ use Rattle.file_paths.specs.Path.{IsPath, is_path, path_text, component}
 use Rattle.namespace_rows.specs.declared.row.Row.{Row}
 use Rattle.flat_rows.specs.Changes.{rows_under, moved_row, are_paths}
 use Rattle.namespace_rows.proofs.Tests.{both, and, all_imp, all_kept}
-use Rattle.inode_nodes.specs.Branch.{Branch, flatten, rows, rows_or, under, placed}
+use Rattle.inode_nodes.specs.Node.{Node, flatten, rows, rows_or, under, placed}
 use Rattle.inode_nodes.specs.Part.{IsWhole}
 use Rattle.inode_visits.specs.Tree.{IsTree}
 use Rattle.inode_visits.specs.Limits.{bytes_of, fits_behind}
@@ -82,18 +82,18 @@ all_under : (depth bytes : ℕ) (n : List ℕ) (rs : List Row) → list_all (fit
 all_under depth bytes n [] = refl
 all_under depth bytes n (r ∷ rs) = rw (fits_under depth bytes n r, all_under depth bytes n rs) refl
 
-fits_entry : (depth bytes : ℕ) (it new : Entries) (n : List ℕ) (b : Branch) → it ≡ (n, b) ∷ new
+fits_entry : (depth bytes : ℕ) (it new : Entries) (n : List ℕ) (b : Node) → it ≡ (n, b) ∷ new
     → list_all (fits_behind depth bytes) (flatten it) ≡ (list_all (fits_behind (depth + 1) (bytes + 1 + length n)) (rows b) && list_all (fits_behind depth bytes) (flatten new))
 fits_entry depth bytes it new n b is =
     ap (λ (x : Entries). list_all (fits_behind depth bytes) (flatten x)) is ∙ list_all-append (fits_behind depth bytes) (map (under n) (rows b)) (flatten new)
     ∙ ap (λ c. c && list_all (fits_behind depth bytes) (flatten new)) (all_under depth bytes n (rows b))
 
-pub fits_next : (depth bytes : ℕ) (it new : Entries) (n : List ℕ) (b : Branch) (deeper more : ℕ) (fit : Bool) → it ≡ (n, b) ∷ new → deeper ≡ depth + 1 → more ≡ bytes + 1 + length n → fit ≡ list_all (fits_behind deeper more) (rows b) → fit ≡ true
+pub fits_next : (depth bytes : ℕ) (it new : Entries) (n : List ℕ) (b : Node) (deeper more : ℕ) (fit : Bool) → it ≡ (n, b) ∷ new → deeper ≡ depth + 1 → more ≡ bytes + 1 + length n → fit ≡ list_all (fits_behind deeper more) (rows b) → fit ≡ true
     → list_all (fits_behind depth bytes) (flatten new) ≡ list_all (fits_behind depth bytes) (flatten it)
 fits_next depth bytes it new n b deeper more fit is d m h passes =
     sym (fits_entry depth bytes it new n b is ∙ ap (λ c. c && list_all (fits_behind depth bytes) (flatten new)) (sym (ap (λ k. list_all (fits_behind k more) (rows b)) d ∙ ap (λ k. list_all (fits_behind (depth + 1) k) (rows b)) m) ∙ sym h ∙ passes))
 
-pub fits_not : (depth bytes : ℕ) (it new : Entries) (n : List ℕ) (b : Branch) (deeper more : ℕ) (fit : Bool) → it ≡ (n, b) ∷ new → deeper ≡ depth + 1 → more ≡ bytes + 1 + length n → fit ≡ list_all (fits_behind deeper more) (rows b) → fit ≡ false
+pub fits_not : (depth bytes : ℕ) (it new : Entries) (n : List ℕ) (b : Node) (deeper more : ℕ) (fit : Bool) → it ≡ (n, b) ∷ new → deeper ≡ depth + 1 → more ≡ bytes + 1 + length n → fit ≡ list_all (fits_behind deeper more) (rows b) → fit ≡ false
     → false ≡ list_all (fits_behind depth bytes) (flatten it)
 fits_not depth bytes it new n b deeper more fit is d m h fails =
     sym (fits_entry depth bytes it new n b is ∙ ap (λ c. c && list_all (fits_behind depth bytes) (flatten new)) (sym (ap (λ k. list_all (fits_behind k more) (rows b)) d ∙ ap (λ k. list_all (fits_behind (depth + 1) k) (rows b)) m) ∙ sym h ∙ fails))
@@ -131,18 +131,18 @@ fits_shorter d e b c row less short h =
     and _ _ (true_le (e + length row.path) 1000 (omega arith)) (true_le (c + bytes_of row.path) 8000 (omega arith))
 
 -- what was found at these names, in a tree whose rows are all of these
-module _ (names from to : List (List ℕ)) (is : names ≡ from) (root : Branch) (all : List Row) (seen : rows root ≡ all) (tree : IsTree (rows root)) (source : IsPath from) (target : IsPath to) where
-  under_from : (o : Option Branch) → IsWhole names (rows root) o → rows_under from all ≡ map (placed from) (rows_or o)
+module _ (names from to : List (List ℕ)) (is : names ≡ from) (root : Node) (all : List Row) (seen : rows root ≡ all) (tree : IsTree (rows root)) (source : IsPath from) (target : IsPath to) where
+  under_from : (o : Option Node) → IsWhole names (rows root) o → rows_under from all ≡ map (placed from) (rows_or o)
   under_from o whole = sym (ap (λ p. rows_under p all) is) ∙ sym (ap (rows_under names) seen) ∙ whole ∙ ap (λ p. map (placed p) (rows_or o)) is
 
   old_paths : are_paths (rows_under from all) ≡ true
   old_paths = all_kept (inside from) (λ row. is_path row.path) all (ap are_paths (sym seen) ∙ tree.paths)
 
-  pub fits_moved : (o : Option Branch) → IsWhole names (rows root) o → list_all (fits_behind (length to) (bytes_of to)) (rows_or o) ≡ are_paths (map (moved_row from to) (rows_under from all))
+  pub fits_moved : (o : Option Node) → IsWhole names (rows root) o → list_all (fits_behind (length to) (bytes_of to)) (rows_or o) ≡ are_paths (map (moved_row from to) (rows_under from all))
   fits_moved o whole =
       sym (paths_behind from to (rows_or o) target (sym (ap are_paths (under_from o whole)) ∙ old_paths)) ∙ ap are_paths (sym (moved_placed from to (rows_or o)) ∙ ap (map (moved_row from to)) (sym (under_from o whole)))
 
-  pub fits_short : (o : Option Branch) → IsWhole names (rows root) o → length to ≤ length from → bytes_of to ≤ bytes_of from → are_paths (map (moved_row from to) (rows_under from all)) ≡ true
+  pub fits_short : (o : Option Node) → IsWhole names (rows root) o → length to ≤ length from → bytes_of to ≤ bytes_of from → are_paths (map (moved_row from to) (rows_under from all)) ≡ true
   fits_short o whole less short =
       let held : are_paths (map (placed from) (rows_or o)) ≡ true = sym (ap are_paths (under_from o whole)) ∙ old_paths in
       sym (fits_moved o whole)

@@ -21,7 +21,7 @@ directories rows = length (filter is_directory rows)
 abbrev pub files : List Row → ℕ
 files rows = length (filter (λ row. not (is_directory row)) rows)
 
--- the sum of two lengths, where a number tells it
+-- the sum of two lengths, where it fits in 64 bits
 abbrev pub sum_told : Option ℕ → Option ℕ → Option ℕ
 sum_told one other = option_and_then (λ length. option_and_then (λ more. told_length (length + more)) other) one
 

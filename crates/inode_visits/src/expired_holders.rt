@@ -1,7 +1,7 @@
 ghost use Rattle.std.specs.Prelude.{◌≡◌, ◌++◌, OnOk, map, filter};
 ghost use Rattle.namespace_rows.specs.Files.{holders};
 ghost use Rattle.flat_rows.specs.FileOutcome.{is_expired as is_expired_row};
-ghost use Rattle.inode_nodes.specs.Branch.{rows, flatten};
+ghost use Rattle.inode_nodes.specs.Node.{rows, flatten};
 ghost use Rattle.inode_nodes.specs.Expired.{past_hard};
 
 use crate::visit::push_holder;

@@ -62,7 +62,7 @@ impl<'a> Inode<'a> {
     /// A copy of it. Costs the blocks of the file.
     ///
     /// # Errors
-    /// Want of memory.
+    /// Out of memory.
     pub fn file_copy(&self) -> Result<Option<FileRow>, AllocError>
         ensures { IfOk result (λ file. file ≡ (branch_at self.now).top.file) }
     {

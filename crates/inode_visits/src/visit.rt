@@ -6,7 +6,7 @@ ghost use Rattle.namespace_rows.specs.Files as spec;
 ghost use Rattle.namespace_rows.specs.First.{first};
 ghost use Rattle.namespace_rows.specs.Namespace.{is_ascending};
 ghost use Rattle.flat_rows.specs.Changes.{are_paths, child_names};
-ghost use Rattle.inode_nodes.specs.Branch.{rows, row_of, flatten, under, placed};
+ghost use Rattle.inode_nodes.specs.Node.{rows, row_of, flatten, under, placed};
 ghost use Rattle.inode_visits.specs.Visits.{counts_of, sum_told, is_closed, row_found};
 
 use access_lists::acl::Acl;
@@ -27,7 +27,7 @@ pub struct Counts {
     pub directories: u64,
     /// At most the greatest number, which stands for all above it.
     pub files: u64,
-    /// The committed bytes of the files; `None` where they are more than a number tells.
+    /// The committed bytes of the files; `None` where their sum doesn't fit in 64 bits.
     pub bytes: Option<u64>,
 }
 
@@ -73,7 +73,7 @@ fn count_in(map: &BTreeMap<Name, Node>) -> Counts
     }
 }
 
-/// The sum of two lengths, where a number tells it.
+/// The sum of two lengths, where it fits in 64 bits.
 fn sum(one: Option<u64>, other: Option<u64>) -> Option<u64>
     ensures { result ≡ sum_told one other }
 {

@@ -9,7 +9,7 @@ use Rattle.indexmap.specs.Layout.{length-set_value_at}
 use Rattle.indexmap.proofs.RemoveLemmas.{moved_last}
 use Rattle.hdfs_texts.proofs.Texts.{same_is, same_self, same_symm}
 use Rattle.hdfs_texts.specs.Text.{same}
-use Rattle.lease_manager.specs.Lease.{Renewal, AreInOrder, AreRenewals, clients, released, renewed, renewal_of}
+use Rattle.lease_manager.specs.Leases.{Renewal, AreInOrder, AreRenewals, clients, renewals_without, renewals_with, renewal_of}
 use Rattle.lease_manager.specs.Shown.{renewals_of}
 
 abbrev pub Entries : Type 0
@@ -20,29 +20,29 @@ renewal entry = record { client = entry.0; moment = entry.1 }
 
 -- ---- one entry goes
 
-goes : (client : List ℕ) (e : List ℕ × ℕ) (es : Entries) → same client e.0 ≡ true → released client (renewals_of (e ∷ es)) ≡ released client (renewals_of es)
-goes client e es one = ap (λ b. cond (not b) (renewal e ∷ released client (renewals_of es)) (released client (renewals_of es))) one
+goes : (client : List ℕ) (e : List ℕ × ℕ) (es : Entries) → same client e.0 ≡ true → renewals_without client (renewals_of (e ∷ es)) ≡ renewals_without client (renewals_of es)
+goes client e es one = ap (λ b. cond (not b) (renewal e ∷ renewals_without client (renewals_of es)) (renewals_without client (renewals_of es))) one
 
-stays : (client : List ℕ) (e : List ℕ × ℕ) (es : Entries) → same client e.0 ≡ false → released client (renewals_of (e ∷ es)) ≡ renewal e ∷ released client (renewals_of es)
-stays client e es other = ap (λ b. cond (not b) (renewal e ∷ released client (renewals_of es)) (released client (renewals_of es))) other
+stays : (client : List ℕ) (e : List ℕ × ℕ) (es : Entries) → same client e.0 ≡ false → renewals_without client (renewals_of (e ∷ es)) ≡ renewal e ∷ renewals_without client (renewals_of es)
+stays client e es other = ap (λ b. cond (not b) (renewal e ∷ renewals_without client (renewals_of es)) (renewals_without client (renewals_of es))) other
 
 -- a client that isn't there
-pub none_goes : (client : List ℕ) (es : Entries) → AllByRecursion (λ key. same client key ≡ false) (keys_of es) → released client (renewals_of es) ≡ renewals_of es
+pub none_goes : (client : List ℕ) (es : Entries) → AllByRecursion (λ key. same client key ≡ false) (keys_of es) → renewals_without client (renewals_of es) ≡ renewals_of es
 none_goes client [] apart = refl
 none_goes client (e ∷ es) apart = stays client e es apart.0 ∙ ap (λ rs. renewal e ∷ rs) (none_goes client es apart.1)
 
-first_goes : (client : List ℕ) (e : List ℕ × ℕ) (es : Entries) → IsDistinct same (keys_of (e ∷ es)) → same client e.0 ≡ true → released client (renewals_of (e ∷ es)) ≡ renewals_of es
+first_goes : (client : List ℕ) (e : List ℕ × ℕ) (es : Entries) → IsDistinct same (keys_of (e ∷ es)) → same client e.0 ≡ true → renewals_without client (renewals_of (e ∷ es)) ≡ renewals_of es
 unfolding IsDistinct
 first_goes client e es distinct one =
     goes client e es one ∙ none_goes client es (subst (λ k. AllByRecursion (λ key. same k key ≡ false) (keys_of es)) (sym (same_is client e.0 one)) distinct.0)
 
-pub removed : (client : List ℕ) (es : Entries) → IsDistinct same (keys_of es) → renewals_of (remove_entry (same client) es) ≡ released client (renewals_of es)
+pub removed : (client : List ℕ) (es : Entries) → IsDistinct same (keys_of es) → renewals_of (remove_entry (same client) es) ≡ renewals_without client (renewals_of es)
 unfolding IsDistinct
 removed client [] distinct = refl
 removed client (e ∷ es) distinct = by (same client e.0) refl (removed client es distinct.1)
   where
-    by : (b : Bool) → same client e.0 ≡ b → renewals_of (remove_entry (same client) es) ≡ released client (renewals_of es)
-        → renewals_of (remove_entry (same client) (e ∷ es)) ≡ released client (renewals_of (e ∷ es))
+    by : (b : Bool) → same client e.0 ≡ b → renewals_of (remove_entry (same client) es) ≡ renewals_without client (renewals_of es)
+        → renewals_of (remove_entry (same client) (e ∷ es)) ≡ renewals_without client (renewals_of (e ∷ es))
     by true one rest = ap (λ b. renewals_of (cond b es (e ∷ remove_entry (same client) es))) one ∙ sym (first_goes client e es distinct one)
     by false other rest =
         ap (λ b. renewals_of (cond b es (e ∷ remove_entry (same client) es))) other
@@ -54,7 +54,7 @@ key_at P [] i client last all at = absurd (true≢false (sym (ap is_some at)))
 key_at P (e ∷ es) zero client last all at = subst P (ap (λ r. (unwrap_or r e).0) at) all.0
 key_at P (e ∷ es) (suc i) client last all at = key_at P es i client last all.1 at
 
-pub removed_at : (client : List ℕ) (last : ℕ) (es : Entries) (i : ℕ) → IsDistinct same (keys_of es) → slice_get es i ≡ Some (client, last) → renewals_of (remove es i) ≡ released client (renewals_of es)
+pub removed_at : (client : List ℕ) (last : ℕ) (es : Entries) (i : ℕ) → IsDistinct same (keys_of es) → slice_get es i ≡ Some (client, last) → renewals_of (remove es i) ≡ renewals_without client (renewals_of es)
 unfolding IsDistinct
 removed_at client last [] i distinct at = absurd (true≢false (sym (ap is_some at)))
 removed_at client last (e ∷ es) zero distinct at =
@@ -76,7 +76,7 @@ set_there (e ∷ es) zero now client last at = ap (λ r. Some ((unwrap_or r e).0
 set_there (e ∷ es) (suc i) now client last at = set_there es i now client last at
 
 pub renewed_at : (client : List ℕ) (last now : ℕ) (es : Entries) (i : ℕ) → IsDistinct same (keys_of es) → slice_get es i ≡ Some (client, last)
-    → renewals_of (move_index (set_value_at es i now) i (length es - 1)) ≡ renewed client now (renewals_of es)
+    → renewals_of (move_index (set_value_at es i now) i (length es - 1)) ≡ renewals_with client now (renewals_of es)
 renewed_at client last now es i distinct at =
     let set : Entries = set_value_at es i now in
     let moved : move_index set i (length es - 1) ≡ remove es i ++ (client, now) ∷ [] =
@@ -113,12 +113,12 @@ key_is client key (e ∷ es) at = by (same client e.0) refl (key_is client key e
 
 -- ---- a new client
 
-absent_goes : (client : List ℕ) (es : Entries) → is_some (renewal_of client (renewals_of es)) ≡ false → released client (renewals_of es) ≡ renewals_of es
+absent_goes : (client : List ℕ) (es : Entries) → is_some (renewal_of client (renewals_of es)) ≡ false → renewals_without client (renewals_of es) ≡ renewals_of es
 absent_goes client [] none = refl
 absent_goes client (e ∷ es) none = by (same client e.0) refl (absent_goes client es)
   where
-    by : (b : Bool) → same client e.0 ≡ b → (is_some (renewal_of client (renewals_of es)) ≡ false → released client (renewals_of es) ≡ renewals_of es)
-        → released client (renewals_of (e ∷ es)) ≡ renewals_of (e ∷ es)
+    by : (b : Bool) → same client e.0 ≡ b → (is_some (renewal_of client (renewals_of es)) ≡ false → renewals_without client (renewals_of es) ≡ renewals_of es)
+        → renewals_without client (renewals_of (e ∷ es)) ≡ renewals_of (e ∷ es)
     by true one rest = absurd (true≢false (sym (ap (λ b. is_some (cond b (Some (renewal e)) (renewal_of client (renewals_of es)))) one) ∙ none))
     by false other rest =
         stays client e es other
@@ -136,7 +136,7 @@ goes_last client now (e ∷ es) none = by (same client e.0) refl (goes_last clie
         ∙ ap (λ rest. e ∷ rest) (rest (sym (ap (λ b. is_some (cond b (Some (renewal e)) (renewal_of client (renewals_of es)))) other) ∙ none))
 
 pub inserted : (client key : List ℕ) (now : ℕ) (es before after : Entries) → after ≡ insert_entry same before key now → before ≡ es → key ≡ client
-    → is_some (renewal_of client (renewals_of es)) ≡ false → renewals_of after ≡ renewed client now (renewals_of es)
+    → is_some (renewal_of client (renewals_of es)) ≡ false → renewals_of after ≡ renewals_with client now (renewals_of es)
 inserted client key now es before after made unchanged copied none =
     ap renewals_of (made ∙ (λ j. insert_entry same (unchanged j) (copied j) now) ∙ goes_last client now es none)
     ∙ map-append renewal es ((client, now) ∷ [])

@@ -1,2 +1,2 @@
-pub mod Lease
+pub mod Leases
 pub mod Shown

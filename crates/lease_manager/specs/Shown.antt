@@ -1,10 +1,10 @@
 -- What contracts see of the map of leases.
 use Rattle.std.specs.Prelude.{ℕ, List, map}
-use Rattle.lease_manager.specs.Lease.{Renewal, LeaseList}
+use Rattle.lease_manager.specs.Leases.{Renewal, Leases}
 use Rattle.lease_manager.specs.declared.leases.Leases.TheInside.{Inside}
 
 abbrev pub renewals_of : List (List ℕ × ℕ) → List Renewal
 renewals_of entries = map (λ entry. record { client = entry.0; moment = entry.1 }) entries
 
-abbrev pub leases_of : Inside → LeaseList
+abbrev pub leases_of : Inside → Leases
 leases_of leases = record { limits = record { soft = leases.soft; hard = leases.hard }; renewals = renewals_of leases.renewals.entries }

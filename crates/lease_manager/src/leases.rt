@@ -4,7 +4,7 @@ ghost use Rattle.std.specs.List.{position_or_len};
 ghost use Rattle.hdfs_texts.specs.Text.{same};
 ghost use Rattle.hdfs_types.specs.declared.reply.Refusal.TheVariants.{NoLease};
 ghost use Rattle.indexmap.specs.IndexMap.{IsUnique};
-ghost use Rattle.lease_manager.specs.Lease as spec;
+ghost use Rattle.lease_manager.specs.Leases as spec;
 ghost use Rattle.lease_manager.specs.Shown.{renewals_of};
 
 use block_numbers::moment::Moment;
@@ -36,9 +36,9 @@ pub struct Leases {
 }
 
 impl Model for Leases {
-    ghost use Rattle.lease_manager.specs.Lease.{LeaseList, AreRenewals};
+    ghost use Rattle.lease_manager.specs.Leases.{Leases, AreRenewals};
 
-    ghost Value = { LeaseList };
+    ghost Value = { Leases };
 
     ghost use Rattle.lease_manager.specs.Shown.{renewals_of, leases_of};
 
@@ -57,7 +57,7 @@ fn age(last: Moment, now: Moment) -> u64
 // Puts a client's renewal last, with a new moment; answers whether the client is there.
 fn renew_present(renewals: &mut IndexMap<Who, Moment>, client: &Who, now: Moment) -> bool
     ensures there { result ≡ is_some (spec.renewal_of client.now (renewals_of renewals.old.entries)) }
-    ensures renewed { MatchBool result (renewals_of renewals.new.entries ≡ spec.renewed client.now now (renewals_of renewals.old.entries) × IsUnique same renewals.new) (renewals.new ≡ renewals.old) }
+    ensures renewed { MatchBool result (renewals_of renewals.new.entries ≡ spec.renewals_with client.now now (renewals_of renewals.old.entries) × IsUnique same renewals.new) (renewals.new ≡ renewals.old) }
 {
     let Some((index, _, _)) = renewals.get_full(client) else {
         return false;
@@ -85,13 +85,13 @@ impl Leases {
     /// that has none.
     ///
     /// # Errors
-    /// Want of memory. Nothing has changed then.
+    /// Out of memory. Nothing has changed then.
     pub fn take(&mut self, client: &Who, now: Moment) -> Result<(), AllocError>
-        requires { spec.latest self.old.renewals ≤ now }
+        requires { spec.latest_moment self.old.renewals ≤ now }
         ensures ok { OnOk result (self.new ≡ spec.after_renewal self.old client.now now) }
         ensures err { OnErr result (self.new ≡ self.old) }
         ensures held { IsSome (spec.renewal_of client.now self.old.renewals) → IsOk result }
-        ensures latest { OnOk result (spec.latest self.new.renewals ≡ now) }
+        ensures latest { OnOk result (spec.latest_moment self.new.renewals ≡ now) }
     {
         if renew_present(&mut self.renewals, client, now) {
             return Ok(());
@@ -106,10 +106,10 @@ impl Leases {
     /// # Errors
     /// `NoLease`, where the client has no lease. Nothing has changed then.
     pub fn renew(&mut self, client: &Who, now: Moment) -> Result<(), Refusal>
-        requires { spec.latest self.old.renewals ≤ now }
+        requires { spec.latest_moment self.old.renewals ≤ now }
         ensures ok { OnOk result (IsSome (spec.renewal_of client.now self.old.renewals) × (self.new ≡ spec.after_renewal self.old client.now now)) }
         ensures err { OnErr result ((spec.renewal_of client.now self.old.renewals ≡ None) × (self.new ≡ self.old)) }
-        ensures latest { OnOk result (spec.latest self.new.renewals ≡ now) }
+        ensures latest { OnOk result (spec.latest_moment self.new.renewals ≡ now) }
         ensures refusal { IfErr result (λ refusal. refusal ≡ NoLease) }
     {
         if !renew_present(&mut self.renewals, client, now) {
@@ -122,7 +122,7 @@ impl Leases {
     /// gap, and takes no memory.
     pub fn release(&mut self, client: &Who)
         ensures released { self.new ≡ spec.after_release self.old client.now }
-        ensures latest { spec.latest self.new.renewals ≤ spec.latest self.old.renewals }
+        ensures latest { spec.latest_moment self.new.renewals ≤ spec.latest_moment self.old.renewals }
     {
         self.renewals.shift_remove(client);
     }
@@ -167,7 +167,7 @@ impl Leases {
 
     /// The clients whose leases are older than the hard limit, the oldest first. Costs its answer, and takes no memory.
     pub fn past_hard(&self, now: Moment) -> &[Who]
-        ensures past { result.now ≡ spec.clients (spec.past_hard self.now.limits now self.now.renewals) }
+        ensures past { result.now ≡ spec.clients (spec.renewals_past_hard self.now.limits now self.now.renewals) }
         ensures renewals { spec.AreRenewals self.now.renewals }
     {
         let count = self.first_within_hard(self.renewals.values().as_slice(), now);

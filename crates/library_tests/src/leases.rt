@@ -1,5 +1,5 @@
 ghost use Rattle.std.specs.Prelude.{◌≡◌, ◌≤◌, ◌^◌};
-ghost use Rattle.lease_manager.specs.Lease.{latest};
+ghost use Rattle.lease_manager.specs.Leases.{latest_moment};
 
 use block_numbers::moment::Moment;
 use hdfs_types::reply::Refusal;
@@ -22,9 +22,9 @@ fn moment(milliseconds: u64) -> Moment
 
 /// Whether the client took a lease.
 fn took(alloc: Global, leases: &mut Leases, client: &str, now: u64) -> bool
-    requires latest { latest leases.old.renewals ≤ now }
+    requires latest { latest_moment leases.old.renewals ≤ now }
     requires last { now ≤ 2 ^ 62 }
-    ensures { latest leases.new.renewals ≤ now }
+    ensures { latest_moment leases.new.renewals ≤ now }
 {
     match Who::parse(alloc, client) {
         Ok(client) => leases.take(&client, moment(now)).is_ok(),
@@ -42,9 +42,9 @@ fn code_of(renewed: Result<(), Refusal>) -> u8 {
 
 /// Whether the renewal of the client's lease is told so.
 fn is_renewed(alloc: Global, leases: &mut Leases, client: &str, now: u64, code: u8) -> bool
-    requires latest { latest leases.old.renewals ≤ now }
+    requires latest { latest_moment leases.old.renewals ≤ now }
     requires last { now ≤ 2 ^ 62 }
-    ensures { latest leases.new.renewals ≤ now }
+    ensures { latest_moment leases.new.renewals ≤ now }
 {
     match Who::parse(alloc, client) {
         Ok(client) => code_of(leases.renew(&client, moment(now))) == code,
@@ -54,7 +54,7 @@ fn is_renewed(alloc: Global, leases: &mut Leases, client: &str, now: u64, code: 
 
 /// Whether the client's lease, if it has one, is released now.
 fn released(alloc: Global, leases: &mut Leases, client: &str) -> bool
-    ensures { latest leases.new.renewals ≤ latest leases.old.renewals }
+    ensures { latest_moment leases.new.renewals ≤ latest_moment leases.old.renewals }
 {
     match Who::parse(alloc, client) {
         Ok(client) => {
@@ -127,7 +127,7 @@ fn are_states(alloc: Global, leases: &Leases, states: &[(u64, LeaseState)]) -> b
 
 /// Whether the leases of `alice`, who takes one at this moment, stand so.
 fn are_alices(alloc: Global, leases: &mut Leases, now: u64, states: &[(u64, LeaseState)]) -> bool
-    requires latest { latest leases.old.renewals ≡ 0 }
+    requires latest { latest_moment leases.old.renewals ≡ 0 }
     requires last { now ≤ 2 ^ 62 }
 {
     took(alloc, leases, "alice", now) && are_states(alloc, leases, states)
@@ -174,7 +174,7 @@ fn is_none_past(alloc: Global, leases: &Leases) -> bool {
 }
 
 fn are_live_again(alloc: Global, leases: &mut Leases) -> bool
-    requires { latest leases.old.renewals ≡ 0 }
+    requires { latest_moment leases.old.renewals ≡ 0 }
 {
     took(alloc, leases, "alice", 0)
         && took(alloc, leases, "bob", LAST_MOMENT)
@@ -193,8 +193,8 @@ fn renewals_at_the_last_moment(rt: HostRuntime) {
 
 /// Whether three clients took leases.
 fn took_three(alloc: Global, leases: &mut Leases) -> bool
-    requires { latest leases.old.renewals ≡ 0 }
-    ensures { latest leases.new.renewals ≤ 10 }
+    requires { latest_moment leases.old.renewals ≡ 0 }
+    ensures { latest_moment leases.new.renewals ≤ 10 }
 {
     took(alloc, leases, "bob", 0)
         && took(alloc, leases, "alice", 0)
@@ -202,7 +202,7 @@ fn took_three(alloc: Global, leases: &mut Leases) -> bool
 }
 
 fn are_in_order(alloc: Global, leases: &mut Leases) -> bool
-    requires { latest leases.old.renewals ≡ 0 }
+    requires { latest_moment leases.old.renewals ≡ 0 }
 {
     took_three(alloc, leases)
         && are_past_hard(leases, 1_200_000, &[])
@@ -219,7 +219,7 @@ fn oldest_renewals_come_first(rt: HostRuntime) {
 }
 
 fn are_renewed_last(alloc: Global, leases: &mut Leases) -> bool
-    requires { latest leases.old.renewals ≡ 0 }
+    requires { latest_moment leases.old.renewals ≡ 0 }
 {
     took_three(alloc, leases)
         && is_renewed(alloc, leases, "bob", 20, 0)
@@ -238,7 +238,7 @@ fn renewed_leases_go_last(rt: HostRuntime) {
 }
 
 fn is_released_gone(alloc: Global, leases: &mut Leases) -> bool
-    requires { latest leases.old.renewals ≡ 0 }
+    requires { latest_moment leases.old.renewals ≡ 0 }
 {
     took_three(alloc, leases)
         && released(alloc, leases, "alice")

@@ -3,7 +3,7 @@ use acl_specs::spec::Spec;
 use hdfs_texts::fault::ParseFault;
 use std::alloc::{AllocError, Global};
 
-// A test is one assertion on what a helper answers of a table, and want of memory is a wrong answer: what each `?` of a test would
+// A test is one assertion on what a helper answers of a table, or out of memory is a wrong answer: what each `?` of a test would
 // add, the gate proves once more.
 
 /// The entries, each behind a blank.

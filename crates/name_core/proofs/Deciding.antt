@@ -1,7 +1,7 @@
 -- The verdict on a request that writes a file, and what it is free of.
 use Rattle.std.proofs.Common.{◌≡◌, ℕ, Bool, true, false, List, Option, refl, sym, ap, ◌∙◌}
 use Rattle.hdfs_types.specs.declared.op.Op.{Op}
-use Rattle.principals.specs.Principals.{Principals}
+use Rattle.principals.specs.Users.{Users}
 use Rattle.namespace_rows.specs.declared.row.Row.{Row}
 use Rattle.flat_rows.specs.declared.verdict.Verdict as answer
 use Rattle.flat_rows.specs.FileOutcome.{LeaseFacts}
@@ -16,7 +16,7 @@ use Rattle.file_effects.specs.Effected.{IsExact, IsFree}
 use Rattle.name_core.specs.Performed.{facts_of}
 use Rattle.name_core.proofs.Performing.{done_free, lease_is}
 
-pub free_of : (leases : LeaseFacts) (rows : List Row) (users : Principals) (caller : List ℕ) (what : Op) (verdict : answer.Verdict) → verdict ≡ (step leases rows users caller what).verdict → is_done verdict ≡ true → IsFree what caller rows users
+pub free_of : (leases : LeaseFacts) (rows : List Row) (users : Users) (caller : List ℕ) (what : Op) (verdict : answer.Verdict) → verdict ≡ (step leases rows users caller what).verdict → is_done verdict ≡ true → IsFree what caller rows users
 free_of leases rows users caller what verdict is done = (leases, (done_free leases rows users caller what (ap is_done (sym is) ∙ done)).free)
 
 abbrev live_facts : Bool → LeaseFacts

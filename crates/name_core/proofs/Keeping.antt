@@ -2,18 +2,18 @@
 use Rattle.std.proofs.Common.{◌≡◌, ℕ, ◌+◌, ◌≤◌, max, [], ◌∷◌, ◌++◌, length, reverse, ap, sym, ◌∙◌, subst}
 use Rattle.std.proofs.lemmas.List.{reverse-append, length-reverse}
 use Rattle.hdfs_types.specs.declared.op.Request.{Request}
-use Rattle.lease_manager.specs.Lease.{latest}
+use Rattle.lease_manager.specs.Leases.{latest_moment}
 use Rattle.flat_rows.specs.declared.verdict.Verdict.{Verdict}
 use Rattle.flat_rows.specs.FileOutcome.{LeaseFacts}
 use Rattle.flat_rows.specs.Outcome.{Step, step}
 use Rattle.history.specs.declared.entry.HistoryEntry.{HistoryEntry}
 use Rattle.history.specs.declared.entry.Answer.{Answer}
-use Rattle.history.specs.Config.{Settings, limits_of}
+use Rattle.history.specs.Config.{Config, limits_of}
 use Rattle.history.specs.ClockAndLease.{clock_of, last_renewal, renews, facts_at, lease_in}
 use Rattle.history.specs.State.{rows_of, users_of, rows_by, users_by}
 use Rattle.history.specs.LegalHistory.{IsLegal, verdict_of}
 use Rattle.name_core.specs.declared.namenode.NameCore.TheInside.{Inside}
-use Rattle.name_core.specs.Core.{Steps, entry_of}
+use Rattle.name_core.specs.NameCore.{Steps, entry_of}
 use Rattle.name_core.specs.Kept.{IsKept, core_of, entries_of}
 use Rattle.file_effects.specs.Effected.{IsExact, renewed_where}
 use Rattle.name_core.specs.Performed.{facts_of}
@@ -27,7 +27,7 @@ pub record Adds (a b : Inside) (e : HistoryEntry) : Type 0 where
   pub stepped : record { verdict = e.verdict; rows = b.system.tree; users = b.system.users } ≡ step (facts_of (last_renewal (entries_of a)) b.clock a.system) a.system.tree a.system.users e.request.caller e.request.op
   pub exact : IsExact (renewed_where (renews e.request.op e.verdict) e.request.caller b.clock (last_renewal (entries_of a))) b.system.tree b.system.writers
   pub limits : b.system.writers.leases.limits ≡ a.system.writers.leases.limits
-  pub latest : latest b.system.writers.leases.renewals ≤ b.clock
+  pub latest : latest_moment b.system.writers.leases.renewals ≤ b.clock
   pub place : e.place ≡ length a.history.items + 1
 
 pub entries_more : (a b : Inside) (e : HistoryEntry) → Adds a b e → entries_of b ≡ e ∷ entries_of a
@@ -93,6 +93,6 @@ steps_is a b e n pass index r v told k h is to =
     is ∙ (ap (λ m. record { place = m; pass = pass; index = index; request = r; verdict = v }) place ∙ ap (λ w. record { place = length (entries_of a) + 1; pass = pass; index = index; request = r; verdict = w }) verdict) in
     let entries : entries_of b ≡ entry_of (core_of a) pass index r ∷ entries_of a = entries_more a b e h ∙ ap (λ x. x ∷ entries_of a) made in
     record {
-      new_is = ap (λ (s : Settings). record { config = s; entries = entries_of b }) h.config ∙ ap (λ l. record { config = a.config; entries = l }) entries;
+      new_is = ap (λ (s : Config). record { config = s; entries = entries_of b }) h.config ∙ ap (λ l. record { config = a.config; entries = l }) entries;
       answer_is = to ∙ (ap (λ m. record { place = m; request = r; verdict = v }) place ∙ ap (λ w. record { place = length (entries_of a) + 1; request = r; verdict = w }) verdict);
     }

@@ -7,7 +7,7 @@ use Rattle.flat_rows.specs.Outcome.{step}
 use Rattle.history.specs.LegalHistory.{now_at, verdict_of}
 use Rattle.history.specs.State.{rows_of, users_of, lease_facts}
 use Rattle.name_core.specs.declared.namenode.NameCore.TheInside.{Inside}
-use Rattle.name_core.specs.Core.{Looks}
+use Rattle.name_core.specs.NameCore.{Looks}
 use Rattle.name_core.specs.Kept.{IsKept, core_of, entries_of}
 use Rattle.name_core.proofs.Stepping.{same_step}
 

@@ -10,11 +10,11 @@ use Rattle.hdfs_types.specs.declared.reply.Reply.{Reply}
 use Rattle.hdfs_types.specs.declared.reply.Reply.TheVariants as reply
 use Rattle.hdfs_types.specs.declared.reply.Refusal.{Refusal}
 use Rattle.hdfs_types.specs.declared.reply.Refusal.TheVariants.{NoLease}
-use Rattle.principals.specs.Principals.{Principals}
+use Rattle.principals.specs.Users.{Users}
 use Rattle.namespace_rows.specs.declared.row.Row.{Row}
 use Rattle.flat_rows.specs.declared.verdict.Verdict.{Verdict}
 use Rattle.flat_rows.specs.declared.verdict.Verdict.TheVariants.{Done, Denied, Refused}
-use Rattle.flat_rows.specs.Denied as denied
+use Rattle.flat_rows.specs.Denial as denied
 use Rattle.flat_rows.specs.Decision.{decision}
 use Rattle.namespace_rows.specs.Files.{open_files, has_open_file}
 use Rattle.namespace_rows.specs.Namespace.{IsNamespace}
@@ -37,7 +37,7 @@ use Rattle.name_core.proofs.Stepping.{stepped_rows, stepped_users}
 use Rattle.name_core.proofs.Plain.{plain_or_stays, exact_kept}
 
 -- three parts are those of a step
-pub step_of : (done : Step) (verdict : Verdict) (rows : List Row) (users : Principals) → verdict ≡ done.verdict → rows ≡ done.rows → users ≡ done.users → record { verdict = verdict; rows = rows; users = users } ≡ done
+pub step_of : (done : Step) (verdict : Verdict) (rows : List Row) (users : Users) → verdict ≡ done.verdict → rows ≡ done.rows → users ≡ done.users → record { verdict = verdict; rows = rows; users = users } ≡ done
 step_of done verdict rows users p q r =
     ap (λ x. record { verdict = x; rows = rows; users = users }) p ∙ (ap (λ x. record { verdict = done.verdict; rows = x; users = users }) q ∙ ap (λ x. record { verdict = done.verdict; rows = done.rows; users = x }) r)
 
@@ -94,7 +94,7 @@ undone_plain request old new verdict keeps plain same_writers applied =
 
 -- ---- renewals
 
-renewal_step : (facts : LeaseFacts) (rows : List Row) (users : Principals) (caller : List ℕ) (b : Bool) → has_open_file caller rows ≡ b
+renewal_step : (facts : LeaseFacts) (rows : List Row) (users : Users) (caller : List ℕ) (b : Bool) → has_open_file caller rows ≡ b
     → step facts rows users caller op.Renew ≡ refused_or_done facts rows users caller op.Renew (refused_where (not b) NoLease)
 renewal_step facts rows users caller b h = ap (λ c. refused_or_done facts rows users caller op.Renew (refused_where (not c) NoLease)) h
 
@@ -140,7 +140,7 @@ done_renewal last now request old new told n asked counted some tree users files
 
 -- ---- requests that write files
 
-module _ (leases : LeaseFacts) (rows : List Row) (users : Principals) (caller : List ℕ) (what : Op) where
+module _ (leases : LeaseFacts) (rows : List Row) (users : Users) (caller : List ℕ) (what : Op) where
   pub record IsGranted : Type 0 where
     pub free : first_refusal leases caller what rows users ≡ None
     pub told : (step leases rows users caller what).verdict ≡ Done (reply_of leases what rows)
@@ -157,11 +157,11 @@ module _ (leases : LeaseFacts) (rows : List Row) (users : Principals) (caller : 
           }
       by_refusal (Some refusal) e d k = cc
 
-      by_denial : (denial : Option denied.Denied) → decision rows users caller what ≡ denial → is_done (denied_or_outcome leases rows users caller what denial).verdict ≡ true → IsGranted
+      by_denial : (denial : Option denied.Denial) → decision rows users caller what ≡ denial → is_done (denied_or_outcome leases rows users caller what denial).verdict ≡ true → IsGranted
       by_denial None e k = by_refusal (first_refusal leases caller what rows users) refl e k
       by_denial (Some denial) e k = cc
 
-users_stay : (what : Op) (users : Principals) → writes_or_deletes what ≡ true → users_after what users ≡ users
+users_stay : (what : Op) (users : Users) → writes_or_deletes what ≡ true → users_after what users ≡ users
 users_stay (op.Mkdirs path mode) users h = cc
 users_stay (op.Stat path) users h = cc
 users_stay (op.List path) users h = cc
@@ -183,7 +183,7 @@ users_stay (op.SetReplication path replication) users h = cc
 users_stay op.Renew users h = cc
 users_stay op.Tick users h = cc
 
-not_done_same : (what : Op) (caller : List ℕ) (leases : LeaseFacts) (verdict : Verdict) (rows : List Row) (users : Principals) → is_done verdict ≡ false → (rows_by leases what caller verdict rows ≡ rows) × (users_by what verdict users ≡ users) × (renews what verdict ≡ false)
+not_done_same : (what : Op) (caller : List ℕ) (leases : LeaseFacts) (verdict : Verdict) (rows : List Row) (users : Users) → is_done verdict ≡ false → (rows_by leases what caller verdict rows ≡ rows) × (users_by what verdict users ≡ users) × (renews what verdict ≡ false)
 not_done_same what caller leases (Done told) rows users h = cc
 not_done_same what caller leases (Denied denial) rows users h = (refl, refl, refl)
 not_done_same what caller leases (Refused refusal) rows users h = (refl, refl, refl)

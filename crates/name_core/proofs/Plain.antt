@@ -5,11 +5,11 @@ use Rattle.hdfs_types.specs.Request.{keeps_leases}
 use Rattle.hdfs_types.specs.declared.op.Op.{Op}
 use Rattle.hdfs_types.specs.declared.op.Op.TheVariants as op
 use Rattle.hdfs_types.specs.declared.reply.Refusal.{Refusal}
-use Rattle.principals.specs.Principals.{Principals}
+use Rattle.principals.specs.Users.{Users}
 use Rattle.namespace_rows.specs.declared.row.Row.{Row}
 use Rattle.flat_rows.specs.declared.verdict.Verdict.{Verdict}
 use Rattle.flat_rows.specs.declared.verdict.Verdict.TheVariants.{Done, Denied, Refused}
-use Rattle.flat_rows.specs.Denied as denied
+use Rattle.flat_rows.specs.Denial as denied
 use Rattle.flat_rows.specs.Decision.{decision}
 use Rattle.namespace_rows.specs.Namespace.{IsNamespace}
 use Rattle.namespace_rows.specs.Files.{open_files}
@@ -47,7 +47,7 @@ renews_not (op.SetReplication path replication) (Done told) h = refl
 renews_not op.Renew (Done told) h = cc
 renews_not op.Tick (Done told) h = cc
 
-module _ (leases : LeaseFacts) (rows : List Row) (users : Principals) (caller : List ℕ) where
+module _ (leases : LeaseFacts) (rows : List Row) (users : Users) (caller : List ℕ) where
   pub record Stays (done : Step) : Type 0 where
     pub rows_stay : done.rows ≡ rows
     pub users_stay : done.users ≡ users
@@ -82,12 +82,12 @@ module _ (leases : LeaseFacts) (rows : List Row) (users : Principals) (caller : 
       by_refusal None h = by_done what k h
       by_refusal (Some refusal) h = record { rows_stay = refl; users_stay = refl }
 
-      by_denial : (denial : Option denied.Denied) → is_plain (denied_or_outcome leases rows users caller what denial).verdict ≡ false → Stays (denied_or_outcome leases rows users caller what denial)
+      by_denial : (denial : Option denied.Denial) → is_plain (denied_or_outcome leases rows users caller what denial).verdict ≡ false → Stays (denied_or_outcome leases rows users caller what denial)
       by_denial None h = by_refusal (first_refusal leases caller what rows users) h
       by_denial (Some denial) h = record { rows_stay = refl; users_stay = refl }
 
 -- each client has as many files open, and the same lease
-pub exact_kept : (last : List ℕ → Option ℕ) (now : ℕ) (leases : LeaseFacts) (rows : List Row) (users : Principals) (caller : List ℕ) (what : Op) (verdict : Verdict) (left : List Row) (writers : Writers)
+pub exact_kept : (last : List ℕ → Option ℕ) (now : ℕ) (leases : LeaseFacts) (rows : List Row) (users : Users) (caller : List ℕ) (what : Op) (verdict : Verdict) (left : List Row) (writers : Writers)
     → keeps_leases what ≡ true → IsNamespace rows → left ≡ (step leases rows users caller what).rows → IsExact last rows writers → IsExact (renewed_where (renews what verdict) caller now last) left writers
 exact_kept last now leases rows users caller what verdict left writers k namespace is exact =
     record {

@@ -2,14 +2,14 @@
 use Rattle.std.proofs.Common.{◌≡◌, ℕ, ◌+◌, ◌≤◌, max, [], ◌∷◌, ◌++◌, length, reverse, nat_lt, None, Result, Ok, Err, ap, sym, ◌∙◌, subst, cond}
 use Rattle.std.specs.Result.{OnErr}
 use Rattle.hdfs_types.specs.declared.op.Request.{Request}
-use Rattle.lease_manager.specs.Lease.{LeaseList, latest}
+use Rattle.lease_manager.specs.Leases.{Leases, latest_moment}
 use Rattle.history.specs.Config.{limits_of}
 use Rattle.history.specs.ClockAndLease.{clock_of, last_renewal}
 use Rattle.history.specs.State.{rows_of, users_of}
 use Rattle.history.specs.LegalHistory.{IsLegal}
 use Rattle.name_core.specs.declared.namenode.NameCore.TheInside.{Inside}
 use Rattle.name_core.specs.declared.told.Told.{Told}
-use Rattle.name_core.specs.Core.{Steps}
+use Rattle.name_core.specs.NameCore.{Steps}
 use Rattle.name_core.specs.Kept.{IsKept, core_of, entries_of}
 use Rattle.file_writers.specs.Writers.{moment_of}
 use Rattle.file_effects.specs.Effected.{IsExact}
@@ -22,7 +22,7 @@ on_err (Err e) p = p
 
 pub adds_of : (a b : Inside) (kept r : Request) (n pass index : ℕ) (told : Told) → kept ≡ r → b.config ≡ a.config
     → b.history.items ≡ a.history.items ++ record { place = n; pass = pass; index = index; request = kept; verdict = told.verdict } ∷ [] → b.clock ≡ max a.clock r.moment
-    → IsPerformed (last_renewal (entries_of a)) b.clock r a.system told b.system → b.system.writers.leases.limits ≡ a.system.writers.leases.limits → latest b.system.writers.leases.renewals ≤ b.clock → n ≡ length a.history.items + 1
+    → IsPerformed (last_renewal (entries_of a)) b.clock r a.system told b.system → b.system.writers.leases.limits ≡ a.system.writers.leases.limits → latest_moment b.system.writers.leases.renewals ≤ b.clock → n ≡ length a.history.items + 1
     → Adds a b (record { place = n; pass = pass; index = index; request = kept; verdict = told.verdict })
 adds_of a b kept r n pass index told is config history clock performed limits late place =
     subst (λ k. b.history.items ≡ a.history.items ++ record { place = n; pass = pass; index = index; request = k; verdict = told.verdict } ∷ [] → Adds a b (record { place = n; pass = pass; index = index; request = k; verdict = told.verdict })) (sym is)
@@ -46,10 +46,10 @@ kept_undone a b k config history clock undone =
       exact = subst (λ l. IsExact (last_renewal l) b.system.tree b.system.writers) (sym same) (subst (λ t. IsExact (last_renewal (entries_of a)) t b.system.writers) (sym undone.tree)
           (record {
             files = λ client. undone.writers.files client ∙ k.exact.files client;
-            leased = λ client. ap (λ (l : LeaseList). moment_of l.renewals client) leases ∙ (k.exact.leased client ∙ ap (λ n. cond (nat_lt 0 n) (last_renewal (entries_of a) client) None) (sym (undone.writers.files client)));
+            leased = λ client. ap (λ (l : Leases). moment_of l.renewals client) leases ∙ (k.exact.leased client ∙ ap (λ n. cond (nat_lt 0 n) (last_renewal (entries_of a) client) None) (sym (undone.writers.files client)));
           }));
-      limits = ap (λ (l : LeaseList). l.limits) leases ∙ (k.limits ∙ ap limits_of (sym config));
-      latest = subst (λ n. latest b.system.writers.leases.renewals ≤ n) (sym clock) (subst (λ (l : LeaseList). latest l.renewals ≤ a.clock) (sym leases) k.latest);
+      limits = ap (λ (l : Leases). l.limits) leases ∙ (k.limits ∙ ap limits_of (sym config));
+      latest = subst (λ n. latest_moment b.system.writers.leases.renewals ≤ n) (sym clock) (subst (λ (l : Leases). latest_moment l.renewals ≤ a.clock) (sym leases) k.latest);
     }
 
 pub core_same : (a b : Inside) → b.config ≡ a.config → b.history.items ≡ a.history.items → core_of b ≡ core_of a

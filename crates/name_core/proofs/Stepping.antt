@@ -2,17 +2,17 @@
 use Rattle.std.proofs.Common.{◌≡◌, ℕ, List, Option, Some, None, refl, ap, ◌∙◌}
 use Rattle.hdfs_types.specs.declared.op.Op.{Op}
 use Rattle.hdfs_types.specs.declared.reply.Refusal.{Refusal}
-use Rattle.lease_manager.specs.Lease.{Limits}
-use Rattle.principals.specs.Principals.{Principals}
+use Rattle.lease_manager.specs.Leases.{Limits}
+use Rattle.principals.specs.Users.{Users}
 use Rattle.namespace_rows.specs.declared.row.Row.{Row}
-use Rattle.flat_rows.specs.Denied as denied
+use Rattle.flat_rows.specs.Denial as denied
 use Rattle.flat_rows.specs.Decision.{decision}
 use Rattle.flat_rows.specs.FileOutcome.{LeaseFacts}
 use Rattle.flat_rows.specs.Outcome.{Step, step, first_refusal, denied_or_outcome, refused_or_done}
 use Rattle.history.specs.ClockAndLease.{facts_at, lease_in}
 use Rattle.history.specs.State.{rows_by, users_by}
 
-module _ (leases : LeaseFacts) (rows : List Row) (users : Principals) (caller : List ℕ) (op : Op) where
+module _ (leases : LeaseFacts) (rows : List Row) (users : Users) (caller : List ℕ) (op : Op) where
   -- what is left is what the verdict says
   record Agrees (done : Step) : Type 0 where
     pub rows_are : done.rows ≡ rows_by leases op caller done.verdict rows
@@ -22,7 +22,7 @@ module _ (leases : LeaseFacts) (rows : List Row) (users : Principals) (caller : 
   by_refusal None = record { rows_are = refl; users_are = refl }
   by_refusal (Some refusal) = record { rows_are = refl; users_are = refl }
 
-  by_denial : (denial : Option denied.Denied) → Agrees (denied_or_outcome leases rows users caller op denial)
+  by_denial : (denial : Option denied.Denial) → Agrees (denied_or_outcome leases rows users caller op denial)
   by_denial None = by_refusal (first_refusal leases caller op rows users)
   by_denial (Some denial) = record { rows_are = refl; users_are = refl }
 
@@ -37,6 +37,6 @@ pub same_facts : (l m : Limits) (n k : ℕ) (last : List ℕ → Option ℕ) (ro
 same_facts l m n k last rows others p q r =
     ap (λ x. facts_at x n (lease_in last rows)) p ∙ (ap (λ x. facts_at m x (lease_in last rows)) q ∙ ap (λ x. facts_at m k (lease_in last x)) r)
 
-pub same_step : (f g : LeaseFacts) (rows others : List Row) (users known : Principals) (caller : List ℕ) (op : Op) → f ≡ g → rows ≡ others → users ≡ known → step f rows users caller op ≡ step g others known caller op
+pub same_step : (f g : LeaseFacts) (rows others : List Row) (users known : Users) (caller : List ℕ) (op : Op) → f ≡ g → rows ≡ others → users ≡ known → step f rows users caller op ≡ step g others known caller op
 same_step f g rows others users known caller op p q r =
     ap (λ x. step x rows users caller op) p ∙ (ap (λ x. step g x users caller op) q ∙ ap (λ x. step g others x caller op) r)

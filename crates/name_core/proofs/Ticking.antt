@@ -7,7 +7,7 @@ use Rattle.hdfs_texts.specs.Text.{same}
 use Rattle.hdfs_types.specs.declared.op.Op.TheVariants as op
 use Rattle.hdfs_types.specs.declared.op.Request.{Request}
 use Rattle.hdfs_types.specs.declared.reply.Reply.TheVariants as reply
-use Rattle.lease_manager.specs.Lease.{past_hard, clients}
+use Rattle.lease_manager.specs.Leases.{renewals_past_hard, clients}
 use Rattle.namespace_rows.specs.declared.file_row.FileRow.{FileRow}
 use Rattle.namespace_rows.specs.declared.row.Row.{Row}
 use Rattle.flat_rows.specs.declared.verdict.Verdict.TheVariants.{Done}
@@ -27,7 +27,7 @@ use Rattle.file_effects.proofs.Expiring.{among_is, same_closed, same_filtered, n
 use Rattle.name_core.proofs.Performing.{step_of, lease_is}
 
 pub performed_tick : (last : List ℕ → Option ℕ) (now : ℕ) (request : Request) (old new : Namesystem) (told : Told) (past : List (List ℕ)) (closed : ℕ) → request.op ≡ op.Tick → decision old.tree old.users request.caller op.Tick ≡ None
-    → past ≡ clients (past_hard old.writers.leases.limits now old.writers.leases.renewals) → IsDistinct same (clients old.writers.leases.renewals)
+    → past ≡ clients (renewals_past_hard old.writers.leases.limits now old.writers.leases.renewals) → IsDistinct same (clients old.writers.leases.renewals)
     → new.tree ≡ map (closed_where_expired (tree.past_hard past)) old.tree → closed ≡ length (filter (is_expired (tree.past_hard past)) old.tree) → new.users ≡ old.users → IsExact last new.tree new.writers
     → IsTold (Done (reply.Expired (record { closed = closed; recovering = 0 }))) told → IsExact last old.tree old.writers → IsPerformed last now request old told new
 performed_tick last now request old new told past closed asked granted past_is distinct left counted users left_exact is exact =
@@ -62,7 +62,7 @@ none_expired (row ∷ rows) = ap (λ b. cond b (row ∷ filter (is_expired (tree
     by (Some file) = by_holder (holder_of file.state) (not (ends_uncommitted file.blocks))
 
 pub performed_idle : (last : List ℕ → Option ℕ) (now : ℕ) (request : Request) (old : Namesystem) (told : Told) (past : List (List ℕ)) → request.op ≡ op.Tick → decision old.tree old.users request.caller op.Tick ≡ None
-    → past ≡ clients (past_hard old.writers.leases.limits now old.writers.leases.renewals) → IsDistinct same (clients old.writers.leases.renewals) → past ≡ []
+    → past ≡ clients (renewals_past_hard old.writers.leases.limits now old.writers.leases.renewals) → IsDistinct same (clients old.writers.leases.renewals) → past ≡ []
     → IsTold (Done (reply.Expired (record { closed = 0; recovering = 0 }))) told → IsExact last old.tree old.writers → IsPerformed last now request old told old
 performed_idle last now request old told past asked granted past_is distinct none is exact =
     performed_tick last now request old old told past 0 asked granted past_is distinct

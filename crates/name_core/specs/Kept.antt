@@ -1,19 +1,19 @@
 -- What a core keeps: its history is legal, and its state is what the history gives.
 use Rattle.std.specs.Prelude.{◌≡◌, ◌≤◌, List, reverse}
-use Rattle.lease_manager.specs.Lease.{latest}
+use Rattle.lease_manager.specs.Leases.{latest_moment}
 use Rattle.history.specs.declared.entry.HistoryEntry.{HistoryEntry}
 use Rattle.history.specs.Config.{limits_of}
 use Rattle.history.specs.ClockAndLease.{clock_of, last_renewal}
 use Rattle.history.specs.State.{rows_of, users_of}
 use Rattle.history.specs.LegalHistory.{IsLegal}
 use Rattle.name_core.specs.declared.namenode.NameCore.TheInside.{Inside}
-use Rattle.name_core.specs.Core.{Core}
+use Rattle.name_core.specs.NameCore.{NameCore}
 use Rattle.file_effects.specs.Effected.{IsExact}
 
 abbrev pub entries_of : Inside → List HistoryEntry
 entries_of core = reverse core.history.items
 
-abbrev pub core_of : Inside → Core
+abbrev pub core_of : Inside → NameCore
 core_of core = record { config = core.config; entries = entries_of core }
 
 pub record IsKept (core : Inside) : Type 0 where
@@ -24,4 +24,4 @@ pub record IsKept (core : Inside) : Type 0 where
   -- of each client how many files it has open, and its lease
   pub exact : IsExact (last_renewal (entries_of core)) core.system.tree core.system.writers
   pub limits : core.system.writers.leases.limits ≡ limits_of core.config
-  pub latest : latest core.system.writers.leases.renewals ≤ core.clock
+  pub latest : latest_moment core.system.writers.leases.renewals ≤ core.clock

@@ -1,4 +1,4 @@
 pub mod Told
 pub mod Performed
-pub mod Core
+pub mod NameCore
 pub mod Kept

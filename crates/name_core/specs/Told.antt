@@ -14,7 +14,7 @@ abbrev pub is_empty : Reply → Bool
 is_empty Empty = true
 is_empty _ = false
 
--- it is done, and there is nothing to tell
+-- it is done, and there is nothing to report
 abbrev pub is_plain : Verdict → Bool
 is_plain (Done reply) = is_empty reply
 is_plain (Denied denial) = false

@@ -3,7 +3,7 @@ ghost use Rattle.hdfs_types.specs.Request.{is_look};
 ghost use Rattle.principal_names.specs.Who.{IsWho};
 ghost use Rattle.history.specs.LegalHistory.{IsLegal};
 ghost use Rattle.history.specs.State.{rows_of, users_of};
-ghost use Rattle.name_core.specs.Core.{Steps, Looks};
+ghost use Rattle.name_core.specs.NameCore.{Steps, Looks};
 
 use crate::namesystem::{Namesystem, perform};
 use crate::told::Told;
@@ -115,9 +115,9 @@ pub struct NameCore {
 }
 
 impl Model for NameCore {
-    ghost use Rattle.name_core.specs.Core.{Core};
+    ghost use Rattle.name_core.specs.NameCore.{NameCore};
 
-    ghost Value = { Core };
+    ghost Value = { NameCore };
 
     ghost use Rattle.name_core.specs.Kept.{IsKept, core_of};
 
@@ -130,7 +130,7 @@ impl NameCore {
     /// A core without entries: no user is known but the superuser, and the namespace is the root.
     ///
     /// # Errors
-    /// Want of memory.
+    /// Out of memory.
     pub fn open(alloc: Global, config: Config) -> Result<NameCore, AllocError>
         ensures { IfOk result (λ core. core ≡ record { config = config; entries = [] }) }
     {
@@ -188,7 +188,7 @@ impl NameCore {
     /// entries.
     ///
     /// # Errors
-    /// Want of memory.
+    /// Out of memory.
     pub fn look(&self, request: &Request) -> Result<Answer, AllocError>
         requires { is_look request.now.op ≡ true }
         ensures { IfOk result (λ answer. Looks self.now request.now answer) }
@@ -211,11 +211,11 @@ impl NameCore {
         })
     }
 
-    /// Answers a request, does it where no need fails and nothing stands against it, and appends it to the history, whatever the
+    /// Answers a request, does it where no need fails and nothing refuses it, and appends it to the history, whatever the
     /// verdict. `pass` and `index` say whose request it is. Costs what the request costs, and never the history.
     ///
     /// # Errors
-    /// Want of memory. Nothing has changed then, and there is no entry.
+    /// Out of memory. Nothing has changed then, and there is no entry.
     pub fn step(&mut self, pass: u64, index: u64, request: &Request) -> Result<Answer, AllocError>
         ensures ok { IfOk result (λ answer. Steps self.old pass index request.now answer self.new) }
         ensures err { OnErr result (self.new ≡ self.old) }

@@ -8,8 +8,8 @@ ghost use Rattle.hdfs_types.specs.Request.{keeps_leases};
 ghost use Rattle.hdfs_types.specs.declared.op.Op.TheVariants as op;
 ghost use Rattle.history.specs.ClockAndLease as spec;
 ghost use Rattle.history.specs.Laws.{is_done};
-ghost use Rattle.lease_manager.specs.Lease as lease;
-ghost use Rattle.lease_manager.specs.Lease.{latest};
+ghost use Rattle.lease_manager.specs.Leases as lease;
+ghost use Rattle.lease_manager.specs.Leases.{latest_moment};
 ghost use Rattle.file_writers.specs.Writers.{moment_of};
 ghost use Rattle.file_effects.specs.Effected.{IsExact, IsFree};
 ghost use Rattle.name_core.specs.Performed.{IsPerformed, IsUndone, facts_of};
@@ -87,11 +87,11 @@ fn perform_renewal(
     request: &Request,
     now: Moment,
 ) -> Result<Told, AllocError>
-    requires latest { latest system.old.writers.leases.renewals ≤ now }
+    requires latest { latest_moment system.old.writers.leases.renewals ≤ now }
     requires verb { request.now.op ≡ op.Renew }
     ensures ok { (last : List ℕ → Option ℕ) → IsExact last system.old.tree system.old.writers → IfOk result (λ told. IsPerformed last now request.now system.old told system.new) }
     ensures limits { system.new.writers.leases.limits ≡ system.old.writers.leases.limits }
-    ensures latest { OnOk result (latest system.new.writers.leases.renewals ≤ now) }
+    ensures latest { OnOk result (latest_moment system.new.writers.leases.renewals ≤ now) }
     ensures err { OnErr result (IsUndone system.old system.new) }
 {
     if system.writers.files.count(&request.caller) == 0 {
@@ -164,12 +164,12 @@ fn perform_write(
     request: &Request,
     now: Moment,
 ) -> Result<Told, AllocError>
-    requires latest { latest system.old.writers.leases.renewals ≤ now }
+    requires latest { latest_moment system.old.writers.leases.renewals ≤ now }
     requires verb { writes_or_deletes request.now.op ≡ true }
     requires namespace { IsNamespace system.old.tree }
     ensures ok { (last : List ℕ → Option ℕ) → IsExact last system.old.tree system.old.writers → IfOk result (λ told. IsPerformed last now request.now system.old told system.new) }
     ensures limits { system.new.writers.leases.limits ≡ system.old.writers.leases.limits }
-    ensures latest { OnOk result (latest system.new.writers.leases.renewals ≤ now) }
+    ensures latest { OnOk result (latest_moment system.new.writers.leases.renewals ≤ now) }
     ensures err { OnErr result (IsUndone system.old system.new) }
 {
     let verdict = decide(alloc, system, request, now)?;
@@ -194,7 +194,7 @@ fn perform_write(
 
 /// The clients whose leases are past the hard limit.
 fn clients_past(alloc: Global, writers: &Writers, now: Moment) -> Result<Vec<Who>, AllocError>
-    ensures past { IfOk result (λ past. past.items ≡ lease.clients (lease.past_hard writers.now.leases.limits now writers.now.leases.renewals)) }
+    ensures past { IfOk result (λ past. past.items ≡ lease.clients (lease.renewals_past_hard writers.now.leases.limits now writers.now.leases.renewals)) }
     ensures renewals { lease.AreRenewals writers.now.leases.renewals }
 {
     let mut past = Vec::new(alloc);
@@ -214,11 +214,11 @@ fn perform_tick(
     now: Moment,
 ) -> Result<Told, AllocError>
     requires namespace { IsNamespace system.old.tree }
-    requires latest { latest system.old.writers.leases.renewals ≤ now }
+    requires latest { latest_moment system.old.writers.leases.renewals ≤ now }
     requires verb { request.now.op ≡ op.Tick }
     ensures ok { (last : List ℕ → Option ℕ) → IsExact last system.old.tree system.old.writers → IfOk result (λ told. IsPerformed last now request.now system.old told system.new) }
     ensures limits { system.new.writers.leases.limits ≡ system.old.writers.leases.limits }
-    ensures latest { OnOk result (latest system.new.writers.leases.renewals ≤ now) }
+    ensures latest { OnOk result (latest_moment system.new.writers.leases.renewals ≤ now) }
     ensures err { OnErr result (IsUndone system.old system.new) }
 {
     if let Some(denial) = judge_tick(alloc, &system.tree, &system.users, &request.caller)? {
@@ -239,10 +239,10 @@ fn perform_tick(
     Ok(told_expired(closed))
 }
 
-/// Answers a request, and does it where no need fails and nothing stands against it.
+/// Answers a request, and does it where no need fails and nothing refuses it.
 ///
 /// # Errors
-/// Want of memory, and nothing has changed.
+/// Out of memory; nothing has changed.
 pub fn perform(
     alloc: Global,
     system: &mut Namesystem,
@@ -250,11 +250,11 @@ pub fn perform(
     request: &Request,
     now: Moment,
 ) -> Result<Told, AllocError>
-    requires latest { latest system.old.writers.leases.renewals ≤ now }
+    requires latest { latest_moment system.old.writers.leases.renewals ≤ now }
     requires namespace { IsNamespace system.old.tree }
     ensures ok { (last : List ℕ → Option ℕ) → IsExact last system.old.tree system.old.writers → IfOk result (λ told. IsPerformed last now request.now system.old told system.new) }
     ensures limits { system.new.writers.leases.limits ≡ system.old.writers.leases.limits }
-    ensures latest { OnOk result (latest system.new.writers.leases.renewals ≤ now) }
+    ensures latest { OnOk result (latest_moment system.new.writers.leases.renewals ≤ now) }
     ensures err { OnErr result (IsUndone system.old system.new) }
 {
     if keeps_leases(&request.op) {

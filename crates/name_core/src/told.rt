@@ -22,7 +22,7 @@ pub fn is_done(verdict: &Verdict) -> bool
     matches!(verdict, Verdict::Done(_))
 }
 
-/// Whether the request is done, and there is nothing to tell. Takes no memory.
+/// Whether the request is done, and there is nothing to report. Takes no memory.
 pub fn is_plain(verdict: &Verdict) -> bool
     ensures { result ≡ is_plain verdict.now }
 {
@@ -32,7 +32,7 @@ pub fn is_plain(verdict: &Verdict) -> bool
 /// A verdict with a copy of it.
 ///
 /// # Errors
-/// Want of memory.
+/// Out of memory.
 pub fn with_copy(verdict: Verdict) -> Result<Told, AllocError>
     ensures { IfOk result (IsTold verdict) }
 {
@@ -43,7 +43,7 @@ pub fn with_copy(verdict: Verdict) -> Result<Told, AllocError>
     Ok(Told { verdict, copy })
 }
 
-/// A verdict that there is nothing more to tell of, with a copy of it. Takes no memory.
+/// A verdict without a reply of its own, with a copy of it. Takes no memory.
 #[tactic(auto, using(crate::proofs::Performing::plain_is))]
 pub fn told_plain(verdict: Verdict) -> Told
     requires { is_plain verdict ≡ true }
@@ -55,7 +55,7 @@ pub fn told_plain(verdict: Verdict) -> Told
     }
 }
 
-/// That a request is done, and there is nothing to tell. Takes no memory.
+/// That a request is done, and there is nothing to report. Takes no memory.
 pub fn told_done() -> Told
     ensures { IsTold (Done reply.Empty) result }
 {

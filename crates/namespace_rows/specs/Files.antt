@@ -15,7 +15,7 @@ abbrev pub length_of : List FileBlock → ℕ
 length_of [] = 0
 length_of (block ∷ blocks) = unwrap_or block.committed 0 + length_of blocks
 
--- a length, where a number of 64 bits tells it; where none does, memory is said to be wanting
+-- a length, if it fits in 64 bits; otherwise the call fails as if out of memory
 abbrev pub told_length : ℕ → Option ℕ
 told_length length = if nat_lt length (2 ^ 64) then Some length else None
 

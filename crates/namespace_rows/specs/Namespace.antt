@@ -6,7 +6,7 @@ use Rattle.std.specs.Ordering.{is_lt}
 use Rattle.file_paths.specs.Path.{is_prefix}
 use Rattle.hdfs_texts.specs.Text.{same}
 use Rattle.file_paths.specs.PathOrder.{path_cmp, same_path}
-use Rattle.access_lists.specs.AccessControlList.{AccessControlList, suits_file}
+use Rattle.access_lists.specs.Acl.{Acl, suits_file}
 use Rattle.namespace_rows.specs.declared.file_row.FileRow.{FileRow}
 use Rattle.namespace_rows.specs.declared.row.Row.{Row}
 use Rattle.namespace_rows.specs.Rows.{is_directory}
@@ -43,7 +43,7 @@ abbrev pub have_parents : List Row → List Row → Bool
 have_parents rows all = list_all (λ row. is_root row.path || has_parent row.path all) rows
 
 -- a directory has nothing that files alone have; neither a sticky bit nor a default list stands in the list of a file
-abbrev pub suits_parts : Bool → AccessControlList → Option FileRow → Bool
+abbrev pub suits_parts : Bool → Acl → Option FileRow → Bool
 suits_parts true acl None = true
 suits_parts true acl (Some file) = false
 suits_parts false acl None = false

@@ -47,7 +47,7 @@ impl FileBlocks {
         &self.list
     }
 
-    /// The bytes of the blocks whose length is committed; `None` where they are more than a number tells. Costs the blocks.
+    /// The bytes of the blocks whose length is committed; `None` where their sum doesn't fit in 64 bits. Costs the blocks.
     pub fn length(&self) -> Option<u64>
         ensures { result ≡ spec.told_length (spec.length_of self.now) }
     {

@@ -47,7 +47,7 @@ fn has_directory(alloc: Global, tree: &Tree, path: &Path) -> bool
     }
 }
 
-/// Puts a file of mode 0755, of `ann` and the group `crew`, into a tree, and tells whether there is a directory that holds it.
+/// Puts a file of mode 0755, of `ann` and the group `crew`, into a tree, and returns whether there is a directory that holds it.
 fn put_file_at(alloc: Global, tree: &mut Tree, path: &Path) -> Option<bool> {
     if !has_directory(alloc, tree, path) {
         return Some(false);
@@ -89,7 +89,7 @@ fn is_plain(row: &Row) -> bool
         && row.acl.default_list().is_none()
 }
 
-/// Puts a plain row among the rows, and tells whether there is a directory that holds it.
+/// Puts a plain row among the rows, and returns whether there is a directory that holds it.
 fn put_among_rows(alloc: Global, rows: &mut Rows, row: Row) -> Result<bool, AllocError> {
     if !is_plain(&row) || !is_held(rows.as_slice(), &row.path) {
         drop(row);
@@ -132,7 +132,7 @@ fn new_rows_are_the_root(rt: HostRuntime) {
     assert!(rt; is_root_alone(rt.alloc()));
 }
 
-/// Puts a file among the rows, and tells whether it is there.
+/// Puts a file among the rows, and returns whether it is there.
 fn put_and_found(alloc: Global, rows: &mut Rows) -> bool {
     let Some(row) = file_at(alloc, "/f") else {
         return false;
@@ -218,7 +218,7 @@ fn is_missing(alloc: Global, tree: &Tree, path: &str) -> bool {
     }
 }
 
-/// Puts a file, and another one beneath it, and tells whether the tree has the first alone then.
+/// Puts a file, and another one beneath it, and returns whether the tree has the first alone then.
 fn put_two(alloc: Global, tree: &mut Tree) -> bool {
     put_file(alloc, tree, "/f") == Some(true)
         && put_file(alloc, tree, "/f/x") == Some(false)

@@ -11,27 +11,27 @@ use Rattle.permission_bits.specs.declared.rights.Rights.{Rights}
 use Rattle.access_lists.specs.declared.entry_list.NamedEntry.{NamedEntry}
 use Rattle.access_lists.specs.declared.entry_list.Bases.{Bases}
 use Rattle.access_lists.specs.Kept.{list_of_parts}
-use Rattle.access_lists.specs.AccessControlList.{EntryList, base_entries, common, union, union_of_named, union_of_group_class, has_named, entries_in, mask_entries, fits, ascend, grant_rights, are_rights, are_bases, IsEntryList}
-use Rattle.partial_acl.specs.AclChange.{PartialList, completed, with_bases_of, as_kept}
+use Rattle.access_lists.specs.Acl.{EntryList, base_entries, intersection, union, union_of_named, union_of_group_class, has_named, entries_in, mask_entries, fits_in_scope, ascend, grant_rights, are_rights, are_bases, IsEntryList}
+use Rattle.partial_acl.specs.AclChange.{PartialList, completed_list, with_bases_of, as_kept}
 use Rattle.partial_acl.specs.Answers.{IsPartialList, named_count}
 use Rattle.partial_acl.proofs.Tests.{both, and}
 
 pub entries_count : (list : EntryList) → length (entries_in Access list) ≡ 3 + length (mask_entries Access list.mask) + length list.users + length list.groups
 entries_count list = simp (length-append, length-map) (omega arith)
 
-pub completed_fits : (named : Option Rights) (other : EntryList) (list : PartialList) → fits (completed named other list) ≡ nat_le (named_count list) 28
-completed_fits named other list = rw (entries_count (completed named other list)) (grind (arith, nat_tests))
+pub completed_fits : (named : Option Rights) (other : EntryList) (list : PartialList) → fits_in_scope (completed_list named other list) ≡ nat_le (named_count list) 28
+completed_fits named other list = rw (entries_count (completed_list named other list)) (grind (arith, nat_tests))
 
-pub too_many : (named : Option Rights) (other : EntryList) (list : PartialList) → 32 < named_count list → fits (completed named other list) ≡ false
+pub too_many : (named : Option Rights) (other : EntryList) (list : PartialList) → 32 < named_count list → fits_in_scope (completed_list named other list) ≡ false
 too_many named other list many = completed_fits named other list ∙ grind (arith, nat_tests)
 
 pub kept_named : (list : EntryList) → has_named list ≡ true → as_kept list ≡ list
 kept_named list h = rw h refl
 
-pub too_many_kept : (named : Option Rights) (other : EntryList) (list : PartialList) → 32 < named_count list → fits (as_kept (completed named other list)) ≡ false
+pub too_many_kept : (named : Option Rights) (other : EntryList) (list : PartialList) → 32 < named_count list → fits_in_scope (as_kept (completed_list named other list)) ≡ false
 too_many_kept named other list many =
     let named_too : nat_lt 0 (named_count list) ≡ true = grind (arith, nat_tests) in
-    ap fits (kept_named (completed named other list) named_too) ∙ too_many named other list many
+    ap fits_in_scope (kept_named (completed_list named other list) named_too) ∙ too_many named other list many
 
 -- ---- rights have three bits
 
@@ -47,7 +47,7 @@ named_union_good granted [] h k = h
 named_union_good granted (e ∷ es) h k =
     let parts = both (are_rights e.rights) (grant_rights es) k in named_union_good (union granted e.rights) es (union_good granted e.rights h parts.0) parts.1
 
-pub common_good : (a b : Rights) → are_rights a ≡ true → are_rights (common a b) ≡ true
+pub common_good : (a b : Rights) → are_rights a ≡ true → are_rights (intersection a b) ≡ true
 common_good a b h =
     let below_a : a.0 < 8 = grind (arith, nat_tests) in
     let below : bit_and a.0 b.0 < 8 = omega (arith, and_le_l a.0 b.0) in
@@ -66,7 +66,7 @@ pub record Good (list : EntryList) : Type 0 where
   pub groups_ascend : ascend list.groups ≡ true
   pub users_grant : grant_rights list.users ≡ true
   pub groups_grant : grant_rights list.groups ≡ true
-  pub list_fits : fits list ≡ true
+  pub list_fits : fits_in_scope list ≡ true
   pub mask : option_map_or are_rights list.mask true ≡ true
   pub user : are_rights list.user ≡ true
   pub group : are_rights list.group ≡ true
@@ -78,7 +78,7 @@ good list h =
     let b = both (ascend list.groups) _ a.1 in
     let c = both (grant_rights list.users) _ b.1 in
     let d = both (grant_rights list.groups) _ c.1 in
-    let e = both (fits list) _ d.1 in
+    let e = both (fits_in_scope list) _ d.1 in
     let f = both (option_map_or are_rights list.mask true) _ e.1 in
     let g = both (are_rights list.user) _ f.1 in
     let i = both (are_rights list.group) _ g.1 in
@@ -113,16 +113,16 @@ are_good_parts list g = and _ _ g.users_ascend (and _ _ g.groups_ascend (and _ _
 
 module _ (named : Option Rights) (other : EntryList) (list : PartialList) where
   abbrev pub kept_bases : EntryList
-  kept_bases = base_entries (unwrap_or list.user other.user) (common (unwrap_or list.group other.group) (unwrap_or named (unwrap_or list.group other.group))) (unwrap_or list.other other.other)
+  kept_bases = base_entries (unwrap_or list.user other.user) (intersection (unwrap_or list.group other.group) (unwrap_or named (unwrap_or list.group other.group))) (unwrap_or list.other other.other)
 
-  pub kept_is_bases : nat_lt 0 (named_count list) ≡ false → as_kept (completed named other list) ≡ kept_bases
+  pub kept_is_bases : nat_lt 0 (named_count list) ≡ false → as_kept (completed_list named other list) ≡ kept_bases
   kept_is_bases none =
       let users : list.users ≡ [] = empty_is list.users (grind (arith, nat_tests)) in
       let groups : list.groups ≡ [] = empty_is list.groups (grind (arith, nat_tests)) in
       let group = unwrap_or list.group other.group in
-      ap (λ b. cond b (completed named other list) (base_entries (unwrap_or list.user other.user) (common group (unwrap_or named (union_of_named (union_of_named group list.users) list.groups))) (unwrap_or list.other other.other))) none
-      ∙ ap (λ named_too. base_entries (unwrap_or list.user other.user) (common group (unwrap_or named (union_of_named (union_of_named group named_too) list.groups))) (unwrap_or list.other other.other)) users
-      ∙ ap (λ named_too. base_entries (unwrap_or list.user other.user) (common group (unwrap_or named (union_of_named group named_too))) (unwrap_or list.other other.other)) groups
+      ap (λ b. cond b (completed_list named other list) (base_entries (unwrap_or list.user other.user) (intersection group (unwrap_or named (union_of_named (union_of_named group list.users) list.groups))) (unwrap_or list.other other.other))) none
+      ∙ ap (λ named_too. base_entries (unwrap_or list.user other.user) (intersection group (unwrap_or named (union_of_named (union_of_named group named_too) list.groups))) (unwrap_or list.other other.other)) users
+      ∙ ap (λ named_too. base_entries (unwrap_or list.user other.user) (intersection group (unwrap_or named (union_of_named group named_too))) (unwrap_or list.other other.other)) groups
 
 -- ---- what is completed is a list of entries
 
@@ -142,8 +142,8 @@ module _ (named : Option Rights) (other : EntryList) (list : PartialList) (mask 
   mask_good : are_rights (unwrap_or named (union_of_group_class (with_bases_of other list))) ≡ true
   mask_good = unwrapped_good named (union_of_group_class (with_bases_of other list)) mask union_of_class
 
-  pub completed_good : nat_le (named_count list) 28 ≡ true → IsEntryList (completed named other list)
-  completed_good few = is_good (completed named other list) (record {
+  pub completed_good : nat_le (named_count list) 28 ≡ true → IsEntryList (completed_list named other list)
+  completed_good few = is_good (completed_list named other list) (record {
     users_ascend = p.users_ascend;
     groups_ascend = p.groups_ascend;
     users_grant = p.users_grant;
@@ -166,7 +166,7 @@ module _ (named : Option Rights) (other : EntryList) (list : PartialList) (mask 
 pub completed_from : (named : Option Rights) (other : EntryList) (list : PartialList) (bases : Bases) (mask : Rights) (users groups : List NamedEntry)
     → bases.user ≡ unwrap_or list.user other.user → bases.group ≡ unwrap_or list.group other.group → bases.other ≡ unwrap_or list.other other.other
     → users ≡ list.users → groups ≡ list.groups → mask ≡ unwrap_or named (union_of_named (union_of_named bases.group users) groups)
-    → list_of_parts bases (Some mask) users groups ≡ completed named other list
+    → list_of_parts bases (Some mask) users groups ≡ completed_list named other list
 completed_from named other list bases mask users groups user group others us gs is = rw (user, others, is, group, us, gs) refl
 
 pub kept_from : (named : Option Rights) (other : EntryList) (list : PartialList) (bases : Bases) (mask group : Rights)

@@ -12,8 +12,8 @@ use Rattle.acl_specs.specs.declared.entry.Entry.{Entry}
 use Rattle.acl_specs.specs.declared.entry.EntryKind.{EntryKind}
 use Rattle.acl_specs.specs.declared.entry.Scope.{Scope}
 use Rattle.access_lists.specs.declared.entry_list.NamedEntry.{NamedEntry}
-use Rattle.access_lists.specs.AccessControlList.{ascend, grant_rights, are_rights}
-use Rattle.partial_acl.specs.AclChange.{put, with_each, is_for, with_name, named_in, granted_by}
+use Rattle.access_lists.specs.Acl.{ascend, grant_rights, are_rights}
+use Rattle.partial_acl.specs.AclChange.{with_entry, with_each, is_for, with_name, named_in, granted_by}
 use Rattle.partial_acl.proofs.Tests.{both, and}
 
 -- ---- where an entry is put
@@ -33,37 +33,37 @@ place_within name (e ∷ es) = by (is_gt (text_cmp name e.name)) (place_within n
     by false h = omega arith
 
 pub replaced : (new : NamedEntry) (entries : List NamedEntry) → is_at new.name (slice_get entries (place_in new.name entries)) ≡ true
-    → set entries (place_in new.name entries) new ≡ put new entries
+    → set entries (place_in new.name entries) new ≡ with_entry new entries
 replaced new [] h = cc
 replaced new (e ∷ es) h = by (text_cmp new.name e.name) refl h (λ k. replaced new es k)
   where
     by : (o : Ordering) → text_cmp new.name e.name ≡ o → is_at new.name (slice_get (e ∷ es) (cond (is_gt o) (1 + place_in new.name es) 0)) ≡ true
-        → (is_at new.name (slice_get es (place_in new.name es)) ≡ true → set es (place_in new.name es) new ≡ put new es)
-        → set (e ∷ es) (cond (is_gt o) (1 + place_in new.name es) 0) new ≡ cond (is_eq o) (new ∷ es) (cond (is_lt o) (new ∷ e ∷ es) (e ∷ put new es))
+        → (is_at new.name (slice_get es (place_in new.name es)) ≡ true → set es (place_in new.name es) new ≡ with_entry new es)
+        → set (e ∷ es) (cond (is_gt o) (1 + place_in new.name es) 0) new ≡ cond (is_eq o) (new ∷ es) (cond (is_lt o) (new ∷ e ∷ es) (e ∷ with_entry new es))
     by Less k there others = cc (ap is_eq k)
     by Equal k there others = refl
-    by Greater k there others = subst (λ (n : ℕ). set (e ∷ es) n new ≡ e ∷ put new es) (sym (one-add (place_in new.name es)))
+    by Greater k there others = subst (λ (n : ℕ). set (e ∷ es) n new ≡ e ∷ with_entry new es) (sym (one-add (place_in new.name es)))
         (ap (λ l. e ∷ l) (others (subst (λ (n : ℕ). is_at new.name (slice_get (e ∷ es) n) ≡ true) (one-add (place_in new.name es)) there)))
 
 pub inserted : (new : NamedEntry) (entries : List NamedEntry) → is_at new.name (slice_get entries (place_in new.name entries)) ≡ false
-    → insert entries (place_in new.name entries) new ≡ put new entries
+    → insert entries (place_in new.name entries) new ≡ with_entry new entries
 inserted new [] h = refl
 inserted new (e ∷ es) h = by (text_cmp new.name e.name) refl h (λ k. inserted new es k)
   where
     by : (o : Ordering) → text_cmp new.name e.name ≡ o → is_at new.name (slice_get (e ∷ es) (cond (is_gt o) (1 + place_in new.name es) 0)) ≡ false
-        → (is_at new.name (slice_get es (place_in new.name es)) ≡ false → insert es (place_in new.name es) new ≡ put new es)
-        → insert (e ∷ es) (cond (is_gt o) (1 + place_in new.name es) 0) new ≡ cond (is_eq o) (new ∷ es) (cond (is_lt o) (new ∷ e ∷ es) (e ∷ put new es))
+        → (is_at new.name (slice_get es (place_in new.name es)) ≡ false → insert es (place_in new.name es) new ≡ with_entry new es)
+        → insert (e ∷ es) (cond (is_gt o) (1 + place_in new.name es) 0) new ≡ cond (is_eq o) (new ∷ es) (cond (is_lt o) (new ∷ e ∷ es) (e ∷ with_entry new es))
     by Less k there others = refl
     by Equal k there others = cc (ap is_eq k)
-    by Greater k there others = subst (λ (n : ℕ). insert (e ∷ es) n new ≡ e ∷ put new es) (sym (one-add (place_in new.name es)))
+    by Greater k there others = subst (λ (n : ℕ). insert (e ∷ es) n new ≡ e ∷ with_entry new es) (sym (one-add (place_in new.name es)))
         (ap (λ l. e ∷ l) (others (subst (λ (n : ℕ). is_at new.name (slice_get (e ∷ es) n) ≡ false) (one-add (place_in new.name es)) there)))
 
 pub replaced_at : (new : NamedEntry) (entries : List NamedEntry) (place : ℕ) → place ≡ place_in new.name entries → is_at new.name (slice_get entries place) ≡ true
-    → set entries place new ≡ put new entries
+    → set entries place new ≡ with_entry new entries
 replaced_at new entries place is h = ap (λ n. set entries n new) is ∙ replaced new entries (subst (λ (n : ℕ). is_at new.name (slice_get entries n) ≡ true) is h)
 
 pub inserted_at : (new : NamedEntry) (entries : List NamedEntry) (place : ℕ) → place ≡ place_in new.name entries → is_at new.name (slice_get entries place) ≡ false
-    → insert entries place new ≡ put new entries
+    → insert entries place new ≡ with_entry new entries
 inserted_at new entries place is h = ap (λ n. insert entries n new) is ∙ inserted new entries (subst (λ (n : ℕ). is_at new.name (slice_get entries n) ≡ false) is h)
 
 pub is_at_within : (name : List ℕ) (entries : List NamedEntry) (place : ℕ) → is_at name (slice_get entries place) ≡ true → place < length entries
@@ -75,18 +75,18 @@ is_at_within name entries place h = by (slice_get entries place) refl h
 
 -- ---- nothing that is put in makes a list shorter
 
-pub put_grows : (new : NamedEntry) (entries : List NamedEntry) → length entries ≤ length (put new entries)
+pub put_grows : (new : NamedEntry) (entries : List NamedEntry) → length entries ≤ length (with_entry new entries)
 put_grows new [] = omega arith
 put_grows new (e ∷ es) = by (same new.name e.name) (is_lt (text_cmp new.name e.name)) (put_grows new es)
   where
-    by : (a b : Bool) → length es ≤ length (put new es) → length (e ∷ es) ≤ length (cond a (new ∷ es) (cond b (new ∷ e ∷ es) (e ∷ put new es)))
+    by : (a b : Bool) → length es ≤ length (with_entry new es) → length (e ∷ es) ≤ length (cond a (new ∷ es) (cond b (new ∷ e ∷ es) (e ∷ with_entry new es)))
     by true b h = omega arith
     by false true h = omega arith
     by false false h = omega arith
 
 pub with_each_grows : (entries others : List NamedEntry) → length entries ≤ length (with_each entries others)
 with_each_grows entries [] = omega arith
-with_each_grows entries (o ∷ os) = omega (arith, put_grows o entries, with_each_grows (put o entries) os)
+with_each_grows entries (o ∷ os) = omega (arith, put_grows o entries, with_each_grows (with_entry o entries) os)
 
 -- ---- the names still ascend
 
@@ -111,30 +111,30 @@ pub less_through : (a b c : List ℕ) → is_lt (text_cmp a b) ≡ true → is_l
 less_through a b c h k = ap is_lt (nat_list_cmp_total.trans a b c (less_is _ h) (less_is _ k))
 
 -- behind an entry that stands before the new one
-put_behind : (new e : NamedEntry) (es : List NamedEntry) → is_lt (text_cmp e.name new.name) ≡ true → ascend (e ∷ es) ≡ true → ascend (e ∷ put new es) ≡ true
+put_behind : (new e : NamedEntry) (es : List NamedEntry) → is_lt (text_cmp e.name new.name) ≡ true → ascend (e ∷ es) ≡ true → ascend (e ∷ with_entry new es) ≡ true
 put_behind new e [] low h = and _ _ low refl
 put_behind new e (f ∷ es) low h =
     let parts = both (is_lt (text_cmp e.name f.name)) (ascend (f ∷ es)) h in
     by (text_cmp new.name f.name) refl parts.0 parts.1 (λ k. put_behind new f es k parts.1)
   where
-    by : (o : Ordering) → text_cmp new.name f.name ≡ o → is_lt (text_cmp e.name f.name) ≡ true → ascend (f ∷ es) ≡ true → (is_lt (text_cmp f.name new.name) ≡ true → ascend (f ∷ put new es) ≡ true)
-        → ascend (e ∷ cond (is_eq o) (new ∷ es) (cond (is_lt o) (new ∷ f ∷ es) (f ∷ put new es))) ≡ true
+    by : (o : Ordering) → text_cmp new.name f.name ≡ o → is_lt (text_cmp e.name f.name) ≡ true → ascend (f ∷ es) ≡ true → (is_lt (text_cmp f.name new.name) ≡ true → ascend (f ∷ with_entry new es) ≡ true)
+        → ascend (e ∷ cond (is_eq o) (new ∷ es) (cond (is_lt o) (new ∷ f ∷ es) (f ∷ with_entry new es))) ≡ true
     by Less k first others behind = and _ _ low (and _ _ (ap is_lt k) others)
     by Equal k first others behind = and _ _ low (ascend_alike f new es (sym (same_is new.name f.name (ap is_eq k))) others)
     by Greater k first others behind = and _ _ first (behind (less_back new.name f.name k))
 
-pub put_ascends : (new : NamedEntry) (entries : List NamedEntry) → ascend entries ≡ true → ascend (put new entries) ≡ true
+pub put_ascends : (new : NamedEntry) (entries : List NamedEntry) → ascend entries ≡ true → ascend (with_entry new entries) ≡ true
 put_ascends new [] h = refl
 put_ascends new (e ∷ es) h = by (text_cmp new.name e.name) refl
   where
-    by : (o : Ordering) → text_cmp new.name e.name ≡ o → ascend (cond (is_eq o) (new ∷ es) (cond (is_lt o) (new ∷ e ∷ es) (e ∷ put new es))) ≡ true
+    by : (o : Ordering) → text_cmp new.name e.name ≡ o → ascend (cond (is_eq o) (new ∷ es) (cond (is_lt o) (new ∷ e ∷ es) (e ∷ with_entry new es))) ≡ true
     by Less k = and _ _ (ap is_lt k) h
     by Equal k = ascend_alike e new es (sym (same_is new.name e.name (ap is_eq k))) h
     by Greater k = put_behind new e es (less_back new.name e.name k) h
 
 pub with_each_ascends : (entries others : List NamedEntry) → ascend entries ≡ true → ascend (with_each entries others) ≡ true
 with_each_ascends entries [] h = h
-with_each_ascends entries (o ∷ os) h = with_each_ascends (put o entries) os (put_ascends o entries h)
+with_each_ascends entries (o ∷ os) h = with_each_ascends (with_entry o entries) os (put_ascends o entries h)
 
 -- without the second entry
 pub ascend_past : (e f : NamedEntry) (es : List NamedEntry) → ascend (e ∷ f ∷ es) ≡ true → ascend (e ∷ es) ≡ true
@@ -164,13 +164,13 @@ filter_ascends p (e ∷ es) h = by (p e) (filter_behind p e es h) (filter_ascend
 
 -- ---- the rights still have three bits
 
-put_grants : (new : NamedEntry) (entries : List NamedEntry) → are_rights new.rights ≡ true → grant_rights entries ≡ true → grant_rights (put new entries) ≡ true
+put_grants : (new : NamedEntry) (entries : List NamedEntry) → are_rights new.rights ≡ true → grant_rights entries ≡ true → grant_rights (with_entry new entries) ≡ true
 put_grants new [] good h = and _ _ good refl
 put_grants new (e ∷ es) good h =
     let parts = both (are_rights e.rights) (grant_rights es) h in by (same new.name e.name) (is_lt (text_cmp new.name e.name)) parts.0 parts.1 (put_grants new es good parts.1)
   where
-    by : (a b : Bool) → are_rights e.rights ≡ true → grant_rights es ≡ true → grant_rights (put new es) ≡ true
-        → grant_rights (cond a (new ∷ es) (cond b (new ∷ e ∷ es) (e ∷ put new es))) ≡ true
+    by : (a b : Bool) → are_rights e.rights ≡ true → grant_rights es ≡ true → grant_rights (with_entry new es) ≡ true
+        → grant_rights (cond a (new ∷ es) (cond b (new ∷ e ∷ es) (e ∷ with_entry new es))) ≡ true
     by true b first others put_in = and _ _ good others
     by false true first others put_in = and _ _ good (and _ _ first others)
     by false false first others put_in = and _ _ first put_in
@@ -178,7 +178,7 @@ put_grants new (e ∷ es) good h =
 pub with_each_grants : (entries others : List NamedEntry) → grant_rights others ≡ true → grant_rights entries ≡ true → grant_rights (with_each entries others) ≡ true
 with_each_grants entries [] good h = h
 with_each_grants entries (o ∷ os) good h =
-    let parts = both (are_rights o.rights) (grant_rights os) good in with_each_grants (put o entries) os parts.1 (put_grants o entries parts.0 h)
+    let parts = both (are_rights o.rights) (grant_rights os) good in with_each_grants (with_entry o entries) os parts.1 (put_grants o entries parts.0 h)
 
 -- ---- one entry more, as at a step of a loop
 

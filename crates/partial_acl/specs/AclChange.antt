@@ -25,7 +25,7 @@ use Rattle.hdfs_types.specs.declared.reply.ObjectKind.TheVariants.{File, Directo
 use Rattle.hdfs_types.specs.declared.reply.Refusal.{Refusal}
 use Rattle.hdfs_types.specs.declared.reply.Refusal.TheVariants.{BadAcl, TooManyEntries}
 use Rattle.access_lists.specs.declared.entry_list.NamedEntry.{NamedEntry}
-use Rattle.access_lists.specs.AccessControlList.{AccessControlList, EntryList, base_entries, common, union_of_group_class, has_named, fits, sticky_bit}
+use Rattle.access_lists.specs.Acl.{Acl, EntryList, base_entries, intersection, union_of_group_class, has_named, fits_in_scope, has_sticky_bit}
 
 -- ── what a spec says of a scope ──
 
@@ -41,8 +41,8 @@ abbrev pub granted_by : Entry → Rights
 granted_by entry = rights (entry.rights.0 % 8)
 
 -- the rights that this entry grants
-abbrev pub given : Scope → EntryKind → List Entry → Option Rights
-given scope kind spec = option_map granted_by (find (is_base_of scope kind) spec)
+abbrev pub base_rights : Scope → EntryKind → List Entry → Option Rights
+base_rights scope kind spec = option_map granted_by (find (is_base_of scope kind) spec)
 
 abbrev pub is_for : Scope → EntryKind → Entry → Bool
 is_for scope kind entry = same_scope entry.scope scope && same_kind entry.kind kind
@@ -61,19 +61,19 @@ touches scope spec = list_any (λ entry. same_scope entry.scope scope) spec
 -- ── lists of named entries, in the order of their names ──
 
 -- with an entry in its place, instead of one of the same name
-abbrev pub put : NamedEntry → List NamedEntry → List NamedEntry
-put new [] = new ∷ []
-put new (entry ∷ entries) =
+abbrev pub with_entry : NamedEntry → List NamedEntry → List NamedEntry
+with_entry new [] = new ∷ []
+with_entry new (entry ∷ entries) =
     if same new.name entry.name then new ∷ entries
-    else (if is_lt (text_cmp new.name entry.name) then new ∷ entry ∷ entries else entry ∷ put new entries)
+    else (if is_lt (text_cmp new.name entry.name) then new ∷ entry ∷ entries else entry ∷ with_entry new entries)
 
 -- with each of other entries put in
 abbrev pub with_each : List NamedEntry → List NamedEntry → List NamedEntry
-with_each entries others = fold (λ list entry. put entry list) entries others
+with_each entries others = fold (λ list entry. with_entry entry list) entries others
 
 -- without those whose names others have
-abbrev pub without : List NamedEntry → List NamedEntry → List NamedEntry
-without entries others = filter (λ entry. not (list_any (λ other. same other.name entry.name) others)) entries
+abbrev pub entries_without : List NamedEntry → List NamedEntry → List NamedEntry
+entries_without entries others = filter (λ entry. not (list_any (λ other. same other.name entry.name) others)) entries
 
 -- ── the entries of a scope without its mask, while they change: bases may be missing ──
 
@@ -93,11 +93,11 @@ all_of list = record { user = Some list.user; users = list.users; group = Some l
 -- with each entry that the spec has in the scope, instead of one that stands there
 abbrev pub after_addition : Scope → List Entry → PartialList → PartialList
 after_addition scope spec old = record {
-  user = option_or (given scope User spec) old.user;
+  user = option_or (base_rights scope User spec) old.user;
   users = with_each old.users (named_in scope User spec);
-  group = option_or (given scope Group spec) old.group;
+  group = option_or (base_rights scope Group spec) old.group;
   groups = with_each old.groups (named_in scope Group spec);
-  other = option_or (given scope Other spec) old.other;
+  other = option_or (base_rights scope Other spec) old.other;
 }
 
 abbrev pub unless : Bool → Option Rights → Option Rights
@@ -108,9 +108,9 @@ unless false granted = granted
 abbrev pub after_removal : Scope → List Entry → PartialList → PartialList
 after_removal scope spec old = record {
   user = unless (has_base scope User spec) old.user;
-  users = without old.users (named_in scope User spec);
+  users = entries_without old.users (named_in scope User spec);
   group = unless (has_base scope Group spec) old.group;
-  groups = without old.groups (named_in scope Group spec);
+  groups = entries_without old.groups (named_in scope Group spec);
   other = unless (has_base scope Other spec) old.other;
 }
 
@@ -135,57 +135,50 @@ with_bases_of other list = record {
 
 -- the mask that a spec names, else the union of the group class
 abbrev pub mask_after : Option Rights → EntryList → EntryList
-mask_after named list = record {
-  user = list.user;
-  users = list.users;
-  group = list.group;
-  groups = list.groups;
-  mask = Some (unwrap_or named (union_of_group_class list));
-  other = list.other;
-}
+mask_after named list = record list { mask = Some (unwrap_or named (union_of_group_class list)) }
 
-abbrev pub completed : Option Rights → EntryList → PartialList → EntryList
-completed named_mask other list = mask_after named_mask (with_bases_of other list)
+abbrev pub completed_list : Option Rights → EntryList → PartialList → EntryList
+completed_list named_mask other list = mask_after named_mask (with_bases_of other list)
 
 -- an access list without named entries is kept as mode bits, its group behind the mask
 abbrev pub as_kept : EntryList → EntryList
 as_kept list =
     if has_named list then list
-    else base_entries list.user (option_map_or (common list.group) list.mask list.group) list.other
+    else base_entries list.user (option_map_or (intersection list.group) list.mask list.group) list.other
 
 -- ── the lists after a change: an untouched scope stays ──
 
 -- missing bases are the old ones; that matters for `clear` alone, since `set` and `remove` without a base are refused
 abbrev pub access_where : Bool → Option Rights → EntryList → PartialList → EntryList
-access_where touched named_mask old list = if touched then as_kept (completed named_mask old list) else old
+access_where touched named_mask old list = if touched then as_kept (completed_list named_mask old list) else old
 
 abbrev pub access_after : AclChange → EntryList → EntryList
-access_after (Set spec) old = access_where (touches Access spec) (given Access Mask spec) old (after_addition Access spec no_entries)
-access_after (Modify spec) old = access_where (touches Access spec) (given Access Mask spec) old (after_addition Access spec (all_of old))
+access_after (Set spec) old = access_where (touches Access spec) (base_rights Access Mask spec) old (after_addition Access spec no_entries)
+access_after (Modify spec) old = access_where (touches Access spec) (base_rights Access Mask spec) old (after_addition Access spec (all_of old))
 access_after (Remove spec) old = access_where (touches Access spec) None old (after_removal Access spec (all_of old))
 access_after RemoveDefault old = old
 access_after Clear old = access_where true None old no_entries
 
 -- missing bases are those of the access list after the change
 abbrev pub default_where : Bool → Option Rights → Option EntryList → EntryList → PartialList → Option EntryList
-default_where touched named_mask old access list = if touched then Some (completed named_mask access list) else old
+default_where touched named_mask old access list = if touched then Some (completed_list named_mask access list) else old
 
 -- a list of which at most a mask is left is empty
 abbrev pub default_left : Bool → Option EntryList → EntryList → PartialList → Option EntryList
 default_left touched old access list = if touched && has_no_entry list then None else default_where touched None old access list
 
 abbrev pub default_after : AclChange → EntryList → Option EntryList → Option EntryList
-default_after (Set spec) access old = default_where (touches Default spec) (given Default Mask spec) old access (after_addition Default spec no_entries)
+default_after (Set spec) access old = default_where (touches Default spec) (base_rights Default Mask spec) old access (after_addition Default spec no_entries)
 default_after (Modify spec) access old =
-    default_where (touches Default spec) (given Default Mask spec) old access (after_addition Default spec (option_map_or all_of old no_entries))
+    default_where (touches Default spec) (base_rights Default Mask spec) old access (after_addition Default spec (option_map_or all_of old no_entries))
 default_after (Remove spec) access old = default_left (touches Default spec) old access (after_removal Default spec (option_map_or all_of old no_entries))
 default_after RemoveDefault access old = None
 default_after Clear access old = None
 
-abbrev pub acl_after : AclChange → AccessControlList → AccessControlList
+abbrev pub acl_after : AclChange → Acl → Acl
 acl_after change old =
     let access = access_after change old.access in
-    record { sticky = old.sticky; access = access; default = default_after change access old.default }
+    record old { access = access; default = default_after change access old.default }
 
 -- ── refusals ──
 
@@ -193,8 +186,7 @@ abbrev pub spec_in : AclChange → List Entry
 spec_in (Set spec) = spec
 spec_in (Modify spec) = spec
 spec_in (Remove spec) = spec
-spec_in RemoveDefault = []
-spec_in Clear = []
+spec_in _ = []
 
 -- the change names entries
 abbrev pub has_spec : AclChange → Bool
@@ -228,7 +220,7 @@ removes_mask (Remove spec) access = has_base Access Mask spec && has_named acces
 removes_mask _ access = false
 
 -- the first that applies
-abbrev pub first_acl_fault : AclChange → ObjectKind → AccessControlList → Option AclFault
+abbrev pub first_acl_fault : AclChange → ObjectKind → Acl → Option AclFault
 first_acl_fault change kind acl =
     if default_on_file change kind then Some DefaultOnFile else
     if lacks_base change then Some NoBase else
@@ -236,29 +228,27 @@ first_acl_fault change kind acl =
     if removes_mask change acl.access then Some MaskRemoved else None
 
 -- no scope has more entries than may stand in one
-abbrev pub if_it_fits : AccessControlList → Result AccessControlList Refusal
-if_it_fits acl = if fits acl.access && option_map_or fits acl.default true then Ok acl else Err TooManyEntries
+abbrev pub if_it_fits : Acl → Result Acl Refusal
+if_it_fits acl = if fits_in_scope acl.access && option_map_or fits_in_scope acl.default true then Ok acl else Err TooManyEntries
 
-abbrev pub unless_fault : Option AclFault → AccessControlList → Result AccessControlList Refusal
+abbrev pub unless_fault : Option AclFault → Acl → Result Acl Refusal
 unless_fault (Some fault) acl = Err (BadAcl fault)
 unless_fault None acl = if_it_fits acl
 
 -- the list after a change, or why it is refused
-abbrev pub acl_change : AclChange → ObjectKind → AccessControlList → Result AccessControlList Refusal
+abbrev pub acl_change : AclChange → ObjectKind → Acl → Result Acl Refusal
 acl_change change kind acl = unless_fault (first_acl_fault change kind acl) (acl_after change acl)
 
 -- ── the change of a mode ──
 
 abbrev pub access_with_mode : ℕ → EntryList → EntryList
-access_with_mode mode list = record {
+access_with_mode mode list = record list {
   user = rights (user_bits mode);
-  users = list.users;
   group = if is_some list.mask then list.group else rights (group_bits mode);
-  groups = list.groups;
   mask = option_map (λ mask. rights (group_bits mode)) list.mask;
   other = rights (other_bits mode);
 }
 
 -- a mode sets owner, others, and the mask where there is one, else the group; and the sticky bit of a directory
-abbrev pub with_mode : ℕ → ObjectKind → AccessControlList → AccessControlList
-with_mode mode kind acl = record { sticky = sticky_bit mode kind; access = access_with_mode mode acl.access; default = acl.default }
+abbrev pub with_mode : ℕ → ObjectKind → Acl → Acl
+with_mode mode kind acl = record acl { sticky = has_sticky_bit mode kind; access = access_with_mode mode acl.access }

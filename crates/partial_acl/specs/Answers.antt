@@ -1,35 +1,35 @@
--- What the calls of this crate answer, beside what the definitions say. Want of memory may stand in place of any answer.
+-- What the calls of this crate answer, beside what the definitions say. Out of memory may be answered instead of any answer.
 use Rattle.std.specs.Prelude.{◌≡◌, ℕ, ◌+◌, Bool, true, false, ◌&&◌, length, Option, Result, Ok, Err, IsTrue}
 use Rattle.std.specs.Option.{option_map_or}
 use Rattle.hdfs_types.specs.declared.reply.Refusal.{Refusal}
 use Rattle.hdfs_types.specs.declared.reply.Refusal.TheVariants.{TooManyEntries}
-use Rattle.access_lists.specs.AccessControlList.{AccessControlList, EntryList, IsEntryList, fits, ascend, grant_rights, are_rights}
+use Rattle.access_lists.specs.Acl.{Acl, EntryList, IsEntryList, fits_in_scope, ascend, grant_rights, are_rights}
 use Rattle.partial_acl.specs.declared.fault.AclChangeFault.{AclChangeFault}
 use Rattle.partial_acl.specs.declared.fault.AclChangeFault.TheVariants.{Refused, OutOfMemory}
 use Rattle.partial_acl.specs.AclChange.{PartialList}
 
 -- a change was done, or refused, as is due; and a list that isn't changed stays
-abbrev pub Changes : {T : Type 0} → Result T AclChangeFault → Result AccessControlList Refusal → AccessControlList → AccessControlList → Type 0
+abbrev pub Changes : {T : Type 0} → Result T AclChangeFault → Result Acl Refusal → Acl → Acl → Type 0
 Changes (Ok done) due old new = due ≡ Ok new
 Changes (Err (Refused refusal)) due old new = (due ≡ Err refusal) × (new ≡ old)
 Changes (Err OutOfMemory) due old new = new ≡ old
 
 -- a call that was refused says so; one that was done, or had no memory, says nothing
-abbrev pub IfRefused : {T : Type 0} → Result T AclChangeFault → (Refusal → Type 0) → Type 0
-IfRefused (Ok done) claim = Unit {0}
-IfRefused (Err (Refused refusal)) claim = claim refusal
-IfRefused (Err OutOfMemory) claim = Unit {0}
+abbrev pub IfChangeRefused : {T : Type 0} → Result T AclChangeFault → (Refusal → Type 0) → Type 0
+IfChangeRefused (Ok done) claim = Unit {0}
+IfChangeRefused (Err (Refused refusal)) claim = claim refusal
+IfChangeRefused (Err OutOfMemory) claim = Unit {0}
 
 -- a list of entries was made where it has no more than may stand in a scope, and refused where it has
 abbrev pub Makes : Result EntryList AclChangeFault → EntryList → Type 0
 Makes (Ok list) due = (list ≡ due) × IsEntryList due
-Makes (Err (Refused refusal)) due = (refusal ≡ TooManyEntries) × (fits due ≡ false)
+Makes (Err (Refused refusal)) due = (refusal ≡ TooManyEntries) × (fits_in_scope due ≡ false)
 Makes (Err OutOfMemory) due = Unit {0}
 
 -- the same of a list that may be empty
 abbrev pub MakesAny : Result (Option EntryList) AclChangeFault → Option EntryList → Type 0
-MakesAny (Ok list) due = (list ≡ due) × IsTrue (option_map_or fits due true)
-MakesAny (Err (Refused refusal)) due = (refusal ≡ TooManyEntries) × (option_map_or fits due true ≡ false)
+MakesAny (Ok list) due = (list ≡ due) × IsTrue (option_map_or fits_in_scope due true)
+MakesAny (Err (Refused refusal)) due = (refusal ≡ TooManyEntries) × (option_map_or fits_in_scope due true ≡ false)
 MakesAny (Err OutOfMemory) due = Unit {0}
 
 -- entries that an access control list can have: each name before the next, and rights of three bits

@@ -1,6 +1,6 @@
 ghost use Rattle.std.specs.Prelude.{◌≡◌, ◌+◌, nat_le, true, Some, length, unwrap_or, IfOk, IsTrue};
 ghost use Rattle.std.specs.Option.{option_map_or};
-ghost use Rattle.access_lists.specs.AccessControlList.{IsEntryList, union_of_named, are_rights};
+ghost use Rattle.access_lists.specs.Acl.{IsEntryList, union_of_named, are_rights};
 ghost use Rattle.partial_acl.specs.Answers.{Makes, IsPartialList};
 ghost use Rattle.partial_acl.specs.AclChange as definition;
 
@@ -69,7 +69,7 @@ pub fn completed(
 ) -> Result<EntryList, AclChangeFault>
     requires list { IsPartialList list }
     requires mask { IsTrue (option_map_or are_rights named_mask true) }
-    ensures { Makes result (definition.completed named_mask other.now list) }
+    ensures { Makes result (definition.completed_list named_mask other.now list) }
 {
     let bases = bases_of(&list, other);
     let PartialList {
@@ -95,7 +95,7 @@ pub fn kept(
 ) -> Result<EntryList, AclChangeFault>
     requires list { IsPartialList list }
     requires mask { IsTrue (option_map_or are_rights named_mask true) }
-    ensures { Makes result (definition.as_kept (definition.completed named_mask old.now list)) }
+    ensures { Makes result (definition.as_kept (definition.completed_list named_mask old.now list)) }
 {
     if list.has_named() {
         return completed(alloc, named_mask, old, list);
@@ -114,7 +114,7 @@ pub fn copy_of(list: &EntryList) -> Result<EntryList, AllocError>
     ensures copy { IfOk result (λ copy. copy ≡ list.now) }
     ensures entries { IsEntryList list.now }
 {
-    // a call on the list tells the prover what each list keeps
+    // a call on the list shows the prover what each list keeps
     let _user = list.user();
     list.clone()
 }

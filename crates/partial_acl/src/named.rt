@@ -4,7 +4,7 @@ ghost use Rattle.std.specs.Ordering.{is_gt};
 ghost use Rattle.std.specs.Option.{option_map_or};
 ghost use Rattle.hdfs_texts.specs.Text.{same, text_cmp};
 ghost use Rattle.partial_acl.specs.AclChange as definition;
-ghost use Rattle.partial_acl.specs.Answers.{IfRefused};
+ghost use Rattle.partial_acl.specs.Answers.{IfChangeRefused};
 
 use crate::fault::AclChangeFault;
 use crate::scope::{granted_by, is_for};
@@ -40,7 +40,7 @@ fn is_at(entries: &[NamedEntry], place: usize, name: &Who) -> bool
 
 /// Puts an entry in its place, instead of one of the same name.
 fn put(entries: &mut Vec<NamedEntry>, new: NamedEntry) -> Result<(), AllocError>
-    ensures { OnOk result (entries.new.items ≡ definition.put new entries.old.items) }
+    ensures { OnOk result (entries.new.items ≡ definition.with_entry new entries.old.items) }
 {
     let place = place_of(entries, &new.name);
     if !is_at(entries, place, &new.name) {
@@ -91,7 +91,7 @@ pub fn put_each(
     spec: &[Entry],
 ) -> Result<(), AclChangeFault>
     ensures ok { OnOk result (entries.new.items ≡ definition.with_each entries.old.items (definition.named_in scope kind spec.now)) }
-    ensures refused { IfRefused result (λ refusal. (refusal ≡ Refusal.TooManyEntries) × (32 < length (definition.with_each entries.old.items (definition.named_in scope kind spec.now)))) }
+    ensures refused { IfChangeRefused result (λ refusal. (refusal ≡ Refusal.TooManyEntries) × (32 < length (definition.with_each entries.old.items (definition.named_in scope kind spec.now)))) }
 {
     for entry in spec {
         put_of(entries, scope, kind, entry)?;
@@ -126,7 +126,7 @@ pub fn without(
     kind: EntryKind,
     spec: &[Entry],
 ) -> Result<Vec<NamedEntry>, AllocError>
-    ensures { IfOk result (λ left. left.items ≡ definition.without entries.now (definition.named_in scope kind spec.now)) }
+    ensures { IfOk result (λ left. left.items ≡ definition.entries_without entries.now (definition.named_in scope kind spec.now)) }
 {
     let mut left = Vec::new(alloc);
     for entry in entries {

@@ -1,6 +1,6 @@
 ghost use Rattle.std.specs.Prelude.{◌≡◌, ◌<◌, nat_lt, IfOk};
-ghost use Rattle.access_lists.specs.AccessControlList.{IsEntryList};
-ghost use Rattle.partial_acl.specs.Answers.{IfRefused, named_count};
+ghost use Rattle.access_lists.specs.Acl.{IsEntryList};
+ghost use Rattle.partial_acl.specs.Answers.{IfChangeRefused, named_count};
 ghost use Rattle.partial_acl.specs.AclChange as definition;
 
 use crate::fault::AclChangeFault;
@@ -70,7 +70,7 @@ impl PartialList {
     /// With each entry that a spec has in a scope, instead of one that stands there.
     pub fn with(self, scope: Scope, spec: &[Entry]) -> Result<PartialList, AclChangeFault>
         ensures ok { IfOk result (λ list. list ≡ definition.after_addition scope spec.now self) }
-        ensures refused { IfRefused result (λ refusal. (refusal ≡ Refusal.TooManyEntries) × (32 < named_count (definition.after_addition scope spec.now self))) }
+        ensures refused { IfChangeRefused result (λ refusal. (refusal ≡ Refusal.TooManyEntries) × (32 < named_count (definition.after_addition scope spec.now self))) }
     {
         let PartialList {
             user,

@@ -64,7 +64,7 @@ fn base_in<'a>(scope: Scope, kind: EntryKind, spec: &'a [Entry]) -> Option<&'a E
 
 /// What a spec grants by the entry without a name of a scope and a kind, where it has one.
 pub fn given(scope: Scope, kind: EntryKind, spec: &[Entry]) -> Option<Rights>
-    ensures { result ≡ definition.given scope kind spec.now }
+    ensures { result ≡ definition.base_rights scope kind spec.now }
 {
     let entry = base_in(scope, kind, spec)?;
     Some(granted_by(entry))

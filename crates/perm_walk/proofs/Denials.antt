@@ -4,7 +4,7 @@ use Rattle.std.specs.Prelude.{not, unwrap_or}
 use Rattle.std.specs.List.{filter, flat_map}
 use Rattle.std.specs.Option.{option_and_then, option_map, option_or, option_to_list}
 use Rattle.permission_bits.specs.declared.rights.Rights as bits
-use Rattle.principals.specs.Principals.{Asking}
+use Rattle.principals.specs.Users.{Caller}
 use Rattle.namespace_rows.specs.declared.row.Row.{Row}
 use Rattle.required_rights.specs.declared.need.Need.{Need}
 use Rattle.required_rights.specs.declared.need.Need.TheVariants.{Rights, Sticky, Owner, Member, Superuser}
@@ -15,7 +15,7 @@ use Rattle.required_rights.specs.declared.demand.Role.{Role}
 use Rattle.required_rights.specs.declared.demand.Role.TheVariants.{Final}
 use Rattle.namespace_rows.specs.Rows.{is_directory, directories_above, directories_beneath, directory_of, owner_above, row_at}
 use Rattle.namespace_rows.specs.Judgement.{judgement}
-use Rattle.flat_rows.specs.Denied.{Denied, denial_at}
+use Rattle.flat_rows.specs.Denial.{Denial, denial_at}
 use Rattle.required_rights.specs.RequiredRights.{Demand}
 use Rattle.flat_rows.specs.Decision.{Ask, ask_at, asks_of, holds, denial_of}
 use Rattle.required_rights.specs.Demands.{IsDemand, suits_role}
@@ -26,9 +26,9 @@ use Rattle.perm_walk.specs.Closed.{is_closed, first_closed}
 use Rattle.perm_walk.specs.Reached.{IsReach}
 use Rattle.perm_walk.specs.Walked.{IsTraversal}
 
-module _ (caller : Asking) (plain : caller.is_superuser ≡ false) (asked : bits.Rights) (all : List Row) where
+module _ (caller : Caller) (plain : caller.is_superuser ≡ false) (asked : bits.Rights) (all : List Row) where
   -- the denial at a row; the owner above isn't asked for rights
-  abbrev denied : Row → Option Denied
+  abbrev denied : Row → Option Denial
   denied row = denial_at (Rights asked) row [] caller.name caller.groups
 
   abbrev asks : List Row → List Ask
@@ -73,8 +73,8 @@ or_none None = refl
 or_none (Some y) = refl
 
 -- a need of what has the path
-module _ (caller : Asking) (plain : caller.is_superuser ≡ false) (path : List (List ℕ)) (rows : List Row) (need : Need) (reach : Reach) (leads : IsReach path rows reach) where
-  abbrev pub denied_at : Row → Option Denied
+module _ (caller : Caller) (plain : caller.is_superuser ≡ false) (path : List (List ℕ)) (rows : List Row) (need : Need) (reach : Reach) (leads : IsReach path rows reach) where
+  abbrev pub denied_at : Row → Option Denial
   denied_at row = denial_at need row (unwrap_or (option_map (λ (above : Row). above.owner) reach.parent) row.owner) caller.name caller.groups
 
   at_row : (row : Row) → row_at path rows ≡ Some row → denied_at row ≡ first_answer (denial_of caller) (map (ask_at rows need) (row ∷ []))
@@ -112,7 +112,7 @@ asks_of_final demand rows role held = rw (held, role) refl
 asks_on_the_way : (asked : bits.Rights) (demand : Demand) (path : List (List ℕ)) (rows : List Row) → IsTraversal asked demand → demand.path ≡ path → asks_of rows demand ≡ map (ask_at rows (Rights asked)) (directories_above path rows)
 asks_on_the_way asked demand path rows is on = rw (is.condition, is.role, is.need, on) refl
 
-module _ (caller : Asking) (plain : caller.is_superuser ≡ false) (asked : bits.Rights) (demand : Demand) (path : List (List ℕ)) (rows : List Row) (is : IsTraversal asked demand) (on : demand.path ≡ path) where
+module _ (caller : Caller) (plain : caller.is_superuser ≡ false) (asked : bits.Rights) (demand : Demand) (path : List (List ℕ)) (rows : List Row) (is : IsTraversal asked demand) (on : demand.path ≡ path) where
   asked_there : first_answer (denial_of caller) (map (ask_at rows (Rights asked)) (directories_above path rows)) ≡ first_answer (denial_of caller) (asks_of rows demand)
   asked_there = ap (first_answer (denial_of caller)) (sym (asks_on_the_way asked demand path rows is on))
 
@@ -138,7 +138,7 @@ first_of_all f g [] = refl
 first_of_all f g (x ∷ xs) = ap (option_or (first_answer f (g x))) (first_of_all f g xs) ∙ sym (first_of_two f (g x) (flat_map g xs))
 
 -- a superuser meets every need
-pub superuser_meets : (caller : Asking) → caller.is_superuser ≡ true → (asks : List Ask) → None ≡ first_answer (denial_of caller) asks
+pub superuser_meets : (caller : Caller) → caller.is_superuser ≡ true → (asks : List Ask) → None ≡ first_answer (denial_of caller) asks
 superuser_meets caller super [] = refl
 superuser_meets caller super (ask ∷ asks) =
     superuser_meets caller super asks ∙ ap (λ b. option_or (cond b None (denial_at ask.need ask.row ask.above caller.name caller.groups)) (first_answer (denial_of caller) asks)) (sym super)
@@ -155,6 +155,6 @@ two_passes p q r (row ∷ rows) = by (r row) (p row) refl refl (two_passes p q r
     by false b e f rest = rw e rest
 
 -- the first closed directory of a sub-tree
-pub closed_first : (caller : Asking) (asked : bits.Rights) (path : List (List ℕ)) (all : List Row)
+pub closed_first : (caller : Caller) (asked : bits.Rights) (path : List (List ℕ)) (all : List Row)
     → first (filter (λ row. is_directory row && is_closed asked caller row) (filter (λ row. is_prefix path row.path) all)) ≡ first_closed asked caller (directories_beneath path all)
 closed_first caller asked path all = ap first (two_passes is_directory (is_closed asked caller) (λ row. is_prefix path row.path) all)

@@ -11,7 +11,7 @@ use Rattle.hdfs_types.specs.declared.reply.ObjectKind.TheVariants.{Directory}
 use Rattle.namespace_rows.specs.declared.row.Row.{Row}
 use Rattle.namespace_rows.specs.First.{first}
 use Rattle.namespace_rows.specs.Rows.{is_directory, if_directory, row_at, directory_of, ancestor, file_above}
-use Rattle.inode_nodes.specs.Branch.{Branch, Top, rows, row_of, under, placed}
+use Rattle.inode_nodes.specs.Node.{Node, Top, rows, row_of, under, placed}
 use Rattle.inode_nodes.specs.Part.{Splits, IsPart}
 use Rattle.inode_nodes.proofs.Filters.{self, standing, standing-splits}
 use Rattle.inode_nodes.proofs.Parts.{placed_top}
@@ -43,14 +43,14 @@ parent_of_longer (m ∷ front) n ns =
     ap (λ k. Some (take k (m ∷ (front ++ n ∷ ns)))) more ∙ ap (λ q. Some (m ∷ q)) (take-append-add front (n ∷ ns) (length ns))
 
 -- what is known of the rows with the front of a path passed, the last component above included
-pub record Passed (path : List (List ℕ)) (all : List Row) (front rest : List (List ℕ)) (b : Branch) (above : Option Row) : Type 0 where
+pub record Passed (path : List (List ℕ)) (all : List Row) (front rest : List (List ℕ)) (b : Node) (above : Option Row) : Type 0 where
   pub stands : (names : List (List ℕ)) → filter (standing (front ++ names)) all ≡ map (placed front) (filter (standing names) (rows b))
   pub held : above ≡ directory_of front all
   pub at : filter (standing path) all ≡ map (placed front) (filter (standing rest) (rows b))
   pub over : last_or None (filter (over path) all) ≡ last_or above (map (placed front) (filter (over rest) (rows b)))
   pub file : filter (file_over path) all ≡ map (placed front) (filter (file_over rest) (rows b))
 
-pub passed_none : (path : List (List ℕ)) (b : Branch) → Passed path (rows b) [] path b None
+pub passed_none : (path : List (List ℕ)) (b : Node) → Passed path (rows b) [] path b None
 passed_none path b = record {
   stands = λ names. sym (placed_top (filter (standing names) (rows b)));
   held = refl;
@@ -63,11 +63,11 @@ directory_top : (path : List (List ℕ)) (t : Top) → t.kind ≡ Directory → 
 directory_top path t h = rw h refl
 
 -- what has the front
-passed_here : (path : List (List ℕ)) (all : List Row) (front rest : List (List ℕ)) (b : Branch) (above : Option Row) → Passed path all front rest b above → row_at front all ≡ Some (row_of front b.top)
+passed_here : (path : List (List ℕ)) (all : List Row) (front rest : List (List ℕ)) (b : Node) (above : Option Row) → Passed path all front rest b above → row_at front all ≡ Some (row_of front b.top)
 passed_here path all front rest b above p =
     ap (λ q. first (filter (standing q) all)) (sym (append-nil front)) ∙ ap first (p.stands []) ∙ ap (λ q. Some (row_of q b.top)) (append-nil front)
 
-pub passed_one : (path : List (List ℕ)) (all : List Row) (front : List (List ℕ)) (n : List ℕ) (ns : List (List ℕ)) (b c : Branch) (above : Option Row)
+pub passed_one : (path : List (List ℕ)) (all : List Row) (front : List (List ℕ)) (n : List ℕ) (ns : List (List ℕ)) (b c : Node) (above : Option Row)
     → Passed path all front (n ∷ ns) b above → IsPart n b.beneath (Some c) → b.top.kind ≡ Directory → Passed path all (front ++ n ∷ []) ns c (Some (row_of front b.top))
 passed_one path all front n ns b c above p part dir = record {
   stands = λ names.
@@ -90,7 +90,7 @@ abbrev pub is_nil : List (List ℕ) → Bool
 is_nil [] = true
 is_nil (n ∷ ns) = false
 
-module _ (path : List (List ℕ)) (all : List Row) (front : List (List ℕ)) (b : Branch) (above : Option Row) where
+module _ (path : List (List ℕ)) (all : List Row) (front : List (List ℕ)) (b : Node) (above : Option Row) where
   -- where the path ends
   pub ends_at : Passed path all front [] b above → front ≡ path → Some (row_of path b.top) ≡ row_at path all
   ends_at p is = ap (λ q. Some (row_of q b.top)) (sym is ∙ sym (append-nil front)) ∙ sym (ap first p.at)
@@ -158,7 +158,7 @@ one_left (n ∷ ns) k h = grind (arith, nat_tests)
 pub last_left : (path : List (List ℕ)) (i : ℕ) → i < length path → (length path - i == 1) ≡ is_nil (drop (i + 1) path)
 last_left path i h = one_left (drop (i + 1) path) (length path - i) (omega (arith, length-drop (i + 1) path))
 
-pub passed_next : (path : List (List ℕ)) (all : List Row) (i : ℕ) (n : List ℕ) (b c : Branch) (above : Option Row) (last : Row) → i < length path → n ≡ get_or path i n
+pub passed_next : (path : List (List ℕ)) (all : List Row) (i : ℕ) (n : List ℕ) (b c : Node) (above : Option Row) (last : Row) → i < length path → n ≡ get_or path i n
     → Passed path all (take i path) (drop i path) b above → IsPart n b.beneath (Some c) → b.top.kind ≡ Directory → last ≡ row_of (take i path) b.top
     → Passed path all (take (i + 1) path) (drop (i + 1) path) c (Some last)
 passed_next path all i n b c above last h is p part dir top =

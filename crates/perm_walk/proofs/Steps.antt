@@ -2,14 +2,14 @@
 use Rattle.std.proofs.Common.{◌≡◌, ℕ, List, Result, Ok, Err, refl}
 use Rattle.std.specs.Prelude.{IfOk}
 use Rattle.hdfs_types.specs.declared.op.Op.{Op}
-use Rattle.principals.specs.Principals.{Principals, Asking, caller_of}
+use Rattle.principals.specs.Users.{Users, Caller, caller_of}
 use Rattle.namespace_rows.specs.declared.row.Row.{Row}
 use Rattle.required_rights.specs.RequiredRights.{Demand, required_rights}
 use Rattle.flat_rows.specs.FileOutcome.{LeaseFacts}
 use Rattle.flat_rows.specs.Outcome.{step}
 use Rattle.perm_walk.specs.JudgedStep.{judged_step}
 
-pub as_step : (leases : LeaseFacts) (rows : List Row) (users : Principals) (caller : List ℕ) (asking : Asking) (needs : List Demand) (op taken : Op) → asking ≡ caller_of users caller → needs ≡ required_rights op → op ≡ taken
+pub as_step : (leases : LeaseFacts) (rows : List Row) (users : Users) (caller : List ℕ) (asking : Caller) (needs : List Demand) (op taken : Op) → asking ≡ caller_of users caller → needs ≡ required_rights op → op ≡ taken
     → judged_step leases rows users asking needs taken ≡ step leases rows users caller op
 as_step leases rows users caller asking needs op taken who all is = rw (who, all, is) refl
 

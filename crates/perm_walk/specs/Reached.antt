@@ -1,7 +1,7 @@
 -- How far a path leads, and where a descent along it ends.
 use Rattle.std.specs.Prelude.{◌≡◌, if◌then◌else◌, ℕ, List, Option, Some, None}
 use Rattle.permission_bits.specs.declared.rights.Rights.{Rights}
-use Rattle.principals.specs.Principals.{Asking}
+use Rattle.principals.specs.Users.{Caller}
 use Rattle.namespace_rows.specs.declared.row.Row.{Row}
 use Rattle.namespace_rows.specs.Rows.{is_directory, row_at, directory_of, ancestor, file_above, directories_above}
 use Rattle.inode_visits.specs.Tree.{IsTree}
@@ -23,11 +23,11 @@ pub record IsReach (path : List (List ℕ)) (rows : List Row) (reach : Reach) : 
   pub tree : IsTree rows
 
 -- no directory above the path is shut, and it leads there
-pub record IsOpen (asked : Option Rights) (caller : Asking) (path : List (List ℕ)) (rows : List Row) (reach : Reach) : Type 0 where
+pub record IsOpen (asked : Option Rights) (caller : Caller) (path : List (List ℕ)) (rows : List Row) (reach : Reach) : Type 0 where
   pub granted : first_shut asked caller (directories_above path rows) ≡ None
   pub leads : IsReach path rows reach
 
 -- the first directory above the path that is shut, or how far the path leads
-abbrev pub IsEntered : Option Rights → Asking → List (List ℕ) → List Row → Entered → Type 0
+abbrev pub IsEntered : Option Rights → Caller → List (List ℕ) → List Row → Entered → Type 0
 IsEntered asked caller path rows (Closed component) = first_shut asked caller (directories_above path rows) ≡ Some component
 IsEntered asked caller path rows (Reached reach) = IsOpen asked caller path rows reach

@@ -3,7 +3,7 @@ use Rattle.std.specs.Prelude.{◌≡◌, ℕ, List, Some, None, IfSome}
 use Rattle.std.specs.List.{All}
 use Rattle.permission_bits.specs.declared.rights.Rights as bits
 use Rattle.file_paths.specs.Path.{IsPath}
-use Rattle.principals.specs.Principals.{Asking}
+use Rattle.principals.specs.Users.{Caller}
 use Rattle.namespace_rows.specs.declared.row.Row.{Row}
 use Rattle.required_rights.specs.declared.demand.Role.TheVariants.{Traversed}
 use Rattle.required_rights.specs.declared.demand.Condition.TheVariants.{Always}
@@ -34,20 +34,20 @@ pub record IsDescent (rows : List Row) (descent : Descent) : Type 0 where
   pub known : IfSome descent.reach (IsReach descent.path.now rows)
 
 -- no need fails, and the path leads there
-pub record IsGranted (path : List (List ℕ)) (rows : List Row) (caller : Asking) (needs : List Demand) (reach : Reach) : Type 0 where
+pub record IsGranted (path : List (List ℕ)) (rows : List Row) (caller : Caller) (needs : List Demand) (reach : Reach) : Type 0 where
   pub granted : denial_among rows caller needs ≡ None
   pub leads : IsReach path rows reach
 
-abbrev pub IsWalked : List (List ℕ) → List Row → Asking → List Demand → Walked → Type 0
+abbrev pub IsWalked : List (List ℕ) → List Row → Caller → List Demand → Walked → Type 0
 IsWalked path rows caller needs (one.Denied denial) = denial_among rows caller needs ≡ Some denial
 IsWalked path rows caller needs (one.Reached reach) = IsGranted path rows caller needs reach
 
 -- the same for two paths
-pub record AreGranted (from to : List (List ℕ)) (rows : List Row) (caller : Asking) (needs : List Demand) (first second : Reach) : Type 0 where
+pub record AreGranted (from to : List (List ℕ)) (rows : List Row) (caller : Caller) (needs : List Demand) (first second : Reach) : Type 0 where
   pub granted : denial_among rows caller needs ≡ None
   pub first_leads : IsReach from rows first
   pub second_leads : IsReach to rows second
 
-abbrev pub IsWalkedBoth : List (List ℕ) → List (List ℕ) → List Row → Asking → List Demand → WalkedBoth → Type 0
+abbrev pub IsWalkedBoth : List (List ℕ) → List (List ℕ) → List Row → Caller → List Demand → WalkedBoth → Type 0
 IsWalkedBoth from to rows caller needs (both.Denied denial) = denial_among rows caller needs ≡ Some denial
 IsWalkedBoth from to rows caller needs (both.Reached first second) = AreGranted from to rows caller needs first second

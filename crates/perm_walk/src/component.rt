@@ -29,7 +29,7 @@ impl<'a> Model for Component<'a> {
 impl<'a> Component<'a> {
     ghost use Rattle.std.specs.Prelude.{◌≡◌, IfOk};
     ghost use Rattle.file_paths.specs.Path.{IsPath};
-    ghost use Rattle.inode_nodes.specs.Branch.{row_of};
+    ghost use Rattle.inode_nodes.specs.Node.{row_of};
     ghost use Rattle.inode_visits.specs.Tree.{branch_at};
 
     pub fn new(path: &'a [Name], inode: Inode<'a>) -> Component<'a>

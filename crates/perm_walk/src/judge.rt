@@ -2,7 +2,7 @@ ghost use Rattle.std.specs.Prelude.{◌≡◌, ℕ, List, false, map, unwrap_or,
 ghost use Rattle.std.specs.Option.{option_to_list, option_copied, option_map, option_and_then};
 ghost use Rattle.file_paths.specs.Path.{IsPath};
 ghost use Rattle.namespace_rows.specs.declared.row.Row.{Row};
-ghost use Rattle.flat_rows.specs.Denied.{deciding, denial_at};
+ghost use Rattle.flat_rows.specs.Denial.{deciding, denial_at};
 ghost use Rattle.namespace_rows.specs.First.{first_answer};
 ghost use Rattle.namespace_rows.specs.Rows as rows_spec;
 ghost use Rattle.flat_rows.specs.Decision as spec;

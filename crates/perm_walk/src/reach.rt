@@ -1,6 +1,6 @@
 ghost use Rattle.std.specs.Prelude.{◌≡◌, ◌≤◌, ◌-◌, ◌==◌, ◌&&◌, [], if◌then◌else◌, length, take, Some, None};
 ghost use Rattle.file_paths.specs.Path.{IsPath};
-ghost use Rattle.inode_nodes.specs.Branch.{row_of};
+ghost use Rattle.inode_nodes.specs.Node.{row_of};
 ghost use Rattle.inode_visits.specs.Tree.{branch_at};
 ghost use Rattle.namespace_rows.specs.Rows.{is_directory, if_directory};
 ghost use Rattle.perm_walk.specs.Closed as closed;

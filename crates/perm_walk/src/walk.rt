@@ -1,6 +1,6 @@
 ghost use Rattle.std.specs.Prelude.{◌≡◌, false, IfOk};
 ghost use Rattle.file_paths.specs.Path.{IsPath};
-ghost use Rattle.principals.specs.Principals.{caller_of};
+ghost use Rattle.principals.specs.Users.{caller_of};
 ghost use Rattle.namespace_rows.specs.First.{first_answer};
 ghost use Rattle.flat_rows.specs.Decision as spec;
 ghost use Rattle.perm_walk.specs.Reached.{IsReach};
@@ -176,7 +176,7 @@ fn judged_on_both<'a>(
 /// One descent; a need on a sub-tree costs another and its directories. Memory is taken only for a denial.
 ///
 /// # Errors
-/// Want of memory.
+/// Out of memory.
 pub fn walk_along<'a>(
     alloc: Global,
     tree: &'a Tree,
@@ -198,7 +198,7 @@ pub fn walk_along<'a>(
 /// another and its directories. Memory is taken only for a denial.
 ///
 /// # Errors
-/// Want of memory.
+/// Out of memory.
 pub fn walk_along_both<'a>(
     alloc: Global,
     tree: &'a Tree,

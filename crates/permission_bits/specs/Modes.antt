@@ -13,9 +13,5 @@ is_modes bits = nat_le 1 bits && nat_le bits 3
 abbrev pub modes_of : ℕ → Option Modes
 modes_of bits = if is_modes bits then Some (modes bits) else None
 
--- every mode that is asked is among these
-abbrev pub covers : ℕ → ℕ → Bool
-covers = rights.covers
-
 abbrev pub modes_text : ℕ → List ℕ
 modes_text bits = rights.letter bits 1 114 ∷ rights.letter bits 2 119 ∷ []

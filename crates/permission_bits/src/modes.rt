@@ -1,5 +1,6 @@
 ghost use Rattle.std.specs.Prelude.{⊤, ◌≡◌, [], ◌∷◌, codes, Some, None, nat_le, ◌&&◌, if◌then◌else◌};
 ghost use Rattle.permission_bits.specs.Modes as spec;
+ghost use Rattle.permission_bits.specs.Rights.{covers};
 
 use bitflags::{Flag, Flags, bitflag_items};
 use std::fmt;
@@ -51,7 +52,7 @@ impl Modes {
 
     /// Whether every mode that is asked is among these.
     pub fn covers(self, asked: Modes) -> bool
-        ensures { result ≡ spec.covers self.0 asked.0 }
+        ensures { result ≡ covers self.0 asked.0 }
     {
         self.contains(asked)
     }

@@ -66,7 +66,7 @@ impl Who {
     /// Reads the name of a user or a group, in a time linear in the text.
     ///
     /// # Errors
-    /// `BadName` where the text is no name, and want of memory.
+    /// `BadName` where the text is no name, whether there is memory or not; else out of memory.
     pub fn parse(alloc: Global, text: &str) -> Result<Who, ParseFault>
         ensures { Parses IllFormed.BadName result (who_of text.now) }
     {

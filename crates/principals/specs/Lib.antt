@@ -1,2 +1,2 @@
-pub mod Principals
+pub mod Users
 pub mod Faults

@@ -13,9 +13,9 @@ pub struct Caller<'a> {
 }
 
 impl<'a> Model for Caller<'a> {
-    ghost use Rattle.principals.specs.Principals.{Asking};
+    ghost use Rattle.principals.specs.Users.{Caller};
 
-    ghost Value = { Asking };
+    ghost Value = { Caller };
 
     ghost view = { λ caller. record { name = caller.name.now; groups = caller.groups.now; is_superuser = caller.is_superuser } };
 }

@@ -1,7 +1,7 @@
 ghost use Rattle.std.specs.Prelude.{◌≡◌, [], Some, None, OnOk, OnErr, IfErr};
 ghost use Rattle.principals.specs.Faults.{IfRefused};
 ghost use Rattle.principals.specs.declared.users.UserFault.TheVariants.{OutOfMemory};
-ghost use Rattle.principals.specs.Principals as spec;
+ghost use Rattle.principals.specs.Users as spec;
 
 use crate::caller::Caller;
 use hdfs_types::reply::Refusal;
@@ -45,9 +45,9 @@ pub struct Users {
 }
 
 impl Model for Users {
-    ghost use Rattle.principals.specs.Principals.{Principals};
+    ghost use Rattle.principals.specs.Users.{Users};
 
-    ghost Value = { Principals };
+    ghost Value = { Users };
 
     ghost view = { λ users. record { known = users.known.entries; superuser = users.superuser; supergroup = users.supergroup } };
 }
@@ -107,7 +107,7 @@ impl Users {
     /// Makes a user known, with these groups. Costs a look-up.
     ///
     /// # Errors
-    /// `BadName` for the name of a DataNode, else `Exists` for a user that is known, else want of memory. Nothing has changed
+    /// `BadName` for the name of a DataNode, else `Exists` for a user that is known, else out of memory. Nothing has changed
     /// then.
     pub fn add(&mut self, user: Who, groups: Groups) -> Result<(), UserFault>
         ensures ok { OnOk result ((spec.refusal_of_new self.old user ≡ None) × (self.new ≡ spec.with_user self.old user groups)) }

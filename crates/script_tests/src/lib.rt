@@ -9,3 +9,4 @@ mod explanations;
 mod needs_explained;
 #[cfg(test)]
 mod scripts;
+#[cfg(test)]

@@ -3,11 +3,11 @@ use Rattle.std.proofs.Common.{arith, rules, refl, true, false}
 use Rattle.std.specs.Prelude.{codes, replicate}
 use Rattle.std.specs.Fmt.{digits}
 use Rattle.hex.specs.Hex.{decode_pairs, encode_with}
-use Rattle.block_tokens.specs.TokenText.{Parts, token_bytes, version_1_fields}
+use Rattle.block_tokens.specs.TokenText.{Body, token_bytes, version_1_fields}
 use Rattle.script_text.specs.TokenLine.{Shows}
 
 -- bob may read block 1 before 36000100, under the key with serial 1
-bobs : Parts
+bobs : Body
 bobs = record { expiry = 36000100; serial = 1; block = 1; modes = 1; user = codes "bob"; code = replicate 20 0 }
 
 bobs_line : Shows (codes "0100000000022551640000000100000000000000010103626f620000000000000000000000000000000000000000") false

@@ -367,7 +367,7 @@ fn request_by(
 ///
 /// # Errors
 /// `BadLine` for an unknown verb and a wrong number of words, before any word is judged; else how the first ill-formed word
-/// is ill-formed; and want of memory.
+/// is ill-formed, or out of memory.
 pub fn request_of(alloc: Global, words: &[&str]) -> Result<Request, ParseFault>
     ensures { Forms result (spec.request_of (map (λ word. word.now) words.now)) }
 {
@@ -384,7 +384,7 @@ pub fn request_of(alloc: Global, words: &[&str]) -> Result<Request, ParseFault>
 /// The request that a line makes, or how the line is ill-formed.
 ///
 /// # Errors
-/// Want of memory.
+/// Out of memory.
 pub fn read_line(alloc: Global, line: &str) -> Result<Result<Request, IllFormed>, AllocError>
     ensures { IfOk result (λ said. said ≡ spec.request_of (words_of line.now)) }
 {

@@ -1,7 +1,7 @@
 ghost use Rattle.std.specs.Prelude.{◌≡◌, true, false, IfOk};
 ghost use Rattle.std.specs.String.{string_bytes};
 ghost use Rattle.script_text.specs.TokenLine.{Shows, parts_line};
-ghost use Rattle.block_tokens.specs.Refusals.{refusal_text};
+ghost use Rattle.block_tokens.specs.Refusals.{token_refusal_text};
 ghost use Rattle.block_tokens.specs.declared.refusal.TokenRefusal.TheVariants.{Malformed};
 
 use block_tokens::refusal::TokenRefusal;
@@ -19,7 +19,7 @@ pub struct TokenLine {
 
 fn malformed(alloc: Global) -> Result<TokenLine, AllocError>
     ensures malformed { IfOk result (λ line. line.is_malformed ≡ true) }
-    ensures text { IfOk result (λ line. string_bytes line.text ≡ refusal_text Malformed) }
+    ensures text { IfOk result (λ line. string_bytes line.text ≡ token_refusal_text Malformed) }
 {
     Ok(TokenLine {
         text: TokenRefusal::Malformed.to_string(alloc)?,
@@ -48,7 +48,7 @@ fn line_of(alloc: Global, body: &Body) -> Result<TokenLine, AllocError>
 /// spelled, as by an odd number of digits, the line is `T1 Malformed`. The code is shown, and no key is asked about it.
 ///
 /// # Errors
-/// Want of memory.
+/// Out of memory.
 pub fn show_token(alloc: Global, digits: &str) -> Result<TokenLine, AllocError>
     ensures { IfOk result (λ line. Shows digits.now line.is_malformed (string_bytes line.text)) }
 {

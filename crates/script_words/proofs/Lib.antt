@@ -1,3 +1,4 @@
 pub mod Forming
 pub mod Groups
+pub mod Pieces
 pub mod Returns

@@ -1,5 +1,5 @@
 ghost use Rattle.std.specs.Prelude.{◌≡◌, map};
-ghost use Rattle.hdfs_texts.specs.Parsed.{Parses};
+ghost use Rattle.hdfs_texts.specs.Parsed.{ParsesInParts};
 ghost use Rattle.script_words.specs.LineForms.{Forms};
 ghost use Rattle.script_words.specs.Values as spec;
 
@@ -11,7 +11,7 @@ use std::alloc::Global;
 
 /// The groups that pieces name, in their order.
 fn groups_in(alloc: Global, pieces: &[&str]) -> Result<Groups, ParseFault>
-    ensures { Parses IllFormed.BadName result (spec.whos_of (map (λ piece. piece.now) pieces.now)) }
+    ensures { ParsesInParts IllFormed.BadName result (spec.whos_of (map (λ piece. piece.now) pieces.now)) }
 {
     let mut groups = Vec::with_capacity(alloc, pieces.len())?;
     for piece in pieces {
@@ -23,7 +23,7 @@ fn groups_in(alloc: Global, pieces: &[&str]) -> Result<Groups, ParseFault>
 /// Reads a list of groups: names with a comma between each two, or `-` for none. A group may stand twice.
 ///
 /// # Errors
-/// `BadName` where a piece is no name, and want of memory.
+/// `BadName` where a piece is no name, or out of memory.
 pub fn groups_word(alloc: Global, word: &str) -> Result<Groups, ParseFault>
     ensures { Forms result (spec.groups_word word.now) }
 {

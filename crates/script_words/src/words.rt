@@ -24,15 +24,26 @@ fn push_filled<'a>(words: &mut Vec<&'a str>, pieces: &[&'a str]) -> Result<(), A
     Ok(())
 }
 
+/// Adds the words of a piece, which tabs separate. One without a tab, as nearly all are, is cut into no list.
+fn push_words<'a>(alloc: Global, words: &mut Vec<&'a str>, piece: &'a str) -> Result<(), AllocError>
+    ensures { OnOk result (map (λ word. word.now) words.new.items
+        ≡ map (λ word. word.now) words.old.items ++ filter spec.is_filled (spec.pieces_at 9 piece.now)) }
+{
+    if piece.as_bytes().contains(&b'\t') {
+        let parts = pieces_between(alloc, piece, '\t')?;
+        return push_filled(words, &parts);
+    }
+    push_filled(words, &[piece])
+}
+
 /// The words of a line, which spaces and tabs separate.
 pub fn words_in(alloc: Global, line: &str) -> Result<Vec<&str>, AllocError>
     ensures { IfOk result (λ words. map (λ word. word.now) words.items ≡ spec.words_of line.now) }
 {
-    let mut words = Vec::new(alloc);
     let pieces = pieces_between(alloc, line, ' ')?;
+    let mut words = Vec::with_capacity(alloc, pieces.len())?;
     for piece in &pieces {
-        let parts = pieces_between(alloc, piece, '\t')?;
-        push_filled(&mut words, &parts)?;
+        push_words(alloc, &mut words, *piece)?;
     }
     Ok(words)
 }

@@ -7,7 +7,7 @@ use Rattle.file_paths.specs.PathOrder.{same_path}
 use Rattle.hdfs_types.specs.declared.op.Op.TheVariants.{Delete}
 use Rattle.hdfs_types.specs.declared.reply.Refusal.{Refusal}
 use Rattle.hdfs_texts.proofs.Texts.{same_self}
-use Rattle.principals.specs.Principals.{Principals}
+use Rattle.principals.specs.Users.{Users}
 use Rattle.namespace_rows.specs.declared.row.Row.{Row}
 use Rattle.namespace_rows.specs.First.{first}
 use Rattle.namespace_rows.specs.Rows.{row_at, is_missing, is_none}
@@ -26,7 +26,7 @@ pub below_root : (path : List (List ℕ)) → (length path ≡ 0 → ⊥) → is
 below_root [] some = absurd (some refl)
 below_root (name ∷ names) some = refl
 
-pub missing_refused : (leases : LeaseFacts) (caller : List ℕ) (path : List (List ℕ)) (recursive : Bool) (rows : List Row) (users : Principals) (refusal : Refusal) → is_root path ≡ false → refusal_of_missing path rows ≡ Some refusal
+pub missing_refused : (leases : LeaseFacts) (caller : List ℕ) (path : List (List ℕ)) (recursive : Bool) (rows : List Row) (users : Users) (refusal : Refusal) → is_root path ≡ false → refusal_of_missing path rows ≡ Some refusal
     → first_refusal leases caller (Delete path recursive) rows users ≡ Some refusal
 missing_refused leases caller path recursive rows users refusal below missing = rw below (first_of (beneath_file path rows) (nothing_at (row_at path rows)) _ refusal missing)
 

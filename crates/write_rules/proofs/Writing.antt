@@ -4,7 +4,7 @@ use Rattle.std.specs.Option.{option_or}
 use Rattle.hdfs_types.specs.declared.op.Op.{Op}
 use Rattle.hdfs_types.specs.declared.op.Op.TheVariants.{Append}
 use Rattle.hdfs_types.specs.declared.reply.Refusal.{Refusal}
-use Rattle.principals.specs.Principals.{Principals, Asking}
+use Rattle.principals.specs.Users.{Users, Caller}
 use Rattle.namespace_rows.specs.declared.file_row.FileRow.{FileRow}
 use Rattle.namespace_rows.specs.declared.row.Row.{Row}
 use Rattle.namespace_rows.specs.Rows.{row_at}
@@ -41,11 +41,11 @@ or_none : (refusal : Option Refusal) → option_or refusal None ≡ refusal
 or_none None = refl
 or_none (Some refusal) = refl
 
-verdict_is : (leases : LeaseFacts) (rows : List Row) (users : Principals) (caller : List ℕ) (op : Op) (refusal : Option Refusal) → refused_or (reply_of leases op rows) refusal ≡ (refused_or_done leases rows users caller op refusal).verdict
+verdict_is : (leases : LeaseFacts) (rows : List Row) (users : Users) (caller : List ℕ) (op : Op) (refusal : Option Refusal) → refused_or (reply_of leases op rows) refusal ≡ (refused_or_done leases rows users caller op refusal).verdict
 verdict_is leases rows users caller op None = refl
 verdict_is leases rows users caller op (Some refusal) = refl
 
-pub append_verdict : (leases : LeaseFacts) (path : List (List ℕ)) (rows : List Row) (users : Principals) (caller : Asking) (needs : List Demand) (file : FileRow) → IsFileThere path rows file → denial_among rows caller needs ≡ None
+pub append_verdict : (leases : LeaseFacts) (path : List (List ℕ)) (rows : List Row) (users : Users) (caller : Caller) (needs : List Demand) (file : FileRow) → IsFileThere path rows file → denial_among rows caller needs ≡ None
     → refused_or (appended_reply (holder_of file.state)) (refused_takeover leases caller.name file) ≡ (judged_step leases rows users caller needs (Append path)).verdict
 append_verdict leases path rows users caller needs file there granted =
     let takeover = of_file (refused_takeover leases caller.name) (row_at path rows) in

@@ -5,7 +5,7 @@ use Rattle.hdfs_types.specs.declared.reply.Refusal.{Refusal}
 use Rattle.hdfs_types.specs.declared.reply.Refusal.TheVariants.{LeaseHeld}
 use Rattle.hdfs_types.specs.declared.reply.Reply.{Reply}
 use Rattle.hdfs_types.specs.declared.reply.Reply.TheVariants.{Released}
-use Rattle.principals.specs.Principals.{Principals}
+use Rattle.principals.specs.Users.{Users}
 use Rattle.namespace_rows.specs.declared.row.Row.{Row}
 use Rattle.flat_rows.specs.declared.verdict.Verdict as answer
 use Rattle.flat_rows.specs.declared.verdict.Verdict.TheVariants.{Done, Refused}
@@ -30,5 +30,5 @@ verdict_under leases (Verdict verdict) = verdict
 verdict_under leases (Held holder ends_uncommitted) = takeover leases holder.now ends_uncommitted
 
 -- the verdict as leases stand is that of the step
-abbrev pub IsJudged : LeaseFacts → List Row → Principals → List ℕ → Op → Judged → Type 0
+abbrev pub IsJudged : LeaseFacts → List Row → Users → List ℕ → Op → Judged → Type 0
 IsJudged leases rows users caller op judged = verdict_under leases judged ≡ (step leases rows users caller op).verdict

@@ -1,6 +1,6 @@
 ghost use Rattle.std.specs.Prelude.{◌≡◌, ℕ, List, true, false, length, IfOk};
 ghost use Rattle.std.specs.Option.{option_or};
-ghost use Rattle.principals.specs.Principals.{Principals};
+ghost use Rattle.principals.specs.Users.{Users};
 ghost use Rattle.namespace_rows.specs.declared.row.Row.{Row};
 ghost use Rattle.required_rights.specs.RequiredRights.{required_rights};
 ghost use Rattle.flat_rows.specs.Decision.{decision};
@@ -54,7 +54,7 @@ fn refusal_of_create(
     reach: Reach<'_>,
     over: bool,
 ) -> Result<Option<Refusal>, AllocError>
-    ensures { (leases : LeaseFacts) (user : List ℕ) (path : List (List ℕ)) (mode replication : ℕ) (rows : List Row) (users : Principals) → IsReach path rows reach.entry → IfOk result (λ refusal. refusal ≡ spec.first_refusal leases user (Op.Create path mode replication over) rows users) }
+    ensures { (leases : LeaseFacts) (user : List ℕ) (path : List (List ℕ)) (mode replication : ℕ) (rows : List Row) (users : Users) → IsReach path rows reach.entry → IfOk result (λ refusal. refusal ≡ spec.first_refusal leases user (Op.Create path mode replication over) rows users) }
 {
     if let Some(file) = reach.file {
         return Ok(Some(Refusal::NotDirectory(file.to_path(alloc)?)));
@@ -72,7 +72,7 @@ fn refusal_of_create(
 /// only for a denial and a refusal.
 ///
 /// # Errors
-/// Want of memory.
+/// Out of memory.
 pub fn judge_create(
     alloc: Global,
     tree: &Tree,
@@ -82,7 +82,7 @@ pub fn judge_create(
     over: bool,
 ) -> Result<Verdict, AllocError>
     requires { AreOn path.now needs.now }
-    ensures { (leases : LeaseFacts) (users : Principals) (mode replication : ℕ) → IfOk result (λ verdict. verdict ≡ (judged_step leases tree.now users caller.now needs.now (Op.Create path.now mode replication over)).verdict) }
+    ensures { (leases : LeaseFacts) (users : Users) (mode replication : ℕ) → IfOk result (λ verdict. verdict ≡ (judged_step leases tree.now users caller.now needs.now (Op.Create path.now mode replication over)).verdict) }
 {
     let reach = match walk_along(alloc, tree, caller, needs, path)? {
         Walked::Denied(denial) => return Ok(Verdict::Denied(denial)),
@@ -138,7 +138,7 @@ fn refusal_of_write(client: &Who, last: Option<LastBlock>, file: &FileRow) -> Op
 /// hold it. One descent along the path; takes memory only for a denial and a refusal.
 ///
 /// # Errors
-/// Want of memory.
+/// Out of memory.
 pub fn judge_add_block(
     alloc: Global,
     tree: &Tree,
@@ -148,7 +148,7 @@ pub fn judge_add_block(
     last: Option<LastBlock>,
 ) -> Result<Verdict, AllocError>
     requires { AreOn path.now needs.now }
-    ensures { (leases : LeaseFacts) (users : Principals) → IfOk result (λ verdict. verdict ≡ (judged_step leases tree.now users caller.now needs.now (Op.AddBlock path.now last)).verdict) }
+    ensures { (leases : LeaseFacts) (users : Users) → IfOk result (λ verdict. verdict ≡ (judged_step leases tree.now users caller.now needs.now (Op.AddBlock path.now last)).verdict) }
 {
     let reach = match walk_along(alloc, tree, caller, needs, path)? {
         Walked::Denied(denial) => return Ok(Verdict::Denied(denial)),
@@ -168,7 +168,7 @@ pub fn judge_add_block(
 /// the file; takes memory only for a denial and a refusal.
 ///
 /// # Errors
-/// Want of memory.
+/// Out of memory.
 pub fn judge_complete(
     alloc: Global,
     tree: &Tree,
@@ -178,7 +178,7 @@ pub fn judge_complete(
     last: Option<LastBlock>,
 ) -> Result<Verdict, AllocError>
     requires { AreOn path.now needs.now }
-    ensures { (leases : LeaseFacts) (users : Principals) → IfOk result (λ verdict. verdict ≡ (judged_step leases tree.now users caller.now needs.now (Op.Complete path.now last)).verdict) }
+    ensures { (leases : LeaseFacts) (users : Users) → IfOk result (λ verdict. verdict ≡ (judged_step leases tree.now users caller.now needs.now (Op.Complete path.now last)).verdict) }
 {
     let reach = match walk_along(alloc, tree, caller, needs, path)? {
         Walked::Denied(denial) => return Ok(Verdict::Denied(denial)),
@@ -221,7 +221,7 @@ fn appended<'a>(client: &Who, file: &'a FileRow) -> Result<Judged<'a>, AllocErro
 /// a refusal.
 ///
 /// # Errors
-/// Want of memory.
+/// Out of memory.
 pub fn judge_append<'a>(
     alloc: Global,
     tree: &'a Tree,
@@ -230,7 +230,7 @@ pub fn judge_append<'a>(
     path: &'a Path,
 ) -> Result<Judged<'a>, AllocError>
     requires { AreOn path.now needs.now }
-    ensures { (leases : LeaseFacts) (users : Principals) → IfOk result (λ judged. verdict_under leases judged ≡ (judged_step leases tree.now users caller.now needs.now (Op.Append path.now)).verdict) }
+    ensures { (leases : LeaseFacts) (users : Users) → IfOk result (λ judged. verdict_under leases judged ≡ (judged_step leases tree.now users caller.now needs.now (Op.Append path.now)).verdict) }
 {
     let reach = match walk_along(alloc, tree, caller, needs, path)? {
         Walked::Denied(denial) => return Ok(Judged::Verdict(Verdict::Denied(denial))),
@@ -245,7 +245,7 @@ pub fn judge_append<'a>(
 // ---- deleting
 
 /// How many files and directories a deletion takes away: one where it isn't recursive, since nothing is beneath then. A number
-/// that can't be told counts as want of memory.
+/// that doesn't fit in 64 bits fails as if out of memory.
 fn deleted_at(tree: &Tree, path: &Path, recursive: bool) -> Result<u64, AllocError>
     requires there { is_missing path.now tree.now ≡ false }
     requires alone { recursive ≡ false → is_alone (rows_under path.now tree.now) ≡ true }
@@ -266,7 +266,7 @@ fn deleted_at(tree: &Tree, path: &Path, recursive: bool) -> Result<u64, AllocErr
 /// denial and a refusal.
 ///
 /// # Errors
-/// Want of memory.
+/// Out of memory.
 pub fn judge_delete(
     alloc: Global,
     tree: &Tree,
@@ -276,7 +276,7 @@ pub fn judge_delete(
     recursive: bool,
 ) -> Result<Verdict, AllocError>
     requires { AreOn path.now needs.now }
-    ensures { (leases : LeaseFacts) (users : Principals) → IfOk result (λ verdict. verdict ≡ (judged_step leases tree.now users caller.now needs.now (Op.Delete path.now recursive)).verdict) }
+    ensures { (leases : LeaseFacts) (users : Users) → IfOk result (λ verdict. verdict ≡ (judged_step leases tree.now users caller.now needs.now (Op.Delete path.now recursive)).verdict) }
 {
     let reach = match walk_along(alloc, tree, caller, needs, path)? {
         Walked::Denied(denial) => return Ok(Verdict::Denied(denial)),
@@ -335,7 +335,7 @@ fn judge_with<'a>(
 /// Guide, "Permission Checks").
 ///
 /// # Errors
-/// Want of memory.
+/// Out of memory.
 pub fn judge<'a>(
     alloc: Global,
     tree: &'a Tree,
@@ -351,10 +351,10 @@ pub fn judge<'a>(
 }
 
 /// Whether the caller may have the files of clients closed whose leases are past the hard limit: the denial, or none. Nothing
-/// else stands against it.
+/// else refuses it.
 ///
 /// # Errors
-/// Want of memory.
+/// Out of memory.
 pub fn judge_tick(
     alloc: Global,
     tree: &Tree,

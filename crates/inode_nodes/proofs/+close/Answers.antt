@@ -1,6 +1,6 @@
 use Rattle.std.proofs.Common.{arith, rules, length, sym, ap, ◌∙◌}
 use Rattle.std.proofs.lemmas.Map.Made.{map_same_pairs}
-use Rattle.inode_nodes.specs.Branch.{flatten}
+use Rattle.inode_nodes.specs.Node.{flatten}
 use Rattle.inode_nodes.specs.Kept.{rows_in}
 use Rattle.inode_nodes.specs.Expired.{past_hard, closed_branch}
 use Rattle.inode_nodes.proofs.Through.{held_sorted}

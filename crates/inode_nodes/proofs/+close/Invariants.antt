@@ -1,5 +1,5 @@
 use Rattle.std.proofs.Common.{◌+◌, ◌*◌, length}
-use Rattle.inode_nodes.specs.Branch.{flatten}
+use Rattle.inode_nodes.specs.Node.{flatten}
 use Rattle.inode_nodes.proofs.+close.Given as goal
 
 abbrev pub decreases-node::Node::close_expired : goal.decreases-node::Node::close_expired

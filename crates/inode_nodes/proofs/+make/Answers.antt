@@ -1,6 +1,6 @@
 use Rattle.std.proofs.Common.{◌∙◌, ap, sym, arith, List, ℕ, BTreeMap}
 use Rattle.std.specs.BTreeMap.{insert_entry}
-use Rattle.inode_nodes.specs.Branch.{Branch}
+use Rattle.inode_nodes.specs.Node.{Node}
 use Rattle.inode_nodes.specs.Change.{chain}
 use Rattle.inode_nodes.proofs.Split.{R}
 use Rattle.inode_nodes.proofs.Through.{on_ok, on_err, found_mut, missed_mut, same_through}
@@ -33,4 +33,4 @@ change::make_in-returns-in_ok-insert-in-None-clause-ok t c =
     let key = c.in_ok-clone-in-None.field-0 in
     λ top group list. make_here c.args.owner.now c.args.mode c.args.file c.args.first.now c.args.rest.now top node c.args.map.now.entries _ c.requires.sorted missed
     (c.in_ok-chain-in-None.ensures ∙ ap (λ g. chain c.args.above.now g c.args.owner.now c.args.mode c.args.file c.args.rest.now) (sym group) ∙ ap (λ l. chain l top.group c.args.owner.now c.args.mode c.args.file c.args.rest.now) (sym list))
-    (c.in_ok-insert-in-None.ensures.entries ∙ ap (λ (m : BTreeMap (List ℕ) Branch). insert_entry R m.entries key node) c.get_mut.follows.holds-at-none ∙ ap (λ k. insert_entry R c.args.map.now.entries k node) c.in_ok-clone-in-None.ensures.cases)
+    (c.in_ok-insert-in-None.ensures.entries ∙ ap (λ (m : BTreeMap (List ℕ) Node). insert_entry R m.entries key node) c.get_mut.follows.holds-at-none ∙ ap (λ k. insert_entry R c.args.map.now.entries k node) c.in_ok-clone-in-None.ensures.cases)

@@ -1,5 +1,5 @@
 use Rattle.std.proofs.Common.{arith, ap, ◌∙◌, BTreeMap, List, ℕ}
-use Rattle.inode_nodes.specs.Branch.{flatten, Branch}
+use Rattle.inode_nodes.specs.Node.{flatten, Node}
 use Rattle.inode_nodes.proofs.Through.{found_mut, missed_mut, no_names, held_sorted, rewrite_top, rewrite_through, rewrite_none}
 use Rattle.inode_nodes.proofs.+rewrite.Goals as goal
 
@@ -17,4 +17,4 @@ change::rewrite_in-returns-in-Some-clause-rows t c =
 pub change::rewrite_in-returns-in-None-clause-rows : goal.change::rewrite_in-returns-in-None-clause-rows
 change::rewrite_in-returns-in-None-clause-rows t c =
     let missed = missed_mut c.get_mut.result _ c.in-None.is c.get_mut.ensures.value in
-    ap (λ (m : BTreeMap (List ℕ) Branch). flatten m.entries) c.get_mut.follows.holds-at-none ∙ rewrite_none c.args.change c.args.first.now c.args.rest.now c.args.map.now.entries c.requires missed
+    ap (λ (m : BTreeMap (List ℕ) Node). flatten m.entries) c.get_mut.follows.holds-at-none ∙ rewrite_none c.args.change c.args.first.now c.args.rest.now c.args.map.now.entries c.requires missed

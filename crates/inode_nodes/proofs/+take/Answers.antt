@@ -1,6 +1,6 @@
 use Rattle.std.proofs.Common.{arith, ap, ◌∙◌, ◌∷◌, List, ℕ, BTreeMap, sym}
 use Rattle.flat_rows.specs.Changes.{without}
-use Rattle.inode_nodes.specs.Branch.{flatten, Branch}
+use Rattle.inode_nodes.specs.Node.{flatten, Node}
 use Rattle.inode_nodes.proofs.Levels.{missing_entry, without-kept}
 use Rattle.inode_nodes.proofs.Through.{found_mut, missed_mut, no_names, held_sorted, take_here, take_through, taken_here, taken_none, taken_through}
 use Rattle.inode_nodes.proofs.+take.Goals as goal
@@ -28,7 +28,7 @@ change::take_in-returns-in-Some-get_mut-clause-whole t c =
 pub change::take_in-returns-in-None-get_mut-clause-rows : goal.change::take_in-returns-in-None-get_mut-clause-rows
 change::take_in-returns-in-None-get_mut-clause-rows t c =
     let missed = missed_mut c.get_mut.result _ c.in-None-get_mut.is c.get_mut.ensures.value in
-    ap (λ (m : BTreeMap (List ℕ) Branch). flatten m.entries) c.get_mut.follows.holds-at-none
+    ap (λ (m : BTreeMap (List ℕ) Node). flatten m.entries) c.get_mut.follows.holds-at-none
     ∙ missing_entry (without (c.args.first.now ∷ c.args.rest.now)) c.args.first.now (without-kept c.args.first.now c.args.rest.now) c.args.map.now.entries c.requires missed
 
 pub change::take_in-returns-in-None-get_mut-clause-whole : goal.change::take_in-returns-in-None-get_mut-clause-whole

@@ -1,7 +1,7 @@
 use Rattle.std.proofs.Common.{rules, ◌≡◌, sym, ap, ◌∙◌}
 use Rattle.std.specs.Option.{option_copied}
 use Rattle.permission_bits.specs.Rights.{covers}
-use Rattle.access_lists.specs.JudgedEntry.{masked}
+use Rattle.access_lists.specs.JudgedEntry.{effective_rights}
 use Rattle.access_lists.proofs.Searches.{granting_for_member, granting_for_stranger, matching_for_stranger}
 use Rattle.access_lists.proofs.access_check.chosen_by_groups.Goals as goal
 
@@ -9,8 +9,8 @@ use Rattle.access_lists.proofs.access_check.chosen_by_groups.Goals as goal
 pub returns-then-has_group : goal.returns-then-has_group
 returns-then-has_group c =
     let plain = sym (c.is_granted.ensures ∙ ap (λ j. j.granted) c.by_base_entry-own.ensures
-    ∙ ap (λ x. covers (masked c.mask-mask.result x).0 c.args.need.0) c.group.ensures
-    ∙ ap (λ m. covers (masked m c.args.access.now.group).0 c.args.need.0) c.mask-mask.ensures) ∙ c.if-is_granted.false in
+    ∙ ap (λ x. covers (effective_rights c.mask-mask.result x).0 c.args.need.0) c.group.ensures
+    ∙ ap (λ m. covers (effective_rights m c.args.access.now.group).0 c.args.need.0) c.mask-mask.ensures) ∙ c.if-is_granted.false in
     c.by_named_entry.ensures ∙ granting_for_member c.args.group.now c.args.access.now c.args.groups.now c.args.need
     c.mask-mask.result c.groups-named.result.now c.mask-mask.ensures c.groups-named.ensures c.in-Some.entry.now
     (sym c.has_group.ensures ∙ c.if-has_group.true) plain (sym c.first_granting.ensures ∙ ap option_copied c.in-Some.is)

@@ -1,6 +1,6 @@
 use Rattle.std.proofs.Common.{◌≡◌, Some, sym, ap, subst, ◌∙◌}
 use Rattle.access_lists.specs.declared.entry_list.Bases.{Bases}
-use Rattle.access_lists.specs.AccessControlList.{IsEntryList, are_rights, is_access_list}
+use Rattle.access_lists.specs.Acl.{IsEntryList, are_rights, is_access_list}
 use Rattle.access_lists.specs.Kept.{list_of_parts}
 use Rattle.partial_acl.proofs.Tests.{both}
 use Rattle.partial_acl.proofs.Completing.{remasked_good}

@@ -4,7 +4,7 @@ use Rattle.std.specs.List.Sorted.{IsStrictlySortedBy}
 use Rattle.std.specs.Map.{keys_of}
 use Rattle.file_paths.specs.PathOrder.{path_cmp}
 use Rattle.namespace_rows.specs.Namespace.{IsNamespace}
-use Rattle.lease_manager.specs.Lease.{latest}
+use Rattle.lease_manager.specs.Leases.{latest_moment}
 use Rattle.history.proofs.Counting.{count}
 use Rattle.file_effects.specs.Effected.{IsExact}
 use Rattle.file_effects.proofs.Closing.{IsClosable, expired, with_closed}
@@ -21,5 +21,5 @@ invariant-loop-path l = record {
   number : count (expired l.past) l.tree + length l.files.entries ≡ count (expired l.past) l.fn.tree + length l.path-iterator;
   exact : (last : List ℕ → Option ℕ) → IsExact last l.fn.tree l.fn.writers → IsExact last l.tree l.writers;
   limits : l.writers.leases.limits ≡ l.fn.writers.leases.limits;
-  latest : latest l.writers.leases.renewals ≤ latest l.fn.writers.leases.renewals;
+  latest : latest_moment l.writers.leases.renewals ≤ latest_moment l.fn.writers.leases.renewals;
 }

@@ -1,6 +1,6 @@
 use Rattle.std.proofs.Common.{◌≡◌, ◌∙◌, true, false, refl, sym, ap}
 use Rattle.hdfs_types.specs.declared.reply.ObjectKind.TheVariants.{File}
-use Rattle.default_acl.specs.Inheritance.{inherited}
+use Rattle.default_acl.specs.Inheritance.{inherited_acl}
 use Rattle.file_effects.proofs.Replacement.{below_root, held_by, parent_stands, replaced_file, some_got, none_got}
 use Rattle.file_effects.proofs.make.taken_over.Goals as goal
 
@@ -21,5 +21,5 @@ returns-clause-made c =
       held = held_by c.args.path.now c.in-Some.front c.args.tree.now c.root-root.ensures.tree c.requires.there parent;
       made = λ file.
           replaced_file c.args.path.now c.in-Some.front c.args.tree.now _ c.args.mode file c.args.owner.now _ _ _ c.root-root.ensures.tree parent is refl
-          c.in_ok-owner.ensures.cases (c.in_ok-group.ensures.cases ∙ c.group.ensures) (c.in_ok-acl.ensures.list ∙ ap (λ acl. inherited acl c.args.mode File) c.acl.ensures);
+          c.in_ok-owner.ensures.cases (c.in_ok-group.ensures.cases ∙ c.group.ensures) (c.in_ok-acl.ensures.list ∙ ap (λ acl. inherited_acl acl c.args.mode File) c.acl.ensures);
     }

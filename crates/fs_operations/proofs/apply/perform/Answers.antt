@@ -1,7 +1,7 @@
 use Rattle.std.proofs.Common.{◌≡◌, refl, subst}
 use Rattle.std.specs.Prelude.{IfOk}
 use Rattle.hdfs_types.specs.declared.op.Op.TheVariants as op
-use Rattle.principals.specs.Principals.{caller_of}
+use Rattle.principals.specs.Users.{caller_of}
 use Rattle.perm_walk.proofs.Steps.{as_step}
 use Rattle.fs_operations.proofs.apply.perform.Goals as goal
 

@@ -1,7 +1,7 @@
 use Rattle.std.proofs.Common.{◌∙◌, false, [], sym, ap, subst}
 use Rattle.hdfs_types.specs.declared.op.Op.TheVariants.{Rename}
 use Rattle.hdfs_types.specs.declared.reply.Reply.TheVariants.{Empty}
-use Rattle.principals.specs.Principals.{Principals}
+use Rattle.principals.specs.Users.{Users}
 use Rattle.flat_rows.specs.FileOutcome.{LeaseFacts}
 use Rattle.flat_rows.specs.Outcome.{denied_or_outcome, refused_or_done}
 use Rattle.perm_walk.specs.Walked.{IsWalkedBoth}
@@ -9,7 +9,7 @@ use Rattle.flat_rows.specs.declared.verdict.Verdict.TheVariants.{Done}
 use Rattle.fs_operations.proofs.Renaming.{unrefused_rename, parent_there}
 use Rattle.fs_operations.proofs.change.rename.Goals as goal
 
-nobody : Principals
+nobody : Users
 nobody = record { known = []; superuser = []; supergroup = [] }
 
 nothing : LeaseFacts

@@ -2,7 +2,7 @@ use Rattle.std.proofs.Common.{arith, map, ◌++◌, refl}
 use Rattle.std.specs.Prelude.{filter}
 use Rattle.namespace_rows.specs.Files.{holders}
 use Rattle.flat_rows.specs.FileOutcome.{is_expired}
-use Rattle.inode_nodes.specs.Branch.{flatten}
+use Rattle.inode_nodes.specs.Node.{flatten}
 use Rattle.inode_nodes.specs.Expired.{past_hard}
 use Rattle.inode_visits.proofs.Visits.{shorter, passing_next}
 use Rattle.inode_visits.proofs.expired_holders.+expired.Goals as goal

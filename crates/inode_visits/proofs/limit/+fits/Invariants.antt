@@ -1,6 +1,6 @@
 use Rattle.std.proofs.Common.{◌≡◌, ◌+◌, ◌*◌, ◌≤◌, length}
 use Rattle.std.specs.List.{list_all}
-use Rattle.inode_nodes.specs.Branch.{flatten}
+use Rattle.inode_nodes.specs.Node.{flatten}
 use Rattle.inode_visits.specs.Limits.{fits_behind}
 use Rattle.inode_visits.proofs.limit.+fits.Given as goal
 

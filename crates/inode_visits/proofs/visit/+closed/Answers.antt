@@ -2,7 +2,7 @@ use Rattle.std.proofs.Common.{Some, None, ◌≡◌, ◌∙◌, ap, sym, refl, a
 use Rattle.std.specs.Option.{option_map}
 use Rattle.std.specs.Prelude.{filter}
 use Rattle.namespace_rows.specs.First.{first}
-use Rattle.inode_nodes.specs.Branch.{rows}
+use Rattle.inode_nodes.specs.Node.{rows}
 use Rattle.inode_visits.specs.Visits.{is_closed, row_found}
 use Rattle.inode_visits.proofs.Visits.{first_here, first_next, none_found, shorter}
 use Rattle.inode_visits.proofs.visit.+closed.Goals as goal

@@ -1,7 +1,7 @@
 use Rattle.std.proofs.Common.{◌≡◌, ◌+◌, ◌*◌, ◌≤◌, length}
 use Rattle.std.specs.Prelude.{filter}
 use Rattle.namespace_rows.specs.First.{first}
-use Rattle.inode_nodes.specs.Branch.{flatten}
+use Rattle.inode_nodes.specs.Node.{flatten}
 use Rattle.inode_visits.specs.Visits.{is_closed}
 use Rattle.inode_visits.proofs.visit.+closed.Given as goal
 

@@ -1,7 +1,7 @@
 use Rattle.std.proofs.Common.{◌+◌, ap, sym, refl, ◌∙◌, arith}
 use Rattle.inode_visits.specs.Visits.{told, directories, files}
 use Rattle.inode_visits.proofs.Visits.{directories_step, files_step, counted_next, counted_all, told_itself, shorter}
-use Rattle.inode_nodes.specs.Branch.{flatten}
+use Rattle.inode_nodes.specs.Node.{flatten}
 use Rattle.inode_nodes.proofs.Filters.{Entries}
 use Rattle.inode_visits.proofs.visit.+count.Goals as goal
 

@@ -1,5 +1,5 @@
 use Rattle.std.proofs.Common.{◌≡◌, ◌+◌, ◌*◌, ◌≤◌, ◌<◌, ◌^◌, length}
-use Rattle.inode_nodes.specs.Branch.{flatten}
+use Rattle.inode_nodes.specs.Node.{flatten}
 use Rattle.inode_visits.specs.Visits.{told, directories, files}
 use Rattle.inode_visits.proofs.Visits.{Counted}
 use Rattle.inode_visits.proofs.visit.+count.Given as goal

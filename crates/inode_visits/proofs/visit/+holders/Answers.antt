@@ -1,6 +1,6 @@
 use Rattle.std.proofs.Common.{arith, map, ◌++◌}
 use Rattle.namespace_rows.specs.Files.{holders}
-use Rattle.inode_nodes.specs.Branch.{flatten}
+use Rattle.inode_nodes.specs.Node.{flatten}
 use Rattle.inode_visits.proofs.Visits.{shorter, held_next}
 use Rattle.inode_visits.proofs.visit.+holders.Goals as goal
 

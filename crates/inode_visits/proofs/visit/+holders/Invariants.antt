@@ -1,6 +1,6 @@
 use Rattle.std.proofs.Common.{◌≡◌, ◌++◌, ◌+◌, ◌*◌, ◌≤◌, length, map}
 use Rattle.namespace_rows.specs.Files.{holders}
-use Rattle.inode_nodes.specs.Branch.{flatten}
+use Rattle.inode_nodes.specs.Node.{flatten}
 use Rattle.inode_visits.proofs.visit.+holders.Given as goal
 
 abbrev pub decreases-push_holders : goal.decreases-push_holders

@@ -1,6 +1,6 @@
 use Rattle.std.proofs.Common.{arith, ◌++◌}
 use Rattle.std.specs.Prelude.{map}
-use Rattle.inode_nodes.specs.Branch.{flatten, placed}
+use Rattle.inode_nodes.specs.Node.{flatten, placed}
 use Rattle.inode_visits.proofs.Visits.{shorter, lower, paths_here, paths_next, added_next}
 use Rattle.inode_visits.proofs.visit.+rows.Goals as goal
 

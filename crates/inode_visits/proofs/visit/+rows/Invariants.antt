@@ -1,7 +1,7 @@
 use Rattle.std.proofs.Common.{◌≡◌, ◌++◌, ◌+◌, ◌*◌, ◌≤◌, length, map}
 use Rattle.std.specs.Prelude.{IsTrue}
 use Rattle.flat_rows.specs.Changes.{are_paths}
-use Rattle.inode_nodes.specs.Branch.{flatten, placed}
+use Rattle.inode_nodes.specs.Node.{flatten, placed}
 use Rattle.inode_visits.proofs.visit.+rows.Given as goal
 
 abbrev pub decreases-push_rows : goal.decreases-push_rows

@@ -1,7 +1,7 @@
 use Rattle.std.proofs.Common.{◌≡◌, ◌∙◌, ap, sym, subst}
 use Rattle.std.specs.Prelude.{IfOk}
 use Rattle.std.specs.List.{flat_map}
-use Rattle.principals.specs.Principals.{caller_of}
+use Rattle.principals.specs.Users.{caller_of}
 use Rattle.flat_rows.specs.Decision.{asks_of, denial_of}
 use Rattle.perm_walk.proofs.Denials.{first_of_all, superuser_meets}
 use Rattle.perm_walk.proofs.walk.walk.Goals as goal

@@ -2,7 +2,7 @@ use Rattle.std.proofs.Common.{take, ◌∷◌}
 use Rattle.std.specs.List.{flat_map}
 use Rattle.std.specs.Fmt.{HasWritten, IsPlainFormatter}
 use Rattle.acl_specs.specs.Entry.{entry_text}
-use Rattle.access_lists.specs.AccessControlList.{named_entry}
+use Rattle.access_lists.specs.Acl.{named_entry}
 use Rattle.access_lists.proofs.print.FollowingDisplay.fmt.Given as goal
 
 abbrev pub invariant-loop-entry : goal.invariant-loop-entry

@@ -1,6 +1,6 @@
 use Rattle.std.proofs.Common.{rules, ap, ◌∙◌}
 use Rattle.std.proofs.lemmas.Map.Made.{filter_same_pairs}
-use Rattle.block_tokens.specs.Keys.{expires_after, usable_keys}
+use Rattle.block_tokens.specs.KeyList.{expires_after, usable_keys}
 use Rattle.block_tokens.proofs.cache.KeyCache.drop_expired.Goals as goal
 
 pub returns : goal.returns

@@ -1,5 +1,5 @@
 use Rattle.std.proofs.Common.{◌∙◌, sym, ap}
-use Rattle.block_tokens.specs.Keys.{key_with, usable_keys, unless_expired}
+use Rattle.block_tokens.specs.KeyList.{key_with, usable_keys, unless_expired}
 use Rattle.block_tokens.proofs.Usable.{usable_key}
 use Rattle.block_tokens.proofs.cache.KeyCache.usable_key.Goals as goal
 

@@ -1,5 +1,5 @@
 use Rattle.std.proofs.Common.{◌≡◌, take}
-use Rattle.block_tokens.specs.Keys.{usable_keys}
+use Rattle.block_tokens.specs.KeyList.{usable_keys}
 use Rattle.block_tokens.proofs.ring.KeyRing.update.Given as goal
 
 abbrev pub invariant-loop-serial : goal.invariant-loop-serial

@@ -1,5 +1,3 @@
-use Rattle.std.proofs.Common.{subst}
-use Rattle.file_paths.specs.Path.{IsPath}
 use Rattle.file_paths.proofs.Fronts.{front_path}
 use Rattle.file_paths.proofs.path.Path.front.Goals as goal
 

@@ -1,4 +1,4 @@
-use Rattle.std.proofs.Common.{arith, ◌<◌, length, rules}
+use Rattle.std.proofs.Common.{◌<◌, length, rules}
 use Rattle.file_paths.proofs.Fronts.{parent_front}
 use Rattle.file_paths.proofs.path.Path.parent.Goals as goal
 

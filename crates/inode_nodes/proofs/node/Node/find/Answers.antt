@@ -1,7 +1,7 @@
 use Rattle.std.proofs.Common.{None, Some, ap, drop, ◌+◌, refl, sym, subst}
 use Rattle.std.proofs.lemmas.List.{drop_all}
 use Rattle.std.specs.Option.{option_copied}
-use Rattle.inode_nodes.specs.Branch.{rows_or}
+use Rattle.inode_nodes.specs.Node.{rows_or}
 use Rattle.inode_nodes.specs.Part.{IsWhole}
 use Rattle.inode_nodes.proofs.Parts.{whole_onward, whole_itself}
 use Rattle.inode_nodes.proofs.node.Node.find.Goals as goal

@@ -1,7 +1,7 @@
 use Rattle.std.proofs.Common.{◌≡◌, Bool, true, false, [], ◌∷◌, length, refl, sym, subst}
 use Rattle.namespace_rows.specs.declared.row.Row.{Row}
 use Rattle.flat_rows.specs.Outcome.{is_alone}
-use Rattle.inode_nodes.specs.Branch.{rows, row_of, flatten}
+use Rattle.inode_nodes.specs.Node.{rows, row_of, flatten}
 use Rattle.inode_nodes.specs.Kept.{branch_of, rows_in}
 use Rattle.inode_nodes.proofs.Filters.{Entries}
 use Rattle.inode_nodes.proofs.node.Node.is_alone.Goals as goal

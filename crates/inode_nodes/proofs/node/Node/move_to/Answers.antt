@@ -1,5 +1,5 @@
 use Rattle.std.proofs.Common.{◌≡◌, ◌∙◌, ap, [], ◌∷◌, ◌++◌}
-use Rattle.inode_nodes.specs.Branch.{with_rows}
+use Rattle.inode_nodes.specs.Node.{with_rows}
 use Rattle.inode_nodes.specs.Change.{grafted}
 use Rattle.inode_nodes.proofs.Moves.{moved_rows, taken_some, fill_there}
 use Rattle.inode_nodes.proofs.node.Node.move_to.Goals as goal

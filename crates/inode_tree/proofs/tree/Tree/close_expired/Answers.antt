@@ -1,5 +1,5 @@
 use Rattle.std.proofs.Common.{ap, ◌∙◌}
-use Rattle.inode_nodes.specs.Branch.{rows}
+use Rattle.inode_nodes.specs.Node.{rows}
 use Rattle.inode_nodes.specs.Expired.{past_hard}
 use Rattle.inode_nodes.proofs.Closings.{all_closed}
 use Rattle.inode_tree.proofs.Trees.{closed_tree}

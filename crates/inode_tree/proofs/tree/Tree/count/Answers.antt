@@ -1,6 +1,6 @@
 use Rattle.std.proofs.Common.{Some, ap, subst, ◌∙◌}
 use Rattle.std.specs.Option.{option_copied}
-use Rattle.inode_nodes.specs.Branch.{rows}
+use Rattle.inode_nodes.specs.Node.{rows}
 use Rattle.inode_nodes.specs.Part.{IsWhole}
 use Rattle.inode_tree.proofs.Asked.{counts_there}
 use Rattle.inode_tree.proofs.tree.Tree.count.Goals as goal

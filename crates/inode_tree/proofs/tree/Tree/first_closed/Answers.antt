@@ -2,7 +2,7 @@ use Rattle.std.proofs.Common.{Some, None, ap, refl, subst, sym, ◌∙◌, ◌�
 use Rattle.std.specs.Option.{option_map, option_copied}
 use Rattle.std.specs.Prelude.{filter}
 use Rattle.namespace_rows.specs.First.{first}
-use Rattle.inode_nodes.specs.Branch.{rows, placed}
+use Rattle.inode_nodes.specs.Node.{rows, placed}
 use Rattle.inode_nodes.specs.Part.{IsWhole}
 use Rattle.inode_visits.specs.Visits.{is_closed, row_found}
 use Rattle.inode_tree.proofs.Asked.{found_path, first_there}

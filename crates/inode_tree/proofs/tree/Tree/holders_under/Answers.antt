@@ -1,6 +1,6 @@
 use Rattle.std.proofs.Common.{Some, None, ap, subst, ◌∙◌}
 use Rattle.std.specs.Option.{option_copied}
-use Rattle.inode_nodes.specs.Branch.{rows}
+use Rattle.inode_nodes.specs.Node.{rows}
 use Rattle.inode_nodes.specs.Part.{IsWhole}
 use Rattle.inode_nodes.proofs.Through.{if_ok}
 use Rattle.inode_tree.proofs.Asked.{holders_there}

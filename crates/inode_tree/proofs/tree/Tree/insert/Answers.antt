@@ -1,6 +1,6 @@
 use Rattle.std.proofs.Common.{◌∙◌, ◌∷◌, [], ◌++◌, sym, ap}
 use Rattle.namespace_rows.specs.Namespace.{suits_kind}
-use Rattle.inode_nodes.specs.Branch.{row_of}
+use Rattle.inode_nodes.specs.Node.{row_of}
 use Rattle.inode_tree.proofs.Trees.{no_parent_above, insert_keeps, new_suits}
 use Rattle.inode_tree.proofs.tree.Tree.insert.Goals as goal
 

@@ -2,7 +2,7 @@ use Rattle.std.proofs.Common.{ap, subst, sym}
 use Rattle.std.specs.Option.{option_copied}
 use Rattle.std.specs.Prelude.{map, IsTrue}
 use Rattle.flat_rows.specs.Changes.{are_paths}
-use Rattle.inode_nodes.specs.Branch.{rows, placed}
+use Rattle.inode_nodes.specs.Node.{rows, placed}
 use Rattle.inode_tree.proofs.Asked.{rows_there}
 use Rattle.inode_tree.proofs.tree.Tree.rows_under.Goals as goal
 

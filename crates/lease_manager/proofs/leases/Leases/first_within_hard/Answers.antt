@@ -1,7 +1,7 @@
 use Rattle.std.proofs.Common.{◌∙◌, ap, not, nat_lt, rules, tests, length, unwrap_or}
 use Rattle.std.proofs.lemmas.Iterator.{YieldsList-from_slice}
 use Rattle.std.proofs.lemmas.Iterator.Search.{position_from_yields_List}
-use Rattle.lease_manager.specs.Lease.{age}
+use Rattle.lease_manager.specs.Leases.{age}
 use Rattle.lease_manager.proofs.Past.{position_or_end}
 use Rattle.lease_manager.proofs.leases.Leases.first_within_hard.Goals as goal
 

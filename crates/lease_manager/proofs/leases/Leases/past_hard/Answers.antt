@@ -2,7 +2,7 @@ use Rattle.std.proofs.Common.{◌≡◌, ◌∙◌, ◌≤◌, ap, sym, not, nat
 use Rattle.std.proofs.lemmas.List.{length-take-le}
 use Rattle.std.specs.List.{position_or_len}
 use Rattle.std.specs.Map.{keys_of}
-use Rattle.lease_manager.specs.Lease.{LeaseList, age, clients, past_hard}
+use Rattle.lease_manager.specs.Leases.{Leases, age, clients, renewals_past_hard}
 use Rattle.lease_manager.proofs.Past.{front_is_past, young_from, young_within}
 use Rattle.lease_manager.proofs.leases.Leases.past_hard.Goals as goal
 
@@ -26,4 +26,4 @@ returns-clause-past c =
     let keys : c.as_slice-2.result.now ≡ keys_of es = c.as_slice-2.ensures ∙ c.keys.ensures.rest in
     (λ j. take (counted j) (keys j))
     ∙ front_is_past c.args.self.now.limits c.args.now es c.self.invariant.1
-    ∙ ap (λ (leases : LeaseList). clients (past_hard c.args.self.now.limits c.args.now leases.renewals)) c.self.view_is
+    ∙ ap (λ (leases : Leases). clients (renewals_past_hard c.args.self.now.limits c.args.now leases.renewals)) c.self.view_is

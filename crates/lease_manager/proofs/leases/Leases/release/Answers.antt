@@ -1,5 +1,5 @@
 use Rattle.std.proofs.Common.{◌≡◌, ◌∙◌, ap, sym, subst, arith}
-use Rattle.lease_manager.specs.Lease.{LeaseList, AreInOrder, latest, released, after_release}
+use Rattle.lease_manager.specs.Leases.{Leases, AreInOrder, latest_moment, renewals_without, after_release}
 use Rattle.lease_manager.specs.Shown.{renewals_of}
 use Rattle.lease_manager.proofs.Order.{released_in_order, released_latest}
 use Rattle.lease_manager.proofs.Renewals.{removed, are_renewals, distinct_keys}
@@ -8,7 +8,7 @@ use Rattle.lease_manager.proofs.leases.Leases.release.Goals as goal
 pub invariant_of-self : goal.invariant_of-self
 invariant_of-self c =
     let es = c.self.inside.renewals.entries in
-    let left : renewals_of c.shift_remove.new.self.entries ≡ released c.args.client.now (renewals_of es) =
+    let left : renewals_of c.shift_remove.new.self.entries ≡ renewals_without c.args.client.now (renewals_of es) =
     ap renewals_of c.shift_remove.ensures.entries ∙ removed c.args.client.now es (distinct_keys es c.self.invariant) in
     are_renewals c.shift_remove.new.self.entries c.shift_remove.ensures.unique
     (subst AreInOrder (sym left) (released_in_order c.args.client.now (renewals_of es) c.self.invariant.1))
@@ -18,12 +18,12 @@ returns-clause-released c =
     let es = c.self.inside.renewals.entries in
     ap (λ rs. record { limits = record { soft = c.self.inside.soft; hard = c.self.inside.hard }; renewals = rs })
     (ap renewals_of c.shift_remove.ensures.entries ∙ removed c.args.client.now es (distinct_keys es c.self.invariant))
-    ∙ ap (λ (leases : LeaseList). after_release leases c.args.client.now) c.self.view_is
+    ∙ ap (λ (leases : Leases). after_release leases c.args.client.now) c.self.view_is
 
 pub returns-clause-latest : goal.returns-clause-latest
 returns-clause-latest c =
     let es = c.self.inside.renewals.entries in
-    let left : renewals_of c.shift_remove.new.self.entries ≡ released c.args.client.now (renewals_of es) =
+    let left : renewals_of c.shift_remove.new.self.entries ≡ renewals_without c.args.client.now (renewals_of es) =
     ap renewals_of c.shift_remove.ensures.entries ∙ removed c.args.client.now es (distinct_keys es c.self.invariant) in
-    let before : latest (renewals_of es) ≡ latest c.args.self.now.renewals = ap (λ (leases : LeaseList). latest leases.renewals) c.self.view_is in
-    omega (arith, ap latest left, released_latest c.args.client.now (renewals_of es), before)
+    let before : latest_moment (renewals_of es) ≡ latest_moment c.args.self.now.renewals = ap (λ (leases : Leases). latest_moment leases.renewals) c.self.view_is in
+    omega (arith, ap latest_moment left, released_latest c.args.client.now (renewals_of es), before)

@@ -1,6 +1,6 @@
 use Rattle.std.proofs.Common.{◌∙◌, ap, sym, Some}
 use Rattle.std.specs.Option.{option_map}
-use Rattle.lease_manager.specs.Lease.{LeaseList, lease_state, state_of}
+use Rattle.lease_manager.specs.Leases.{Leases, lease_state, state_of}
 use Rattle.lease_manager.proofs.Renewals.{looked_up}
 use Rattle.lease_manager.proofs.leases.Leases.state.Goals as goal
 
@@ -9,11 +9,11 @@ returns-in_err-last-clause-state c =
     c.from_residual.ensures
     ∙ ap (option_map (λ last. lease_state c.args.self.now.limits last c.args.now)) c.in_err-last.ensures.value
     ∙ sym (looked_up (λ last. lease_state c.args.self.now.limits last c.args.now) c.args.client.now c.self.inside.renewals.entries)
-    ∙ ap (λ (leases : LeaseList). state_of (record { limits = c.args.self.now.limits; renewals = leases.renewals }) c.args.client.now c.args.now) c.self.view_is
+    ∙ ap (λ (leases : Leases). state_of (record { limits = c.args.self.now.limits; renewals = leases.renewals }) c.args.client.now c.args.now) c.self.view_is
 
 pub returns-clause-state : goal.returns-clause-state
 returns-clause-state c =
     ap Some c.state_since.ensures
     ∙ ap (option_map (λ last. lease_state c.args.self.now.limits last c.args.now)) c.in_ok-last.ensures.value
     ∙ sym (looked_up (λ last. lease_state c.args.self.now.limits last c.args.now) c.args.client.now c.self.inside.renewals.entries)
-    ∙ ap (λ (leases : LeaseList). state_of (record { limits = c.args.self.now.limits; renewals = leases.renewals }) c.args.client.now c.args.now) c.self.view_is
+    ∙ ap (λ (leases : Leases). state_of (record { limits = c.args.self.now.limits; renewals = leases.renewals }) c.args.client.now c.args.now) c.self.view_is

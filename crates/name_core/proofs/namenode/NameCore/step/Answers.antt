@@ -2,7 +2,7 @@ use Rattle.std.proofs.Common.{◌+◌, ◌++◌, ◌∷◌, [], refl, sym, ap, �
 use Rattle.history.specs.ClockAndLease.{last_renewal}
 use Rattle.history.specs.declared.entry.HistoryEntry.{HistoryEntry}
 use Rattle.name_core.specs.declared.namenode.NameCore.TheInside.{Inside}
-use Rattle.name_core.specs.Core.{Steps}
+use Rattle.name_core.specs.NameCore.{Steps}
 use Rattle.name_core.specs.Kept.{core_of, entries_of}
 use Rattle.name_core.proofs.Keeping.{Adds, kept_more}
 use Rattle.name_core.proofs.Recording.{adds_of, recorded}

@@ -1,0 +1,52 @@
+-- What decides about a need at a component, and a denial: the need that failed, what decided, the row of the component,
+-- and for whom it was judged.
+-- (HDFS Permissions Guide, "Permission Checks" and "The Sticky Bit".)
+use Rattle.std.specs.Prelude.{◌≡◌, ℕ, Bool, false, ◌||◌, List, [], if◌then◌else◌, Option, Some, None}
+use Rattle.hdfs_texts.specs.Text.{same}
+use Rattle.principal_names.specs.Groups.{has_group}
+use Rattle.access_lists.specs.JudgedEntry.{Chosen}
+use Rattle.namespace_rows.specs.Judgement.{judgement}
+use Rattle.namespace_rows.specs.declared.row.Row.{Row}
+use Rattle.required_rights.specs.declared.need.Need.{Need}
+use Rattle.required_rights.specs.declared.need.Need.TheVariants as need
+use Rattle.required_rights.specs.declared.need.By.{By}
+use Rattle.required_rights.specs.declared.need.By.TheVariants as by
+
+-- what decides, and whether the need is met
+pub record Decided : Type 0 where
+  pub by : By
+  pub granted : Bool
+
+abbrev pub by_judgement : Chosen → Decided
+by_judgement judged = record { by = by.Entry judged.entry judged.mask; granted = judged.granted }
+
+-- for a caller who is no superuser; `above` is the owner of the directory that holds the component
+abbrev pub deciding : Need → Row → List ℕ → List ℕ → List (List ℕ) → Decided
+deciding (need.Rights asked) row above caller groups = by_judgement (judgement row caller groups asked)
+deciding need.Sticky row above caller groups = record { by = by.Owners row.owner above; granted = same caller row.owner || same caller above }
+deciding need.Owner row above caller groups = record { by = by.Owner row.owner; granted = same caller row.owner }
+deciding (need.Member group) row above caller groups = record { by = by.Group group; granted = has_group groups group }
+deciding need.Superuser row above caller groups = record { by = by.Superuser; granted = false }
+
+pub record Denial : Type 0 where
+  pub need : Need
+  pub by : By
+  pub row : Row
+  pub caller : List ℕ
+  pub groups : List (List ℕ)
+
+-- the denial of a need at a row, where it isn't met
+abbrev pub denial_at : Need → Row → List ℕ → List ℕ → List (List ℕ) → Option Denial
+denial_at need row above caller groups =
+    let decided = deciding need row above caller groups in
+    if decided.granted then None else Some (record { need = need; by = decided.by; row = row; caller = caller; groups = groups })
+
+-- the owner of the directory that holds the component, where what decided names one
+abbrev pub named_above : By → List ℕ
+named_above (by.Owners owner above) = above
+named_above _ = []
+
+-- the row, judged for the caller with these groups, is what denies the need
+abbrev pub IsDenied : Denial → Type 0
+IsDenied denied =
+    deciding denied.need denied.row (named_above denied.by) denied.caller denied.groups ≡ record { by = denied.by; granted = false }

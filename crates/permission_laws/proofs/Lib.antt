@@ -1,0 +1,12 @@
+pub mod Deciding
+pub mod Endings
+pub mod Held
+pub mod Superusers
+pub mod Stops
+pub mod Above
+pub mod Wider
+pub mod Traversal
+pub mod RowsAt
+pub mod Elsewhere
+pub mod LastAbove
+pub mod Parts

@@ -1,0 +1,115 @@
+-- What a change of one part leaves of a row.
+use Rattle.std.proofs.Common.{◌≡◌, ℕ, Bool, true, false, List, Option, Some, None, map, refl, sym, ap, ◌∙◌, cond}
+use Rattle.std.specs.Prelude.{unwrap_or, Result, Ok, Err}
+use Rattle.std.specs.Option.{option_map}
+use Rattle.file_paths.specs.PathOrder.{same_path}
+use Rattle.hdfs_types.specs.declared.op.Op.{Op}
+use Rattle.hdfs_types.specs.declared.op.Op.TheVariants as op
+use Rattle.hdfs_types.specs.declared.file.FileState.TheVariants.{Closed}
+use Rattle.hdfs_types.specs.declared.reply.Refusal.{Refusal}
+use Rattle.access_lists.specs.Acl.{Acl}
+use Rattle.partial_acl.specs.AclChange.{acl_change, with_mode}
+use Rattle.namespace_rows.specs.declared.row.Row.{Row}
+use Rattle.namespace_rows.specs.declared.row.Change.{Change}
+use Rattle.namespace_rows.specs.declared.row.Change.TheVariants as change
+use Rattle.namespace_rows.specs.Rows.{row_at}
+use Rattle.flat_rows.specs.Changes.{changed, rewritten}
+use Rattle.flat_rows.specs.FileOutcome.{LeaseFacts, holder_at, state_after_append, is_expired, closed_where_expired}
+use Rattle.flat_rows.specs.Outcome.{rows_after, with_mode_at, with_owner_at, with_acl_at, with_list_at}
+use Rattle.permission_laws.specs.Attempt.{is_about_files, is_about_lists, is_about_owners}
+use Rattle.permission_laws.proofs.RowsAt.{at_map}
+
+one : (x y : Row) → Some x ≡ Some y → x ≡ y
+one x y e = cc
+
+-- a row with the part of another
+abbrev pub with_file_of : Row → Row → Row
+with_file_of row later = record later { file = row.file }
+
+abbrev pub with_list_of : Row → Row → Row
+with_list_of row later = record later { acl = row.acl }
+
+abbrev pub with_owner_of : Row → Row → Row
+with_owner_of row later = record later { owner = row.owner; group = row.group }
+
+module _ (rows : List Row) (path : List (List ℕ)) (row later : Row) (there : row_at path rows ≡ Some row) where
+  -- rows that are given anew, each with its path, and with one part alone changed
+  mapped : (part : Row → Row → Row) (f : Row → Row) → ((r : Row) → (f r).path ≡ r.path) → ((r : Row) → part r (f r) ≡ r) → row_at path (map f rows) ≡ Some later → part row later ≡ row
+  mapped part f paths same after =
+      let is : f row ≡ later = one (f row) later (sym (at_map path f paths rows ∙ ap (option_map f) there) ∙ after) in
+      ap (part row) (sym is) ∙ same row
+
+  same_row : (part : Row → Row → Row) → ((r : Row) → part r r ≡ r) → row_at path rows ≡ Some later → part row later ≡ row
+  same_row part same after = ap (part row) (one later row (sym after ∙ there)) ∙ same row
+
+  where_same : (part : Row → Row → Row) (top : List (List ℕ)) (given : Change) → ((r : Row) → (changed given r).path ≡ r.path) → ((r : Row) → part r (changed given r) ≡ r) → ((r : Row) → part r r ≡ r)
+      → row_at path (rewritten top given rows) ≡ Some later → part row later ≡ row
+  where_same part top given paths same itself after = mapped part (λ r. cond (same_path top r.path) (changed given r) r) keeps stays after
+    where
+      keeps : (r : Row) → (cond (same_path top r.path) (changed given r) r).path ≡ r.path
+      keeps r = by (same_path top r.path)
+        where
+          by : (b : Bool) → (cond b (changed given r) r).path ≡ r.path
+          by true = paths r
+          by false = refl
+
+      stays : (r : Row) → part r (cond (same_path top r.path) (changed given r) r) ≡ r
+      stays r = by (same_path top r.path)
+        where
+          by : (b : Bool) → part r (cond b (changed given r) r) ≡ r
+          by true = same r
+          by false = itself r
+
+  module _ (leases : LeaseFacts) (name : List ℕ) where
+    pub files_alone : (what : Op) → is_about_files what ≡ true → row_at path (rows_after leases what name rows) ≡ Some later → with_file_of row later ≡ row
+    files_alone (op.Append top) h after = where_same with_file_of top (change.State (state_after_append name (holder_at (row_at top rows)))) (λ r. refl) (λ r. refl) (λ r. refl) after
+    files_alone (op.Complete top last) h after = where_same with_file_of top (change.State Closed) (λ r. refl) (λ r. refl) (λ r. refl) after
+    files_alone (op.SetReplication top replication) h after = where_same with_file_of top (change.Replication replication) (λ r. refl) (λ r. refl) (λ r. refl) after
+    files_alone op.Tick h after = mapped with_file_of (closed_where_expired leases) keeps stays after
+      where
+        keeps : (r : Row) → (closed_where_expired leases r).path ≡ r.path
+        keeps r = by (is_expired leases r)
+          where
+            by : (b : Bool) → (cond b (changed (change.State Closed) r) r).path ≡ r.path
+            by true = refl
+            by false = refl
+
+        stays : (r : Row) → with_file_of r (closed_where_expired leases r) ≡ r
+        stays r = by (is_expired leases r)
+          where
+            by : (b : Bool) → with_file_of r (cond b (changed (change.State Closed) r) r) ≡ r
+            by true = refl
+            by false = refl
+    files_alone _ h after = cc
+
+    list_given : (top : List (List ℕ)) (acl : Acl) → row_at path (rewritten top (change.List acl) rows) ≡ Some later → with_list_of row later ≡ row
+    list_given top acl after = where_same with_list_of top (change.List acl) (λ r. refl) (λ r. refl) (λ r. refl) after
+
+    pub lists_alone : (what : Op) → is_about_lists what ≡ true → row_at path (rows_after leases what name rows) ≡ Some later → with_list_of row later ≡ row
+    lists_alone (op.SetMode top mode) h after = by (row_at top rows) after
+      where
+        by : (o : Option Row) → row_at path (with_mode_at top mode o rows) ≡ Some later → with_list_of row later ≡ row
+        by None k = same_row with_list_of (λ r. refl) k
+        by (Some r) k = list_given top (with_mode mode r.kind r.acl) k
+    lists_alone (op.SetAcl top form) h after = by (row_at top rows) after
+      where
+        by_made : (made : Result Acl Refusal) → row_at path (with_list_at top made rows) ≡ Some later → with_list_of row later ≡ row
+        by_made (Ok acl) k = list_given top acl k
+        by_made (Err refusal) k = same_row with_list_of (λ r. refl) k
+
+        by : (o : Option Row) → row_at path (with_acl_at top form o rows) ≡ Some later → with_list_of row later ≡ row
+        by None k = same_row with_list_of (λ r. refl) k
+        by (Some r) k = by_made (acl_change form r.kind r.acl) k
+    lists_alone _ h after = cc
+
+    pub owners_alone : (what : Op) → is_about_owners what ≡ true → row_at path (rows_after leases what name rows) ≡ Some later → with_owner_of row later ≡ row
+    owners_alone (op.SetOwner top owner group) h after = by (row_at top rows) after
+      where
+        by : (o : Option Row) → row_at path (with_owner_at top owner group o rows) ≡ Some later → with_owner_of row later ≡ row
+        by None k = same_row with_owner_of (λ r. refl) k
+        by (Some r) k = where_same with_owner_of top (change.Owner (unwrap_or owner r.owner) (unwrap_or group r.group)) (λ r. refl) (λ r. refl) (λ r. refl) k
+    owners_alone _ h after = cc
+
+  -- where nothing was done
+  pub undone_alone : (part : Row → Row → Row) → ((r : Row) → part r r ≡ r) → row_at path rows ≡ Some later → part row later ≡ row
+  undone_alone part same after = same_row part same after

@@ -1,0 +1,40 @@
+-- A superuser meets every need, and nobody else is one.
+use Rattle.std.proofs.Common.{◌≡◌, ◌≢◌, ℕ, Bool, true, false, ◌||◌, List, [], ◌∷◌, Option, Some, None, refl, ap, ◌∙◌, cond}
+use Rattle.std.specs.List.{flat_map}
+use Rattle.std.specs.Option.{option_or}
+use Rattle.hdfs_texts.specs.Text.{same}
+use Rattle.hdfs_texts.proofs.Texts.{same_is}
+use Rattle.principal_names.specs.Groups.{has_group}
+use Rattle.hdfs_types.specs.declared.op.Op.{Op}
+use Rattle.hdfs_types.specs.declared.reply.Refusal.{Refusal}
+use Rattle.principals.specs.Users.{Users, Caller, caller_of, groups_of, is_super}
+use Rattle.namespace_rows.specs.declared.row.Row.{Row}
+use Rattle.namespace_rows.specs.First.{first_answer}
+use Rattle.required_rights.specs.RequiredRights.{required_rights}
+use Rattle.flat_rows.specs.Denial.{denial_at}
+use Rattle.flat_rows.specs.Decision.{Ask, asks_of, denial_of}
+use Rattle.flat_rows.specs.FileOutcome.{LeaseFacts}
+use Rattle.flat_rows.specs.Outcome.{step, denied_or_outcome, refused_or_done, first_refusal}
+use Rattle.flat_rows.specs.Verdicts.{is_denied}
+
+none_denied : (caller : Caller) → caller.is_superuser ≡ true → (asks : List Ask) → first_answer (denial_of caller) asks ≡ None
+none_denied caller super [] = refl
+none_denied caller super (ask ∷ asks) =
+    ap (λ s. option_or (cond s None (denial_at ask.need ask.row ask.above caller.name caller.groups)) (first_answer (denial_of caller) asks)) super ∙ none_denied caller super asks
+
+module _ (leases : LeaseFacts) (rows : List Row) (users : Users) (caller : List ℕ) (op : Op) where
+  pub never_denied : is_super users caller ≡ true → is_denied (step leases rows users caller op).verdict ≡ false
+  never_denied super =
+      ap (λ d. is_denied (denied_or_outcome leases rows users caller op d).verdict) (none_denied (caller_of users caller) super (flat_map (asks_of rows) (required_rights op)))
+      ∙ by (first_refusal leases caller op rows users)
+    where
+      by : (o : Option Refusal) → is_denied (refused_or_done leases rows users caller op o).verdict ≡ false
+      by None = refl
+      by (Some refusal) = refl
+
+pub no_superuser : (users : Users) (user : List ℕ) → user ≢ users.superuser → has_group (groups_of users user) users.supergroup ≡ false → is_super users user ≡ false
+no_superuser users user other out = by (same user users.superuser) refl
+  where
+    by : (b : Bool) → same user users.superuser ≡ b → (b || has_group (groups_of users user) users.supergroup) ≡ false
+    by true e = absurd (other (same_is user users.superuser e))
+    by false e = out

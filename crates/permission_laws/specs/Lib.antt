@@ -1,0 +1,2 @@
+pub mod Attempt
+pub mod Laws

@@ -1,0 +1,115 @@
+ghost use Rattle.std.specs.Prelude.{◌≡◌, IfOk};
+ghost use Rattle.std.specs.Option.{option_map};
+ghost use Rattle.std.specs.Result.{result_err};
+ghost use Rattle.script_hints.specs.Hints as spec;
+ghost use Rattle.script_text.specs.Script.{request_of};
+ghost use Rattle.script_words.specs.Words.{words_of};
+
+use crate::acl_hint::{AclHint, acl_hint};
+use crate::line_hint::{LineHint, line_hint};
+use crate::mode_hint::{ModeHint, mode_hint};
+use crate::name_hint::{NameHint, name_hint};
+use crate::path_hint::{PathHint, path_hint};
+use hdfs_texts::fault::{AclFault, IllFormed, ParseFault};
+use script_text::line::read_line;
+use script_words::words::{is_skipped, without_return, words_in};
+use std::alloc::{AllocError, Global};
+use std::fmt;
+
+/// What is wrong with an ill-formed line, and what was expected. There is one kind for each answer that such a line gets.
+#[derive(Clone, Copy)]
+pub enum Hint<'a> {
+    /// The line is answered `bad 0 BadLine`.
+    Line(LineHint<'a>),
+    /// The line is answered `bad 1 BadPath`.
+    Path(PathHint<'a>),
+    /// The line is answered `bad 9 BadAcl` with this fault.
+    Acl(AclFault, AclHint<'a>),
+    /// The line is answered `bad 19 BadName`.
+    Name(NameHint<'a>),
+    /// The line is answered `bad 20 BadMode`.
+    Mode(ModeHint<'a>),
+}
+
+impl fmt::Display for Hint<'_> {
+    fn fmt<W: fmt::Write>(&self, f: &mut fmt::Formatter<W>) -> fmt::Result {
+        match self {
+            Hint::Line(hint) => write!(f, "{hint}"),
+            Hint::Path(hint) => write!(f, "{hint}"),
+            Hint::Acl(_, hint) => write!(f, "{hint}"),
+            Hint::Name(hint) => write!(f, "{hint}"),
+            Hint::Mode(hint) => write!(f, "{hint}"),
+        }
+    }
+}
+
+/// The word of this index; an empty one where the line has fewer.
+pub(crate) fn word_at<'a>(words: &[&'a str], index: usize) -> &'a str {
+    match words.get(index) {
+        Some(word) => *word,
+        None => "",
+    }
+}
+
+/// Whether a word was read.
+pub(crate) fn is_read<T: Drop>(read: Result<T, ParseFault>) -> Result<bool, AllocError> {
+    match read {
+        Ok(value) => {
+            drop(value);
+            Ok(true)
+        }
+        Err(ParseFault::IllFormed(_)) => Ok(false),
+        Err(ParseFault::OutOfMemory) => Err(AllocError),
+    }
+}
+
+/// How a line is ill-formed, where it is.
+fn fault_of(alloc: Global, line: &str) -> Result<Option<IllFormed>, AllocError>
+    ensures { IfOk result (λ fault. fault ≡ result_err (request_of (words_of line.now))) }
+{
+    Ok(read_line(alloc, line)?.err())
+}
+
+/// The hint on words that are ill-formed in this way.
+fn hint_on<'a>(alloc: Global, fault: IllFormed, words: &[&'a str]) -> Result<Hint<'a>, AllocError>
+    ensures { IfOk result (λ hint. spec.fault_of hint ≡ fault) }
+{
+    match fault {
+        IllFormed::BadLine => Ok(Hint::Line(line_hint(words))),
+        IllFormed::BadPath => Ok(Hint::Path(path_hint(alloc, words)?)),
+        IllFormed::BadAcl(fault) => Ok(Hint::Acl(fault, acl_hint(alloc, fault, words)?)),
+        IllFormed::BadName => Ok(Hint::Name(name_hint(words))),
+        IllFormed::BadMode => Ok(Hint::Mode(mode_hint(words))),
+    }
+}
+
+/// The hint on a line: there is one exactly where the line makes no request, and it is for the answer that the line gets. Which
+/// word it names is only tested.
+///
+/// # Errors
+/// Out of memory.
+pub fn hint_of(alloc: Global, line: &str) -> Result<Option<Hint<'_>>, AllocError>
+    ensures { IfOk result (λ hint. option_map spec.fault_of hint ≡ result_err (request_of (words_of line.now))) }
+{
+    match fault_of(alloc, line)? {
+        Some(fault) => {
+            let words = words_in(alloc, line)?;
+            Ok(Some(hint_on(alloc, fault, &words)?))
+        }
+        None => Ok(None),
+    }
+}
+
+/// The hint on a line of a script, which may end in a carriage return; an empty line and a comment get none.
+///
+/// # Errors
+/// Out of memory.
+pub fn hint_in(alloc: Global, line: &str) -> Result<Option<Hint<'_>>, AllocError>
+    ensures { IfOk result (λ hint. option_map spec.fault_of hint ≡ spec.fault_in line.now) }
+{
+    let line = without_return(line);
+    if is_skipped(line) {
+        return Ok(None);
+    }
+    hint_of(alloc, line)
+}

@@ -1,0 +1,210 @@
+use crate::hint::word_at;
+use crate::verbs::{Verb, verb_of};
+use script_words::acl_words::{wants_none, wants_spec};
+use script_words::values::{moment_word, number_word, replication_word};
+use script_words::words::is_word;
+use std::fmt;
+
+/// What is wrong with a line as a whole, or with its moment.
+#[derive(Clone, Copy)]
+pub enum LineFlaw {
+    Blanks,
+    LateComment,
+    ByteOrderMark,
+    FewWords,
+    LateMoment,
+}
+
+impl LineFlaw {
+    fn text(self) -> &'static str {
+        match self {
+            LineFlaw::Blanks => "blanks alone are neither a request nor an empty line",
+            LineFlaw::LateComment => "a comment has its # as the very first character",
+            LineFlaw::ByteOrderMark => "the line begins with a byte order mark",
+            LineFlaw::FewWords => "a line wants MOMENT CALLER VERB WORDS",
+            LineFlaw::LateMoment => "moment above 2^62",
+        }
+    }
+}
+
+/// Why a word is no number in its range.
+#[derive(Clone, Copy)]
+pub enum NumberHint<'a> {
+    /// What the number would say, and the word in its place.
+    NotDigits(&'static str, &'a str),
+    /// What the number says that is too large.
+    Large(&'static str),
+    Replication(&'a str),
+}
+
+impl fmt::Display for NumberHint<'_> {
+    fn fmt<W: fmt::Write>(&self, f: &mut fmt::Formatter<W>) -> fmt::Result {
+        match self {
+            NumberHint::NotDigits(what, word) => {
+                write!(f, "{what} {word:?} is not decimal digits")
+            }
+            NumberHint::Large(what) => write!(f, "{what} is not below 2^64"),
+            NumberHint::Replication(word) => {
+                write!(f, "replication {word:?} is not from 1 to 16")
+            }
+        }
+    }
+}
+
+/// What is wrong with a form of `setfacl`.
+#[derive(Clone, Copy)]
+pub enum FormHint<'a> {
+    /// It lacks its entries.
+    NoSpec(&'a str),
+    /// It takes no entries.
+    Spec(&'a str),
+    Unknown(&'a str),
+}
+
+impl fmt::Display for FormHint<'_> {
+    fn fmt<W: fmt::Write>(&self, f: &mut fmt::Formatter<W>) -> fmt::Result {
+        match self {
+            FormHint::NoSpec(form) => write!(f, "setfacl P {form} wants SPEC"),
+            FormHint::Spec(form) => write!(f, "setfacl P {form} wants no SPEC"),
+            FormHint::Unknown(form) => write!(
+                f,
+                "setfacl has no form {form:?}, but set, modify, remove, default and clear"
+            ),
+        }
+    }
+}
+
+/// Why the words of a line make no request, where none of them is an ill-formed path, name, mode or access list.
+#[derive(Clone, Copy)]
+pub enum LineHint<'a> {
+    Flaw(LineFlaw),
+    UnknownVerb(&'a str),
+    /// A verb, and the words that it takes.
+    Count(&'static str, &'static str),
+    Number(NumberHint<'a>),
+    Form(FormHint<'a>),
+    /// A word, and the one that it has to be.
+    Instead(&'a str, &'static str),
+}
+
+impl fmt::Display for LineHint<'_> {
+    fn fmt<W: fmt::Write>(&self, f: &mut fmt::Formatter<W>) -> fmt::Result {
+        match self {
+            LineHint::Flaw(flaw) => f.write_str(flaw.text()),
+            LineHint::UnknownVerb(verb) => write!(f, "unknown verb {verb:?}"),
+            LineHint::Count(verb, words) => write!(f, "{verb} wants {words}"),
+            LineHint::Number(hint) => write!(f, "{hint}"),
+            LineHint::Form(hint) => write!(f, "{hint}"),
+            LineHint::Instead(word, fixed) => write!(f, "{word:?} instead of {fixed}"),
+        }
+    }
+}
+
+fn are_digits(word: &str) -> bool {
+    word.as_bytes().iter().all(|byte| byte.is_ascii_digit())
+}
+
+/// Why the verb doesn't take these words, by their number.
+fn hint_on_count<'a>(verb: &'static Verb, others: &[&'a str]) -> Option<LineHint<'a>> {
+    let count = others.len();
+    if verb.words.is_empty() && count != 0 {
+        return Some(LineHint::Count(verb.name, "no words"));
+    }
+    if count != verb.counts[0] && count != verb.counts[1] {
+        return Some(LineHint::Count(verb.name, verb.words));
+    }
+    if !is_word(verb.name, "setfacl") {
+        return None;
+    }
+    let form = word_at(others, 1);
+    if count == 2 && wants_spec(form) {
+        return Some(LineHint::Form(FormHint::NoSpec(form)));
+    }
+    if count == 3 && wants_none(form) {
+        return Some(LineHint::Form(FormHint::Spec(form)));
+    }
+    None
+}
+
+/// Why a word is no moment.
+fn hint_on_moment(word: &str) -> LineHint<'_> {
+    if !are_digits(word) {
+        return LineHint::Number(NumberHint::NotDigits("moment", word));
+    }
+    LineHint::Flaw(LineFlaw::LateMoment)
+}
+
+/// Why a word is no replication.
+fn hint_on_replication(word: &str) -> NumberHint<'_> {
+    if !are_digits(word) {
+        return NumberHint::NotDigits("replication", word);
+    }
+    NumberHint::Replication(word)
+}
+
+/// Why a word is no number below 2^64.
+fn hint_on_number<'a>(what: &'static str, word: &'a str) -> NumberHint<'a> {
+    if !are_digits(word) {
+        return NumberHint::NotDigits(what, word);
+    }
+    NumberHint::Large(what)
+}
+
+/// Why the first of a block's number and its length that is none is no number.
+fn hint_on_block<'a>(block: &'a str, length: &'a str) -> NumberHint<'a> {
+    if number_word(block).is_err() {
+        return hint_on_number("block", block);
+    }
+    hint_on_number("length", length)
+}
+
+/// Why the replication of a new file is none, or what follows it isn't `over`.
+fn hint_on_file<'a>(replication: &'a str, over: &'a str) -> LineHint<'a> {
+    if replication_word(replication).is_err() {
+        return LineHint::Number(hint_on_replication(replication));
+    }
+    LineHint::Instead(over, "over")
+}
+
+/// What is wrong with the words behind a path.
+fn hint_behind_path<'a>(verb: &str, others: &[&'a str]) -> LineHint<'a> {
+    let next = word_at(others, 1);
+    if is_word(verb, "delete") {
+        return LineHint::Instead(next, "recursive");
+    }
+    if is_word(verb, "create") {
+        return hint_on_file(word_at(others, 2), word_at(others, 3));
+    }
+    if is_word(verb, "setrep") {
+        return LineHint::Number(hint_on_replication(next));
+    }
+    if is_word(verb, "addblock") || is_word(verb, "complete") {
+        return LineHint::Number(hint_on_block(next, word_at(others, 2)));
+    }
+    LineHint::Form(FormHint::Unknown(next))
+}
+
+/// What is wrong with a moment, a verb and the words behind it.
+fn hint_on_words<'a>(moment: &'a str, verb: &'a str, others: &[&'a str]) -> LineHint<'a> {
+    let Some(known) = verb_of(verb) else {
+        return LineHint::UnknownVerb(verb);
+    };
+    if let Some(hint) = hint_on_count(known, others) {
+        return hint;
+    }
+    if moment_word(moment).is_err() {
+        return hint_on_moment(moment);
+    }
+    hint_behind_path(verb, others)
+}
+
+/// Why the words of a line make no request, where that is no ill-formed path, name, mode or access list.
+pub fn line_hint<'a>(words: &[&'a str]) -> LineHint<'a> {
+    match words {
+        [] => LineHint::Flaw(LineFlaw::Blanks),
+        [first, ..] if first.starts_with('#') => LineHint::Flaw(LineFlaw::LateComment),
+        [first, ..] if first.starts_with('\u{feff}') => LineHint::Flaw(LineFlaw::ByteOrderMark),
+        [moment, _, verb, others @ ..] => hint_on_words(moment, verb, others),
+        _ => LineHint::Flaw(LineFlaw::FewWords),
+    }
+}

@@ -1,0 +1,147 @@
+use script_words::words::is_word;
+use std::alloc::{AllocError, Global};
+
+/// A verb of scripts, and the words that it takes.
+pub struct Verb {
+    pub name: &'static str,
+    /// The words behind the verb, by the names that the manual has for them; those in brackets may be missing. Empty where it
+    /// takes none.
+    pub words: &'static str,
+    /// How many words it takes: the fewest and the most, and no number in between.
+    pub counts: [usize; 2],
+}
+
+/// The verbs of scripts.
+pub static VERBS: [Verb; 20] = [
+    Verb {
+        name: "mkdirs",
+        words: "P MODE",
+        counts: [2, 2],
+    },
+    Verb {
+        name: "stat",
+        words: "P",
+        counts: [1, 1],
+    },
+    Verb {
+        name: "ls",
+        words: "P",
+        counts: [1, 1],
+    },
+    Verb {
+        name: "du",
+        words: "P",
+        counts: [1, 1],
+    },
+    Verb {
+        name: "delete",
+        words: "P [recursive]",
+        counts: [1, 2],
+    },
+    Verb {
+        name: "rename",
+        words: "P Q",
+        counts: [2, 2],
+    },
+    Verb {
+        name: "chmod",
+        words: "P MODE",
+        counts: [2, 2],
+    },
+    Verb {
+        name: "chown",
+        words: "P U G",
+        counts: [3, 3],
+    },
+    Verb {
+        name: "getfacl",
+        words: "P",
+        counts: [1, 1],
+    },
+    Verb {
+        name: "setfacl",
+        words: "P set|modify|remove SPEC, or P default|clear",
+        counts: [2, 3],
+    },
+    Verb {
+        name: "create",
+        words: "P MODE REPL [over]",
+        counts: [3, 4],
+    },
+    Verb {
+        name: "append",
+        words: "P",
+        counts: [1, 1],
+    },
+    Verb {
+        name: "addblock",
+        words: "P [B LEN]",
+        counts: [1, 3],
+    },
+    Verb {
+        name: "complete",
+        words: "P [B LEN]",
+        counts: [1, 3],
+    },
+    Verb {
+        name: "open",
+        words: "P",
+        counts: [1, 1],
+    },
+    Verb {
+        name: "setrep",
+        words: "P REPL",
+        counts: [2, 2],
+    },
+    Verb {
+        name: "renew",
+        words: "",
+        counts: [0, 0],
+    },
+    Verb {
+        name: "tick",
+        words: "",
+        counts: [0, 0],
+    },
+    Verb {
+        name: "adduser",
+        words: "U GROUPS",
+        counts: [2, 2],
+    },
+    Verb {
+        name: "groups",
+        words: "U GROUPS",
+        counts: [2, 2],
+    },
+];
+
+/// The verb of this name.
+pub fn verb_of(name: &str) -> Option<&'static Verb> {
+    VERBS.iter().find(|verb| is_word(verb.name, name))
+}
+
+/// Adds a verb with its words on a line of its own.
+fn add_verb(verb: &Verb, text: &mut String) -> Result<(), AllocError> {
+    text.push_str("\n  ")?;
+    text.push_str(verb.name)?;
+    if verb.words.is_empty() {
+        return Ok(());
+    }
+    text.push_str(" ")?;
+    text.push_str(verb.words)
+}
+
+/// The form of a line, and the verbs with their words, a line each.
+///
+/// # Errors
+/// Out of memory.
+pub fn help_text(alloc: Global) -> Result<String, AllocError> {
+    let mut text = String::from_str(
+        alloc,
+        "A line of a script is MOMENT CALLER VERB WORDS, with the moment in milliseconds.\n\nVerbs, with their words:",
+    )?;
+    for verb in &VERBS {
+        add_verb(verb, &mut text)?;
+    }
+    Ok(text)
+}
