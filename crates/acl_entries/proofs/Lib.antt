@@ -1,2 +1,2 @@
-pub mod SpecTexts
-pub mod SpecSpellings
+pub mod Searches
+pub mod Printing

@@ -1,1 +1,4 @@
-pub mod SpecText
+pub mod Acl
+pub mod JudgedEntry
+pub mod Kept
+pub mod Printed

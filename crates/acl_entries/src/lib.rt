@@ -2,6 +2,10 @@
 //! Lists)").
 #![tactic(auto)]
 
-pub mod spec_text;
+pub mod access_check;
+pub mod acl;
+pub mod deciding_entry;
+pub mod entry_list;
+pub mod print;
 
-pub use access_lists::{access_check, acl, deciding_entry, entry_list, print};
+pub use permission_specs::spec_text;

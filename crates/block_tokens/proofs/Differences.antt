@@ -4,8 +4,8 @@ use Rattle.std.specs.Prelude.{bit_or, bit_xor}
 use Rattle.std.proofs.lemmas.Nat.{le_or_l, le_or_r}
 use Rattle.std.proofs.lemmas.Bool.Decides.{nat_tests}
 use Rattle.std.proofs.lemmas.Grind.{same_number_lists}
-use Rattle.hdfs_texts.specs.Text.{same}
-use Rattle.hdfs_texts.proofs.Texts.{same_is, same_self}
+use Rattle.hdfs_values.specs.Text.{same}
+use Rattle.hdfs_values.proofs.Texts.{same_is, same_self}
 use lib.Bits.{xor_self, xor_assoc, xor_zero_l, xor_zero_r}
 
 -- alike up to n

@@ -4,7 +4,7 @@ use Rattle.std.specs.List.{list_all}
 use Rattle.std.specs.Str.{IsUtf8}
 use Rattle.std.proofs.lemmas.Bool.Decides.{nat_tests}
 use Rattle.std.proofs.lemmas.Str.{IsUtf8-from_ascii}
-use Rattle.principal_names.specs.Who.{is_who, is_who_byte}
+use Rattle.hdfs_values.specs.Who.{is_who, is_who_byte}
 
 low_bytes : (bytes : List ℕ) → list_all is_who_byte bytes ≡ true → (i : ℕ) → get_or bytes i 0 < 128
 low_bytes [] h i = omega arith

@@ -4,8 +4,8 @@
 -- (HADOOP-4359 says what a token holds; the layout is this project's own.)
 use Rattle.std.specs.Prelude.{◌≡◌, ℕ, ◌-◌, ◌<◌, ◌^◌, List, ◌∷◌, ◌++◌, length, take, IsTrue}
 use Rattle.std.specs.Int.{w32, w64, to_be_bytes}
-use Rattle.permission_bits.specs.Modes.{is_modes}
-use Rattle.principal_names.specs.Who.{IsWho}
+use Rattle.permission_specs.specs.Modes.{is_modes}
+use Rattle.hdfs_values.specs.Who.{IsWho}
 
 -- what a token says
 pub record Body : Type 0 where

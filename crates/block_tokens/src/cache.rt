@@ -1,5 +1,5 @@
 ghost use Rattle.std.specs.Prelude.{◌≡◌, ◌+◌, [], Some, None, length, OnOk, OnErr, option_copied};
-ghost use Rattle.hdfs_texts.specs.Text.{same};
+ghost use Rattle.hdfs_values.specs.Text.{same};
 ghost use Rattle.block_tokens.specs.KeyList as spec;
 ghost use Rattle.block_tokens.specs.TokenTest.{Answers, access_test, token_test};
 
@@ -7,10 +7,10 @@ use crate::code::has_code;
 use crate::key::{HeldKey, KeyList};
 use crate::refusal::TokenRefusal;
 use crate::token::{Body, decode};
-use block_numbers::ids::{BlockId, Serial};
-use block_numbers::moment::Moment;
-use permission_bits::modes::Modes;
-use principal_names::who::Who;
+use hdfs_values::ids::{BlockId, Serial};
+use hdfs_values::moment::Moment;
+use hdfs_values::who::Who;
+use permission_specs::modes::Modes;
 use std::alloc::{AllocError, Global};
 use std::collections::BTreeMap;
 use std::marker::Model;

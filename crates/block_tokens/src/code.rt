@@ -1,5 +1,5 @@
 ghost use Rattle.std.specs.Prelude.{◌≡◌};
-ghost use Rattle.hdfs_texts.specs.Text.{same};
+ghost use Rattle.hdfs_values.specs.Text.{same};
 ghost use Rattle.block_tokens.specs.TokenTest as spec;
 
 use crate::hmac::hmac_sha1;

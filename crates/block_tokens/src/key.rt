@@ -1,8 +1,8 @@
 ghost use Rattle.std.specs.Prelude.{◌≡◌, ◌++◌, [], ◌∷◌, Some, codes, OnOk, OnErr};
 ghost use Rattle.block_tokens.specs.KeyList as spec;
 
-use block_numbers::ids::Serial;
-use block_numbers::moment::Moment;
+use hdfs_values::ids::Serial;
+use hdfs_values::moment::Moment;
 use std::alloc::{AllocError, Global};
 use std::fmt;
 use std::marker::Model;

@@ -1,5 +1,5 @@
 ghost use Rattle.std.specs.Prelude.{◌≡◌, ◌+◌, ◌↔◌, Err, [], Some, None, IfOk, OnErr, IsTrue};
-ghost use Rattle.permission_bits.specs.Modes.{is_modes};
+ghost use Rattle.permission_specs.specs.Modes.{is_modes};
 ghost use Rattle.block_tokens.specs.KeyList.{AreKeys};
 ghost use Rattle.block_tokens.specs.Ring as spec;
 ghost use Rattle.block_tokens.specs.declared.ring.RollFault.TheVariants.{OutOfMemory};
@@ -8,10 +8,10 @@ use crate::grant::Grant;
 use crate::hmac::hmac_sha1;
 use crate::key::{HeldKey, Key, KeyList};
 use crate::token::{Body, TokenBytes, coded};
-use block_numbers::ids::{BlockId, Serial};
-use block_numbers::moment::Moment;
-use permission_bits::modes::Modes;
-use principal_names::who::Who;
+use hdfs_values::ids::{BlockId, Serial};
+use hdfs_values::moment::Moment;
+use hdfs_values::who::Who;
+use permission_specs::modes::Modes;
 use std::alloc::{AllocError, Global};
 use std::marker::Model;
 

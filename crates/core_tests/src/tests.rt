@@ -1,18 +1,18 @@
 ghost use Rattle.std.specs.Prelude.{◌≡◌, ◌≤◌, IfOk, OnOk};
 ghost use Rattle.lease_manager.specs.Leases.{latest_moment};
 
-use block_numbers::moment::Moment;
-use block_numbers::replication::Repl;
-use file_paths::path::Path;
-use file_writers::open_paths::OpenPaths;
-use file_writers::writers::Writers;
 use flat_rows::verdict::Verdict;
 use hdfs_types::op::{Op, Request};
 use hdfs_types::reply::Reply;
+use hdfs_values::moment::Moment;
+use hdfs_values::path::Path;
+use hdfs_values::replication::Repl;
+use hdfs_values::who::Who;
 use inode_tree::tree::Tree;
+use lease_manager::open_paths::OpenPaths;
+use lease_manager::writers::Writers;
 use name_core::namesystem::{Namesystem, perform};
-use permission_bits::mode::Mode;
-use principal_names::who::Who;
+use permission_specs::mode::Mode;
 use principals::users::Users;
 use std::alloc::Global;
 use std::fmt::Write;

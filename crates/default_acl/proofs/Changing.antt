@@ -1,15 +1,15 @@
 -- A change as a whole: its faults, and that its lists make an access control list again.
 use Rattle.std.proofs.Common.{◌≡◌, ◌<◌, Bool, true, false, ◌&&◌, cond, Option, Some, None, Ok, Err, refl, sym, ap, subst, ◌∙◌}
 use Rattle.std.specs.Option.{option_map_or, is_some, is_none}
-use Rattle.acl_specs.specs.declared.entry.Scope.TheVariants.{Access, Default}
-use Rattle.acl_specs.specs.declared.entry.EntryKind.TheVariants.{Mask}
-use Rattle.permission_bits.specs.declared.rights.Rights.{Rights}
-use Rattle.acl_specs.specs.declared.acl_change.AclChange.{AclChange}
-use Rattle.acl_specs.specs.declared.acl_change.AclChange.TheVariants.{Set, Modify, Remove, RemoveDefault, Clear}
-use Rattle.hdfs_texts.specs.declared.fault.AclFault.{AclFault}
+use Rattle.permission_specs.specs.declared.entry.Scope.TheVariants.{Access, Default}
+use Rattle.permission_specs.specs.declared.entry.EntryKind.TheVariants.{Mask}
+use Rattle.permission_specs.specs.declared.rights.Rights.{Rights}
+use Rattle.permission_specs.specs.declared.acl_change.AclChange.{AclChange}
+use Rattle.permission_specs.specs.declared.acl_change.AclChange.TheVariants.{Set, Modify, Remove, RemoveDefault, Clear}
+use Rattle.hdfs_values.specs.declared.fault.AclFault.{AclFault}
 use Rattle.hdfs_types.specs.declared.reply.ObjectKind.{ObjectKind}
 use Rattle.hdfs_types.specs.declared.reply.Refusal.TheVariants.{BadAcl, TooManyEntries}
-use Rattle.access_lists.specs.Acl.{Acl, EntryList, IsEntryList, IsAcl, base_entries, intersection, has_named, fits_in_scope, is_access_list}
+use Rattle.acl_entries.specs.Acl.{Acl, EntryList, IsEntryList, IsAcl, base_entries, intersection, has_named, fits_in_scope, is_access_list}
 use Rattle.partial_acl.specs.AclChange.{PartialList, completed_list, as_kept, touches, base_rights, all_of, no_entries, has_no_entry, after_addition, after_removal, access_where, access_after, default_where, default_after, acl_after, first_acl_fault, unless_fault, acl_change}
 use Rattle.partial_acl.specs.Answers.{Changes, IfChangeRefused, Makes, MakesAny, named_count}
 use Rattle.partial_acl.specs.declared.fault.AclChangeFault.{AclChangeFault}

@@ -3,17 +3,17 @@ use Rattle.std.proofs.Common.{◌≡◌, ℕ, Bool, true, false, ◌&&◌, ◌||
 use Rattle.std.specs.List.{list_any}
 use Rattle.std.specs.Option.{option_eq}
 use Rattle.std.specs.Ordering.{is_lt}
-use Rattle.hdfs_texts.specs.Text.{same, text_cmp}
-use Rattle.acl_specs.specs.Spec.{IsSpec, has_duplicate, is_named_base, same_key, same_kind, same_scope}
-use Rattle.permission_bits.specs.declared.rights.Rights.{Rights}
-use Rattle.acl_specs.specs.declared.entry.Entry.{Entry}
-use Rattle.acl_specs.specs.declared.entry.EntryKind.{EntryKind}
-use Rattle.acl_specs.specs.declared.entry.EntryKind.TheVariants.{User, Group, Mask, Other}
-use Rattle.acl_specs.specs.declared.entry.Scope.{Scope}
-use Rattle.acl_specs.proofs.SpecKeys.{same_scope_symm}
-use Rattle.hdfs_texts.specs.declared.fault.AclFault.TheVariants.{Duplicate, NamedBase}
-use Rattle.access_lists.specs.declared.entry_list.NamedEntry.{NamedEntry}
-use Rattle.access_lists.specs.Acl.{EntryList, ascend, base_entry, mask_entries, named_entry}
+use Rattle.hdfs_values.specs.Text.{same, text_cmp}
+use Rattle.permission_specs.specs.Spec.{IsSpec, has_duplicate, is_named_base, same_key, same_kind, same_scope}
+use Rattle.permission_specs.specs.declared.rights.Rights.{Rights}
+use Rattle.permission_specs.specs.declared.entry.Entry.{Entry}
+use Rattle.permission_specs.specs.declared.entry.EntryKind.{EntryKind}
+use Rattle.permission_specs.specs.declared.entry.EntryKind.TheVariants.{User, Group, Mask, Other}
+use Rattle.permission_specs.specs.declared.entry.Scope.{Scope}
+use Rattle.permission_specs.proofs.SpecKeys.{same_scope_symm}
+use Rattle.hdfs_values.specs.declared.fault.AclFault.TheVariants.{Duplicate, NamedBase}
+use Rattle.acl_entries.specs.declared.entry_list.NamedEntry.{NamedEntry}
+use Rattle.acl_entries.specs.Acl.{EntryList, ascend, base_entry, mask_entries, named_entry}
 use Rattle.partial_acl.specs.AclChange.{touches}
 use Rattle.partial_acl.proofs.Tests.{both, and_false}
 use Rattle.partial_acl.proofs.NamedLists.{ascend_tail, ascend_past}

@@ -1,15 +1,15 @@
 -- What a default list leaves to what is made below it.
 use Rattle.std.proofs.Common.{◌≡◌, ℕ, Bool, List, true, Option, Some, None, refl, ◌∙◌}
 use Rattle.std.specs.Option.{option_map, option_map_or, is_some}
-use Rattle.permission_bits.specs.Mode.{user_bits, group_bits, other_bits}
-use Rattle.permission_bits.specs.Rights.{rights}
-use Rattle.permission_bits.specs.declared.rights.Rights.{Rights}
+use Rattle.permission_specs.specs.Mode.{user_bits, group_bits, other_bits}
+use Rattle.permission_specs.specs.Rights.{rights}
+use Rattle.permission_specs.specs.declared.rights.Rights.{Rights}
 use Rattle.hdfs_types.specs.declared.reply.ObjectKind.{ObjectKind}
 use Rattle.hdfs_types.specs.declared.reply.ObjectKind.TheVariants.{File, Directory}
-use Rattle.access_lists.specs.declared.entry_list.Bases.{Bases}
-use Rattle.access_lists.specs.declared.entry_list.NamedEntry.{NamedEntry}
-use Rattle.access_lists.specs.Kept.{list_of_parts}
-use Rattle.access_lists.specs.Acl.{EntryList, IsEntryList, IsAcl, are_rights, intersection}
+use Rattle.acl_entries.specs.declared.entry_list.Bases.{Bases}
+use Rattle.acl_entries.specs.declared.entry_list.NamedEntry.{NamedEntry}
+use Rattle.acl_entries.specs.Kept.{list_of_parts}
+use Rattle.acl_entries.specs.Acl.{EntryList, IsEntryList, IsAcl, are_rights, intersection}
 use Rattle.partial_acl.specs.AclChange.{as_kept}
 use Rattle.default_acl.specs.Inheritance.{list_cut_to, default_passed_on}
 use Rattle.partial_acl.proofs.Tests.{and}

@@ -7,16 +7,16 @@ use Rattle.std.specs.Option.{option_map_or, option_or}
 use Rattle.std.proofs.lemmas.Bool.{eqb-true}
 use Rattle.std.proofs.lemmas.Bool.Decides.{nat_tests}
 use Rattle.std.proofs.lemmas.Nat.{and_assoc, and_le_r}
-use Rattle.hdfs_texts.specs.Text.{same}
-use Rattle.principal_names.specs.Groups.{has_group}
-use Rattle.permission_bits.specs.Rights.{covers}
-use Rattle.permission_bits.specs.declared.rights.Rights.{Rights}
-use Rattle.acl_specs.specs.declared.entry.Entry.{Entry}
-use Rattle.acl_specs.specs.declared.entry.EntryKind.TheVariants.{User, Group, Other}
-use Rattle.acl_specs.specs.declared.entry.Scope.TheVariants.{Access}
-use Rattle.access_lists.specs.declared.entry_list.NamedEntry.{NamedEntry}
-use Rattle.access_lists.specs.Acl.{base_entry, named_entry}
-use Rattle.access_lists.specs.JudgedEntry.{Chosen, judged_by, judged_by_groups, group_entries, best_judgement, effective_rights}
+use Rattle.hdfs_values.specs.Text.{same}
+use Rattle.hdfs_values.specs.Groups.{has_group}
+use Rattle.permission_specs.specs.Rights.{covers}
+use Rattle.permission_specs.specs.declared.rights.Rights.{Rights}
+use Rattle.permission_specs.specs.declared.entry.Entry.{Entry}
+use Rattle.permission_specs.specs.declared.entry.EntryKind.TheVariants.{User, Group, Other}
+use Rattle.permission_specs.specs.declared.entry.Scope.TheVariants.{Access}
+use Rattle.acl_entries.specs.declared.entry_list.NamedEntry.{NamedEntry}
+use Rattle.acl_entries.specs.Acl.{base_entry, named_entry}
+use Rattle.acl_entries.specs.JudgedEntry.{Chosen, judged_by, judged_by_groups, group_entries, best_judgement, effective_rights}
 use Rattle.default_acl.specs.Laws.{is_of_masked_class, MasksBoundWhatIsGranted, StrangersAreOthers}
 
 -- ---- what a mask bounds

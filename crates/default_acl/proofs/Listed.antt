@@ -4,15 +4,15 @@ use Rattle.std.specs.Prelude.{filter}
 use Rattle.std.specs.List.{list_any, find, filter_map}
 use Rattle.std.specs.Option.{is_some, option_map, option_map_or}
 use Rattle.std.proofs.lemmas.Bool.Decides.{nat_tests}
-use Rattle.permission_bits.specs.Rights.{rights}
-use Rattle.acl_specs.specs.Spec.{same_kind, same_scope}
-use Rattle.permission_bits.specs.declared.rights.Rights.{Rights}
-use Rattle.acl_specs.specs.declared.entry.Entry.{Entry}
-use Rattle.acl_specs.specs.declared.entry.EntryKind.{EntryKind}
-use Rattle.acl_specs.specs.declared.entry.EntryKind.TheVariants.{User, Group, Mask, Other}
-use Rattle.acl_specs.specs.declared.entry.Scope.{Scope}
-use Rattle.access_lists.specs.declared.entry_list.NamedEntry.{NamedEntry}
-use Rattle.access_lists.specs.Acl.{EntryList, are_rights, base_entry, entries_in, grant_rights, mask_entries, named_entry}
+use Rattle.permission_specs.specs.Rights.{rights}
+use Rattle.permission_specs.specs.Spec.{same_kind, same_scope}
+use Rattle.permission_specs.specs.declared.rights.Rights.{Rights}
+use Rattle.permission_specs.specs.declared.entry.Entry.{Entry}
+use Rattle.permission_specs.specs.declared.entry.EntryKind.{EntryKind}
+use Rattle.permission_specs.specs.declared.entry.EntryKind.TheVariants.{User, Group, Mask, Other}
+use Rattle.permission_specs.specs.declared.entry.Scope.{Scope}
+use Rattle.acl_entries.specs.declared.entry_list.NamedEntry.{NamedEntry}
+use Rattle.acl_entries.specs.Acl.{EntryList, are_rights, base_entry, entries_in, grant_rights, mask_entries, named_entry}
 use Rattle.partial_acl.specs.AclChange.{base_rights, granted_by, has_base, is_base_of, is_for, named_in, touches, with_name}
 use Rattle.partial_acl.proofs.Tests.{both, and, and_false}
 use Rattle.partial_acl.proofs.Completing.{Good}

@@ -4,14 +4,14 @@ use Rattle.std.specs.Prelude.{filter}
 use Rattle.std.specs.List.{list_any, find, filter_map, cons_option}
 use Rattle.std.specs.Option.{option_map_or, option_map, option_or}
 use Rattle.std.proofs.lemmas.Bool.Decides.{nat_tests}
-use Rattle.hdfs_texts.specs.Text.{same}
-use Rattle.permission_bits.specs.declared.rights.Rights.{Rights}
-use Rattle.acl_specs.specs.declared.entry.Entry.{Entry}
-use Rattle.acl_specs.specs.declared.entry.Scope.{Scope}
-use Rattle.acl_specs.specs.declared.entry.EntryKind.{EntryKind}
-use Rattle.acl_specs.specs.declared.entry.EntryKind.TheVariants.{User, Group, Other}
-use Rattle.access_lists.specs.declared.entry_list.NamedEntry.{NamedEntry}
-use Rattle.access_lists.specs.Acl.{EntryList, IsEntryList, grant_rights, are_rights}
+use Rattle.hdfs_values.specs.Text.{same}
+use Rattle.permission_specs.specs.declared.rights.Rights.{Rights}
+use Rattle.permission_specs.specs.declared.entry.Entry.{Entry}
+use Rattle.permission_specs.specs.declared.entry.Scope.{Scope}
+use Rattle.permission_specs.specs.declared.entry.EntryKind.{EntryKind}
+use Rattle.permission_specs.specs.declared.entry.EntryKind.TheVariants.{User, Group, Other}
+use Rattle.acl_entries.specs.declared.entry_list.NamedEntry.{NamedEntry}
+use Rattle.acl_entries.specs.Acl.{EntryList, IsEntryList, grant_rights, are_rights}
 use Rattle.partial_acl.specs.AclChange.{PartialList, all_of, after_addition, after_removal, base_rights, granted_by, has_base, is_base_of, is_for, named_in, unless, with_name}
 use Rattle.partial_acl.specs.Answers.{IsPartialList}
 use Rattle.partial_acl.proofs.Tests.{and, all_filter}

@@ -9,22 +9,22 @@ use Rattle.std.specs.Int.Bits.{and_self}
 use Rattle.std.proofs.lemmas.Cmp.{nat_list_cmp_total}
 use Rattle.std.proofs.lemmas.Nat.{and_assoc}
 use Rattle.std.proofs.lemmas.Bool.Decides.{nat_tests}
-use Rattle.hdfs_texts.specs.Text.{same, text_cmp}
-use Rattle.hdfs_texts.proofs.Texts.{same_is, same_self, same_symm}
-use Rattle.permission_bits.specs.Rights.{rights}
-use Rattle.acl_specs.specs.Spec.{IsSpec, has_duplicate, is_named_base, same_key, same_kind, same_scope}
-use Rattle.permission_bits.specs.declared.rights.Rights.{Rights}
-use Rattle.acl_specs.specs.declared.entry.Entry.{Entry}
-use Rattle.acl_specs.specs.declared.entry.EntryKind.{EntryKind}
-use Rattle.acl_specs.specs.declared.entry.EntryKind.TheVariants.{User, Group, Mask, Other}
-use Rattle.acl_specs.specs.declared.entry.Scope.{Scope}
-use Rattle.acl_specs.specs.declared.entry.Scope.TheVariants.{Access, Default}
-use Rattle.hdfs_texts.specs.declared.fault.AclFault.{AclFault}
-use Rattle.hdfs_texts.specs.declared.fault.AclFault.TheVariants.{Duplicate, NamedBase}
-use Rattle.acl_specs.specs.declared.acl_change.AclChange.TheVariants.{Modify}
+use Rattle.hdfs_values.specs.Text.{same, text_cmp}
+use Rattle.hdfs_values.proofs.Texts.{same_is, same_self, same_symm}
+use Rattle.permission_specs.specs.Rights.{rights}
+use Rattle.permission_specs.specs.Spec.{IsSpec, has_duplicate, is_named_base, same_key, same_kind, same_scope}
+use Rattle.permission_specs.specs.declared.rights.Rights.{Rights}
+use Rattle.permission_specs.specs.declared.entry.Entry.{Entry}
+use Rattle.permission_specs.specs.declared.entry.EntryKind.{EntryKind}
+use Rattle.permission_specs.specs.declared.entry.EntryKind.TheVariants.{User, Group, Mask, Other}
+use Rattle.permission_specs.specs.declared.entry.Scope.{Scope}
+use Rattle.permission_specs.specs.declared.entry.Scope.TheVariants.{Access, Default}
+use Rattle.hdfs_values.specs.declared.fault.AclFault.{AclFault}
+use Rattle.hdfs_values.specs.declared.fault.AclFault.TheVariants.{Duplicate, NamedBase}
+use Rattle.permission_specs.specs.declared.acl_change.AclChange.TheVariants.{Modify}
 use Rattle.hdfs_types.specs.declared.reply.Refusal.TheVariants.{TooManyEntries}
-use Rattle.access_lists.specs.declared.entry_list.NamedEntry.{NamedEntry}
-use Rattle.access_lists.specs.Acl.{Acl, EntryList, base_entries, intersection, fits_in_scope}
+use Rattle.acl_entries.specs.declared.entry_list.NamedEntry.{NamedEntry}
+use Rattle.acl_entries.specs.Acl.{Acl, EntryList, base_entries, intersection, fits_in_scope}
 use Rattle.partial_acl.specs.AclChange.{PartialList, access_after, access_where, acl_after, after_addition, all_of, as_kept, completed_list, default_after, default_where, first_acl_fault, base_rights, granted_by, is_for, mask_after, named_in, no_entries, with_entry, touches, unless_fault, with_each, with_name}
 use Rattle.partial_acl.specs.Answers.{named_count}
 use Rattle.default_acl.specs.Laws.{ModifyingAgainChangesNothing}

@@ -7,22 +7,22 @@ use Rattle.std.specs.Ordering.{is_lt, ordering_reverse}
 use Rattle.std.specs.Int.Bits.{and_self}
 use Rattle.std.proofs.lemmas.Bool.Decides.{nat_tests}
 use Rattle.std.proofs.lemmas.Cmp.{nat_list_cmp_total}
-use Rattle.hdfs_texts.specs.Text.{text_cmp}
-use Rattle.permission_bits.specs.Rights.{rights}
-use Rattle.acl_specs.specs.Spec.{IsSpec, has_duplicate, is_named_base}
-use Rattle.permission_bits.specs.declared.rights.Rights.{Rights}
-use Rattle.acl_specs.specs.declared.entry.Entry.{Entry}
-use Rattle.acl_specs.specs.declared.entry.EntryKind.TheVariants.{User, Group, Mask, Other}
-use Rattle.acl_specs.specs.declared.entry.Scope.{Scope}
-use Rattle.acl_specs.specs.declared.entry.Scope.TheVariants.{Access, Default}
-use Rattle.acl_specs.specs.declared.acl_change.AclChange.TheVariants.{Set}
-use Rattle.hdfs_texts.specs.declared.fault.AclFault.{AclFault}
-use Rattle.hdfs_texts.specs.declared.fault.AclFault.TheVariants.{NoBase}
+use Rattle.hdfs_values.specs.Text.{text_cmp}
+use Rattle.permission_specs.specs.Rights.{rights}
+use Rattle.permission_specs.specs.Spec.{IsSpec, has_duplicate, is_named_base}
+use Rattle.permission_specs.specs.declared.rights.Rights.{Rights}
+use Rattle.permission_specs.specs.declared.entry.Entry.{Entry}
+use Rattle.permission_specs.specs.declared.entry.EntryKind.TheVariants.{User, Group, Mask, Other}
+use Rattle.permission_specs.specs.declared.entry.Scope.{Scope}
+use Rattle.permission_specs.specs.declared.entry.Scope.TheVariants.{Access, Default}
+use Rattle.permission_specs.specs.declared.acl_change.AclChange.TheVariants.{Set}
+use Rattle.hdfs_values.specs.declared.fault.AclFault.{AclFault}
+use Rattle.hdfs_values.specs.declared.fault.AclFault.TheVariants.{NoBase}
 use Rattle.hdfs_types.specs.declared.reply.ObjectKind.TheVariants.{Directory}
 use Rattle.hdfs_types.specs.declared.reply.Refusal.TheVariants.{TooManyEntries}
-use Rattle.access_lists.specs.declared.entry_list.NamedEntry.{NamedEntry}
-use Rattle.access_lists.specs.Acl.{Acl, EntryList, IsEntryList, ascend, base_entries, intersection, entries, entries_in, fits_in_scope, has_named, is_access_list, is_entry_list}
-use Rattle.acl_entries.specs.SpecText.{is_printable, spec_of, spec_text}
+use Rattle.acl_entries.specs.declared.entry_list.NamedEntry.{NamedEntry}
+use Rattle.acl_entries.specs.Acl.{Acl, EntryList, IsEntryList, ascend, base_entries, intersection, entries, entries_in, fits_in_scope, has_named, is_access_list, is_entry_list}
+use Rattle.permission_specs.specs.SpecText.{is_printable, spec_of, spec_text}
 use Rattle.partial_acl.specs.AclChange.{acl_after, access_after, after_addition, all_of, as_kept, completed_list, default_after, default_where, first_acl_fault, base_rights, has_base, named_in, no_entries, with_entry, touches, unless_fault, acl_change, with_each}
 use Rattle.default_acl.specs.Laws.{SettingToEntriesCopies, WhatIsPrintedIsSetAgain, with_entries_of}
 use Rattle.partial_acl.proofs.Tests.{both, and}

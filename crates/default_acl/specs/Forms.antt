@@ -1,8 +1,8 @@
 -- The changes of an access control list that come with a spec. (HDFS Permissions Guide, "ACLs Shell Commands".)
 use Rattle.std.specs.Prelude.{List}
-use Rattle.acl_specs.specs.declared.entry.Entry.{Entry}
-use Rattle.acl_specs.specs.declared.acl_change.AclChange.{AclChange}
-use Rattle.acl_specs.specs.declared.acl_change.AclChange.TheVariants.{Set, Modify, Remove}
+use Rattle.permission_specs.specs.declared.entry.Entry.{Entry}
+use Rattle.permission_specs.specs.declared.acl_change.AclChange.{AclChange}
+use Rattle.permission_specs.specs.declared.acl_change.AclChange.TheVariants.{Set, Modify, Remove}
 use Rattle.default_acl.specs.declared.change.Form.{Form}
 use Rattle.default_acl.specs.declared.change.Form.TheVariants as form
 

@@ -2,21 +2,21 @@
 use Rattle.std.specs.Prelude.{◌≡◌, ℕ, Bool, true, false, ◌||◌, List, None, Ok, IsTrue}
 use Rattle.std.specs.List.{list_all, list_any}
 use Rattle.std.specs.Option.{is_some, option_map_or, option_or}
-use Rattle.hdfs_texts.specs.Text.{same}
-use Rattle.principal_names.specs.Groups.{has_group}
-use Rattle.permission_bits.specs.Mode.{is_mode, without_sticky}
-use Rattle.permission_bits.specs.Rights.{covers}
-use Rattle.acl_specs.specs.Spec.{IsSpec, same_kind}
-use Rattle.permission_bits.specs.declared.rights.Rights.{Rights}
-use Rattle.acl_specs.specs.declared.entry.Entry.{Entry}
-use Rattle.acl_specs.specs.declared.entry.EntryKind.TheVariants.{Group, Other}
-use Rattle.acl_specs.specs.declared.entry.Scope.TheVariants.{Access}
-use Rattle.acl_specs.specs.declared.acl_change.AclChange.TheVariants.{Set, Modify, Clear}
+use Rattle.hdfs_values.specs.Text.{same}
+use Rattle.hdfs_values.specs.Groups.{has_group}
+use Rattle.permission_specs.specs.Mode.{is_mode, without_sticky}
+use Rattle.permission_specs.specs.Rights.{covers}
+use Rattle.permission_specs.specs.Spec.{IsSpec, same_kind}
+use Rattle.permission_specs.specs.declared.rights.Rights.{Rights}
+use Rattle.permission_specs.specs.declared.entry.Entry.{Entry}
+use Rattle.permission_specs.specs.declared.entry.EntryKind.TheVariants.{Group, Other}
+use Rattle.permission_specs.specs.declared.entry.Scope.TheVariants.{Access}
+use Rattle.permission_specs.specs.declared.acl_change.AclChange.TheVariants.{Set, Modify, Clear}
 use Rattle.hdfs_types.specs.declared.reply.ObjectKind.{ObjectKind}
 use Rattle.hdfs_types.specs.declared.reply.ObjectKind.TheVariants.{File, Directory}
-use Rattle.access_lists.specs.Acl.{Acl, IsAcl, IsEntryList, base_entry, entries, fits_in_scope, has_acl, is_entry_list, shown_mode}
-use Rattle.access_lists.specs.JudgedEntry.{judged_by, judged_entry}
-use Rattle.acl_entries.specs.SpecText.{is_printable, spec_of, spec_text}
+use Rattle.acl_entries.specs.Acl.{Acl, IsAcl, IsEntryList, base_entry, entries, fits_in_scope, has_acl, is_entry_list, shown_mode}
+use Rattle.acl_entries.specs.JudgedEntry.{judged_by, judged_entry}
+use Rattle.permission_specs.specs.SpecText.{is_printable, spec_of, spec_text}
 use Rattle.partial_acl.specs.AclChange.{acl_after, acl_change, with_mode}
 use Rattle.default_acl.specs.Inheritance.{inherited_acl}
 

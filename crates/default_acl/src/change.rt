@@ -1,25 +1,25 @@
 ghost use Rattle.std.specs.Prelude.{◌≡◌, ◌&&◌, true, false, Some, OnOk, OnErr, IfOk, IsOk, Ok};
 ghost use Rattle.std.specs.Option.{option_copied, option_map_or};
 ghost use Rattle.hdfs_types.specs.declared.reply.ObjectKind.{ObjectKind};
-ghost use Rattle.acl_specs.specs.declared.acl_change.AclChange.TheVariants.{Set, Modify, Remove, RemoveDefault, Clear};
-ghost use Rattle.acl_specs.specs.declared.entry.Scope.TheVariants.{Access, Default};
-ghost use Rattle.acl_specs.specs.declared.entry.EntryKind.TheVariants.{User, Group, Mask, Other};
-ghost use Rattle.access_lists.specs.Acl.{Acl, IsAcl};
+ghost use Rattle.permission_specs.specs.declared.acl_change.AclChange.TheVariants.{Set, Modify, Remove, RemoveDefault, Clear};
+ghost use Rattle.permission_specs.specs.declared.entry.Scope.TheVariants.{Access, Default};
+ghost use Rattle.permission_specs.specs.declared.entry.EntryKind.TheVariants.{User, Group, Mask, Other};
+ghost use Rattle.acl_entries.specs.Acl.{Acl, IsAcl};
 ghost use Rattle.partial_acl.specs.Answers.{Changes, Makes, MakesAny, IsPartialList};
 ghost use Rattle.partial_acl.specs.AclChange as definition;
 ghost use Rattle.default_acl.specs.Forms.{change_of};
 
-use access_lists::acl::Acl;
-use access_lists::entry_list::{Bases, EntryList};
-use acl_specs::acl_change::AclChange;
-use acl_specs::entry::{Entry, EntryKind, Scope};
-use acl_specs::spec::Spec;
-use hdfs_texts::fault::AclFault;
+use acl_entries::acl::Acl;
+use acl_entries::entry_list::{Bases, EntryList};
 use hdfs_types::reply::{ObjectKind, Refusal};
+use hdfs_values::fault::AclFault;
 use partial_acl::completed::{completed, copy_of, kept};
 use partial_acl::fault::AclChangeFault;
 use partial_acl::partial::PartialList;
 use partial_acl::scope::{given, has_base, touches};
+use permission_specs::acl_change::AclChange;
+use permission_specs::entry::{Entry, EntryKind, Scope};
+use permission_specs::spec::Spec;
 use std::alloc::{AllocError, Global};
 
 /// A form of `setfacl` that comes with a spec.

@@ -1,11 +1,11 @@
 ghost use Rattle.std.specs.Prelude.{◌≡◌};
-ghost use Rattle.access_lists.specs.Acl.{IsEntryList};
+ghost use Rattle.acl_entries.specs.Acl.{IsEntryList};
 ghost use Rattle.partial_acl.specs.AclChange.{with_mode};
 
-use access_lists::acl::{Acl, bases_of};
-use access_lists::entry_list::{Bases, EntryList};
+use acl_entries::acl::{Acl, bases_of};
+use acl_entries::entry_list::{Bases, EntryList};
 use hdfs_types::reply::ObjectKind;
-use permission_bits::mode::Mode;
+use permission_specs::mode::Mode;
 
 /// What a mode grants beside a mask, which stands for the owning group: its own entry stays.
 fn beside_mask(bases: Bases, access: &EntryList) -> Bases

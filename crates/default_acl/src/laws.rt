@@ -2,7 +2,7 @@
 
 ghost use Rattle.default_acl.specs.Laws as law;
 
-use acl_entries::spec_text::specs_have_one_spelling;
+use permission_specs::spec_text::specs_have_one_spelling;
 
 /// A directory's list shows the mode that it was given, and a file's the same without the sticky bit, whether it is extended or not.
 pub fn modes_are_shown()

@@ -9,10 +9,10 @@ use Rattle.std.specs.Ordering.{ordering_reverse}
 use Rattle.std.specs.BTreeMap.{BTreeMap, get}
 use Rattle.std.specs.Map.{keys_of}
 use Rattle.std.specs.Option.{option_map}
-use Rattle.hdfs_texts.specs.Text.{same}
-use Rattle.file_paths.specs.PathOrder.{path_cmp, same_path, paths_total}
+use Rattle.hdfs_values.specs.Text.{same}
+use Rattle.hdfs_values.specs.PathOrder.{path_cmp, same_path, paths_total}
 use Rattle.hdfs_types.specs.declared.file.FileState.TheVariants.{Closed}
-use Rattle.hdfs_texts.proofs.Texts.{same_is, same_self}
+use Rattle.hdfs_values.proofs.Texts.{same_is, same_self}
 use Rattle.namespace_rows.specs.declared.file_row.FileRow.{FileRow}
 use Rattle.namespace_rows.specs.declared.row.Row.{Row}
 use Rattle.namespace_rows.specs.declared.row.Change.TheVariants as change
@@ -31,8 +31,8 @@ use Rattle.inode_nodes.specs.Expired.{is_among}
 use Rattle.inode_nodes.specs.Expired as tree
 use Rattle.history.proofs.Counting.{count, bit, count_head}
 use Rattle.history.proofs.OpenFiles.{count_rewritten, behind, opens}
-use Rattle.file_writers.specs.declared.writers.Writers.{Writers}
-use Rattle.file_writers.specs.Writers.{count_of}
+use Rattle.lease_manager.specs.declared.writers.Writers.{Writers}
+use Rattle.lease_manager.specs.Writers.{count_of}
 use Rattle.file_effects.specs.Effected.{IsExact}
 use Rattle.file_effects.specs.Expiry.{can_close, open_of, AreClosable, AreExpired}
 

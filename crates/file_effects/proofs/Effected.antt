@@ -14,10 +14,10 @@ use Rattle.flat_rows.specs.FileOutcome.{LeaseFacts, holder_at, state_after_appen
 use Rattle.flat_rows.specs.Outcome.{with_new}
 use Rattle.flat_rows.specs.Changes.{rows_under, rewritten, without}
 use Rattle.history.specs.ClockAndLease.{has_opened}
-use Rattle.file_writers.specs.declared.writers.Writers.{Writers}
-use Rattle.file_writers.specs.Writers.{IsLeased, renewed_at}
+use Rattle.lease_manager.specs.declared.writers.Writers.{Writers}
+use Rattle.lease_manager.specs.Writers.{IsLeased, renewed_at}
 use Rattle.file_effects.specs.Effected.{IsExact, IsFree, IsEffected, renewed_where}
-use Rattle.file_writers.proofs.Leasing.{leased_open}
+use Rattle.lease_manager.proofs.Leasing.{leased_open}
 use Rattle.file_effects.proofs.Effects.{OneMore, OneLess, EachLess, free_create, free_append, counted_create, counted_reopen, counted_close, counted_delete}
 use Rattle.file_effects.proofs.Expiring.{counted_expire, holders_counted}
 

@@ -2,9 +2,9 @@
 use Rattle.std.proofs.Common.{◌≡◌, ℕ, ◌+◌, ◌-◌, Bool, true, false, List, [], ◌∷◌, filter, length, not, Option, Some, None, arith, refl, sym, ap, ◌∙◌, subst, cond}
 use Rattle.std.specs.List.{list_all}
 use Rattle.std.specs.Option.{option_or, option_map}
-use Rattle.hdfs_texts.specs.Text.{same}
-use Rattle.hdfs_texts.proofs.Texts.{same_is, same_symm}
-use Rattle.file_paths.specs.PathOrder.{same_path}
+use Rattle.hdfs_values.specs.Text.{same}
+use Rattle.hdfs_values.proofs.Texts.{same_is, same_symm}
+use Rattle.hdfs_values.specs.PathOrder.{same_path}
 use Rattle.hdfs_types.specs.declared.op.Op.TheVariants as op
 use Rattle.hdfs_types.specs.declared.file.FileState.{FileState}
 use Rattle.hdfs_types.specs.declared.file.FileState.TheVariants.{Closed, Open, Recovering}
@@ -27,8 +27,8 @@ use Rattle.namespace_rows.proofs.Namespaces.{namespace_tests}
 use Rattle.history.proofs.Counting.{count, bit, count_without}
 use Rattle.history.proofs.Apart.{no_ancestor}
 use Rattle.history.proofs.OpenFiles.{count_new, count_rewritten, count_holders, with_holder, closed_row, opens}
-use Rattle.file_writers.specs.declared.writers.Writers.{Writers}
-use Rattle.file_writers.specs.Writers.{count_of}
+use Rattle.lease_manager.specs.declared.writers.Writers.{Writers}
+use Rattle.lease_manager.specs.Writers.{count_of}
 use Rattle.file_effects.specs.Effected.{IsFree}
 
 -- no lease is live, and none past the hard limit

@@ -1,8 +1,8 @@
 -- The files whose holders' leases are past the hard limit, by the list of these clients and by their last renewals.
 use Rattle.std.proofs.Common.{◌≡◌, ℕ, suc, ◌+◌, ◌-◌, Bool, true, false, ◌&&◌, ◌||◌, nat_lt, not, List, [], ◌∷◌, map, filter, length, Option, Some, None, arith, refl, sym, ap, ◌∙◌, cond}
 use Rattle.std.specs.List.{AllByRecursion, IsDistinct}
-use Rattle.hdfs_texts.specs.Text.{same}
-use Rattle.hdfs_texts.proofs.Texts.{same_is, same_symm}
+use Rattle.hdfs_values.specs.Text.{same}
+use Rattle.hdfs_values.proofs.Texts.{same_is, same_symm}
 use Rattle.hdfs_types.specs.declared.file.FileState.TheVariants.{Closed}
 use Rattle.std.specs.Option.{option_to_list}
 use Rattle.std.proofs.lemmas.List.{length-append}
@@ -21,9 +21,9 @@ use Rattle.inode_nodes.specs.Expired as tree
 use Rattle.history.specs.ClockAndLease.{is_past_hard, state_at}
 use Rattle.history.proofs.Counting.{count}
 use Rattle.history.proofs.OpenFiles.{count_closed, count_holders, opens}
-use Rattle.file_writers.specs.declared.writers.Writers.{Writers}
-use Rattle.file_writers.specs.Writers.{count_of, moment_of}
-use Rattle.file_writers.proofs.Moments.{shown}
+use Rattle.lease_manager.specs.declared.writers.Writers.{Writers}
+use Rattle.lease_manager.specs.Writers.{count_of, moment_of}
+use Rattle.lease_manager.proofs.Moments.{shown}
 use Rattle.file_effects.proofs.Effects.{AreCounted, EachLess}
 
 -- ---- clients

@@ -5,13 +5,13 @@ use Rattle.std.specs.List.{last_or}
 use Rattle.std.specs.Option.{option_map}
 use Rattle.std.specs.Ordering.{is_gt, is_lt, ordering_reverse}
 use Rattle.std.specs.declared.cmp.Ordering.TheVariants.{Less, Greater}
-use Rattle.file_paths.specs.Path.{is_beneath, is_prefix, parent_of}
-use Rattle.file_paths.specs.PathOrder.{path_cmp, same_path, paths_total}
-use Rattle.hdfs_texts.specs.Text.{same}
-use Rattle.hdfs_texts.proofs.Texts.{same_is, same_self}
+use Rattle.hdfs_values.specs.Path.{is_beneath, is_prefix, parent_of}
+use Rattle.hdfs_values.specs.PathOrder.{path_cmp, same_path, paths_total}
+use Rattle.hdfs_values.specs.Text.{same}
+use Rattle.hdfs_values.proofs.Texts.{same_is, same_self}
 use Rattle.hdfs_types.specs.declared.reply.ObjectKind.TheVariants.{File}
 use Rattle.hdfs_types.specs.declared.reply.Refusal.TheVariants.{IsDirectory}
-use Rattle.access_lists.specs.Acl.{Acl}
+use Rattle.acl_entries.specs.Acl.{Acl}
 use Rattle.default_acl.specs.Inheritance.{inherited_acl}
 use Rattle.namespace_rows.specs.declared.file_row.FileRow.{FileRow}
 use Rattle.namespace_rows.specs.declared.row.Row.{Row}
@@ -25,7 +25,7 @@ use Rattle.namespace_rows.proofs.Tests.{both, and}
 use Rattle.namespace_rows.proofs.PathOrders.{same_path_is, less_is, starts_upto}
 use Rattle.flat_rows.proofs.Changes.{same_self as same_path_self}
 use Rattle.namespace_rows.proofs.Namespaces.{namespace_tests}
-use Rattle.inode_visits.specs.Tree.{IsTree}
+use Rattle.inode_tree.specs.Tree.{IsTree}
 use Rattle.flat_rows.proofs.Firsts.{first_passes, first_found}
 
 -- the path without its last name

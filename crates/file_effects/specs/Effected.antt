@@ -1,6 +1,6 @@
 -- What an operation that nothing refuses leaves of the namespace, and of the clients who have files open.
 use Rattle.std.specs.Prelude.{◌≡◌, ℕ, Bool, ◌&&◌, List, length, if◌then◌else◌, Option, Some, None}
-use Rattle.hdfs_texts.specs.Text.{same}
+use Rattle.hdfs_values.specs.Text.{same}
 use Rattle.hdfs_types.specs.declared.op.Op.{Op}
 use Rattle.principals.specs.Users.{Users}
 use Rattle.namespace_rows.specs.declared.row.Row.{Row}
@@ -9,8 +9,8 @@ use Rattle.namespace_rows.specs.Files.{open_files}
 use Rattle.flat_rows.specs.FileOutcome.{LeaseFacts}
 use Rattle.flat_rows.specs.Outcome.{first_refusal, reply_of, rows_after}
 use Rattle.history.specs.ClockAndLease.{renews}
-use Rattle.file_writers.specs.declared.writers.Writers.{Writers}
-use Rattle.file_writers.specs.Writers.{count_of, IsLeased}
+use Rattle.lease_manager.specs.declared.writers.Writers.{Writers}
+use Rattle.lease_manager.specs.Writers.{count_of, IsLeased}
 
 -- it is known of each client how many files it has open, and when it last renewed its lease
 pub record IsExact (last : List ℕ → Option ℕ) (rows : List Row) (writers : Writers) : Type 0 where

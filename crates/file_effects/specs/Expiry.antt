@@ -1,13 +1,13 @@
 -- Which files a tick closes, where the clients are known whose leases are past the hard limit.
 use Rattle.std.specs.Prelude.{◌≡◌, ℕ, Bool, true, false, List, [], ◌∷◌, map, filter, length, sum_by, Option, Some, None}
 use Rattle.std.specs.BTreeMap.{BTreeMap, get}
-use Rattle.file_paths.specs.PathOrder.{path_cmp}
+use Rattle.hdfs_values.specs.PathOrder.{path_cmp}
 use Rattle.namespace_rows.specs.declared.row.Row.{Row}
 use Rattle.flat_rows.specs.FileOutcome.{is_expired, closed_where_expired}
 use Rattle.namespace_rows.specs.Rows.{row_at}
 use Rattle.inode_nodes.specs.Expired.{is_among, past_hard}
-use Rattle.file_writers.specs.declared.writers.Writers.{Writers}
-use Rattle.file_writers.specs.Writers.{count_of}
+use Rattle.lease_manager.specs.declared.writers.Writers.{Writers}
+use Rattle.lease_manager.specs.Writers.{count_of}
 use Rattle.file_effects.specs.Effected.{IsExact}
 
 -- what has the path would be closed, were this client's lease alone past the hard limit

@@ -8,26 +8,26 @@ ghost use Rattle.namespace_rows.specs.Namespace.{IsNamespace, is_root};
 ghost use Rattle.flat_rows.specs.Outcome.{with_new};
 ghost use Rattle.namespace_rows.specs.Rows.{row_at, file_above, ancestor};
 ghost use Rattle.hdfs_types.specs.WritingVerbs.{writes_or_deletes};
-ghost use Rattle.hdfs_texts.specs.Text.{same};
+ghost use Rattle.hdfs_values.specs.Text.{same};
 ghost use Rattle.hdfs_types.specs.declared.file.FileState.TheVariants.{Closed};
 ghost use Rattle.hdfs_types.specs.declared.op.Op.TheVariants as op;
 ghost use Rattle.lease_manager.specs.Leases as lease;
 ghost use Rattle.principals.specs.Users.{Users};
 ghost use Rattle.file_effects.specs.Effected.{IsExact, IsFree, IsEffected};
-ghost use Rattle.file_writers.specs.Writers.{count_of, moment_of, HasRoom, IsAlike};
+ghost use Rattle.lease_manager.specs.Writers.{count_of, moment_of, HasRoom, IsAlike};
 
 use crate::make::make_file;
-use block_numbers::moment::Moment;
-use block_numbers::replication::Repl;
-use file_paths::path::Path;
-use file_writers::open_paths::OpenPaths;
-use file_writers::writers::Writers;
 use hdfs_types::file::FileState;
 use hdfs_types::op::Op;
+use hdfs_values::moment::Moment;
+use hdfs_values::path::Path;
+use hdfs_values::replication::Repl;
+use hdfs_values::who::Who;
 use inode_tree::tree::Tree;
+use lease_manager::open_paths::OpenPaths;
+use lease_manager::writers::Writers;
 use namespace_rows::row::Change;
-use permission_bits::mode::Mode;
-use principal_names::who::Who;
+use permission_specs::mode::Mode;
 use std::alloc::{AllocError, Global};
 
 // ---- questions

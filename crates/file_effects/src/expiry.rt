@@ -7,14 +7,14 @@ ghost use Rattle.inode_nodes.specs.Expired.{is_among, past_hard};
 ghost use Rattle.lease_manager.specs.Leases as lease;
 ghost use Rattle.file_effects.specs.Expiry.{AreClosable, AreExpired, can_close, open_of};
 ghost use Rattle.file_effects.specs.Effected.{IsExact};
-ghost use Rattle.file_writers.specs.Writers.{IsAlike};
+ghost use Rattle.lease_manager.specs.Writers.{IsAlike};
 
 use crate::effect::{close, copies};
-use file_paths::path::Path;
-use file_writers::open_paths::OpenPaths;
-use file_writers::writers::Writers;
+use hdfs_values::path::Path;
+use hdfs_values::who::Who;
 use inode_tree::tree::Tree;
-use principal_names::who::Who;
+use lease_manager::open_paths::OpenPaths;
+use lease_manager::writers::Writers;
 use std::alloc::{AllocError, Global};
 use std::collections::BTreeMap;
 

@@ -3,18 +3,18 @@ ghost use Rattle.flat_rows.specs.FileOutcome.{LeaseFacts, directory_there};
 ghost use Rattle.flat_rows.specs.Outcome as spec;
 ghost use Rattle.namespace_rows.specs.Rows.{row_at, is_missing, file_above, ancestor};
 ghost use Rattle.hdfs_types.specs.declared.op.Op.TheVariants as op;
-ghost use Rattle.access_lists.specs.Acl.{suits_file};
+ghost use Rattle.acl_entries.specs.Acl.{suits_file};
 ghost use Rattle.file_effects.specs.Inheriting.{IsInherited};
 
-use access_lists::acl::Acl;
-use block_numbers::replication::Repl;
+use acl_entries::acl::Acl;
 use default_acl::inherit::inherit;
-use file_paths::path::Path;
 use hdfs_types::reply::ObjectKind;
+use hdfs_values::path::Path;
+use hdfs_values::replication::Repl;
+use hdfs_values::who::Who;
 use inode_tree::tree::Tree;
 use namespace_rows::file_row::FileRow;
-use permission_bits::mode::Mode;
-use principal_names::who::Who;
+use permission_specs::mode::Mode;
 use std::alloc::{AllocError, Global};
 
 /// What a file has beside its mode and what files alone have: its owner, and what it takes over from the directory that holds it.

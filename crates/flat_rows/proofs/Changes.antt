@@ -6,17 +6,17 @@ use Rattle.std.specs.Prelude.{filter, not}
 use Rattle.std.specs.List.{list_all, list_any}
 use Rattle.std.specs.Cmp.{tied_itself}
 use Rattle.std.specs.Ordering.{is_lt, is_eq}
-use Rattle.file_paths.specs.Path.{is_path, is_prefix}
-use Rattle.file_paths.specs.PathOrder.{path_cmp, same_path, paths_total}
-use Rattle.file_paths.proofs.Fronts.{front_path}
-use Rattle.access_lists.specs.Acl.{Acl}
+use Rattle.hdfs_values.specs.Path.{is_path, is_prefix}
+use Rattle.hdfs_values.specs.PathOrder.{path_cmp, same_path, paths_total}
+use Rattle.hdfs_values.proofs.Fronts.{front_path}
+use Rattle.acl_entries.specs.Acl.{Acl}
 use Rattle.namespace_rows.specs.declared.file_row.FileRow.{FileRow}
 use Rattle.namespace_rows.specs.declared.row.Row.{Row}
 use Rattle.namespace_rows.specs.declared.row.Change.{Change}
 use Rattle.namespace_rows.specs.declared.row.Change.TheVariants as change
 use Rattle.hdfs_types.specs.declared.file.FileState.{FileState}
 use Rattle.std.specs.Option.{option_map}
-use Rattle.access_lists.specs.Acl.{suits_file}
+use Rattle.acl_entries.specs.Acl.{suits_file}
 use Rattle.namespace_rows.specs.Files.{with_state, with_replication}
 use Rattle.namespace_rows.specs.First.{first}
 use Rattle.namespace_rows.specs.Rows.{is_directory, row_at, ancestor, is_before, is_beyond, replaced, with_sub_tree}

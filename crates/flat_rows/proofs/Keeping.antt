@@ -5,11 +5,11 @@ use Rattle.std.specs.Option.{option_or}
 use Rattle.hdfs_types.specs.Request.{keeps_leases}
 use Rattle.hdfs_types.specs.declared.op.Op.{Op}
 use Rattle.hdfs_types.specs.declared.op.Op.TheVariants as op
-use Rattle.acl_specs.specs.declared.acl_change.AclChange.{AclChange}
+use Rattle.permission_specs.specs.declared.acl_change.AclChange.{AclChange}
 use Rattle.hdfs_types.specs.declared.reply.Refusal.{Refusal}
 use Rattle.hdfs_types.specs.declared.reply.Refusal.TheVariants.{BadPath, NotFound, IsRoot, UnderItself}
-use Rattle.file_paths.specs.Path.{is_prefix}
-use Rattle.access_lists.specs.Acl.{Acl}
+use Rattle.hdfs_values.specs.Path.{is_prefix}
+use Rattle.acl_entries.specs.Acl.{Acl}
 use Rattle.partial_acl.specs.AclChange.{acl_change, with_mode}
 use Rattle.principals.specs.Users.{Users}
 use Rattle.namespace_rows.specs.declared.row.Row.{Row}

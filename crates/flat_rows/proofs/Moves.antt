@@ -5,10 +5,10 @@ use Rattle.std.specs.List.{list_all, list_any}
 use Rattle.std.specs.Cmp.{tied_itself}
 use Rattle.std.specs.Ordering.{is_lt, is_eq, ordering_then}
 use Rattle.std.proofs.lemmas.Cmp.{nat_list_cmp_total}
-use Rattle.hdfs_texts.specs.Text.{same, text_cmp}
-use Rattle.file_paths.specs.Path.{is_prefix}
-use Rattle.file_paths.specs.PathOrder.{path_cmp, same_path}
-use Rattle.hdfs_texts.proofs.Texts.{same_is, same_self}
+use Rattle.hdfs_values.specs.Text.{same, text_cmp}
+use Rattle.hdfs_values.specs.Path.{is_prefix}
+use Rattle.hdfs_values.specs.PathOrder.{path_cmp, same_path}
+use Rattle.hdfs_values.proofs.Texts.{same_is, same_self}
 use Rattle.namespace_rows.specs.declared.row.Row.{Row}
 use Rattle.namespace_rows.specs.Rows.{is_directory}
 use Rattle.namespace_rows.specs.Namespace.{IsNamespace, is_ascending, is_before_all, is_child, has_parent, is_root, have_parents, suits_kind}

@@ -2,9 +2,9 @@
 -- and for whom it was judged.
 -- (HDFS Permissions Guide, "Permission Checks" and "The Sticky Bit".)
 use Rattle.std.specs.Prelude.{◌≡◌, ℕ, Bool, false, ◌||◌, List, [], if◌then◌else◌, Option, Some, None}
-use Rattle.hdfs_texts.specs.Text.{same}
-use Rattle.principal_names.specs.Groups.{has_group}
-use Rattle.access_lists.specs.JudgedEntry.{Chosen}
+use Rattle.hdfs_values.specs.Text.{same}
+use Rattle.hdfs_values.specs.Groups.{has_group}
+use Rattle.acl_entries.specs.JudgedEntry.{Chosen}
 use Rattle.namespace_rows.specs.Judgement.{judgement}
 use Rattle.namespace_rows.specs.declared.row.Row.{Row}
 use Rattle.required_rights.specs.declared.need.Need.{Need}

@@ -2,7 +2,7 @@
 -- may take it over.
 -- (HDFS Architecture, "The File System Namespace" and "Data Replication"; the limits of leases are this project's profile.)
 use Rattle.std.specs.Prelude.{ℕ, Bool, true, false, ◌&&◌, ◌||◌, not, List, [], ◌∷◌, length, filter, if◌then◌else◌, Option, Some, None}
-use Rattle.hdfs_texts.specs.Text.{same}
+use Rattle.hdfs_values.specs.Text.{same}
 use Rattle.hdfs_types.specs.declared.file.FileState.{FileState}
 use Rattle.hdfs_types.specs.declared.file.FileState.TheVariants.{Closed, Open, Recovering}
 use Rattle.hdfs_types.specs.declared.file.FileDetail.{FileDetail}

@@ -4,11 +4,11 @@
 use Rattle.std.specs.Prelude.{ℕ, ◌+◌, Bool, true, false, ◌&&◌, ◌||◌, not, List, [], ◌∷◌, ◌++◌, map, filter, length, drop, if◌then◌else◌, Option, Some, None, unwrap_or, Result, Ok, Err}
 use Rattle.std.specs.Option.{option_map}
 use Rattle.std.specs.Result.{result_err}
-use Rattle.permission_bits.specs.Mode.{for_missing_parent}
-use Rattle.file_paths.specs.Path.{is_prefix}
+use Rattle.permission_specs.specs.Mode.{for_missing_parent}
+use Rattle.hdfs_values.specs.Path.{is_prefix}
 use Rattle.hdfs_types.specs.declared.op.Op.{Op}
 use Rattle.hdfs_types.specs.declared.op.Op.TheVariants as op
-use Rattle.acl_specs.specs.declared.acl_change.AclChange.{AclChange}
+use Rattle.permission_specs.specs.declared.acl_change.AclChange.{AclChange}
 use Rattle.hdfs_types.specs.declared.reply.ObjectKind.{ObjectKind}
 use Rattle.hdfs_types.specs.declared.reply.ObjectKind.TheVariants.{Directory, File}
 use Rattle.hdfs_types.specs.declared.file.FileState.TheVariants.{Closed}
@@ -16,8 +16,8 @@ use Rattle.hdfs_types.specs.declared.reply.Reply.{Reply}
 use Rattle.hdfs_types.specs.declared.reply.Reply.TheVariants as reply
 use Rattle.hdfs_types.specs.declared.reply.Refusal.{Refusal}
 use Rattle.hdfs_types.specs.declared.reply.Refusal.TheVariants.{BadPath, NotFound, NotDirectory, Exists, NotEmpty, IsRoot, UnderItself, NoLease, TooFewNodes}
-use Rattle.access_lists.specs.Acl.{Acl, shown_mode, has_acl, entries}
-use Rattle.acl_entries.specs.SpecText.{spec_text}
+use Rattle.acl_entries.specs.Acl.{Acl, shown_mode, has_acl, entries}
+use Rattle.permission_specs.specs.SpecText.{spec_text}
 use Rattle.partial_acl.specs.AclChange.{acl_change, with_mode}
 use Rattle.default_acl.specs.Inheritance.{inherited_acl}
 use Rattle.principals.specs.Users.{Users, refusal_of_new, refusal_of_known, with_user, with_groups}

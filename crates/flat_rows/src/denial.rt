@@ -1,10 +1,10 @@
 ghost use Rattle.std.specs.Prelude.{◌≡◌, false, Some, IfOk};
 ghost use Rattle.flat_rows.specs.Denial.{IsDenied, deciding, denial_at};
 
-use file_paths::path::Path;
+use hdfs_values::groups::{Groups, has_group};
+use hdfs_values::path::Path;
+use hdfs_values::who::Who;
 use namespace_rows::row::Row;
-use principal_names::groups::{Groups, has_group};
-use principal_names::who::Who;
 use required_rights::need::{By, Need};
 use std::alloc::{AllocError, Global};
 use std::fmt;

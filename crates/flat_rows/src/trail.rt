@@ -9,10 +9,10 @@ ghost use Rattle.flat_rows.specs.Laws as law;
 
 use crate::ask::{Ask, asks_of};
 use crate::denial::{by_of, is_met};
-use file_paths::path::Path;
 use hdfs_types::op::Op;
+use hdfs_values::path::Path;
+use hdfs_values::who::Who;
 use namespace_rows::rows::Rows;
-use principal_names::who::Who;
 use principals::caller::Caller;
 use principals::users::Users;
 use required_rights::demand::needs_of;

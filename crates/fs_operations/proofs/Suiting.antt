@@ -2,15 +2,15 @@
 use Rattle.std.proofs.Common.{◌≡◌, ℕ, Bool, true, false, ◌||◌, not, List, cond, Option, Some, None, Ok, Err, refl, ap, ◌∙◌, subst}
 use Rattle.std.specs.Prelude.{if◌then◌else◌}
 use Rattle.std.specs.Option.{is_none}
-use Rattle.acl_specs.specs.declared.acl_change.AclChange.{AclChange}
-use Rattle.acl_specs.specs.declared.acl_change.AclChange.TheVariants.{Set, Modify, Remove, RemoveDefault, Clear}
-use Rattle.acl_specs.specs.declared.entry.Scope.TheVariants.{Default}
-use Rattle.hdfs_texts.specs.declared.fault.AclFault.{AclFault}
-use Rattle.hdfs_texts.specs.declared.fault.AclFault.TheVariants.{DefaultOnFile, NoBase, BaseRemoved, MaskRemoved}
+use Rattle.permission_specs.specs.declared.acl_change.AclChange.{AclChange}
+use Rattle.permission_specs.specs.declared.acl_change.AclChange.TheVariants.{Set, Modify, Remove, RemoveDefault, Clear}
+use Rattle.permission_specs.specs.declared.entry.Scope.TheVariants.{Default}
+use Rattle.hdfs_values.specs.declared.fault.AclFault.{AclFault}
+use Rattle.hdfs_values.specs.declared.fault.AclFault.TheVariants.{DefaultOnFile, NoBase, BaseRemoved, MaskRemoved}
 use Rattle.hdfs_types.specs.declared.reply.ObjectKind.{ObjectKind}
 use Rattle.hdfs_types.specs.declared.reply.ObjectKind.TheVariants.{File, Directory}
 use Rattle.hdfs_types.specs.declared.reply.Refusal.TheVariants.{TooManyEntries}
-use Rattle.access_lists.specs.Acl.{Acl, EntryList, suits_file}
+use Rattle.acl_entries.specs.Acl.{Acl, EntryList, suits_file}
 use Rattle.partial_acl.specs.AclChange.{acl_change, acl_after, unless_fault, first_acl_fault, lacks_base, removes_base, removes_mask, touches, spec_in, default_after, access_after, with_mode}
 use Rattle.namespace_rows.specs.declared.row.Row.{Row}
 use Rattle.namespace_rows.specs.declared.file_row.FileRow.{FileRow}
@@ -19,7 +19,7 @@ use Rattle.namespace_rows.specs.Rows.{is_directory_kind, row_at}
 use Rattle.namespace_rows.specs.Namespace.{suits_kind, suits_parts}
 use Rattle.flat_rows.specs.Changes.{suits_change}
 use Rattle.namespace_rows.proofs.Tests.{both, and}
-use Rattle.inode_visits.specs.Tree.{IsTree}
+use Rattle.inode_tree.specs.Tree.{IsTree}
 use Rattle.perm_walk.proofs.Standing.{row_suits}
 
 -- a list suits a file or a directory

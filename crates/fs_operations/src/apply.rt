@@ -10,8 +10,8 @@ use crate::change::{
 use crate::look::{get_acl, list, open, stat, summary};
 use flat_rows::verdict::Verdict;
 use hdfs_types::op::{Op, Request};
+use hdfs_values::who::Who;
 use inode_tree::tree::Tree;
-use principal_names::who::Who;
 use principals::users::Users;
 use required_rights::demand::{Needs, needs_of};
 use std::alloc::{AllocError, Global};

@@ -7,13 +7,13 @@ ghost use Rattle.flat_rows.specs.Outcome as spec;
 ghost use Rattle.perm_walk.specs.Walked.{AreOn};
 ghost use Rattle.perm_walk.specs.JudgedStep.{judged_step};
 
-use access_lists::print::print;
-use file_paths::name::Name;
-use file_paths::path::Path;
+use acl_entries::print::print;
 use flat_rows::verdict::Verdict;
 use hdfs_types::file::FileDetail;
 use hdfs_types::op::Op;
 use hdfs_types::reply::{AclStatus, ContentSummary, FileStatus, Names, ObjectKind, Reply};
+use hdfs_values::name::Name;
+use hdfs_values::path::Path;
 use inode_tree::tree::Tree;
 use namespace_rows::file_row::FileRow;
 use perm_walk::component::Component;

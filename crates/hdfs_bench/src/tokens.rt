@@ -1,12 +1,12 @@
 use crate::fault::Fault;
-use block_numbers::ids::{BlockId, Serial};
-use block_numbers::moment::Moment;
 use block_tokens::cache::KeyCache;
 use block_tokens::grant::Grant;
 use block_tokens::key::Key;
 use block_tokens::ring::KeyRing;
-use permission_bits::modes::Modes;
-use principal_names::who::Who;
+use hdfs_values::ids::{BlockId, Serial};
+use hdfs_values::moment::Moment;
+use hdfs_values::who::Who;
+use permission_specs::modes::Modes;
 use std::alloc::Global;
 use std::time::{Duration, Instant};
 

@@ -4,7 +4,7 @@ use Rattle.std.specs.Prelude.{if◌then◌else◌}
 use Rattle.std.specs.List.{fold}
 use Rattle.std.specs.Result.{result_err}
 use Rattle.std.proofs.lemmas.List.Elements.{filter_map-append}
-use Rattle.hdfs_texts.specs.declared.fault.IllFormed.{IllFormed}
+use Rattle.hdfs_values.specs.declared.fault.IllFormed.{IllFormed}
 use Rattle.hdfs_types.specs.declared.op.Request.{Request}
 use Rattle.history.specs.Config.{standard}
 use Rattle.script_hints.specs.Hints.{NumberedFault, fault_before, fault_in, fault_in_trimmed, faults_from, faults_of}

@@ -2,7 +2,7 @@
 -- fails, on what the lines before leave; and `granted` where none fails.
 use Rattle.std.specs.Prelude.{ℕ, zero, suc, List, [], ◌∷◌, ◌++◌, take, drop, if◌then◌else◌, Option, Some, None, Result, Ok, Err, codes}
 use Rattle.std.specs.List.{flat_map, list_all}
-use Rattle.hdfs_texts.specs.declared.fault.IllFormed.{IllFormed}
+use Rattle.hdfs_values.specs.declared.fault.IllFormed.{IllFormed}
 use Rattle.hdfs_types.specs.declared.op.Request.{Request}
 use Rattle.flat_rows.specs.declared.trail.Judged.{Judged}
 use Rattle.flat_rows.specs.DenialText.{judged_text}

@@ -12,9 +12,9 @@ ghost use Rattle.hdfs_cli.specs.Shown.{Shows};
 
 use crate::channel::write_text;
 use crate::script::{ScriptFault, Session, Status, read_script, run_lines};
-use file_paths::path::Path;
 use flat_rows::trail::{Judged, trail};
 use hdfs_types::op::Request;
+use hdfs_values::path::Path;
 use inode_tree::tree::Tree;
 use name_core::namenode::NameCore;
 use namespace_rows::rows::Rows;

@@ -12,8 +12,8 @@ ghost use Rattle.script_words.specs.Words as words;
 
 use crate::channel::{ReadFault, read_all, write_text};
 use flat_rows::verdict::Verdict;
-use hdfs_texts::fault::IllFormed;
 use hdfs_types::op::Request;
+use hdfs_values::fault::IllFormed;
 use history::config::Config;
 use history::entry;
 use name_core::namenode::NameCore;

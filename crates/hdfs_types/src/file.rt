@@ -1,9 +1,9 @@
 ghost use Rattle.std.specs.Prelude.{◌≡◌, Some};
 
-use block_numbers::ids::{BlockId, Stamp};
-use block_numbers::moment::Moment;
-use block_numbers::replication::Repl;
-use principal_names::who::Who;
+use hdfs_values::ids::{BlockId, Stamp};
+use hdfs_values::moment::Moment;
+use hdfs_values::replication::Repl;
+use hdfs_values::who::Who;
 use std::alloc::AllocError;
 use std::fmt;
 

@@ -6,9 +6,5 @@ pub mod file;
 pub mod op;
 pub mod reply;
 
-pub use acl_specs::{acl_change, entry, spec};
-pub use block_numbers::{ids, moment, replication};
-pub use file_paths::{name, path};
-pub use hdfs_texts::{fault, number};
-pub use permission_bits::{mode, modes, rights};
-pub use principal_names::{groups, node_id, who};
+pub use hdfs_values::{fault, groups, ids, moment, name, node_id, number, path, replication, who};
+pub use permission_specs::{acl_change, entry, mode, modes, rights, spec};

@@ -3,13 +3,13 @@ ghost use Rattle.hdfs_types.specs.Request as spec;
 ghost use Rattle.hdfs_types.specs.declared.op.Op.TheVariants as made;
 
 use crate::file::LastBlock;
-use acl_specs::acl_change::AclChange;
-use block_numbers::moment::Moment;
-use block_numbers::replication::Repl;
-use file_paths::path::Path;
-use permission_bits::mode::Mode;
-use principal_names::groups::Groups;
-use principal_names::who::Who;
+use hdfs_values::groups::Groups;
+use hdfs_values::moment::Moment;
+use hdfs_values::path::Path;
+use hdfs_values::replication::Repl;
+use hdfs_values::who::Who;
+use permission_specs::acl_change::AclChange;
+use permission_specs::mode::Mode;
 use std::alloc::AllocError;
 
 /// What a request to the NameNode asks for, one variant a verb.

@@ -2,11 +2,11 @@ ghost use Rattle.std.specs.Prelude.{◌≡◌, Some, IfOk};
 ghost use Rattle.std.specs.String.{string_bytes};
 
 use crate::file::FileDetail;
-use file_paths::name::Name;
-use file_paths::path::Path;
-use hdfs_texts::fault::AclFault;
-use permission_bits::mode::Mode;
-use principal_names::who::Who;
+use hdfs_values::fault::AclFault;
+use hdfs_values::name::Name;
+use hdfs_values::path::Path;
+use hdfs_values::who::Who;
+use permission_specs::mode::Mode;
 use std::alloc::AllocError;
 use std::fmt;
 use std::marker::Model;

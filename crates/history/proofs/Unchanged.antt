@@ -1,6 +1,6 @@
 -- Entries that change nothing but the clock.
 use Rattle.std.proofs.Common.{◌≡◌, ℕ, true, false, ◌&&◌, List, ◌∷◌, Some, refl, ap, cond}
-use Rattle.hdfs_texts.specs.Text.{same}
+use Rattle.hdfs_values.specs.Text.{same}
 use Rattle.hdfs_types.specs.Request.{is_look}
 use Rattle.hdfs_types.specs.declared.op.Op.{Op}
 use Rattle.hdfs_types.specs.declared.op.Op.TheVariants.{Mkdirs, Stat, List as Lists, Summary, GetAcl, Delete, Rename, SetMode, SetOwner, SetAcl, AddUser, SetGroups, Create, Append, AddBlock, Complete, Open, SetReplication, Renew, Tick}

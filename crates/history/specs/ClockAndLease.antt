@@ -3,7 +3,7 @@
 -- (HDFS Architecture, the single-writer model; that a client is a user is this project's profile.)
 use Rattle.std.specs.Prelude.{ℕ, Bool, true, false, ◌&&◌, max, List, [], ◌∷◌, if◌then◌else◌, Option, Some, None}
 use Rattle.std.specs.Option.{option_map}
-use Rattle.hdfs_texts.specs.Text.{same}
+use Rattle.hdfs_values.specs.Text.{same}
 use Rattle.hdfs_types.specs.declared.op.Op.{Op}
 use Rattle.hdfs_types.specs.declared.op.Op.TheVariants as op
 use Rattle.hdfs_types.specs.declared.reply.Reply.{Reply}

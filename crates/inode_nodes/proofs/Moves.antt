@@ -6,10 +6,10 @@ use Rattle.std.proofs.lemmas.List.Elements.{filter-append}
 use Rattle.std.proofs.Math.Seq.{drop-append_seam}
 use Rattle.std.specs.List.{filter}
 use Rattle.std.specs.Ordering.{is_lt, is_gt, is_eq, ordering_then}
-use Rattle.hdfs_texts.specs.Text.{same, text_cmp}
-use Rattle.file_paths.specs.Path.{is_prefix}
-use Rattle.file_paths.specs.PathOrder.{path_cmp}
-use Rattle.hdfs_texts.proofs.Texts.{same_is, same_symm}
+use Rattle.hdfs_values.specs.Text.{same, text_cmp}
+use Rattle.hdfs_values.specs.Path.{is_prefix}
+use Rattle.hdfs_values.specs.PathOrder.{path_cmp}
+use Rattle.hdfs_values.proofs.Texts.{same_is, same_symm}
 use Rattle.namespace_rows.specs.declared.row.Row.{Row}
 use Rattle.namespace_rows.specs.First.{first}
 use Rattle.namespace_rows.specs.Rows.{is_before, is_beyond, is_none, is_missing, replaced}

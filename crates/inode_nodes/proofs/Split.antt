@@ -7,7 +7,7 @@ use Rattle.std.specs.List.{AllByRecursion}
 use Rattle.std.specs.List.Sorted.{IsStrictlySortedBy}
 use Rattle.std.specs.Map.{keys_of, lookup, set_value, remove_entry}
 use Rattle.std.specs.BTreeMap.{insert_entry, is_at}
-use Rattle.hdfs_texts.specs.Text.{text_cmp}
+use Rattle.hdfs_values.specs.Text.{text_cmp}
 
 abbrev pub R : List ℕ → List ℕ → Ordering
 R = text_cmp

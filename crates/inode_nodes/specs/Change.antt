@@ -1,6 +1,6 @@
 -- What a change of one branch leaves of the rows that it is a part of.
 use Rattle.std.specs.Prelude.{ℕ, Bool, true, List, [], ◌∷◌, ◌++◌, map, Option}
-use Rattle.access_lists.specs.Acl.{Acl}
+use Rattle.acl_entries.specs.Acl.{Acl}
 use Rattle.namespace_rows.specs.declared.file_row.FileRow.{FileRow}
 use Rattle.namespace_rows.specs.declared.row.Change.{Change}
 use Rattle.namespace_rows.specs.declared.row.Row.{Row}

@@ -1,7 +1,7 @@
 -- Which files are closed where only the clients are known whose leases are past the hard limit.
 use Rattle.std.specs.Prelude.{ℕ, Bool, false, List, [], map}
 use Rattle.std.specs.List.{list_any}
-use Rattle.hdfs_texts.specs.Text.{same}
+use Rattle.hdfs_values.specs.Text.{same}
 use Rattle.flat_rows.specs.FileOutcome.{LeaseFacts, closed_where_expired}
 use Rattle.inode_nodes.specs.Node.{Node, row_of, top_of}
 

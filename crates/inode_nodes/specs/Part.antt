@@ -1,7 +1,7 @@
 -- What a branch tells of the rows that it is a part of.
 use Rattle.std.specs.Prelude.{◌≡◌, ℕ, Bool, false, List, map, filter, Option}
 use Rattle.std.specs.declared.cmp.Ordering.TheVariants.{Less, Greater}
-use Rattle.hdfs_texts.specs.Text.{text_cmp}
+use Rattle.hdfs_values.specs.Text.{text_cmp}
 use Rattle.namespace_rows.specs.declared.row.Row.{Row}
 use Rattle.flat_rows.specs.Changes.{rows_under}
 use Rattle.inode_nodes.specs.Node.{Node, rows_or, under, placed}

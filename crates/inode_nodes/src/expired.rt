@@ -3,8 +3,8 @@ ghost use Rattle.flat_rows.specs.FileOutcome.{is_expired_file};
 ghost use Rattle.inode_nodes.specs.Expired.{past_hard};
 
 use hdfs_types::file::FileState;
+use hdfs_values::who::Who;
 use namespace_rows::file_row::FileRow;
-use principal_names::who::Who;
 
 /// Whether the file's holder is among the clients whose leases are past the hard limit, and the length of its last block is
 /// committed.

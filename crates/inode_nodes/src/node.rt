@@ -1,20 +1,20 @@
 ghost use Rattle.std.specs.Prelude.{◌≡◌, [], IfOk, IfSome};
 ghost use Rattle.std.specs.Option.{option_copied};
-ghost use Rattle.access_lists.specs.JudgedEntry.{judged_entry};
+ghost use Rattle.acl_entries.specs.JudgedEntry.{judged_entry};
 ghost use Rattle.namespace_rows.specs.Files.{holder_of_file};
 ghost use Rattle.flat_rows.specs.Outcome.{is_alone, kind_of_new};
 ghost use Rattle.inode_nodes.specs.Node.{rows};
 ghost use Rattle.inode_nodes.specs.Part.{IsPart, IsWhole};
 
-use access_lists::access_check::chosen;
-use access_lists::acl::Acl;
-use access_lists::deciding_entry::Chosen;
-use file_paths::name::Name;
+use acl_entries::access_check::chosen;
+use acl_entries::acl::Acl;
+use acl_entries::deciding_entry::Chosen;
 use hdfs_types::file::FileState;
 use hdfs_types::reply::ObjectKind;
+use hdfs_values::name::Name;
+use hdfs_values::who::Who;
 use namespace_rows::file_row::FileRow;
-use permission_bits::rights::Rights;
-use principal_names::who::Who;
+use permission_specs::rights::Rights;
 use std::alloc::{AllocError, Global};
 use std::collections::BTreeMap;
 use std::marker::Model;

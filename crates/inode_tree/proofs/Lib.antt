@@ -1,2 +1,4 @@
+pub mod Visits
+pub mod Limits
 pub mod Trees
 pub mod Asked

@@ -3,9 +3,9 @@ use Rattle.std.proofs.Common.{◌≡◌, ℕ, Bool, true, false, ◌||◌, not, 
 use Rattle.std.proofs.lemmas.Bool.{false≢true}
 use Rattle.std.proofs.lemmas.List.{append-nil}
 use Rattle.std.specs.declared.alloc.AllocError.{AllocError}
-use Rattle.file_paths.specs.Path.{IsPath, is_prefix}
+use Rattle.hdfs_values.specs.Path.{IsPath, is_prefix}
 use Rattle.hdfs_types.specs.declared.file.FileState.TheVariants.{Closed}
-use Rattle.access_lists.specs.Acl.{Acl, suits_file}
+use Rattle.acl_entries.specs.Acl.{Acl, suits_file}
 use Rattle.namespace_rows.specs.declared.file_row.FileRow.{FileRow}
 use Rattle.namespace_rows.specs.declared.row.Change.{Change}
 use Rattle.namespace_rows.specs.declared.row.Row.{Row}
@@ -23,7 +23,7 @@ use Rattle.flat_rows.proofs.Changes.{without_namespace, without_paths, replaced_
 use Rattle.inode_nodes.specs.Node.{Node, rows, row_of, placed, with_rows}
 use Rattle.inode_nodes.specs.Change.{grafted}
 use Rattle.inode_nodes.specs.Expired.{past_hard}
-use Rattle.inode_visits.specs.Tree.{IsTree}
+use Rattle.inode_tree.specs.Tree.{IsTree}
 use Rattle.inode_nodes.proofs.Through.{put_top, on_ok, on_err}
 
 pub sub_tree_tree : (block all : List Row) → fits all block ≡ true → are_paths block ≡ true → IsTree all → IsTree (with_sub_tree all block)

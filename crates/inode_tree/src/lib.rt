@@ -2,6 +2,8 @@
 //! File System Namespace").
 #![tactic(auto)]
 
+pub mod expired_holders;
+pub mod inode;
+pub mod limit;
 pub mod tree;
-
-pub use inode_visits::{inode, visit};
+pub mod visit;

@@ -1,7 +1,7 @@
 ghost use Rattle.std.specs.Prelude.{◌≡◌, [], ◌∷◌, ◌||◌, map, filter, not, None, IsTrue, IfOk, OnOk, OnErr};
 ghost use Rattle.std.specs.Option.{option_map};
-ghost use Rattle.file_paths.specs.Path.{is_prefix};
-ghost use Rattle.access_lists.specs.Acl.{suits_file};
+ghost use Rattle.hdfs_values.specs.Path.{is_prefix};
+ghost use Rattle.acl_entries.specs.Acl.{suits_file};
 ghost use Rattle.namespace_rows.specs.Opening.{root_row};
 ghost use Rattle.namespace_rows.specs.Rows.{row_at, is_directory_kind, is_missing, file_above, ancestor, with_sub_tree};
 ghost use Rattle.namespace_rows.specs.Namespace.{has_parent, is_root};
@@ -10,25 +10,25 @@ ghost use Rattle.flat_rows.specs.FileOutcome.{is_expired, closed_where_expired};
 ghost use Rattle.flat_rows.specs.Outcome.{is_alone, kind_of_new, with_new};
 ghost use Rattle.flat_rows.specs.Changes.{rows_under, without, moved_row, moved, rewritten, suits_change, are_paths, child_names};
 ghost use Rattle.namespace_rows.specs.First.{first};
-ghost use Rattle.inode_visits.specs.Visits.{counts_of, is_closed};
+ghost use Rattle.inode_tree.specs.Visits.{counts_of, is_closed};
 ghost use Rattle.inode_nodes.specs.Node.{rows, row_of};
 ghost use Rattle.inode_nodes.specs.Expired.{past_hard};
 ghost use Rattle.inode_nodes.specs.Part.{IsWhole};
-ghost use Rattle.inode_visits.specs.Tree.{branch_at, IsTree};
+ghost use Rattle.inode_tree.specs.Tree.{branch_at, IsTree};
 
-use access_lists::acl::Acl;
-use file_paths::name::Name;
-use file_paths::path::Path;
+use crate::inode::Inode;
+use crate::visit::{self, Counts};
+use crate::{expired_holders, limit};
+use acl_entries::acl::Acl;
 use hdfs_types::reply::ObjectKind;
+use hdfs_values::name::Name;
+use hdfs_values::path::Path;
+use hdfs_values::who::Who;
 use inode_nodes::node::Node;
-use inode_visits::inode::Inode;
-use inode_visits::visit::{self, Counts};
-use inode_visits::{expired_holders, limit};
 use namespace_rows::file_row::FileRow;
 use namespace_rows::row::{Change, Row};
-use permission_bits::mode::Mode;
-use permission_bits::rights::Rights;
-use principal_names::who::Who;
+use permission_specs::mode::Mode;
+use permission_specs::rights::Rights;
 use std::alloc::{AllocError, Global};
 use std::marker::Model;
 
@@ -45,7 +45,7 @@ impl Model for Tree {
     ghost use Rattle.std.specs.Prelude.{List};
     ghost use Rattle.namespace_rows.specs.declared.row.Row.{Row};
     ghost use Rattle.inode_nodes.specs.Node.{rows};
-    ghost use Rattle.inode_visits.specs.Tree.{IsTree};
+    ghost use Rattle.inode_tree.specs.Tree.{IsTree};
 
     ghost Value = { List Row };
 

@@ -2,7 +2,7 @@
 use Rattle.std.proofs.Common.{◌≡◌, ℕ, ◌≤◌, Bool, true, false, cond, List, [], ◌∷◌, ◌++◌, filter, max, not, sym, subst, arith}
 use Rattle.std.specs.List.{AllByRecursion, IsDistinct}
 use Rattle.std.specs.Map.{keys_of}
-use Rattle.hdfs_texts.specs.Text.{same}
+use Rattle.hdfs_values.specs.Text.{same}
 use Rattle.lease_manager.specs.Leases.{Renewal, renewals_without, renewals_with, latest_moment, AreInOrder, AreRenewals}
 use Rattle.lease_manager.specs.Shown.{renewals_of}
 use Rattle.lease_manager.proofs.Renewals.{Entries, are_renewals}

@@ -7,8 +7,8 @@ use Rattle.std.specs.Option.{option_map}
 use Rattle.indexmap.specs.IndexMap.{insert_entry, set_value_at, move_index}
 use Rattle.indexmap.specs.Layout.{length-set_value_at}
 use Rattle.indexmap.proofs.RemoveLemmas.{moved_last}
-use Rattle.hdfs_texts.proofs.Texts.{same_is, same_self, same_symm}
-use Rattle.hdfs_texts.specs.Text.{same}
+use Rattle.hdfs_values.proofs.Texts.{same_is, same_self, same_symm}
+use Rattle.hdfs_values.specs.Text.{same}
 use Rattle.lease_manager.specs.Leases.{Renewal, AreInOrder, AreRenewals, clients, renewals_without, renewals_with, renewal_of}
 use Rattle.lease_manager.specs.Shown.{renewals_of}
 

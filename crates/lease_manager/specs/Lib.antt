@@ -1,2 +1,3 @@
 pub mod Leases
 pub mod Shown
+pub mod Writers

@@ -1,16 +1,16 @@
 ghost use Rattle.std.specs.Prelude.{◌≡◌, ◌≤◌, nat_lt, not, [], None, OnOk, OnErr, IfErr, IsOk, IsSome, is_some};
 ghost use Rattle.std.specs.Bool.{MatchBool};
 ghost use Rattle.std.specs.List.{position_or_len};
-ghost use Rattle.hdfs_texts.specs.Text.{same};
+ghost use Rattle.hdfs_values.specs.Text.{same};
 ghost use Rattle.hdfs_types.specs.declared.reply.Refusal.TheVariants.{NoLease};
 ghost use Rattle.indexmap.specs.IndexMap.{IsUnique};
 ghost use Rattle.lease_manager.specs.Leases as spec;
 ghost use Rattle.lease_manager.specs.Shown.{renewals_of};
 
-use block_numbers::moment::Moment;
 use hdfs_types::reply::Refusal;
+use hdfs_values::moment::Moment;
+use hdfs_values::who::Who;
 use indexmap::IndexMap;
-use principal_names::who::Who;
 use std::alloc::{AllocError, Global};
 use std::marker::Model;
 

@@ -1,4 +1,8 @@
-//! Leases of clients on the files that they have open, by their last renewals.
+//! Leases of clients on the files that they have open, by their last renewals: how many files each client has open, and hints of
+//! where they are.
 #![tactic(auto)]
 
 pub mod leases;
+pub mod open_files;
+pub mod open_paths;
+pub mod writers;

@@ -1,10 +1,10 @@
 ghost use Rattle.std.specs.Prelude.{◌≡◌, ◌≤◌, ◌^◌};
 ghost use Rattle.lease_manager.specs.Leases.{latest_moment};
 
-use block_numbers::moment::Moment;
 use hdfs_types::reply::Refusal;
+use hdfs_values::moment::Moment;
+use hdfs_values::who::Who;
 use lease_manager::leases::{LeaseState, Leases};
-use principal_names::who::Who;
 use std::alloc::Global;
 
 const SOFT: u32 = 60_000;

@@ -1,6 +1,6 @@
-use acl_entries::spec_text::parse_spec;
-use acl_specs::spec::Spec;
-use hdfs_texts::fault::ParseFault;
+use hdfs_values::fault::ParseFault;
+use permission_specs::spec::Spec;
+use permission_specs::spec_text::parse_spec;
 use std::alloc::{AllocError, Global};
 
 // A test is one assertion on what a helper answers of a table, or out of memory is a wrong answer: what each `?` of a test would

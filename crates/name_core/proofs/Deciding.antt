@@ -11,7 +11,7 @@ use Rattle.write_rules.specs.Judged.{verdict_under, takeover, IsJudged}
 use Rattle.history.specs.ClockAndLease.{is_live, state_at}
 use Rattle.history.specs.Laws.{is_done}
 use Rattle.name_core.specs.declared.namesystem.Namesystem.{Namesystem}
-use Rattle.file_writers.specs.Writers.{moment_of}
+use Rattle.lease_manager.specs.Writers.{moment_of}
 use Rattle.file_effects.specs.Effected.{IsExact, IsFree}
 use Rattle.name_core.specs.Performed.{facts_of}
 use Rattle.name_core.proofs.Performing.{done_free, lease_is}

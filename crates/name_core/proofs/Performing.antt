@@ -1,7 +1,7 @@
 -- What a request leaves, from what its parts leave.
 use Rattle.std.proofs.Common.{◌≡◌, ◌≢◌, ℕ, ◌<◌, Bool, true, false, ◌&&◌, not, nat_lt, List, length, Option, Some, None, arith, refl, sym, ap, ◌∙◌, subst, cond}
 use Rattle.std.proofs.lemmas.Bool.{lt-ltb}
-use Rattle.hdfs_texts.specs.Text.{same}
+use Rattle.hdfs_values.specs.Text.{same}
 use Rattle.hdfs_types.specs.Request.{keeps_leases}
 use Rattle.hdfs_types.specs.declared.op.Op.{Op}
 use Rattle.hdfs_types.specs.declared.op.Op.TheVariants as op
@@ -28,8 +28,8 @@ use Rattle.history.proofs.OpenFiles.{any_counted}
 use Rattle.file_effects.proofs.Effects.{no_facts}
 use Rattle.name_core.specs.declared.namesystem.Namesystem.{Namesystem}
 use Rattle.name_core.specs.declared.told.Told.{Told}
-use Rattle.file_writers.specs.declared.writers.Writers.{Writers}
-use Rattle.file_writers.specs.Writers.{count_of, moment_of, IsLeased, renewed_at}
+use Rattle.lease_manager.specs.declared.writers.Writers.{Writers}
+use Rattle.lease_manager.specs.Writers.{count_of, moment_of, IsLeased, renewed_at}
 use Rattle.name_core.specs.Told.{IsTold, is_empty, is_plain}
 use Rattle.file_effects.specs.Effected.{IsExact, IsEffected, renewed_where}
 use Rattle.name_core.specs.Performed.{IsPerformed, IsUndone, facts_of}

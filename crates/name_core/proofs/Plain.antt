@@ -1,6 +1,6 @@
 -- Operations that leave leases as they are.
 use Rattle.std.proofs.Common.{◌≡◌, ℕ, true, false, ◌&&◌, List, length, nat_lt, Option, Some, None, refl, sym, ap, ◌∙◌, cond}
-use Rattle.hdfs_texts.specs.Text.{same}
+use Rattle.hdfs_values.specs.Text.{same}
 use Rattle.hdfs_types.specs.Request.{keeps_leases}
 use Rattle.hdfs_types.specs.declared.op.Op.{Op}
 use Rattle.hdfs_types.specs.declared.op.Op.TheVariants as op
@@ -17,8 +17,8 @@ use Rattle.flat_rows.specs.FileOutcome.{LeaseFacts}
 use Rattle.flat_rows.specs.Outcome.{Step, step, first_refusal, denied_or_outcome, refused_or_done, reply_of}
 use Rattle.flat_rows.proofs.Keeping.{kept_open}
 use Rattle.history.specs.ClockAndLease.{renews}
-use Rattle.file_writers.specs.declared.writers.Writers.{Writers}
-use Rattle.file_writers.specs.Writers.{count_of}
+use Rattle.lease_manager.specs.declared.writers.Writers.{Writers}
+use Rattle.lease_manager.specs.Writers.{count_of}
 use Rattle.name_core.specs.Told.{is_plain}
 use Rattle.file_effects.specs.Effected.{IsExact, renewed_where}
 

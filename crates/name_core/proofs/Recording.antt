@@ -11,7 +11,7 @@ use Rattle.name_core.specs.declared.namenode.NameCore.TheInside.{Inside}
 use Rattle.name_core.specs.declared.told.Told.{Told}
 use Rattle.name_core.specs.NameCore.{Steps}
 use Rattle.name_core.specs.Kept.{IsKept, core_of, entries_of}
-use Rattle.file_writers.specs.Writers.{moment_of}
+use Rattle.lease_manager.specs.Writers.{moment_of}
 use Rattle.file_effects.specs.Effected.{IsExact}
 use Rattle.name_core.specs.Performed.{IsPerformed, IsUndone}
 use Rattle.name_core.proofs.Keeping.{Adds, steps_is}

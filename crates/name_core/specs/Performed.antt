@@ -4,7 +4,7 @@ use Rattle.hdfs_types.specs.declared.op.Request.{Request}
 use Rattle.flat_rows.specs.FileOutcome.{LeaseFacts}
 use Rattle.flat_rows.specs.Outcome.{step}
 use Rattle.history.specs.ClockAndLease.{renews, lease_in, facts_at}
-use Rattle.file_writers.specs.Writers.{IsAlike}
+use Rattle.lease_manager.specs.Writers.{IsAlike}
 use Rattle.file_effects.specs.Effected.{IsExact, renewed_where}
 use Rattle.name_core.specs.declared.namesystem.Namesystem.{Namesystem}
 use Rattle.name_core.specs.declared.told.Told.{Told}

@@ -1,22 +1,22 @@
 ghost use Rattle.std.specs.Prelude.{◌≡◌, ◌<◌, ◌++◌, [], ◌∷◌, length, reverse, true, vec_len, vec_capacity, IfOk, OnErr};
 ghost use Rattle.hdfs_types.specs.Request.{is_look};
-ghost use Rattle.principal_names.specs.Who.{IsWho};
+ghost use Rattle.hdfs_values.specs.Who.{IsWho};
 ghost use Rattle.history.specs.LegalHistory.{IsLegal};
 ghost use Rattle.history.specs.State.{rows_of, users_of};
 ghost use Rattle.name_core.specs.NameCore.{Steps, Looks};
 
 use crate::namesystem::{Namesystem, perform};
 use crate::told::Told;
-use block_numbers::moment::Moment;
-use file_writers::open_paths::OpenPaths;
-use file_writers::writers::Writers;
 use fs_operations::apply::answer_look;
-use hdfs_texts::fault::ParseFault;
 use hdfs_types::op::Request;
+use hdfs_values::fault::ParseFault;
+use hdfs_values::moment::Moment;
+use hdfs_values::who::Who;
 use history::config::Config;
 use history::entry::{Answer, HistoryEntry};
 use inode_tree::tree::Tree;
-use principal_names::who::Who;
+use lease_manager::open_paths::OpenPaths;
+use lease_manager::writers::Writers;
 use principals::users::Users;
 use std::alloc::{AllocError, Global};
 use std::marker::Model;

@@ -3,7 +3,7 @@
 use Rattle.std.specs.Prelude.{ℕ, ◌+◌, ◌-◌, ◌^◌, Bool, true, false, ◌&&◌, nat_lt, not, if◌then◌else◌, List, [], ◌∷◌, filter, length, is_some, Option, Some, None, unwrap_or}
 use Rattle.std.specs.List.{list_any, flat_map, slice_get}
 use Rattle.std.specs.Option.{option_to_list}
-use Rattle.hdfs_texts.specs.Text.{same}
+use Rattle.hdfs_values.specs.Text.{same}
 use Rattle.hdfs_types.specs.declared.file.FileState.{FileState}
 use Rattle.hdfs_types.specs.declared.file.FileState.TheVariants.{Closed, Open, Recovering}
 use Rattle.namespace_rows.specs.declared.file_row.FileBlock.{FileBlock}

@@ -1,7 +1,7 @@
 -- What an entry of a row's access list says of a caller.
 use Rattle.std.specs.Prelude.{ℕ, List}
-use Rattle.permission_bits.specs.declared.rights.Rights as bits
-use Rattle.access_lists.specs.JudgedEntry.{Chosen, judged_entry}
+use Rattle.permission_specs.specs.declared.rights.Rights as bits
+use Rattle.acl_entries.specs.JudgedEntry.{Chosen, judged_entry}
 use Rattle.namespace_rows.specs.declared.row.Row.{Row}
 
 -- the entry of the row that decides for a caller with these groups

@@ -1,10 +1,10 @@
 ghost use Rattle.std.specs.Prelude.{◌≡◌, ◌<◌, ◌^◌, [], ◌∷◌, ◌++◌, None, IfOk, MatchOption};
 ghost use Rattle.namespace_rows.specs.Files as spec;
 
-use block_numbers::ids::BlockId;
-use block_numbers::replication::Repl;
 use hdfs_types::file::FileState;
-use principal_names::who::Who;
+use hdfs_values::ids::BlockId;
+use hdfs_values::replication::Repl;
+use hdfs_values::who::Who;
 use std::alloc::{AllocError, Global};
 use std::marker::Model;
 

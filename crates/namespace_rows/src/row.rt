@@ -3,15 +3,15 @@ ghost use Rattle.namespace_rows.specs.Rows as spec;
 ghost use Rattle.namespace_rows.specs.Judgement.{judgement};
 
 use crate::file_row::FileRow;
-use access_lists::access_check::chosen;
-use access_lists::acl::Acl;
-use access_lists::deciding_entry::Chosen;
-use block_numbers::replication::Repl;
-use file_paths::path::Path;
+use acl_entries::access_check::chosen;
+use acl_entries::acl::Acl;
+use acl_entries::deciding_entry::Chosen;
 use hdfs_types::file::FileState;
 use hdfs_types::reply::ObjectKind;
-use permission_bits::rights::Rights;
-use principal_names::who::Who;
+use hdfs_values::path::Path;
+use hdfs_values::replication::Repl;
+use hdfs_values::who::Who;
+use permission_specs::rights::Rights;
 use std::alloc::AllocError;
 
 /// A file or a directory, by its path (HDFS Architecture, "The File System Namespace").

@@ -6,12 +6,12 @@ use Rattle.std.specs.Option.{option_map_or, is_some}
 use Rattle.std.proofs.lemmas.Bool.Decides.{nat_tests}
 use Rattle.std.proofs.lemmas.Nat.{or_lt, and_le_l}
 use Rattle.std.specs.Int.RustNames.{bit_and, bit_or}
-use Rattle.acl_specs.specs.declared.entry.Scope.TheVariants.{Access}
-use Rattle.permission_bits.specs.declared.rights.Rights.{Rights}
-use Rattle.access_lists.specs.declared.entry_list.NamedEntry.{NamedEntry}
-use Rattle.access_lists.specs.declared.entry_list.Bases.{Bases}
-use Rattle.access_lists.specs.Kept.{list_of_parts}
-use Rattle.access_lists.specs.Acl.{EntryList, base_entries, intersection, union, union_of_named, union_of_group_class, has_named, entries_in, mask_entries, fits_in_scope, ascend, grant_rights, are_rights, are_bases, IsEntryList}
+use Rattle.permission_specs.specs.declared.entry.Scope.TheVariants.{Access}
+use Rattle.permission_specs.specs.declared.rights.Rights.{Rights}
+use Rattle.acl_entries.specs.declared.entry_list.NamedEntry.{NamedEntry}
+use Rattle.acl_entries.specs.declared.entry_list.Bases.{Bases}
+use Rattle.acl_entries.specs.Kept.{list_of_parts}
+use Rattle.acl_entries.specs.Acl.{EntryList, base_entries, intersection, union, union_of_named, union_of_group_class, has_named, entries_in, mask_entries, fits_in_scope, ascend, grant_rights, are_rights, are_bases, IsEntryList}
 use Rattle.partial_acl.specs.AclChange.{PartialList, completed_list, with_bases_of, as_kept}
 use Rattle.partial_acl.specs.Answers.{IsPartialList, named_count}
 use Rattle.partial_acl.proofs.Tests.{both, and}

@@ -6,13 +6,13 @@ use Rattle.std.specs.Option.{option_map_or, option_map}
 use Rattle.std.specs.Ordering.{is_gt, is_lt, ordering_reverse}
 use Rattle.std.proofs.lemmas.Cmp.{nat_list_cmp_total}
 use Rattle.std.proofs.lemmas.Option.{slice_get_within}
-use Rattle.hdfs_texts.specs.Text.{same, text_cmp}
-use Rattle.hdfs_texts.proofs.Texts.{same_is}
-use Rattle.acl_specs.specs.declared.entry.Entry.{Entry}
-use Rattle.acl_specs.specs.declared.entry.EntryKind.{EntryKind}
-use Rattle.acl_specs.specs.declared.entry.Scope.{Scope}
-use Rattle.access_lists.specs.declared.entry_list.NamedEntry.{NamedEntry}
-use Rattle.access_lists.specs.Acl.{ascend, grant_rights, are_rights}
+use Rattle.hdfs_values.specs.Text.{same, text_cmp}
+use Rattle.hdfs_values.proofs.Texts.{same_is}
+use Rattle.permission_specs.specs.declared.entry.Entry.{Entry}
+use Rattle.permission_specs.specs.declared.entry.EntryKind.{EntryKind}
+use Rattle.permission_specs.specs.declared.entry.Scope.{Scope}
+use Rattle.acl_entries.specs.declared.entry_list.NamedEntry.{NamedEntry}
+use Rattle.acl_entries.specs.Acl.{ascend, grant_rights, are_rights}
 use Rattle.partial_acl.specs.AclChange.{with_entry, with_each, is_for, with_name, named_in, granted_by}
 use Rattle.partial_acl.proofs.Tests.{both, and}
 

@@ -6,26 +6,26 @@ use Rattle.std.specs.Prelude.{ℕ, ◌%◌, Bool, true, false, not, ◌&&◌, �
 use Rattle.std.specs.List.{list_any, find, fold, filter_map}
 use Rattle.std.specs.Option.{is_some, is_none, option_map, option_map_or, option_or}
 use Rattle.std.specs.Ordering.{is_lt}
-use Rattle.hdfs_texts.specs.Text.{same, text_cmp}
-use Rattle.permission_bits.specs.Mode.{user_bits, group_bits, other_bits}
-use Rattle.permission_bits.specs.Rights.{rights}
-use Rattle.acl_specs.specs.Spec.{same_scope, same_kind}
-use Rattle.permission_bits.specs.declared.rights.Rights.{Rights}
-use Rattle.acl_specs.specs.declared.entry.Entry.{Entry}
-use Rattle.acl_specs.specs.declared.entry.EntryKind.{EntryKind}
-use Rattle.acl_specs.specs.declared.entry.EntryKind.TheVariants.{User, Group, Mask, Other}
-use Rattle.acl_specs.specs.declared.entry.Scope.{Scope}
-use Rattle.acl_specs.specs.declared.entry.Scope.TheVariants.{Access, Default}
-use Rattle.acl_specs.specs.declared.acl_change.AclChange.{AclChange}
-use Rattle.acl_specs.specs.declared.acl_change.AclChange.TheVariants.{Set, Modify, Remove, RemoveDefault, Clear}
-use Rattle.hdfs_texts.specs.declared.fault.AclFault.{AclFault}
-use Rattle.hdfs_texts.specs.declared.fault.AclFault.TheVariants.{DefaultOnFile, NoBase, BaseRemoved, MaskRemoved}
+use Rattle.hdfs_values.specs.Text.{same, text_cmp}
+use Rattle.permission_specs.specs.Mode.{user_bits, group_bits, other_bits}
+use Rattle.permission_specs.specs.Rights.{rights}
+use Rattle.permission_specs.specs.Spec.{same_scope, same_kind}
+use Rattle.permission_specs.specs.declared.rights.Rights.{Rights}
+use Rattle.permission_specs.specs.declared.entry.Entry.{Entry}
+use Rattle.permission_specs.specs.declared.entry.EntryKind.{EntryKind}
+use Rattle.permission_specs.specs.declared.entry.EntryKind.TheVariants.{User, Group, Mask, Other}
+use Rattle.permission_specs.specs.declared.entry.Scope.{Scope}
+use Rattle.permission_specs.specs.declared.entry.Scope.TheVariants.{Access, Default}
+use Rattle.permission_specs.specs.declared.acl_change.AclChange.{AclChange}
+use Rattle.permission_specs.specs.declared.acl_change.AclChange.TheVariants.{Set, Modify, Remove, RemoveDefault, Clear}
+use Rattle.hdfs_values.specs.declared.fault.AclFault.{AclFault}
+use Rattle.hdfs_values.specs.declared.fault.AclFault.TheVariants.{DefaultOnFile, NoBase, BaseRemoved, MaskRemoved}
 use Rattle.hdfs_types.specs.declared.reply.ObjectKind.{ObjectKind}
 use Rattle.hdfs_types.specs.declared.reply.ObjectKind.TheVariants.{File, Directory}
 use Rattle.hdfs_types.specs.declared.reply.Refusal.{Refusal}
 use Rattle.hdfs_types.specs.declared.reply.Refusal.TheVariants.{BadAcl, TooManyEntries}
-use Rattle.access_lists.specs.declared.entry_list.NamedEntry.{NamedEntry}
-use Rattle.access_lists.specs.Acl.{Acl, EntryList, base_entries, intersection, union_of_group_class, has_named, fits_in_scope, has_sticky_bit}
+use Rattle.acl_entries.specs.declared.entry_list.NamedEntry.{NamedEntry}
+use Rattle.acl_entries.specs.Acl.{Acl, EntryList, base_entries, intersection, union_of_group_class, has_named, fits_in_scope, has_sticky_bit}
 
 -- ── what a spec says of a scope ──
 

@@ -3,7 +3,7 @@ use Rattle.std.specs.Prelude.{◌≡◌, ℕ, ◌+◌, Bool, true, false, ◌&&�
 use Rattle.std.specs.Option.{option_map_or}
 use Rattle.hdfs_types.specs.declared.reply.Refusal.{Refusal}
 use Rattle.hdfs_types.specs.declared.reply.Refusal.TheVariants.{TooManyEntries}
-use Rattle.access_lists.specs.Acl.{Acl, EntryList, IsEntryList, fits_in_scope, ascend, grant_rights, are_rights}
+use Rattle.acl_entries.specs.Acl.{Acl, EntryList, IsEntryList, fits_in_scope, ascend, grant_rights, are_rights}
 use Rattle.partial_acl.specs.declared.fault.AclChangeFault.{AclChangeFault}
 use Rattle.partial_acl.specs.declared.fault.AclChangeFault.TheVariants.{Refused, OutOfMemory}
 use Rattle.partial_acl.specs.AclChange.{PartialList}

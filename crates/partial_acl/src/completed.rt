@@ -1,15 +1,15 @@
 ghost use Rattle.std.specs.Prelude.{◌≡◌, ◌+◌, nat_le, true, Some, length, unwrap_or, IfOk, IsTrue};
 ghost use Rattle.std.specs.Option.{option_map_or};
-ghost use Rattle.access_lists.specs.Acl.{IsEntryList, union_of_named, are_rights};
+ghost use Rattle.acl_entries.specs.Acl.{IsEntryList, union_of_named, are_rights};
 ghost use Rattle.partial_acl.specs.Answers.{Makes, IsPartialList};
 ghost use Rattle.partial_acl.specs.AclChange as definition;
 
 use crate::fault::AclChangeFault;
 use crate::partial::PartialList;
-use access_lists::entry_list::{Bases, EntryList, NamedEntry};
+use acl_entries::entry_list::{Bases, EntryList, NamedEntry};
 use bitflags::Flags;
 use hdfs_types::reply::Refusal;
-use permission_bits::rights::Rights;
+use permission_specs::rights::Rights;
 use std::alloc::{AllocError, Global};
 
 /// The most named entries that stand in a scope beside the four others: of owner, owning group, mask and all others.

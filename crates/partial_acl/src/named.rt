@@ -2,16 +2,16 @@ ghost use Rattle.std.specs.Prelude.{◌≡◌, ◌<◌, ◌≤◌, ◌&&◌, fal
 ghost use Rattle.std.specs.List.{list_any, prefix_len, slice_get};
 ghost use Rattle.std.specs.Ordering.{is_gt};
 ghost use Rattle.std.specs.Option.{option_map_or};
-ghost use Rattle.hdfs_texts.specs.Text.{same, text_cmp};
+ghost use Rattle.hdfs_values.specs.Text.{same, text_cmp};
 ghost use Rattle.partial_acl.specs.AclChange as definition;
 ghost use Rattle.partial_acl.specs.Answers.{IfChangeRefused};
 
 use crate::fault::AclChangeFault;
 use crate::scope::{granted_by, is_for};
-use access_lists::entry_list::NamedEntry;
-use acl_specs::entry::{Entry, EntryKind, Scope};
+use acl_entries::entry_list::NamedEntry;
 use hdfs_types::reply::Refusal;
-use principal_names::who::Who;
+use hdfs_values::who::Who;
+use permission_specs::entry::{Entry, EntryKind, Scope};
 use std::alloc::{AllocError, Global};
 
 /// The most entries that a scope has.

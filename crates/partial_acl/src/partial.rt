@@ -1,15 +1,15 @@
 ghost use Rattle.std.specs.Prelude.{◌≡◌, ◌<◌, nat_lt, IfOk};
-ghost use Rattle.access_lists.specs.Acl.{IsEntryList};
+ghost use Rattle.acl_entries.specs.Acl.{IsEntryList};
 ghost use Rattle.partial_acl.specs.Answers.{IfChangeRefused, named_count};
 ghost use Rattle.partial_acl.specs.AclChange as definition;
 
 use crate::fault::AclChangeFault;
 use crate::named::{copies, put_each, without};
 use crate::scope::{given, has_base};
-use access_lists::entry_list::{EntryList, NamedEntry};
-use acl_specs::entry::{Entry, EntryKind, Scope};
+use acl_entries::entry_list::{EntryList, NamedEntry};
 use hdfs_types::reply::Refusal;
-use permission_bits::rights::Rights;
+use permission_specs::entry::{Entry, EntryKind, Scope};
+use permission_specs::rights::Rights;
 use std::alloc::{AllocError, Global};
 use std::marker::Model;
 

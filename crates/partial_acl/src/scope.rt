@@ -1,12 +1,12 @@
 ghost use Rattle.std.specs.Prelude.{◌≡◌};
 ghost use Rattle.std.specs.List.{find};
 ghost use Rattle.std.specs.Option.{option_copied};
-ghost use Rattle.acl_specs.specs.Spec as spec;
+ghost use Rattle.permission_specs.specs.Spec as spec;
 ghost use Rattle.partial_acl.specs.AclChange as definition;
 
-use acl_specs::entry::{Entry, EntryKind, Scope};
 use bitflags::Flags;
-use permission_bits::rights::Rights;
+use permission_specs::entry::{Entry, EntryKind, Scope};
+use permission_specs::rights::Rights;
 
 /// Whether an entry stands in a scope.
 fn is_in(entry: &Entry, scope: Scope) -> bool

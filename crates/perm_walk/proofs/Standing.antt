@@ -1,7 +1,7 @@
 -- What has a path suits its kind, and what stands against a verb on a file there.
 use Rattle.std.proofs.Common.{◌≡◌, ℕ, Bool, true, false, List, cond, Option, Some, None, refl, ap, ◌∙◌}
 use Rattle.std.specs.Option.{option_or}
-use Rattle.file_paths.specs.PathOrder.{same_path}
+use Rattle.hdfs_values.specs.PathOrder.{same_path}
 use Rattle.hdfs_types.specs.declared.reply.ObjectKind.{ObjectKind}
 use Rattle.hdfs_types.specs.declared.reply.ObjectKind.TheVariants.{File, Directory}
 use Rattle.hdfs_types.specs.declared.reply.Refusal.{Refusal}
@@ -14,7 +14,7 @@ use Rattle.flat_rows.specs.FileOutcome.{directory_there}
 use Rattle.flat_rows.specs.Outcome.{first_some, beneath_file, nothing_at, refusal_of_missing, refusals_of_file}
 use Rattle.flat_rows.proofs.Firsts.{first_passes}
 use Rattle.namespace_rows.proofs.Namespaces.{namespace_tests}
-use Rattle.inode_visits.specs.Tree.{IsTree}
+use Rattle.inode_tree.specs.Tree.{IsTree}
 
 -- a file and no directory has what files alone have
 pub no_directory : (row : Row) (file : FileRow) → suits_kind row ≡ true → row.file ≡ Some file → is_directory row ≡ false

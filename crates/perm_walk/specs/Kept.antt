@@ -1,7 +1,7 @@
 -- How the types of this crate are seen.
 use Rattle.namespace_rows.specs.declared.row.Row.{Row}
 use Rattle.inode_nodes.specs.Node.{row_of}
-use Rattle.inode_visits.specs.Tree.{branch_at}
+use Rattle.inode_tree.specs.Tree.{branch_at}
 use Rattle.perm_walk.specs.declared.component.Component.TheInside.{Inside}
 
 abbrev pub row_at_top : Inside → Row

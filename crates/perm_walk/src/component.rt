@@ -1,8 +1,8 @@
-use file_paths::name::Name;
-use file_paths::path::Path;
-use inode_visits::inode::Inode;
+use hdfs_values::name::Name;
+use hdfs_values::path::Path;
+use hdfs_values::who::Who;
+use inode_tree::inode::Inode;
 use namespace_rows::row::Row;
-use principal_names::who::Who;
 use std::alloc::{AllocError, Global};
 use std::marker::Model;
 
@@ -18,7 +18,7 @@ impl<'a> Model for Component<'a> {
 
     ghost Value = { Row };
 
-    ghost use Rattle.file_paths.specs.Path.{IsPath};
+    ghost use Rattle.hdfs_values.specs.Path.{IsPath};
     ghost use Rattle.perm_walk.specs.Kept.{row_at_top};
 
     ghost view = { row_at_top };
@@ -28,9 +28,9 @@ impl<'a> Model for Component<'a> {
 
 impl<'a> Component<'a> {
     ghost use Rattle.std.specs.Prelude.{◌≡◌, IfOk};
-    ghost use Rattle.file_paths.specs.Path.{IsPath};
+    ghost use Rattle.hdfs_values.specs.Path.{IsPath};
     ghost use Rattle.inode_nodes.specs.Node.{row_of};
-    ghost use Rattle.inode_visits.specs.Tree.{branch_at};
+    ghost use Rattle.inode_tree.specs.Tree.{branch_at};
 
     pub fn new(path: &'a [Name], inode: Inode<'a>) -> Component<'a>
         requires { IsPath path.now }

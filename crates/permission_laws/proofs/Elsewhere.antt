@@ -4,15 +4,15 @@ use Rattle.std.specs.Prelude.{filter, unwrap_or, Result, Ok, Err}
 use Rattle.std.specs.List.{list_all, list_any}
 use Rattle.std.specs.Option.{option_map}
 use Rattle.std.proofs.lemmas.List.{take-append-drop}
-use Rattle.acl_specs.specs.declared.acl_change.AclChange.{AclChange}
-use Rattle.file_paths.specs.Path.{is_prefix, is_beneath}
-use Rattle.file_paths.specs.PathOrder.{same_path}
+use Rattle.permission_specs.specs.declared.acl_change.AclChange.{AclChange}
+use Rattle.hdfs_values.specs.Path.{is_prefix, is_beneath}
+use Rattle.hdfs_values.specs.PathOrder.{same_path}
 use Rattle.hdfs_types.specs.declared.op.Op.{Op}
 use Rattle.hdfs_types.specs.declared.op.Op.TheVariants as op
 use Rattle.hdfs_types.specs.declared.file.FileState.TheVariants.{Closed}
 use Rattle.hdfs_types.specs.declared.reply.Refusal.{Refusal}
 use Rattle.hdfs_types.specs.declared.reply.Refusal.TheVariants.{IsDirectory}
-use Rattle.access_lists.specs.Acl.{Acl}
+use Rattle.acl_entries.specs.Acl.{Acl}
 use Rattle.partial_acl.specs.AclChange.{acl_change, with_mode}
 use Rattle.principals.specs.Users.{Users}
 use Rattle.namespace_rows.specs.declared.file_row.FileRow.{FileRow}

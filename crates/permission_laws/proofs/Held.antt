@@ -2,13 +2,13 @@
 use Rattle.std.proofs.Common.{◌≡◌, ℕ, Bool, true, false, ◌&&◌, ◌||◌, not, List, [], ◌∷◌, ◌++◌, Option, Some, None, map, refl, sym, ap, ◌∙◌, cond}
 use Rattle.std.specs.Prelude.{unwrap_or, filter}
 use Rattle.std.specs.Option.{option_map, option_to_list}
-use Rattle.hdfs_texts.specs.Text.{same}
-use Rattle.hdfs_texts.proofs.Texts.{same_is}
-use Rattle.permission_bits.specs.Rights.{rights}
-use Rattle.permission_bits.specs.declared.rights.Rights as bits
-use Rattle.principal_names.specs.Groups.{has_group}
-use Rattle.file_paths.specs.Path.{is_prefix}
-use Rattle.file_paths.specs.PathOrder.{same_path}
+use Rattle.hdfs_values.specs.Text.{same}
+use Rattle.hdfs_values.proofs.Texts.{same_is}
+use Rattle.permission_specs.specs.Rights.{rights}
+use Rattle.permission_specs.specs.declared.rights.Rights as bits
+use Rattle.hdfs_values.specs.Groups.{has_group}
+use Rattle.hdfs_values.specs.Path.{is_prefix}
+use Rattle.hdfs_values.specs.PathOrder.{same_path}
 use Rattle.hdfs_types.specs.declared.op.Op.{Op}
 use Rattle.hdfs_types.specs.declared.op.Op.TheVariants as op
 use Rattle.hdfs_types.specs.declared.file.FileState.{FileState}
@@ -16,7 +16,7 @@ use Rattle.hdfs_types.specs.declared.file.FileState.TheVariants.{Closed, Open, R
 use Rattle.hdfs_types.specs.declared.reply.Refusal.{Refusal}
 use Rattle.hdfs_types.specs.declared.reply.Refusal.TheVariants.{IsDirectory, NoLease, TooFewNodes}
 use Rattle.principals.specs.Users.{Users, Caller, caller_of, groups_of, is_super}
-use Rattle.access_lists.specs.Acl.{Acl}
+use Rattle.acl_entries.specs.Acl.{Acl}
 use Rattle.namespace_rows.specs.declared.file_row.FileRow.{FileRow}
 use Rattle.namespace_rows.specs.declared.row.Row.{Row}
 use Rattle.namespace_rows.specs.First.{first_answer, first}

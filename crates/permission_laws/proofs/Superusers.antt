@@ -2,9 +2,9 @@
 use Rattle.std.proofs.Common.{◌≡◌, ◌≢◌, ℕ, Bool, true, false, ◌||◌, List, [], ◌∷◌, Option, Some, None, refl, ap, ◌∙◌, cond}
 use Rattle.std.specs.List.{flat_map}
 use Rattle.std.specs.Option.{option_or}
-use Rattle.hdfs_texts.specs.Text.{same}
-use Rattle.hdfs_texts.proofs.Texts.{same_is}
-use Rattle.principal_names.specs.Groups.{has_group}
+use Rattle.hdfs_values.specs.Text.{same}
+use Rattle.hdfs_values.proofs.Texts.{same_is}
+use Rattle.hdfs_values.specs.Groups.{has_group}
 use Rattle.hdfs_types.specs.declared.op.Op.{Op}
 use Rattle.hdfs_types.specs.declared.reply.Refusal.{Refusal}
 use Rattle.principals.specs.Users.{Users, Caller, caller_of, groups_of, is_super}

@@ -6,15 +6,15 @@ use Rattle.std.specs.Option.{option_or, option_map_or}
 use Rattle.std.specs.Int.RustNames.{bit_and}
 use Rattle.std.proofs.lemmas.Bool.{eq-eqb, eqb-true}
 use Rattle.std.proofs.lemmas.Nat.{and_assoc}
-use Rattle.hdfs_texts.specs.Text.{same}
-use Rattle.permission_bits.specs.Rights.{rights, covers}
-use Rattle.permission_bits.specs.declared.rights.Rights.{Rights}
-use Rattle.acl_specs.specs.declared.entry.Entry.{Entry}
-use Rattle.acl_specs.specs.declared.entry.EntryKind.TheVariants.{User, Other}
-use Rattle.acl_specs.specs.declared.entry.Scope.TheVariants.{Access}
-use Rattle.access_lists.specs.declared.entry_list.NamedEntry.{NamedEntry}
-use Rattle.access_lists.specs.Acl.{Acl, base_entry, named_entry}
-use Rattle.access_lists.specs.JudgedEntry.{Chosen, effective_rights, judged_by, group_entries, best_judgement, judged_by_groups}
+use Rattle.hdfs_values.specs.Text.{same}
+use Rattle.permission_specs.specs.Rights.{rights, covers}
+use Rattle.permission_specs.specs.declared.rights.Rights.{Rights}
+use Rattle.permission_specs.specs.declared.entry.Entry.{Entry}
+use Rattle.permission_specs.specs.declared.entry.EntryKind.TheVariants.{User, Other}
+use Rattle.permission_specs.specs.declared.entry.Scope.TheVariants.{Access}
+use Rattle.acl_entries.specs.declared.entry_list.NamedEntry.{NamedEntry}
+use Rattle.acl_entries.specs.Acl.{Acl, base_entry, named_entry}
+use Rattle.acl_entries.specs.JudgedEntry.{Chosen, effective_rights, judged_by, group_entries, best_judgement, judged_by_groups}
 use Rattle.namespace_rows.specs.declared.row.Row.{Row}
 use Rattle.namespace_rows.specs.Judgement.{judgement}
 

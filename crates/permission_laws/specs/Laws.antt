@@ -3,9 +3,9 @@
 -- (HDFS Permissions Guide, "Overview", "Permission Checks", "The Sticky Bit" and "The Super-User"; HDFS Architecture, the
 -- single-writer model.)
 use Rattle.std.specs.Prelude.{◌≡◌, ◌≢◌, ℕ, Bool, true, false, ◌||◌, List, ◌++◌, Option, Some, None}
-use Rattle.hdfs_texts.specs.Text.{same}
-use Rattle.principal_names.specs.Groups.{has_group}
-use Rattle.file_paths.specs.Path.{is_prefix, is_beneath}
+use Rattle.hdfs_values.specs.Text.{same}
+use Rattle.hdfs_values.specs.Groups.{has_group}
+use Rattle.hdfs_values.specs.Path.{is_prefix, is_beneath}
 use Rattle.hdfs_types.specs.declared.op.Op.TheVariants as op
 use Rattle.principals.specs.Users.{Users, groups_of, is_super}
 use Rattle.namespace_rows.specs.declared.row.Row.{Row}

@@ -4,11 +4,11 @@ use Rattle.std.specs.Prelude.{ℕ, Bool, ◌||◌, List, [], if◌then◌else◌
 use Rattle.std.specs.BTreeMap.{insert_entry}
 use Rattle.std.specs.Map.{lookup, set_value}
 use Rattle.std.specs.Option.{is_some}
-use Rattle.hdfs_texts.specs.Text.{same, text_cmp}
-use Rattle.principal_names.specs.NodeId.{node_of}
+use Rattle.hdfs_values.specs.Text.{same, text_cmp}
+use Rattle.hdfs_values.specs.NodeId.{node_of}
 use Rattle.hdfs_types.specs.declared.reply.Refusal.{Refusal}
 use Rattle.hdfs_types.specs.declared.reply.Refusal.TheVariants.{BadName, Exists, NotFound}
-use Rattle.principal_names.specs.Groups.{has_group}
+use Rattle.hdfs_values.specs.Groups.{has_group}
 
 -- each known user with the groups last set, and the two names that a namesystem opens with
 pub record Users : Type 0 where

@@ -1,6 +1,6 @@
 ghost use Rattle.std.specs.Prelude.{◌≡◌};
 
-use principal_names::who::Who;
+use hdfs_values::who::Who;
 use std::marker::Model;
 
 /// Who asks: the name, the groups that it has, and whether it is a superuser (HDFS Permissions Guide, "User Identity" and

@@ -5,9 +5,9 @@ ghost use Rattle.principals.specs.Users as spec;
 
 use crate::caller::Caller;
 use hdfs_types::reply::Refusal;
-use principal_names::groups::{Groups, has_group};
-use principal_names::node_id::node_of;
-use principal_names::who::Who;
+use hdfs_values::groups::{Groups, has_group};
+use hdfs_values::node_id::node_of;
+use hdfs_values::who::Who;
 use std::alloc::{AllocError, AllocFailed, Global};
 use std::collections::BTreeMap;
 use std::marker::Model;

@@ -1,14 +1,14 @@
 ghost use Rattle.std.specs.Prelude.{◌≡◌, ◌∷◌, ◌++◌, [], Some, IfOk, OnOk};
-ghost use Rattle.file_paths.specs.Path.{IsPath};
-ghost use Rattle.permission_bits.specs.Rights.{rights};
+ghost use Rattle.hdfs_values.specs.Path.{IsPath};
+ghost use Rattle.permission_specs.specs.Rights.{rights};
 ghost use Rattle.required_rights.specs.RequiredRights as spec;
 
 use crate::need::Need;
-use file_paths::name::Name;
-use file_paths::path::Path;
 use hdfs_types::op::Op;
-use permission_bits::rights::Rights;
-use principal_names::who::Who;
+use hdfs_values::name::Name;
+use hdfs_values::path::Path;
+use hdfs_values::who::Who;
+use permission_specs::rights::Rights;
 use std::alloc::{AllocError, Global};
 use std::marker::Model;
 

@@ -1,8 +1,8 @@
 -- The lines of a script that get a hint: those that are answered `bad`, and each a hint for the answer that it gets.
 use Rattle.std.specs.Prelude.{ℕ, ◌+◌, List, [], ◌∷◌, if◌then◌else◌, Option, Some, None}
 use Rattle.std.specs.Result.{result_err}
-use Rattle.hdfs_texts.specs.declared.fault.IllFormed.{IllFormed}
-use Rattle.hdfs_texts.specs.declared.fault.IllFormed.TheVariants.{BadLine, BadPath, BadAcl, BadName, BadMode}
+use Rattle.hdfs_values.specs.declared.fault.IllFormed.{IllFormed}
+use Rattle.hdfs_values.specs.declared.fault.IllFormed.TheVariants.{BadLine, BadPath, BadAcl, BadName, BadMode}
 use Rattle.script_hints.specs.declared.numbered.NumberedHint.{NumberedHint}
 use Rattle.script_hints.specs.declared.hint.Hint.{Hint}
 use Rattle.script_hints.specs.declared.hint.Hint.TheVariants as hint

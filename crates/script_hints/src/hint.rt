@@ -10,7 +10,7 @@ use crate::line_hint::{LineHint, line_hint};
 use crate::mode_hint::{ModeHint, mode_hint};
 use crate::name_hint::{NameHint, name_hint};
 use crate::path_hint::{PathHint, path_hint};
-use hdfs_texts::fault::{AclFault, IllFormed, ParseFault};
+use hdfs_values::fault::{AclFault, IllFormed, ParseFault};
 use script_text::line::read_line;
 use script_words::words::{is_skipped, without_return, words_in};
 use std::alloc::{AllocError, Global};

@@ -1,5 +1,5 @@
 use crate::hint::word_at;
-use principal_names::who::Who;
+use hdfs_values::who::Who;
 use script_words::words::is_word;
 use std::fmt;
 

@@ -9,4 +9,3 @@ mod explanations;
 mod needs_explained;
 #[cfg(test)]
 mod scripts;
-#[cfg(test)]

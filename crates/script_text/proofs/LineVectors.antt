@@ -2,20 +2,20 @@
 use Rattle.std.proofs.Common.{◌≡◌, ℕ, true, false, List, [], ◌∷◌, Option, Some, None, Result, Ok, Err, refl}
 use Rattle.std.specs.Prelude.{codes}
 use Rattle.std.specs.Fmt.{digits}
-use Rattle.hdfs_texts.specs.declared.fault.IllFormed.{IllFormed}
-use Rattle.hdfs_texts.specs.declared.fault.IllFormed.TheVariants.{BadLine, BadPath, BadName, BadMode, BadAcl}
-use Rattle.hdfs_texts.specs.declared.fault.AclFault.TheVariants as faults
-use Rattle.acl_specs.specs.declared.acl_change.AclChange.TheVariants as change
-use Rattle.acl_specs.specs.declared.entry.Scope.{Scope}
-use Rattle.acl_specs.specs.declared.entry.Scope.TheVariants.{Access, Default}
-use Rattle.acl_specs.specs.declared.entry.EntryKind.{EntryKind}
-use Rattle.acl_specs.specs.declared.entry.EntryKind.TheVariants.{User, Group, Mask, Other}
-use Rattle.acl_specs.specs.declared.entry.Entry.{Entry}
+use Rattle.hdfs_values.specs.declared.fault.IllFormed.{IllFormed}
+use Rattle.hdfs_values.specs.declared.fault.IllFormed.TheVariants.{BadLine, BadPath, BadName, BadMode, BadAcl}
+use Rattle.hdfs_values.specs.declared.fault.AclFault.TheVariants as faults
+use Rattle.permission_specs.specs.declared.acl_change.AclChange.TheVariants as change
+use Rattle.permission_specs.specs.declared.entry.Scope.{Scope}
+use Rattle.permission_specs.specs.declared.entry.Scope.TheVariants.{Access, Default}
+use Rattle.permission_specs.specs.declared.entry.EntryKind.{EntryKind}
+use Rattle.permission_specs.specs.declared.entry.EntryKind.TheVariants.{User, Group, Mask, Other}
+use Rattle.permission_specs.specs.declared.entry.Entry.{Entry}
 use Rattle.hdfs_types.specs.declared.op.Op.{Op}
 use Rattle.hdfs_types.specs.declared.op.Op.TheVariants as op
 use Rattle.hdfs_types.specs.declared.op.Request.{Request}
 use Rattle.hdfs_types.specs.declared.reply.Reply.TheVariants as reply
-use Rattle.permission_bits.specs.Rights.{rights}
+use Rattle.permission_specs.specs.Rights.{rights}
 use Rattle.script_text.specs.AnswerText.{reply_text}
 use Rattle.script_text.specs.Script.{request_of}
 use Rattle.script_words.specs.Words.{words_of}

@@ -1,7 +1,7 @@
 -- The answer to a line, and how it is printed.
 use Rattle.std.specs.Prelude.{ℕ, Bool, true, false, List, [], ◌∷◌, ◌++◌, codes}
 use Rattle.std.specs.Fmt.{decimal}
-use Rattle.hdfs_texts.specs.Faults.{ill_formed_text}
+use Rattle.hdfs_values.specs.Faults.{ill_formed_text}
 use Rattle.hdfs_types.specs.Reply.{status_text, acl_status_text, names_text, summary_text, refusal_text}
 use Rattle.hdfs_types.specs.declared.reply.Expired.{Expired as ExpiredFiles}
 use Rattle.hdfs_types.specs.declared.reply.Reply.{Reply}

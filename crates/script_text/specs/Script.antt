@@ -1,9 +1,9 @@
 -- The request that a line of a script makes: `MOMENT CALLER VERB WORDS`, or how it is ill-formed.
 -- An unknown verb and a wrong number of words come first, and then the first ill-formed word.
 use Rattle.std.specs.Prelude.{ℕ, false, not, ◌&&◌, List, [], ◌∷◌, if◌then◌else◌, Option, Some, None, Result, Ok, Err, codes}
-use Rattle.hdfs_texts.specs.Text.{same}
-use Rattle.hdfs_texts.specs.declared.fault.IllFormed.{IllFormed}
-use Rattle.hdfs_texts.specs.declared.fault.IllFormed.TheVariants.{BadLine}
+use Rattle.hdfs_values.specs.Text.{same}
+use Rattle.hdfs_values.specs.declared.fault.IllFormed.{IllFormed}
+use Rattle.hdfs_values.specs.declared.fault.IllFormed.TheVariants.{BadLine}
 use Rattle.hdfs_types.specs.declared.op.Op.{Op}
 use Rattle.hdfs_types.specs.declared.op.Op.TheVariants as op
 use Rattle.hdfs_types.specs.declared.op.Request.{Request}

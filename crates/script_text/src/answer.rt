@@ -5,8 +5,8 @@ ghost use Rattle.hdfs_types.specs.declared.reply.Reply.TheVariants as reply;
 ghost use Rattle.script_text.specs.AnswerText as spec;
 
 use flat_rows::verdict::Verdict;
-use hdfs_texts::fault::IllFormed;
 use hdfs_types::reply::{Expired, Reply};
+use hdfs_values::fault::IllFormed;
 use std::fmt;
 
 /// What is printed for a line of a script.

@@ -3,10 +3,10 @@ ghost use Rattle.script_words.specs.LineForms.{Forms, FormsOption};
 ghost use Rattle.script_words.specs.Words.{words_of};
 ghost use Rattle.script_text.specs.Script as spec;
 
-use block_numbers::moment::Moment;
-use hdfs_texts::fault::{IllFormed, ParseFault};
 use hdfs_types::op::{Op, Request};
-use principal_names::who::Who;
+use hdfs_values::fault::{IllFormed, ParseFault};
+use hdfs_values::moment::Moment;
+use hdfs_values::who::Who;
 use script_words::acl_words::{bare_change, change_by, wants_none, wants_spec};
 use script_words::groups_word::groups_word;
 use script_words::values::{

@@ -1,8 +1,8 @@
 -- What the reader of a line answers, beside what the line says: the same, unless memory ran out.
 use Rattle.std.specs.Prelude.{◌≡◌, Option, Some, None, Result, Ok, Err}
-use Rattle.hdfs_texts.specs.declared.fault.IllFormed.{IllFormed}
-use Rattle.hdfs_texts.specs.declared.fault.ParseFault.{ParseFault}
-use Rattle.hdfs_texts.specs.declared.fault.ParseFault.TheVariants as faults
+use Rattle.hdfs_values.specs.declared.fault.IllFormed.{IllFormed}
+use Rattle.hdfs_values.specs.declared.fault.ParseFault.{ParseFault}
+use Rattle.hdfs_values.specs.declared.fault.ParseFault.TheVariants as faults
 
 abbrev pub FailsBy : {X : Type 0} → ParseFault → Result X IllFormed → Type 0
 FailsBy (faults.IllFormed fault) said = said ≡ Err fault

@@ -2,21 +2,21 @@
 use Rattle.std.specs.Prelude.{ℕ, Bool, true, false, ◌||◌, List, [], if◌then◌else◌, Option, Some, None, Result, Ok, Err, codes, ok_or}
 use Rattle.std.specs.List.{list_all}
 use Rattle.std.specs.Option.{option_and_then}
-use Rattle.hdfs_texts.specs.Text.{same}
-use Rattle.hdfs_texts.specs.Number.{number_of}
-use Rattle.block_numbers.specs.Moment.{moment_of}
-use Rattle.principal_names.specs.Who.{is_who, who_of}
-use Rattle.file_paths.specs.Path.{path_of}
-use Rattle.permission_bits.specs.Mode.{mode_of}
-use Rattle.block_numbers.specs.Replication.{is_replication}
-use Rattle.hdfs_texts.specs.declared.fault.IllFormed.{IllFormed}
-use Rattle.hdfs_texts.specs.declared.fault.IllFormed.TheVariants.{BadLine, BadPath, BadName, BadMode, BadAcl}
+use Rattle.hdfs_values.specs.Text.{same}
+use Rattle.hdfs_values.specs.Number.{number_of}
+use Rattle.hdfs_values.specs.Moment.{moment_of}
+use Rattle.hdfs_values.specs.Who.{is_who, who_of}
+use Rattle.hdfs_values.specs.Path.{path_of}
+use Rattle.permission_specs.specs.Mode.{mode_of}
+use Rattle.hdfs_values.specs.Replication.{is_replication}
+use Rattle.hdfs_values.specs.declared.fault.IllFormed.{IllFormed}
+use Rattle.hdfs_values.specs.declared.fault.IllFormed.TheVariants.{BadLine, BadPath, BadName, BadMode, BadAcl}
 use Rattle.hdfs_types.specs.declared.file.LastBlock.{LastBlock}
-use Rattle.acl_specs.specs.declared.entry.Entry.{Entry}
-use Rattle.hdfs_texts.specs.declared.fault.AclFault.{AclFault}
-use Rattle.acl_specs.specs.declared.acl_change.AclChange.{AclChange}
-use Rattle.acl_specs.specs.declared.acl_change.AclChange.TheVariants as change
-use Rattle.acl_entries.specs.SpecText.{spec_of}
+use Rattle.permission_specs.specs.declared.entry.Entry.{Entry}
+use Rattle.hdfs_values.specs.declared.fault.AclFault.{AclFault}
+use Rattle.permission_specs.specs.declared.acl_change.AclChange.{AclChange}
+use Rattle.permission_specs.specs.declared.acl_change.AclChange.TheVariants as change
+use Rattle.permission_specs.specs.SpecText.{spec_of}
 use Rattle.script_words.specs.Words.{pieces_at}
 
 -- the first fault, else what comes next makes of the value

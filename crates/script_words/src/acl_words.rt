@@ -3,10 +3,10 @@ ghost use Rattle.script_words.specs.LineForms.{Forms};
 ghost use Rattle.script_words.specs.Values as spec;
 
 use crate::words::is_word;
-use acl_entries::spec_text::parse_spec;
-use acl_specs::acl_change::AclChange;
-use acl_specs::spec::Spec;
-use hdfs_texts::fault::{IllFormed, ParseFault};
+use hdfs_values::fault::{IllFormed, ParseFault};
+use permission_specs::acl_change::AclChange;
+use permission_specs::spec::Spec;
+use permission_specs::spec_text::parse_spec;
 use std::alloc::Global;
 
 /// Entries of an access control list, with their rights or without.

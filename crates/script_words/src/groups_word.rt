@@ -1,12 +1,12 @@
 ghost use Rattle.std.specs.Prelude.{◌≡◌, map};
-ghost use Rattle.hdfs_texts.specs.Parsed.{ParsesInParts};
+ghost use Rattle.hdfs_values.specs.Parsed.{ParsesInParts};
 ghost use Rattle.script_words.specs.LineForms.{Forms};
 ghost use Rattle.script_words.specs.Values as spec;
 
 use crate::words::{is_word, pieces_between};
-use hdfs_texts::fault::{IllFormed, ParseFault};
-use principal_names::groups::Groups;
-use principal_names::who::Who;
+use hdfs_values::fault::{IllFormed, ParseFault};
+use hdfs_values::groups::Groups;
+use hdfs_values::who::Who;
 use std::alloc::Global;
 
 /// The groups that pieces name, in their order.

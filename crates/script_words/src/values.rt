@@ -3,15 +3,15 @@ ghost use Rattle.script_words.specs.LineForms.{Forms};
 ghost use Rattle.script_words.specs.Values as spec;
 
 use crate::words::is_word;
-use block_numbers::ids::BlockId;
-use block_numbers::moment::Moment;
-use block_numbers::replication::Repl;
-use file_paths::path::Path;
-use hdfs_texts::fault::{IllFormed, ParseFault};
-use hdfs_texts::number::number_of;
 use hdfs_types::file::LastBlock;
-use permission_bits::mode::Mode;
-use principal_names::who::Who;
+use hdfs_values::fault::{IllFormed, ParseFault};
+use hdfs_values::ids::BlockId;
+use hdfs_values::moment::Moment;
+use hdfs_values::number::number_of;
+use hdfs_values::path::Path;
+use hdfs_values::replication::Repl;
+use hdfs_values::who::Who;
+use permission_specs::mode::Mode;
 use std::alloc::Global;
 
 /// A moment, in milliseconds.

@@ -1,5 +1,5 @@
 ghost use Rattle.std.specs.Prelude.{◌≡◌, ◌≢◌, ◌<◌, ℕ, List, [], ◌∷◌, ◌++◌, IfOk, OnOk, MatchOption, map, filter};
-ghost use Rattle.hdfs_texts.specs.Text.{same};
+ghost use Rattle.hdfs_values.specs.Text.{same};
 ghost use Rattle.script_words.specs.Words as spec;
 
 use std::alloc::{AllocError, Global};

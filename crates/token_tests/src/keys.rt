@@ -1,5 +1,3 @@
-use block_numbers::ids::{BlockId, Serial};
-use block_numbers::moment::Moment;
 use block_tokens::cache::KeyCache;
 use block_tokens::grant::Grant;
 use block_tokens::hmac::hmac_sha1;
@@ -7,8 +5,10 @@ use block_tokens::key::{HeldKey, Key, KeyList};
 use block_tokens::refusal::TokenRefusal;
 use block_tokens::ring::{KeyRing, RollFault};
 use block_tokens::token::{Body, TokenBytes, decode, encode};
-use permission_bits::modes::Modes;
-use principal_names::who::Who;
+use hdfs_values::ids::{BlockId, Serial};
+use hdfs_values::moment::Moment;
+use hdfs_values::who::Who;
+use permission_specs::modes::Modes;
 use std::alloc::{AllocError, Global};
 use std::test::Fail;
 

@@ -1,6 +1,6 @@
 use Rattle.std.proofs.Common.{◌∙◌, ap}
 use Rattle.std.specs.Cmp.Lexicographic.{texts_ties}
-use Rattle.hdfs_texts.specs.Text.{same}
+use Rattle.hdfs_values.specs.Text.{same}
 use Rattle.block_tokens.proofs.cache.is_user.Goals as goal
 
 pub returns : goal.returns

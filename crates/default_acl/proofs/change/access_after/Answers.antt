@@ -1,5 +1,5 @@
 use Rattle.std.proofs.Common.{sym, subst}
-use Rattle.acl_specs.specs.declared.entry.Scope.TheVariants.{Access}
+use Rattle.permission_specs.specs.declared.entry.Scope.TheVariants.{Access}
 use Rattle.partial_acl.specs.AclChange.{all_of}
 use Rattle.partial_acl.specs.Answers.{IsPartialList}
 use Rattle.default_acl.proofs.Partials.{all_good, removed_good}

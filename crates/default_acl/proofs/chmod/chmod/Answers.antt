@@ -1,7 +1,7 @@
 use Rattle.std.proofs.Common.{◌≡◌, Some, sym, ap, subst, ◌∙◌}
-use Rattle.access_lists.specs.declared.entry_list.Bases.{Bases}
-use Rattle.access_lists.specs.Acl.{IsEntryList, are_rights, is_access_list}
-use Rattle.access_lists.specs.Kept.{list_of_parts}
+use Rattle.acl_entries.specs.declared.entry_list.Bases.{Bases}
+use Rattle.acl_entries.specs.Acl.{IsEntryList, are_rights, is_access_list}
+use Rattle.acl_entries.specs.Kept.{list_of_parts}
 use Rattle.partial_acl.proofs.Tests.{both}
 use Rattle.partial_acl.proofs.Completing.{remasked_good}
 use Rattle.default_acl.proofs.Changing.{masked_where_named}

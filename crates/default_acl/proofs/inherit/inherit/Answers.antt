@@ -1,6 +1,6 @@
 use Rattle.std.proofs.Common.{◌≡◌, Bool, true, Option, sym, ap, subst, ◌∙◌}
 use Rattle.std.specs.Option.{option_copied, option_map_or, is_some}
-use Rattle.access_lists.specs.Acl.{EntryList, IsAcl, is_access_list}
+use Rattle.acl_entries.specs.Acl.{EntryList, IsAcl, is_access_list}
 use Rattle.partial_acl.specs.AclChange.{as_kept}
 use Rattle.default_acl.specs.Inheritance.{list_cut_to}
 use Rattle.partial_acl.proofs.Tests.{both}

@@ -1,5 +1,5 @@
 use Rattle.std.proofs.Common.{refl, true}
-use Rattle.file_writers.proofs.Moments.{undone_leases}
+use Rattle.lease_manager.proofs.Moments.{undone_leases}
 use Rattle.file_effects.proofs.Effects.{no_facts}
 use Rattle.file_effects.proofs.effect.create_first.Goals as goal
 

@@ -3,7 +3,7 @@ use Rattle.std.specs.Map.{keys_of}
 use Rattle.std.specs.List.Sorted.{IsStrictlySortedBy}
 use Rattle.std.specs.List.{AllByRecursion}
 use Rattle.history.proofs.Counting.{count}
-use Rattle.file_paths.specs.PathOrder.{path_cmp}
+use Rattle.hdfs_values.specs.PathOrder.{path_cmp}
 use Rattle.file_effects.proofs.Closing.{IsClosable, expired, each_closable, first_of, closed_one, all_expired}
 use Rattle.file_effects.proofs.expiry.expire_known.Goals as goal
 

@@ -2,7 +2,7 @@ use Rattle.std.proofs.Common.{◌≡◌, ◌≤◌, ◌+◌, ℕ, List, Option, 
 use Rattle.std.specs.List.{AllByRecursion}
 use Rattle.std.specs.List.Sorted.{IsStrictlySortedBy}
 use Rattle.std.specs.Map.{keys_of}
-use Rattle.file_paths.specs.PathOrder.{path_cmp}
+use Rattle.hdfs_values.specs.PathOrder.{path_cmp}
 use Rattle.namespace_rows.specs.Namespace.{IsNamespace}
 use Rattle.lease_manager.specs.Leases.{latest_moment}
 use Rattle.history.proofs.Counting.{count}

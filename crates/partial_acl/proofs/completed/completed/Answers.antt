@@ -1,6 +1,6 @@
 use Rattle.std.proofs.Common.{◌≡◌, ◌+◌, true, length, sym, ap, ◌∙◌, subst}
 use Rattle.std.specs.Prelude.{nat_le, unwrap_or}
-use Rattle.access_lists.specs.Acl.{IsEntryList, union_of_named}
+use Rattle.acl_entries.specs.Acl.{IsEntryList, union_of_named}
 use Rattle.partial_acl.specs.Answers.{named_count}
 use Rattle.partial_acl.proofs.Completing.{completed_from, completed_good}
 use Rattle.partial_acl.proofs.completed.completed.Goals as goal

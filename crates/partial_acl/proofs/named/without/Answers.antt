@@ -1,7 +1,7 @@
 use Rattle.std.proofs.Common.{◌≡◌, List, sym, subst, ap, ◌∙◌, ◌+◌, ◌++◌, [], ◌∷◌, Bool, drop, not}
 use Rattle.std.specs.List.{list_any}
-use Rattle.hdfs_texts.specs.Text.{same}
-use Rattle.access_lists.specs.declared.entry_list.NamedEntry.{NamedEntry}
+use Rattle.hdfs_values.specs.Text.{same}
+use Rattle.acl_entries.specs.declared.entry_list.NamedEntry.{NamedEntry}
 use Rattle.partial_acl.specs.AclChange.{named_in, entries_without}
 use Rattle.partial_acl.proofs.NamedLists.{taken, passed, names_one}
 use Rattle.partial_acl.proofs.named.without.Goals as goal

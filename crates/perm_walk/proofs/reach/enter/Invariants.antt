@@ -1,5 +1,5 @@
 use Rattle.std.proofs.Common.{take, drop}
-use Rattle.inode_visits.specs.Tree.{branch_at}
+use Rattle.inode_tree.specs.Tree.{branch_at}
 use Rattle.perm_walk.proofs.Descents.{Passed}
 use Rattle.perm_walk.proofs.Traversals.{Left}
 use Rattle.perm_walk.proofs.reach.enter.Given as goal

@@ -1,7 +1,7 @@
 use Rattle.std.proofs.Common.{◌≡◌, None, subst}
 use Rattle.permission_laws.proofs.Endings.{done}
 use Rattle.flat_rows.specs.Decision.{decision}
-use Rattle.hdfs_texts.specs.Text.{same}
+use Rattle.hdfs_values.specs.Text.{same}
 use Rattle.principals.specs.Users.{is_super}
 use Rattle.permission_laws.proofs.Held.{first_only, managed_held, kept_by_owner, given_to_own_group}
 use Rattle.permission_laws.proofs.laws.owners_manage.Goals as goal

@@ -1,6 +1,6 @@
 use Rattle.std.proofs.Common.{◌≡◌, map, take, drop}
 use Rattle.std.specs.List.{list_all}
-use Rattle.principal_names.specs.Who.{is_who}
+use Rattle.hdfs_values.specs.Who.{is_who}
 use Rattle.script_words.proofs.groups_word.groups_in.Given as goal
 
 abbrev pub invariant-loop-piece : goal.invariant-loop-piece

@@ -2,9 +2,9 @@ use Rattle.std.proofs.Common.{Some, ap, arith, subst, sym, ◌∙◌, length}
 use Rattle.std.specs.List.{list_all}
 use Rattle.std.specs.Option.{option_copied}
 use Rattle.inode_nodes.specs.Node.{rows}
-use Rattle.inode_visits.specs.Limits.{fits_behind}
+use Rattle.inode_tree.specs.Limits.{fits_behind}
 use Rattle.inode_nodes.specs.Part.{IsWhole}
-use Rattle.inode_visits.proofs.Limits.{fits_moved, fits_short}
+use Rattle.inode_tree.proofs.Limits.{fits_moved, fits_short}
 use Rattle.inode_tree.proofs.tree.Tree.can_move.Goals as goal
 
 pub returns-then-bytes-text_bytes : goal.returns-then-bytes-text_bytes

@@ -1,7 +1,7 @@
 use Rattle.std.proofs.Common.{None, Some, ◌∙◌, sym, ap}
 use Rattle.std.specs.Option.{option_copied}
 use Rattle.inode_nodes.specs.Node.{rows}
-use Rattle.inode_visits.specs.Tree.{branch_at}
+use Rattle.inode_tree.specs.Tree.{branch_at}
 use Rattle.inode_nodes.proofs.Wholes.{row_found}
 use Rattle.inode_tree.proofs.tree.Tree.get.Goals as goal
 

@@ -1,4 +1,0 @@
-pub mod Acl
-pub mod JudgedEntry
-pub mod Kept
-pub mod Printed

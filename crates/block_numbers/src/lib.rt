@@ -1,6 +1,0 @@
-//! Moments, replications, and the numbers of blocks, stamps and keys.
-#![tactic(auto)]
-
-pub mod ids;
-pub mod moment;
-pub mod replication;

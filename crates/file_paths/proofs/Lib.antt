@@ -1,4 +1,0 @@
-pub mod Paths
-pub mod Fronts
-pub mod Spelling
-pub mod Beneath

@@ -1,3 +1,0 @@
-pub mod Name
-pub mod Path
-pub mod PathOrder

@@ -1,4 +1,0 @@
-pub mod Text
-pub mod Parsed
-pub mod Faults
-pub mod Number

@@ -1,0 +1,12 @@
+pub mod Text
+pub mod Parsed
+pub mod Faults
+pub mod Number
+pub mod Moment
+pub mod Replication
+pub mod Name
+pub mod Path
+pub mod PathOrder
+pub mod Who
+pub mod Groups
+pub mod NodeId

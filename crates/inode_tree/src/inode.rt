@@ -1,0 +1,95 @@
+ghost use Rattle.std.specs.Prelude.{◌≡◌, IfOk, IfSome};
+ghost use Rattle.std.specs.Option.{option_copied, option_map};
+ghost use Rattle.acl_entries.specs.JudgedEntry.{judged_entry};
+ghost use Rattle.namespace_rows.specs.Files.{holder_of_file};
+ghost use Rattle.inode_nodes.specs.Part.{IsPart};
+ghost use Rattle.inode_tree.specs.Tree.{branch_at};
+
+use acl_entries::acl::Acl;
+use acl_entries::deciding_entry::Chosen;
+use hdfs_types::reply::ObjectKind;
+use hdfs_values::name::Name;
+use hdfs_values::who::Who;
+use inode_nodes::node::Node;
+use namespace_rows::file_row::FileRow;
+use permission_specs::rights::Rights;
+use std::alloc::AllocError;
+
+/// A file or a directory of a tree, lent with all that is beneath it (HDFS Architecture, "The File System Namespace").
+#[derive(Clone, Copy)]
+pub struct Inode<'a> {
+    node: &'a Node,
+}
+
+impl<'a> Inode<'a> {
+    pub fn new(node: &'a Node) -> Inode<'a>
+        ensures { branch_at result ≡ node.now }
+    {
+        Inode { node }
+    }
+
+    pub fn kind(&self) -> ObjectKind
+        ensures { result ≡ (branch_at self.now).top.kind }
+    {
+        self.node.kind()
+    }
+
+    pub fn owner(&self) -> &'a Who
+        ensures { result.now ≡ (branch_at self.now).top.owner }
+    {
+        self.node.owner()
+    }
+
+    pub fn group(&self) -> &'a Who
+        ensures { result.now ≡ (branch_at self.now).top.group }
+    {
+        self.node.group()
+    }
+
+    pub fn acl(&self) -> &'a Acl
+        ensures { result.now ≡ (branch_at self.now).top.acl }
+    {
+        self.node.acl()
+    }
+
+    /// What a file has beside what a directory has.
+    pub fn file(&self) -> Option<&'a FileRow>
+        ensures { option_copied result ≡ (branch_at self.now).top.file }
+    {
+        self.node.file()
+    }
+
+    /// A copy of it. Costs the blocks of the file.
+    ///
+    /// # Errors
+    /// Out of memory.
+    pub fn file_copy(&self) -> Result<Option<FileRow>, AllocError>
+        ensures { IfOk result (λ file. file ≡ (branch_at self.now).top.file) }
+    {
+        self.node.file_copy()
+    }
+
+    /// The client who has the file open.
+    pub fn holder(&self) -> Option<&'a Who>
+        ensures { option_copied result ≡ holder_of_file (branch_at self.now).top.file }
+    {
+        self.node.holder()
+    }
+
+    /// The entry that decides for a caller with these groups. Costs the caller's groups, and takes no memory.
+    pub fn judged(&self, caller: &Who, groups: &[Who], need: Rights) -> Chosen<'a>
+        ensures { result ≡ judged_entry (branch_at self.now).top.owner (branch_at self.now).top.group (branch_at self.now).top.acl caller.now groups.now need }
+    {
+        self.node.judged(caller, groups, need)
+    }
+
+    /// What a directory holds by this name; a file holds nothing. Costs the logarithm of what it holds, in comparisons of
+    /// names, and takes no memory.
+    pub fn child(&self, name: &Name) -> Option<Inode<'a>>
+        ensures part { IsPart name.now (branch_at self.now).beneath (option_map branch_at result) }
+        ensures directory { IfSome result (λ _. (branch_at self.now).top.kind ≡ ObjectKind.Directory) }
+    {
+        let node = self.node.child(name)?;
+        Some(Inode::new(node))
+    }
+}

@@ -1,0 +1,89 @@
+ghost use Rattle.std.specs.Prelude.{◌≡◌, ◌+◌, ◌-◌, ℕ, [], List, if◌then◌else◌, OnOk};
+ghost use Rattle.std.specs.Map.{set_value};
+ghost use Rattle.hdfs_values.specs.Text.{same};
+ghost use Rattle.lease_manager.specs.Writers.{count_of, HasRoom};
+
+use hdfs_values::who::Who;
+use std::alloc::{AllocError, Global};
+use std::collections::BTreeMap;
+use std::marker::Model;
+
+/// How many files each client has open. A call costs a look-up.
+#[derive(Drop)]
+pub struct OpenFiles {
+    counts: BTreeMap<Who, u64>,
+}
+
+impl Model for OpenFiles {
+    ghost use Rattle.std.specs.Prelude.{List, ℕ};
+
+    ghost Value = { List (List ℕ × ℕ) };
+
+    ghost view = { λ files. files.counts.entries };
+}
+
+// Gives a client another number, where it is counted.
+#[tactic(auto, using(crate::proofs::Counts::absent_stays))]
+fn set(counts: &mut BTreeMap<Who, u64>, client: &Who, count: u64)
+    ensures { counts.new.entries ≡ set_value (same client.now) counts.old.entries count }
+{
+    if let Some(own) = counts.get_mut(client) {
+        *own = count;
+    }
+}
+
+impl OpenFiles {
+    /// No client has a file open. Takes no memory.
+    pub fn new(alloc: Global) -> OpenFiles
+        ensures { result ≡ [] }
+    {
+        OpenFiles {
+            counts: BTreeMap::new(alloc),
+        }
+    }
+
+    /// How many files a client has open. Takes no memory.
+    pub fn count(&self, client: &Who) -> u64
+        ensures { result ≡ count_of self.now client.now }
+    {
+        match self.counts.get(client) {
+            Some(count) => *count,
+            None => 0,
+        }
+    }
+
+    /// Makes room for one more open file of a client, and changes no number.
+    ///
+    /// # Errors
+    /// Out of memory, or the number can't grow.
+    pub fn make_room(&mut self, client: &Who) -> Result<(), AllocError>
+        ensures counts { (other : List ℕ) → count_of self.new other ≡ count_of self.old other }
+        ensures room { OnOk result (HasRoom self.new client.now) }
+    {
+        if self.count(client) == u64::MAX {
+            return Err(AllocError);
+        }
+        if self.counts.contains_key(client) {
+            return Ok(());
+        }
+        self.counts.insert(client.clone()?, 0)?;
+        Ok(())
+    }
+
+    /// Counts one more open file of a client, for which there is room. Takes no memory.
+    pub fn add(&mut self, client: &Who)
+        requires { HasRoom self.old client.now }
+        ensures { (other : List ℕ) → count_of self.new other ≡ (if same client.now other then count_of self.old client.now + 1 else count_of self.old other) }
+    {
+        let count = self.count(client);
+        set(&mut self.counts, client, count + 1);
+    }
+
+    /// Counts one open file of a client less. Takes no memory.
+    pub fn take(&mut self, client: &Who)
+        ensures { (other : List ℕ) → count_of self.new other ≡ (if same client.now other then count_of self.old client.now - 1 else count_of self.old other) }
+    {
+        let count = self.count(client);
+        set(&mut self.counts, client, count.saturating_sub(1));
+    }
+}

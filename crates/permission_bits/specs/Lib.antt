@@ -1,3 +1,0 @@
-pub mod Rights
-pub mod Mode
-pub mod Modes

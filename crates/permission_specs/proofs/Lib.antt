@@ -1,0 +1,4 @@
+pub mod RightsText
+pub mod SpecKeys
+pub mod SpecTexts
+pub mod SpecSpellings

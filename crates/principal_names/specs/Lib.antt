@@ -1,3 +1,0 @@
-pub mod Who
-pub mod Groups
-pub mod NodeId
