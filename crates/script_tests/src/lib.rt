@@ -9,3 +9,5 @@ mod explanations;
 mod needs_explained;
 #[cfg(test)]
 mod scripts;
+#[cfg(test)]
+mod streams;
