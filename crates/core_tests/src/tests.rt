@@ -198,9 +198,9 @@ fn closed(
     ensures { OnOk result (latest_moment system.new.writers.leases.renewals ≤ now) }
 {
     let _root = system.tree.root();
-    let told = perform(alloc, system, &mut OpenPaths::new(alloc), request, now)?;
-    let closed = closed_by(&told.verdict);
-    drop(told);
+    let verdict = perform(alloc, system, &mut OpenPaths::new(alloc), request, now)?;
+    let closed = closed_by(&verdict);
+    drop(verdict);
     Ok(closed)
 }
 

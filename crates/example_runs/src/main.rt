@@ -2,7 +2,7 @@
 //! tells of each whether it does. The gate runs it in the folder of the examples.
 #![tactic(auto)]
 
-use hdfs_cli::script::run_script;
+use script_runs::script::run_script;
 use std::alloc::AllocError;
 use std::process::ExitCode;
 use std::{env, fs, io};

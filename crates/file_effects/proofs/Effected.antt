@@ -3,7 +3,8 @@ use Rattle.std.proofs.Common.{◌≡◌, ℕ, Bool, List, length, filter, map, O
 use Rattle.hdfs_types.specs.declared.op.Op.TheVariants as op
 use Rattle.hdfs_types.specs.declared.file.LastBlock.{LastBlock}
 use Rattle.hdfs_types.specs.declared.file.FileState.TheVariants.{Closed, Open}
-use Rattle.lease_manager.specs.Leases.{renewals_with}
+use Rattle.hdfs_values.specs.Text.{same}
+use Rattle.lease_manager.specs.Leases.{Leases, renewals_with}
 use Rattle.principals.specs.Users.{Users}
 use Rattle.namespace_rows.specs.declared.row.Row.{Row}
 use Rattle.namespace_rows.specs.declared.row.Change.TheVariants as change
@@ -15,9 +16,9 @@ use Rattle.flat_rows.specs.Outcome.{with_new}
 use Rattle.flat_rows.specs.Changes.{rows_under, rewritten, without}
 use Rattle.history.specs.ClockAndLease.{has_opened}
 use Rattle.lease_manager.specs.declared.writers.Writers.{Writers}
-use Rattle.lease_manager.specs.Writers.{IsLeased, renewed_at}
-use Rattle.file_effects.specs.Effected.{IsExact, IsFree, IsEffected, renewed_where}
-use Rattle.lease_manager.proofs.Leasing.{leased_open}
+use Rattle.lease_manager.specs.Writers.{count_of, IsLeased, renewed_at}
+use Rattle.file_effects.specs.Effected.{IsCreated, IsExact, IsFree, IsEffected, renewed_where}
+use Rattle.lease_manager.proofs.Leasing.{leased_open, more_after}
 use Rattle.file_effects.proofs.Effects.{OneMore, OneLess, EachLess, free_create, free_append, counted_create, counted_reopen, counted_close, counted_delete}
 use Rattle.file_effects.proofs.Expiring.{counted_expire, holders_counted}
 
@@ -29,6 +30,17 @@ KeepsExact rows before left after = (last : List ℕ → Option ℕ) → IsExact
 
 less_of : (clients others : List (List ℕ)) (before after : Writers) → clients ≡ others → EachLess clients before after → EachLess others before after
 less_of clients others before after is less = subst (λ some. EachLess some before after) is less
+
+-- room for one more file of a client is no file
+pub created_with_room : (path : List (List ℕ)) (mode replication : ℕ) (caller : List ℕ) (now : ℕ) (rows left : List Row) (before between after : Writers) → between.leases ≡ before.leases
+    → ((other : List ℕ) → count_of between.files other ≡ count_of before.files other) → IsCreated path mode replication caller now rows between left after → IsCreated path mode replication caller now rows before left after
+created_with_room path mode replication caller now rows left before between after leases counts created =
+    record {
+      tree = created.tree;
+      files = λ other. more_after _ _ _ _ _ (same caller other) (created.files other) (counts caller) (counts other);
+      renewals = created.renewals ∙ ap (λ (l : Leases). renewals_with caller now l.renewals) leases;
+      latest = created.latest;
+    }
 
 pub effected_create : (path : List (List ℕ)) (mode replication : ℕ) (over : Bool) (caller : List ℕ) (now : ℕ) (rows left : List Row) (clients : List (List ℕ)) (before between after : Writers) (users : Users)
     → IsNamespace rows → IsFree (op.Create path mode replication over) caller rows users → left ≡ with_new path mode (Some (new_file replication caller)) caller (ancestor path rows) rows

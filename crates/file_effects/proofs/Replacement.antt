@@ -1,6 +1,6 @@
 -- A file that is put in the place of another: the directory that holds it is the last component above its path.
-use Rattle.std.proofs.Common.{◌≡◌, ℕ, Bool, true, false, ◌&&◌, ◌||◌, List, [], ◌∷◌, ◌++◌, length, take, drop, cond, Option, Some, None, Result, Ok, Err, refl, sym, ap, ◌∙◌, subst}
-use Rattle.std.specs.Prelude.{filter, OnOk}
+use Rattle.std.proofs.Common.{◌≡◌, ℕ, Bool, true, false, ◌&&◌, ◌||◌, List, [], ◌∷◌, ◌++◌, length, take, drop, cond, Option, Some, None, refl, sym, ap, ◌∙◌, subst}
+use Rattle.std.specs.Prelude.{filter}
 use Rattle.std.specs.List.{last_or}
 use Rattle.std.specs.Option.{option_map}
 use Rattle.std.specs.Ordering.{is_gt, is_lt, ordering_reverse}
@@ -198,7 +198,3 @@ some_got f got at x h is = sym h ∙ ap (option_map f) is
 
 pub none_got : {X : Type 0} (f : X → Row) (got : Option X) (at : Option Row) → option_map f got ≡ at → got ≡ None → is_none at ≡ true
 none_got f got at h is = ap is_none (sym h ∙ ap (option_map f) is)
-
-pub on_ok : {T E : Type 0} {P Q : Type 0} (r : Result T E) → (P → Q) → OnOk r P → OnOk r Q
-on_ok (Ok x) f h = f h
-on_ok (Err e) f h = h

@@ -1,13 +1,15 @@
 -- What an operation that nothing refuses leaves of the namespace, and of the clients who have files open.
-use Rattle.std.specs.Prelude.{◌≡◌, ℕ, Bool, ◌&&◌, List, length, if◌then◌else◌, Option, Some, None}
+use Rattle.std.specs.Prelude.{◌≡◌, ℕ, ◌+◌, Bool, ◌&&◌, List, length, if◌then◌else◌, Option, Some, None}
 use Rattle.hdfs_values.specs.Text.{same}
 use Rattle.hdfs_types.specs.declared.op.Op.{Op}
+use Rattle.lease_manager.specs.Leases.{latest_moment, renewals_with}
 use Rattle.principals.specs.Users.{Users}
 use Rattle.namespace_rows.specs.declared.row.Row.{Row}
 use Rattle.flat_rows.specs.declared.verdict.Verdict.TheVariants.{Done}
-use Rattle.namespace_rows.specs.Files.{open_files}
+use Rattle.namespace_rows.specs.Rows.{ancestor}
+use Rattle.namespace_rows.specs.Files.{new_file, open_files}
 use Rattle.flat_rows.specs.FileOutcome.{LeaseFacts}
-use Rattle.flat_rows.specs.Outcome.{first_refusal, reply_of, rows_after}
+use Rattle.flat_rows.specs.Outcome.{first_refusal, reply_of, rows_after, with_new}
 use Rattle.history.specs.ClockAndLease.{renews}
 use Rattle.lease_manager.specs.declared.writers.Writers.{Writers}
 use Rattle.lease_manager.specs.Writers.{count_of, IsLeased}
@@ -19,7 +21,14 @@ pub record IsExact (last : List ℕ → Option ℕ) (rows : List Row) (writers :
 
 -- last renewals behind a request: the caller has renewed, or nobody
 abbrev pub renewed_where : Bool → List ℕ → ℕ → (List ℕ → Option ℕ) → List ℕ → Option ℕ
-renewed_where renewed caller now last client = if renewed && same caller client then Some now else last client
+renewed_where renewals_with caller now last client = if renewals_with && same caller client then Some now else last client
+
+-- a new file is made that the caller has open, who has renewed its lease
+pub record IsCreated (path : List (List ℕ)) (mode replication : ℕ) (caller : List ℕ) (now : ℕ) (rows : List Row) (writers : Writers) (rows_left : List Row) (writers_left : Writers) : Type 0 where
+  pub tree : rows_left ≡ with_new path mode (Some (new_file replication caller)) caller (ancestor path rows) rows
+  pub files : (other : List ℕ) → count_of writers_left.files other ≡ (if same caller other then count_of writers.files caller + 1 else count_of writers.files other)
+  pub renewals : writers_left.leases.renewals ≡ renewals_with caller now writers.leases.renewals
+  pub latest : latest_moment writers_left.leases.renewals ≡ now
 
 -- nothing refuses the operation
 abbrev pub IsFree : Op → List ℕ → List Row → Users → Type 0

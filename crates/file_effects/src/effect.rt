@@ -7,18 +7,18 @@ ghost use Rattle.namespace_rows.specs.declared.row.Change.TheVariants as change;
 ghost use Rattle.namespace_rows.specs.Namespace.{IsNamespace, is_root};
 ghost use Rattle.flat_rows.specs.Outcome.{with_new};
 ghost use Rattle.namespace_rows.specs.Rows.{row_at, file_above, ancestor};
-ghost use Rattle.hdfs_types.specs.WritingVerbs.{writes_or_deletes};
+ghost use Rattle.hdfs_types.specs.Verb.{write_op};
 ghost use Rattle.hdfs_values.specs.Text.{same};
 ghost use Rattle.hdfs_types.specs.declared.file.FileState.TheVariants.{Closed};
 ghost use Rattle.hdfs_types.specs.declared.op.Op.TheVariants as op;
 ghost use Rattle.lease_manager.specs.Leases as lease;
 ghost use Rattle.principals.specs.Users.{Users};
-ghost use Rattle.file_effects.specs.Effected.{IsExact, IsFree, IsEffected};
+ghost use Rattle.file_effects.specs.Effected.{IsCreated, IsExact, IsFree, IsEffected};
 ghost use Rattle.lease_manager.specs.Writers.{count_of, moment_of, HasRoom, IsAlike};
 
 use crate::make::make_file;
 use hdfs_types::file::FileState;
-use hdfs_types::op::Op;
+use hdfs_types::verb::Write;
 use hdfs_values::moment::Moment;
 use hdfs_values::path::Path;
 use hdfs_values::replication::Repl;
@@ -67,7 +67,7 @@ fn holder_of(tree: &Tree, path: &Path) -> Result<Option<Who>, AllocError>
 
 // ---- files that are opened
 
-/// Makes a file for a client that has no lease yet.
+/// Makes a file for a client that has no lease yet, which it gets first, and loses again where memory runs out.
 fn create_first(
     alloc: Global,
     tree: &mut Tree,
@@ -83,11 +83,8 @@ fn create_first(
     requires absent { moment_of writers.old.leases.renewals caller.now ≡ None }
     requires clear { file_above path.now tree.old ≡ None }
     requires file { directory_there (row_at path.now tree.old) ≡ None }
-    ensures tree { OnOk result (tree.new ≡ with_new path.now mode (Some (new_file replication caller.now)) caller.now (ancestor path.now tree.old) tree.old) }
-    ensures files { OnOk result ((other : List ℕ) → count_of writers.new.files other ≡ (if same caller.now other then count_of writers.old.files caller.now + 1 else count_of writers.old.files other)) }
-    ensures renewals { OnOk result (writers.new.leases.renewals ≡ lease.renewals_with caller.now now writers.old.leases.renewals) }
+    ensures ok { OnOk result (IsCreated path.now mode replication caller.now now tree.old writers.old tree.new writers.new) }
     ensures limits { writers.new.leases.limits ≡ writers.old.leases.limits }
-    ensures latest { OnOk result (lease.latest_moment writers.new.leases.renewals ≡ now) }
     ensures err { OnErr result ((tree.new ≡ tree.old) × (writers.new.leases ≡ writers.old.leases) × (writers.new.files ≡ writers.old.files)) }
 {
     writers.leases.take(caller, now)?;
@@ -99,38 +96,7 @@ fn create_first(
     Ok(())
 }
 
-/// Makes a file for a client that has a lease.
-fn create_another(
-    alloc: Global,
-    tree: &mut Tree,
-    writers: &mut Writers,
-    path: &Path,
-    mode: Mode,
-    replication: Repl,
-    caller: &Who,
-    now: Moment,
-) -> Result<(), AllocError>
-    requires latest { lease.latest_moment writers.old.leases.renewals ≤ now }
-    requires room { HasRoom writers.old.files caller.now }
-    requires held { IsSome (lease.renewal_of caller.now writers.old.leases.renewals) }
-    requires clear { file_above path.now tree.old ≡ None }
-    requires file { directory_there (row_at path.now tree.old) ≡ None }
-    ensures tree { OnOk result (tree.new ≡ with_new path.now mode (Some (new_file replication caller.now)) caller.now (ancestor path.now tree.old) tree.old) }
-    ensures files { OnOk result ((other : List ℕ) → count_of writers.new.files other ≡ (if same caller.now other then count_of writers.old.files caller.now + 1 else count_of writers.old.files other)) }
-    ensures renewals { OnOk result (writers.new.leases.renewals ≡ lease.renewals_with caller.now now writers.old.leases.renewals) }
-    ensures limits { writers.new.leases.limits ≡ writers.old.leases.limits }
-    ensures latest { OnOk result (lease.latest_moment writers.new.leases.renewals ≡ now) }
-    ensures err { OnErr result ((tree.new ≡ tree.old) × (writers.new.leases ≡ writers.old.leases) × (writers.new.files ≡ writers.old.files)) }
-{
-    make_file(alloc, tree, path, mode, replication, caller)?;
-    let Ok(()) = writers.leases.take(caller, now) else {
-        unreachable!()
-    };
-    writers.files.add(caller);
-    Ok(())
-}
-
-/// Makes a file that the caller has open, whether it has a lease yet or not.
+/// Makes a file that the caller has open. A lease that the caller has is renewed behind that, which takes no memory.
 fn create_open(
     alloc: Global,
     tree: &mut Tree,
@@ -144,18 +110,20 @@ fn create_open(
     requires latest { lease.latest_moment writers.old.leases.renewals ≤ now }
     requires clear { file_above path.now tree.old ≡ None }
     requires file { directory_there (row_at path.now tree.old) ≡ None }
-    ensures tree { OnOk result (tree.new ≡ with_new path.now mode (Some (new_file replication caller.now)) caller.now (ancestor path.now tree.old) tree.old) }
-    ensures files { OnOk result ((other : List ℕ) → count_of writers.new.files other ≡ (if same caller.now other then count_of writers.old.files caller.now + 1 else count_of writers.old.files other)) }
-    ensures renewals { OnOk result (writers.new.leases.renewals ≡ lease.renewals_with caller.now now writers.old.leases.renewals) }
+    ensures ok { OnOk result (IsCreated path.now mode replication caller.now now tree.old writers.old tree.new writers.new) }
     ensures limits { writers.new.leases.limits ≡ writers.old.leases.limits }
-    ensures latest { OnOk result (lease.latest_moment writers.new.leases.renewals ≡ now) }
     ensures err { OnErr result ((tree.new ≡ tree.old) × IsAlike writers.old writers.new) }
 {
     writers.files.make_room(caller)?;
     if writers.leases.state(caller, now).is_none() {
         return create_first(alloc, tree, writers, path, mode, replication, caller, now);
     }
-    create_another(alloc, tree, writers, path, mode, replication, caller, now)
+    make_file(alloc, tree, path, mode, replication, caller)?;
+    let Ok(()) = writers.leases.take(caller, now) else {
+        unreachable!()
+    };
+    writers.files.add(caller);
+    Ok(())
 }
 
 /// The clients who have open what a creation takes the place of. Where nothing may be replaced, nothing has the path.
@@ -308,30 +276,29 @@ fn delete(
     Ok(())
 }
 
-/// Does an operation that writes files, or a deletion, where nothing refuses it.
+/// Does a verb that writes a file, or a deletion, where nothing refuses it.
 ///
 /// # Errors
-/// Out of memory; nothing has changed.
+/// Out of memory, and nothing has changed.
 pub fn effect(
     alloc: Global,
     tree: &mut Tree,
     writers: &mut Writers,
     open_paths: &mut OpenPaths,
-    op: &Op,
+    write: &Write<'_>,
     caller: &Who,
     now: Moment,
 ) -> Result<(), AllocError>
     requires latest { lease.latest_moment writers.old.leases.renewals ≤ now }
-    requires verb { writes_or_deletes op.now ≡ true }
-    requires free { (users : Users) × IsFree op.now caller.now tree.old users }
+    requires free { (users : Users) × IsFree (write_op write.now) caller.now tree.old users }
     requires namespace { IsNamespace tree.old }
-    ensures ok { OnOk result (IsEffected op.now caller.now now tree.old writers.old tree.new writers.new) }
+    ensures ok { OnOk result (IsEffected (write_op write.now) caller.now now tree.old writers.old tree.new writers.new) }
     ensures limits { writers.new.leases.limits ≡ writers.old.leases.limits }
     ensures latest { OnOk result (lease.latest_moment writers.new.leases.renewals ≤ now) }
     ensures err { OnErr result ((tree.new ≡ tree.old) × IsAlike writers.old writers.new) }
 {
-    match op {
-        Op::Create(path, mode, replication, over) => create(
+    match write {
+        Write::Create(path, mode, replication, over) => create(
             alloc,
             tree,
             writers,
@@ -343,13 +310,12 @@ pub fn effect(
             caller,
             now,
         ),
-        Op::Append(path) => append(tree, writers, open_paths, path, caller, now),
-        Op::Complete(path, _) => {
+        Write::Append(path) => append(tree, writers, open_paths, path, caller, now),
+        Write::AddBlock(_, _) => Ok(()),
+        Write::Complete(path, _) => {
             release(tree, writers, open_paths, path, caller);
             Ok(())
         }
-        Op::Delete(path, _) => delete(alloc, tree, writers, open_paths, path),
-        Op::AddBlock(_, _) => Ok(()),
-        _ => unreachable!(),
+        Write::Delete(path, _) => delete(alloc, tree, writers, open_paths, path),
     }
 }

@@ -132,7 +132,7 @@ fn holders_past(alloc: Global, tree: &Tree, past: &[Who]) -> Result<Vec<Who>, Al
 /// whole tree.
 ///
 /// # Errors
-/// Out of memory; nothing has changed.
+/// Out of memory, and nothing has changed.
 fn expire_all(
     alloc: Global,
     tree: &mut Tree,
@@ -186,7 +186,7 @@ fn forget_each(writers: &Writers, open_paths: &mut OpenPaths, clients: &[Who]) {
 /// files; the whole tree where some of them aren't known or aren't closed.
 ///
 /// # Errors
-/// Out of memory; nothing has changed.
+/// Out of memory, and nothing has changed.
 pub fn expire(
     alloc: Global,
     tree: &mut Tree,

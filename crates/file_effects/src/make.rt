@@ -76,7 +76,7 @@ fn replace_file(
 /// directories above it. Costs the path (HDFS Architecture, "The File System Namespace").
 ///
 /// # Errors
-/// Out of memory; nothing has changed.
+/// Out of memory, and nothing has changed.
 pub fn make_file(
     alloc: Global,
     tree: &mut Tree,

@@ -1,6 +1,8 @@
 ghost use Rattle.std.specs.Prelude.{◌≡◌, ℕ, List, IfOk, OnErr, unwrap_or};
+ghost use Rattle.hdfs_types.specs.Verb.{update_op};
 ghost use Rattle.principals.specs.Users.{Users, caller_of};
 ghost use Rattle.partial_acl.specs.AclChange.{acl_change};
+ghost use Rattle.required_rights.specs.RequiredRights.{required_rights};
 ghost use Rattle.flat_rows.specs.FileOutcome.{LeaseFacts};
 ghost use Rattle.flat_rows.specs.Outcome as spec;
 ghost use Rattle.inode_tree.specs.Tree.{branch_at};
@@ -14,6 +16,7 @@ use default_acl::chmod::chmod;
 use flat_rows::verdict::Verdict;
 use hdfs_types::op::Op;
 use hdfs_types::reply::{ObjectKind, Refusal, Reply};
+use hdfs_types::verb::Update;
 use hdfs_values::groups::Groups;
 use hdfs_values::path::Path;
 use hdfs_values::replication::Repl;
@@ -33,7 +36,7 @@ use required_rights::demand::Needs;
 use std::alloc::{AllocError, Global};
 
 /// Makes a directory and the missing ones above it.
-pub(crate) fn mkdirs(
+fn mkdirs(
     alloc: Global,
     tree: &mut Tree,
     caller: &Caller,
@@ -63,7 +66,7 @@ pub(crate) fn mkdirs(
 }
 
 /// Gives what has a path another mode.
-pub(crate) fn set_mode(
+fn set_mode(
     alloc: Global,
     tree: &mut Tree,
     caller: &Caller,
@@ -107,7 +110,7 @@ fn changed(
 }
 
 /// Changes the access control list of what has a path.
-pub(crate) fn set_acl(
+fn set_acl(
     alloc: Global,
     tree: &mut Tree,
     caller: &Caller,
@@ -160,7 +163,7 @@ fn owners_due(
 }
 
 /// Gives what has a path another owner and another group.
-pub(crate) fn set_owner(
+fn set_owner(
     alloc: Global,
     tree: &mut Tree,
     caller: &Caller,
@@ -187,7 +190,7 @@ pub(crate) fn set_owner(
 }
 
 /// Gives a file another replication.
-pub(crate) fn set_replication(
+fn set_replication(
     alloc: Global,
     tree: &mut Tree,
     caller: &Caller,
@@ -249,7 +252,7 @@ fn refusal_of_rename(
 
 /// Moves what has a path, with all that is beneath it, to another path. Costs the paths, and where the new one is deeper or
 /// longer also what is moved.
-pub(crate) fn rename(
+fn rename(
     alloc: Global,
     tree: &mut Tree,
     caller: &Caller,
@@ -272,7 +275,7 @@ pub(crate) fn rename(
 }
 
 /// Makes a user known.
-pub(crate) fn add_user(
+fn add_user(
     alloc: Global,
     tree: &Tree,
     users: &mut Users,
@@ -295,7 +298,7 @@ pub(crate) fn add_user(
 }
 
 /// Gives a known user other groups.
-pub(crate) fn set_groups(
+fn set_groups(
     alloc: Global,
     tree: &Tree,
     users: &mut Users,
@@ -313,5 +316,43 @@ pub(crate) fn set_groups(
     match users.set_groups(user, groups.clone()?) {
         Ok(()) => Ok(Verdict::Done(Reply::Empty)),
         Err(refusal) => Ok(Verdict::Refused(refusal)),
+    }
+}
+
+/// Decides a verb that changes the namespace or the users, with its needs, and does it where no need fails and nothing
+/// against it: first the first need that fails, then the first refusal of the operation's list, then done. A denied or refused one
+/// changes nothing. Costs the paths that it names, one look-up in a map for each name, and `rename` the sub-tree only where the new
+/// path is deeper or longer (HDFS Architecture, "The File System Namespace"; HDFS Permissions Guide, "Permission Checks").
+///
+/// # Errors
+/// Out of memory, and nothing has changed.
+pub fn apply_update(
+    alloc: Global,
+    tree: &mut Tree,
+    users: &mut Users,
+    caller: &Who,
+    needs: &Needs,
+    update: &Update<'_>,
+) -> Result<Verdict, AllocError>
+    requires { needs.now ≡ required_rights (update_op update.now) }
+    ensures ok { (leases : LeaseFacts) → IfOk result (λ verdict. record { verdict = verdict; rows = tree.new; users = users.new } ≡ spec.step leases tree.old users.old caller.now (update_op update.now)) }
+    ensures err { OnErr result ((tree.new ≡ tree.old) × (users.new ≡ users.old)) }
+{
+    let asking = users.caller(caller);
+    match update {
+        Update::Mkdirs(path, mode) => mkdirs(alloc, tree, &asking, needs, path, *mode),
+        Update::Rename(from, to) => rename(alloc, tree, &asking, needs, from, to),
+        Update::SetMode(path, mode) => set_mode(alloc, tree, &asking, needs, path, *mode),
+        Update::SetOwner(path, owner, group) => {
+            set_owner(alloc, tree, &asking, needs, path, owner, group)
+        }
+        Update::SetAcl(path, change) => set_acl(alloc, tree, &asking, needs, path, change),
+        Update::SetReplication(path, replication) => {
+            set_replication(alloc, tree, &asking, needs, path, *replication)
+        }
+        Update::AddUser(user, groups) => add_user(alloc, tree, users, caller, needs, user, groups),
+        Update::SetGroups(user, groups) => {
+            set_groups(alloc, tree, users, caller, needs, user, groups)
+        }
     }
 }

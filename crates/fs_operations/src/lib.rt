@@ -1,8 +1,7 @@
-//! The operations on the namespace: each is decided by the walk of the tree, and done where no need fails and nothing
-//! against it (HDFS Architecture, "The File System Namespace"; HDFS Permissions Guide). What hangs on leases is judged here, and
-//! done by who keeps them.
+//! The operations on the namespace and the users that leave leases as they are: each is decided by the walk of the tree, and done
+//! where no need fails and nothing refuses it (HDFS Architecture, "The File System Namespace"; HDFS Permissions Guide).
 #![tactic(auto)]
 
 pub mod apply;
-mod change;
-mod look;
+pub mod change;
+pub mod read;

@@ -1,4 +1,4 @@
-use hdfs_cli::timing::TimingFault;
+use script_runs::timing::TimingFault;
 use std::alloc::AllocError;
 use std::io;
 

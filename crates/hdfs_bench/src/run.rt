@@ -1,6 +1,6 @@
 use crate::answers::{count_lines, count_ok};
 use crate::fault::Fault;
-use hdfs_cli::timing::time_script;
+use script_runs::timing::time_script;
 use std::time::Duration;
 
 /// The two texts of a workload of a size.

@@ -11,7 +11,7 @@ use Rattle.script_hints.specs.Hints.{NumberedFault, fault_before, fault_in, faul
 use Rattle.script_text.specs.Script.{request_of}
 use Rattle.script_words.specs.Words.{lines_of, without_return, is_skipped, words_of}
 use Rattle.hdfs_cli.specs.Hinted.{bad_at, bad_answers}
-use Rattle.hdfs_cli.specs.Output.{Numbered, State, Answered, answered, after_answer, after_trimmed, after_line, opening, behind_lines, answers_of}
+use Rattle.script_runs.specs.Output.{Numbered, State, Answered, answered, after_answer, after_trimmed, after_line, opening, behind_lines, answers_of}
 
 abbrev bads : State → List NumberedFault
 bads state = bad_answers state.answers

@@ -1,6 +1,2 @@
-pub mod Vectors
-pub mod Known
-pub mod Lines
-pub mod Endings
 pub mod Fronts
 pub mod Hinting

@@ -14,7 +14,7 @@ use Rattle.hdfs_cli.specs.declared.explain.Explained.{Explained}
 use Rattle.hdfs_cli.specs.declared.explain.Explained.TheVariants.{Trail, NoRequest}
 use Rattle.script_words.specs.Words.{lines_of, without_return, is_skipped, words_of}
 use Rattle.script_text.specs.Script.{request_of}
-use Rattle.hdfs_cli.specs.Output.{State, after_lines, status_of}
+use Rattle.script_runs.specs.Output.{State, after_lines, status_of}
 
 abbrev pub well_formed : Result Request IllFormed → Option Request
 well_formed (Ok request) = Some request

@@ -5,19 +5,18 @@ ghost use Rattle.std.specs.Option.{option_copied};
 ghost use Rattle.std.specs.String.{string_bytes};
 ghost use Rattle.std.specs.Str.{IsUtf8};
 ghost use Rattle.flat_rows.specs.Decision.{trail as trail_said};
-ghost use Rattle.hdfs_cli.specs.Channel.{AppendsFront};
+ghost use Rattle.script_runs.specs.Channel.{AppendsFront};
 ghost use Rattle.hdfs_cli.specs.Explanation as spec;
-ghost use Rattle.hdfs_cli.specs.Output as output;
-ghost use Rattle.hdfs_cli.specs.Shown.{Shows};
+ghost use Rattle.script_runs.specs.Output as output;
+ghost use Rattle.script_runs.specs.Shown.{Shows};
 
-use crate::channel::write_text;
-use crate::script::{ScriptFault, Session, Status, read_script, run_lines};
 use flat_rows::trail::{Judged, trail};
 use hdfs_types::op::Request;
 use hdfs_values::path::Path;
 use inode_tree::tree::Tree;
-use name_core::namenode::NameCore;
 use namespace_rows::rows::Rows;
+use script_runs::channel::write_text;
+use script_runs::script::{ScriptFault, Session, Status, read_script, run_lines};
 use script_text::line::read_line;
 use script_words::words::{is_skipped, pieces_between, without_return};
 use std::alloc::{AllocError, Global};
@@ -82,25 +81,26 @@ pub fn rows_of(alloc: Global, tree: &Tree) -> Result<Rows, AllocError>
     Ok(Rows::from_vec(rows))
 }
 
-/// The needs of a request that are judged on what the core holds. Costs the whole namespace.
+/// The needs of a request that are judged behind the lines that were run. Costs the whole namespace.
 pub(crate) fn trail_on(
     alloc: Global,
-    core: &NameCore,
+    session: &Session,
     request: &Request,
 ) -> Result<Vec<Judged>, AllocError>
-    ensures { IfOk result (λ needs. needs.items ≡ spec.trail_on core.now.config core.now.entries request.now) }
+    ensures { IfOk result (λ needs. needs.items ≡ spec.trail_on session.now.core.config session.now.core.entries request.now) }
 {
-    let rows = rows_of(alloc, core.tree())?;
-    let needs = trail(alloc, &rows, core.users(), &request.caller, &request.op);
+    let rows = rows_of(alloc, session.core.tree())?;
+    let users = session.core.users();
+    let needs = trail(alloc, &rows, users, &request.caller, &request.op);
     drop(rows);
     needs
 }
 
 /// What is printed of the needs of a request.
-fn needs_text(alloc: Global, core: &NameCore, request: &Request) -> Result<String, AllocError>
-    ensures { IfOk result (λ text. string_bytes text ≡ spec.trail_text (spec.trail_on core.now.config core.now.entries request.now)) }
+fn needs_text(alloc: Global, session: &Session, request: &Request) -> Result<String, AllocError>
+    ensures { IfOk result (λ text. string_bytes text ≡ spec.trail_text (spec.trail_on session.now.core.config session.now.core.entries request.now)) }
 {
-    let needs = trail_on(alloc, core, request)?;
+    let needs = trail_on(alloc, session, request)?;
     let text = text_of(alloc, &needs);
     drop(needs);
     text
@@ -120,7 +120,7 @@ fn explain_request(
     run_lines(alloc, session, before)?;
     Ok(Explanation {
         found: Explained::Trail(Status::by(session.has_bad())),
-        text: needs_text(alloc, &session.core, request)?,
+        text: needs_text(alloc, session, request)?,
     })
 }
 

@@ -1,17 +1,16 @@
-ghost use Rattle.hdfs_cli.specs.Output as output;
-ghost use Rattle.hdfs_cli.specs.Shown.{Shows};
+ghost use Rattle.script_runs.specs.Output as output;
+ghost use Rattle.script_runs.specs.Shown.{Shows};
 
 use crate::explain::{request_in, rows_of, trail_on};
 use crate::hints::{Line, add_hint, add_hints, hint_on_bytes};
-use crate::script::{Session, run_lines, run_more};
 use flat_rows::ask::asks_of;
 use flat_rows::demand::{Demand, Role, needs_of};
 use flat_rows::trail::Judged;
 use hdfs_types::op::{Op, Request};
 use hdfs_values::path::{Path, is_same};
-use name_core::namenode::NameCore;
 use namespace_rows::row::Row;
 use script_hints::numbered::hints_on_lines;
+use script_runs::script::{Session, run_lines, run_more};
 use script_words::words::{is_skipped, pieces_between, without_return};
 use std::alloc::{AllocError, Global};
 use std::str;
@@ -84,16 +83,16 @@ fn add_sides(
 fn add_rename_hints(
     alloc: Global,
     line: Line<'_>,
-    core: &NameCore,
+    session: &Session,
     request: &Request,
     out: &mut String,
 ) -> Result<(), AllocError> {
     let Op::Rename(from, _) = &request.op else {
         return Ok(());
     };
-    let rows = rows_of(alloc, core.tree())?;
+    let rows = rows_of(alloc, session.core.tree())?;
     let sides = sides_of(alloc, rows.as_slice(), &request.op, from)?;
-    let needs = trail_on(alloc, core, request)?;
+    let needs = trail_on(alloc, session, request)?;
     add_sides(line, &needs, &sides, out)
 }
 
@@ -109,7 +108,7 @@ fn run_to(
     requires { Shows output.opening session.old }
 {
     run_lines(alloc, session, before)?;
-    add_rename_hints(alloc, line, &session.core, request, out)?;
+    add_rename_hints(alloc, line, session, request, out)?;
     run_more(alloc, session, line.text)
 }
 

@@ -1,6 +1,6 @@
 ghost use Rattle.std.specs.Prelude.{◌≡◌, IfOk, map};
 ghost use Rattle.hdfs_cli.specs.Hinted as spec;
-ghost use Rattle.hdfs_cli.specs.Output.{answers_of};
+ghost use Rattle.script_runs.specs.Output.{answers_of};
 ghost use Rattle.script_hints.specs.Hints.{numbered_fault};
 
 use script_hints::hint::hint_in;

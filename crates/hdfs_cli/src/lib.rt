@@ -1,12 +1,10 @@
 //! Scripts of requests, lines in and lines of answers out; the needs of a line; hints on lines; and what a token says.
 #![tactic(auto)]
 
-pub mod channel;
 pub mod explain;
 pub mod explain_hints;
 pub mod hints;
-pub mod script;
-pub mod timing;
 
 pub use script_hints::verbs as verbs;
+pub use script_runs::{script as script, timing as timing};
 pub use script_text::token as token;

@@ -2,4 +2,4 @@ pub mod Request
 pub mod File
 pub mod Reply
 pub mod AclStatus
-pub mod WritingVerbs
+pub mod Verb

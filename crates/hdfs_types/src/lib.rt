@@ -5,6 +5,7 @@
 pub mod file;
 pub mod op;
 pub mod reply;
+pub mod verb;
 
 pub use hdfs_values::{fault, groups, ids, moment, name, node_id, number, path, replication, who};
 pub use permission_specs::{acl_change, entry, mode, modes, rights, spec};

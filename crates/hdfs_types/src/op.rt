@@ -253,31 +253,3 @@ pub fn is_look(op: &Op) -> bool
         | Op::Tick => false,
     }
 }
-
-/// Whether the operation neither asks who has which file open to write, nor changes it. Takes no memory.
-pub fn keeps_leases(op: &Op) -> bool
-    ensures { result ≡ spec.keeps_leases op.now }
-{
-    match op {
-        Op::Create(_, _, _, _)
-        | Op::Append(_)
-        | Op::AddBlock(_, _)
-        | Op::Complete(_, _)
-        | Op::Delete(_, _)
-        | Op::Renew
-        | Op::Tick => false,
-        Op::SetAcl(_, _)
-        | Op::Stat(_)
-        | Op::List(_)
-        | Op::Summary(_)
-        | Op::GetAcl(_)
-        | Op::Mkdirs(_, _)
-        | Op::Rename(_, _)
-        | Op::SetMode(_, _)
-        | Op::SetOwner(_, _, _)
-        | Op::AddUser(_, _)
-        | Op::SetGroups(_, _)
-        | Op::Open(_)
-        | Op::SetReplication(_, _) => true,
-    }
-}

@@ -5,3 +5,4 @@ pub mod Fronts
 pub mod Spelling
 pub mod Beneath
 pub mod Nodes
+pub mod ShortTexts

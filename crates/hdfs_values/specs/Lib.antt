@@ -8,5 +8,6 @@ pub mod Name
 pub mod Path
 pub mod PathOrder
 pub mod Who
+pub mod ShortText
 pub mod Groups
 pub mod NodeId

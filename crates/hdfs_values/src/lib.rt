@@ -11,4 +11,5 @@ pub mod node_id;
 pub mod number;
 pub mod path;
 pub mod replication;
+mod short_text;
 pub mod who;

@@ -10,28 +10,29 @@ ghost use Rattle.hdfs_values.specs.Parsed.{Parses};
 ghost use Rattle.hdfs_values.specs.Text.{same, text_cmp};
 
 use crate::fault::{IllFormed, ParseFault};
+use crate::short_text::ShortText;
 use std::alloc::{AllocError, Global};
 use std::cmp::Ordering;
 use std::fmt;
 use std::marker::Model;
 
 /// A component of a path: 1 to 255 bytes of UTF-8 without `/`, `:`, NUL and line feed, and neither `.` nor `..`
-/// (HDFS Architecture, "The File System Namespace"). Names are ordered by their bytes.
+/// (HDFS Architecture, "The File System Namespace"). Names are ordered by their bytes. A name of at most 22 bytes takes no memory, so
+/// that a clone of it succeeds.
 #[derive(Drop)]
 pub struct Name {
-    text: String,
+    text: ShortText,
 }
 
 impl Model for Name {
     ghost use Rattle.std.specs.Prelude.{List, ℕ};
-    ghost use Rattle.std.specs.String.{string_bytes};
     ghost use Rattle.hdfs_values.specs.Name.{IsName};
 
     ghost Value = { List ℕ };
 
-    ghost view = { λ name. string_bytes name.text };
+    ghost view = { λ name. name.text };
 
-    ghost invariant = { λ name. IsName (string_bytes name.text) };
+    ghost invariant = { λ name. IsName name.text };
 }
 
 fn is_name_byte(byte: u8) -> bool
@@ -84,13 +85,13 @@ impl Name {
         Ok(Name::copied(alloc, text)?)
     }
 
-    /// A copy of a text that is a name.
+    /// A copy of a text that is a name. One of at most 22 bytes takes no memory.
     pub(crate) fn copied(alloc: Global, text: &str) -> Result<Name, AllocError>
         requires { IsName text.now }
         ensures { IfOk result (λ name. name ≡ text.now) }
     {
         Ok(Name {
-            text: String::from_str(alloc, text)?,
+            text: ShortText::copied(alloc, text)?,
         })
     }
 

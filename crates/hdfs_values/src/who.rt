@@ -12,6 +12,7 @@ ghost use Rattle.hdfs_values.specs.Parsed.{Parses};
 ghost use Rattle.hdfs_values.specs.Text.{same, text_cmp};
 
 use crate::fault::{IllFormed, ParseFault};
+use crate::short_text::ShortText;
 use std::alloc::{AllocError, Global};
 use std::cmp::Ordering;
 use std::fmt;
@@ -19,22 +20,22 @@ use std::hash::{Hash, Hasher};
 use std::marker::Model;
 
 /// The name of a user or of a group: 1 to 255 bytes from 0x21 to 0x7e without `:`, `,` and `/` (HDFS Permissions
-/// Guide, "User Identity" and "Group Mapping"). Names are ordered by their bytes.
+/// Guide, "User Identity" and "Group Mapping"). Names are ordered by their bytes. A name of at most 22 bytes takes no memory, so that a
+/// clone of it succeeds.
 #[derive(Drop)]
 pub struct Who {
-    text: String,
+    text: ShortText,
 }
 
 impl Model for Who {
     ghost use Rattle.std.specs.Prelude.{List, ℕ};
-    ghost use Rattle.std.specs.String.{string_bytes};
     ghost use Rattle.hdfs_values.specs.Who.{IsWho};
 
     ghost Value = { List ℕ };
 
-    ghost view = { λ who. string_bytes who.text };
+    ghost view = { λ who. who.text };
 
-    ghost invariant = { λ who. IsWho (string_bytes who.text) };
+    ghost invariant = { λ who. IsWho who.text };
 }
 
 fn is_who_byte(byte: u8) -> bool
@@ -74,7 +75,7 @@ impl Who {
             return Err(ParseFault::IllFormed(IllFormed::BadName));
         }
         Ok(Who {
-            text: String::from_str(alloc, text)?,
+            text: ShortText::copied(alloc, text)?,
         })
     }
 
@@ -149,6 +150,6 @@ impl Hash for Who {
     ghost respects_eq = { λ x y one. ap fed.str ((bytes_decides x y).0 (texts_ties x y ∙ one)) };
 
     fn hash<H: Hasher>(&self, state: &mut H) {
-        self.text.hash(state);
+        self.text.as_str().hash(state);
     }
 }

@@ -14,7 +14,8 @@ use Rattle.history.specs.declared.entry.HistoryEntry.{HistoryEntry}
 use Rattle.history.specs.Config.{Config, limits_of}
 use Rattle.history.specs.ClockAndLease.{renews, last_renewal, clock_of, lease_in, facts_at}
 use Rattle.history.specs.State.{users_by, users_of, rows_by, rows_of}
-use Rattle.history.specs.Laws.{is_done, IsSame}
+use Rattle.flat_rows.specs.Verdicts.{is_done}
+use Rattle.history.specs.Laws.{IsSame}
 
 -- what an operation with a verdict does
 pub record Rests (op : Op) (verdict : Verdict) : Type 0 where

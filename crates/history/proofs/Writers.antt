@@ -26,7 +26,8 @@ use Rattle.flat_rows.specs.FileOutcome.{LeaseFacts, directory_there, if_some_fil
 use Rattle.flat_rows.specs.Outcome.{beneath_file, nothing_at, first_some, denied_or_outcome, refused_or_done, step}
 use Rattle.namespace_rows.proofs.Tests.{both}
 use Rattle.namespace_rows.proofs.PathOrders.{same_path_is, less_is}
-use Rattle.history.specs.Laws.{is_done, writes}
+use Rattle.flat_rows.specs.Verdicts.{is_done}
+use Rattle.history.specs.Laws.{writes}
 
 -- ---- one writer
 

@@ -7,8 +7,8 @@ use Rattle.hdfs_types.specs.declared.op.Op.TheVariants as op
 use Rattle.hdfs_types.specs.declared.op.Request.{Request}
 use Rattle.hdfs_types.specs.declared.reply.Refusal.TheVariants.{LeaseHeld}
 use Rattle.namespace_rows.specs.declared.row.Row.{Row}
-use Rattle.flat_rows.specs.declared.verdict.Verdict.{Verdict}
-use Rattle.flat_rows.specs.declared.verdict.Verdict.TheVariants.{Done, Denied, Refused}
+use Rattle.flat_rows.specs.declared.verdict.Verdict.TheVariants.{Refused}
+use Rattle.flat_rows.specs.Verdicts.{is_done}
 use Rattle.namespace_rows.specs.Rows.{row_at, file_above, is_directory}
 use Rattle.namespace_rows.specs.Namespace.{IsNamespace}
 use Rattle.namespace_rows.specs.Files.{is_open_by}
@@ -19,11 +19,6 @@ use Rattle.history.specs.Config.{Config}
 use Rattle.history.specs.ClockAndLease.{last_renewal}
 use Rattle.history.specs.State.{users_of, rows_of, lease_facts}
 use Rattle.history.specs.LegalHistory.{now_at, verdict_of}
-
-abbrev pub is_done : Verdict → Bool
-is_done (Done reply) = true
-is_done (Denied denial) = false
-is_done (Refused refusal) = false
 
 -- ---- one writer at a time
 

@@ -204,7 +204,7 @@ impl Tree {
     /// Puts a file, where what it has is given, or else a directory that holds nothing, at a path, instead of what stood there.
     ///
     /// # Errors
-    /// Out of memory; nothing has changed.
+    /// Out of memory, and nothing has changed.
     pub fn insert(
         &mut self,
         path: &Path,
@@ -231,7 +231,7 @@ impl Tree {
     /// Permissions Guide, "Overview").
     ///
     /// # Errors
-    /// Out of memory; nothing has changed.
+    /// Out of memory, and nothing has changed.
     pub fn make(
         &mut self,
         path: &Path,
@@ -262,7 +262,7 @@ impl Tree {
     /// Moves what stands at a path, with all that is beneath it, to another path. Costs the two paths, and not what is moved.
     ///
     /// # Errors
-    /// Out of memory; nothing has changed.
+    /// Out of memory, and nothing has changed.
     pub fn move_to(&mut self, from: &Path, to: &Path) -> Result<(), AllocError>
         requires there { IsTrue (not (is_missing from.now self.old)) }
         requires free { IsTrue (is_missing to.now self.old) }

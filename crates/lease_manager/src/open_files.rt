@@ -55,7 +55,7 @@ impl OpenFiles {
     /// Makes room for one more open file of a client, and changes no number.
     ///
     /// # Errors
-    /// Out of memory, or the number can't grow.
+    /// Out of memory, and where the number can't grow.
     pub fn make_room(&mut self, client: &Who) -> Result<(), AllocError>
         ensures counts { (other : List ℕ) → count_of self.new other ≡ count_of self.old other }
         ensures room { OnOk result (HasRoom self.new client.now) }

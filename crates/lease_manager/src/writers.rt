@@ -31,7 +31,7 @@ impl Writers {
     /// Notes that a client has opened a file, which also renews its lease, or begins one.
     ///
     /// # Errors
-    /// Out of memory; nothing has changed.
+    /// Out of memory, and nothing has changed.
     pub fn open(&mut self, client: &Who, now: Moment) -> Result<(), AllocError>
         requires { lease.latest_moment self.old.leases.renewals ≤ now }
         ensures files { OnOk result ((other : List ℕ) → count_of self.new.files other ≡ (if same client.now other then count_of self.old.files client.now + 1 else count_of self.old.files other)) }
@@ -49,7 +49,7 @@ impl Writers {
     /// Renews a client's lease.
     ///
     /// # Errors
-    /// Out of memory where the client has no lease; nothing has changed.
+    /// Out of memory where the client has no lease, and nothing has changed.
     pub fn renew(&mut self, client: &Who, now: Moment) -> Result<(), AllocError>
         requires { lease.latest_moment self.old.leases.renewals ≤ now }
         ensures files { self.new.files ≡ self.old.files }

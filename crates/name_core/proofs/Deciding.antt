@@ -9,7 +9,7 @@ use Rattle.flat_rows.specs.Outcome.{step}
 use Rattle.write_rules.specs.declared.write.Judged.{Judged}
 use Rattle.write_rules.specs.Judged.{verdict_under, takeover, IsJudged}
 use Rattle.history.specs.ClockAndLease.{is_live, state_at}
-use Rattle.history.specs.Laws.{is_done}
+use Rattle.flat_rows.specs.Verdicts.{is_done}
 use Rattle.name_core.specs.declared.namesystem.Namesystem.{Namesystem}
 use Rattle.lease_manager.specs.Writers.{moment_of}
 use Rattle.file_effects.specs.Effected.{IsExact, IsFree}

@@ -1,8 +1,9 @@
--- One more entry keeps what a core keeps.
-use Rattle.std.proofs.Common.{◌≡◌, ℕ, ◌+◌, ◌≤◌, max, [], ◌∷◌, ◌++◌, length, reverse, ap, sym, ◌∙◌, subst}
+-- One more entry keeps what a core keeps, and so does what is undone.
+use Rattle.std.proofs.Common.{◌≡◌, ℕ, ◌+◌, ◌≤◌, nat_lt, max, [], ◌∷◌, ◌++◌, length, reverse, None, ap, sym, ◌∙◌, subst, cond}
 use Rattle.std.proofs.lemmas.List.{reverse-append, length-reverse}
 use Rattle.hdfs_types.specs.declared.op.Request.{Request}
-use Rattle.lease_manager.specs.Leases.{latest_moment}
+use Rattle.lease_manager.specs.Leases.{Leases, latest_moment}
+use Rattle.lease_manager.specs.Writers.{moment_of}
 use Rattle.flat_rows.specs.declared.verdict.Verdict.{Verdict}
 use Rattle.flat_rows.specs.FileOutcome.{LeaseFacts}
 use Rattle.flat_rows.specs.Outcome.{Step, step}
@@ -16,7 +17,7 @@ use Rattle.name_core.specs.declared.namenode.NameCore.TheInside.{Inside}
 use Rattle.name_core.specs.NameCore.{Steps, entry_of}
 use Rattle.name_core.specs.Kept.{IsKept, core_of, entries_of}
 use Rattle.file_effects.specs.Effected.{IsExact, renewed_where}
-use Rattle.name_core.specs.Performed.{facts_of}
+use Rattle.name_core.specs.Performed.{IsUndone, facts_of}
 use Rattle.name_core.proofs.Stepping.{stepped_rows, stepped_users, same_facts, same_step}
 
 -- what a step does to the fields
@@ -81,6 +82,27 @@ kept_more a b e k h =
       exact = subst (λ l. IsExact (last_renewal l) b.system.tree b.system.writers) (sym more) (exact_more a b e k h);
       limits = h.limits ∙ (k.limits ∙ ap limits_of (sym h.config));
       latest = h.latest;
+    }
+
+pub kept_undone : (a b : Inside) → IsKept a → b.config ≡ a.config → b.history.items ≡ a.history.items → b.clock ≡ a.clock → IsUndone a.system b.system → IsKept b
+kept_undone a b k config history clock undone =
+    let same : entries_of b ≡ entries_of a = ap reverse history in
+    let leases = undone.writers.leases in
+    record {
+      legal = subst (λ l. IsLegal b.config l) (sym same) (subst (λ s. IsLegal s (entries_of a)) (sym config) k.legal);
+      clock = clock ∙ (k.clock ∙ ap clock_of (sym same));
+      tree = undone.tree ∙ (k.tree ∙ (ap (λ s. rows_of s (entries_of a)) (sym config) ∙ ap (rows_of b.config) (sym same)));
+      users = undone.users ∙ (k.users ∙ ap users_of (sym same));
+      exact = subst (λ l. IsExact (last_renewal l) b.system.tree b.system.writers) (sym same)
+          (subst (λ t. IsExact (last_renewal (entries_of a)) t b.system.writers) (sym undone.tree)
+          (record {
+            files = λ client. undone.writers.files client ∙ k.exact.files client;
+            leased = λ client.
+                ap (λ (l : Leases). moment_of l.renewals client) leases
+                ∙ (k.exact.leased client ∙ ap (λ n. cond (nat_lt 0 n) (last_renewal (entries_of a) client) None) (sym (undone.writers.files client)));
+          }));
+      limits = ap (λ (l : Leases). l.limits) leases ∙ (k.limits ∙ ap limits_of (sym config));
+      latest = subst (λ (l : Leases). latest_moment l.renewals ≤ b.clock) (sym leases) (subst (λ n. latest_moment a.system.writers.leases.renewals ≤ n) (sym clock) k.latest);
     }
 
 pub steps_is : (a b : Inside) (e : HistoryEntry) (n pass index : ℕ) (r : Request) (v : Verdict) (told : Answer) → IsKept a → Adds a b e

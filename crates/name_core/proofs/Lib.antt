@@ -1,6 +1,6 @@
 pub mod Stepping
 pub mod Keeping
-pub mod Plain
+pub mod LeasesKept
 pub mod Performing
 pub mod Ticking
 pub mod Deciding

@@ -1,5 +1,8 @@
--- A look answers what the entries give.
-use Rattle.std.proofs.Common.{◌≡◌, ℕ, length, refl, ap, ◌∙◌}
+-- A look answers what the entries give; and the newest entry.
+use Rattle.std.proofs.Common.{◌≡◌, ◌<◌, ◌-◌, ℕ, List, [], ◌∷◌, length, reverse, Some, get_or, arith, refl, sym, ap, ◌∙◌}
+use Rattle.std.proofs.lemmas.List.{get_or-reverse, length-reverse}
+use Rattle.std.proofs.lemmas.Option.{slice_get-get_or}
+use Rattle.std.specs.List.{slice_get}
 use Rattle.hdfs_types.specs.declared.op.Request.{Request}
 use Rattle.flat_rows.specs.declared.verdict.Verdict.{Verdict}
 use Rattle.flat_rows.specs.FileOutcome.{LeaseFacts}
@@ -22,3 +25,14 @@ looks_is a r kept v n k is place h =
     ap (λ x. record { place = x; request = kept; verdict = v }) place
     ∙ ap (λ x. record { place = length (entries_of a); request = x; verdict = v }) is
     ∙ ap (λ x. record { place = length (entries_of a); request = r; verdict = x }) (looked a r v k h)
+
+-- the newest is the last of those that are kept, and the first of the entries
+pub newest_first : {X : Type 0} (xs : List X) → slice_get (reverse xs) 0 ≡ slice_get xs (length xs - 1)
+newest_first [] = refl
+newest_first (x ∷ xs) =
+    let some : 0 < length (x ∷ xs) = omega arith in
+    let within : 0 < length (reverse (x ∷ xs)) = omega (arith, length-reverse (x ∷ xs)) in
+    let before : length (x ∷ xs) - 1 < length (x ∷ xs) = omega arith in
+    let same : length (x ∷ xs) - 1 - 0 ≡ length (x ∷ xs) - 1 = omega arith in
+    slice_get-get_or (reverse (x ∷ xs)) 0 x within
+    ∙ (ap (λ y. Some y) (get_or-reverse (x ∷ xs) 0 x some ∙ ap (λ n. get_or (x ∷ xs) n x) same) ∙ sym (slice_get-get_or (x ∷ xs) (length (x ∷ xs) - 1) x before))

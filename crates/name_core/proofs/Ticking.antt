@@ -5,12 +5,13 @@ use Rattle.std.proofs.Math.Dec.{eqb}
 use Rattle.std.specs.List.{IsDistinct}
 use Rattle.hdfs_values.specs.Text.{same}
 use Rattle.hdfs_types.specs.declared.op.Op.TheVariants as op
-use Rattle.hdfs_types.specs.declared.op.Request.{Request}
 use Rattle.hdfs_types.specs.declared.reply.Reply.TheVariants as reply
 use Rattle.lease_manager.specs.Leases.{renewals_past_hard, clients}
 use Rattle.namespace_rows.specs.declared.file_row.FileRow.{FileRow}
 use Rattle.namespace_rows.specs.declared.row.Row.{Row}
-use Rattle.flat_rows.specs.declared.verdict.Verdict.TheVariants.{Done}
+use Rattle.flat_rows.specs.declared.verdict.Verdict.{Verdict}
+use Rattle.flat_rows.specs.declared.verdict.Verdict.TheVariants.{Done, Denied}
+use Rattle.flat_rows.specs.Denial as denied
 use Rattle.flat_rows.specs.Decision.{decision}
 use Rattle.namespace_rows.specs.Files.{holder_of, ends_uncommitted}
 use Rattle.flat_rows.specs.FileOutcome.{LeaseFacts, is_expired, is_expired_file, closed_where_expired}
@@ -19,34 +20,37 @@ use Rattle.flat_rows.specs.Outcome.{step, denied_or_outcome}
 use Rattle.inode_nodes.specs.Expired as tree
 use Rattle.history.specs.ClockAndLease.{renews, is_past_hard, state_at}
 use Rattle.name_core.specs.declared.namesystem.Namesystem.{Namesystem}
-use Rattle.name_core.specs.declared.told.Told.{Told}
-use Rattle.name_core.specs.Told.{IsTold}
 use Rattle.file_effects.specs.Effected.{IsExact, renewed_where}
 use Rattle.name_core.specs.Performed.{IsPerformed, facts_of}
 use Rattle.file_effects.proofs.Expiring.{among_is, same_closed, same_filtered, none_closed}
-use Rattle.name_core.proofs.Performing.{step_of, lease_is}
+use Rattle.name_core.proofs.Performing.{step_of, lease_is, changing, performed_not_done}
 
-pub performed_tick : (last : List ℕ → Option ℕ) (now : ℕ) (request : Request) (old new : Namesystem) (told : Told) (past : List (List ℕ)) (closed : ℕ) → request.op ≡ op.Tick → decision old.tree old.users request.caller op.Tick ≡ None
+pub performed_tick : (last : List ℕ → Option ℕ) (now : ℕ) (caller : List ℕ) (old new : Namesystem) (verdict : Verdict) (past : List (List ℕ)) (closed : ℕ) → decision old.tree old.users caller op.Tick ≡ None
     → past ≡ clients (renewals_past_hard old.writers.leases.limits now old.writers.leases.renewals) → IsDistinct same (clients old.writers.leases.renewals)
     → new.tree ≡ map (closed_where_expired (tree.past_hard past)) old.tree → closed ≡ length (filter (is_expired (tree.past_hard past)) old.tree) → new.users ≡ old.users → IsExact last new.tree new.writers
-    → IsTold (Done (reply.Expired (record { closed = closed; recovering = 0 }))) told → IsExact last old.tree old.writers → IsPerformed last now request old told new
-performed_tick last now request old new told past closed asked granted past_is distinct left counted users left_exact is exact =
+    → verdict ≡ Done (reply.Expired (record { closed = closed; recovering = 0 })) → IsExact last old.tree old.writers → IsPerformed last now caller op.Tick old verdict new
+performed_tick last now caller old new verdict past closed granted past_is distinct left counted users left_exact is exact =
     let limits = old.writers.leases.limits in
     let facts = facts_of last now old in
     let agree : (client : List ℕ) → tree.is_among past client ≡ facts.is_past_hard client =
     λ client. ap (λ p. tree.is_among p client) past_is
     ∙ (among_is limits now client old.writers.leases.renewals distinct ∙ ap (λ m. is_past_hard (state_at limits now m)) (sym (lease_is last old.tree old.writers client exact))) in
     let number : closed ≡ length (filter (is_expired facts) old.tree) = counted ∙ ap length (same_filtered (tree.past_hard past) facts agree old.tree) in
-    let done : step facts old.tree old.users request.caller request.op ≡ denied_or_outcome facts old.tree old.users request.caller op.Tick None =
-    ap (step facts old.tree old.users request.caller) asked ∙ ap (denied_or_outcome facts old.tree old.users request.caller op.Tick) granted in
+    let done : step facts old.tree old.users caller op.Tick ≡ denied_or_outcome facts old.tree old.users caller op.Tick None = ap (denied_or_outcome facts old.tree old.users caller op.Tick) granted in
     record {
       stepped =
-          step_of (denied_or_outcome facts old.tree old.users request.caller op.Tick None) told.verdict new.tree new.users
-          (is.verdict_is ∙ ap (λ n. Done (reply.Expired (record { closed = n; recovering = 0 }))) number) (left ∙ same_closed (tree.past_hard past) facts agree old.tree) users
+          step_of (denied_or_outcome facts old.tree old.users caller op.Tick None) verdict new.tree new.users
+          (is ∙ ap (λ n. Done (reply.Expired (record { closed = n; recovering = 0 }))) number) (left ∙ same_closed (tree.past_hard past) facts agree old.tree) users
           ∙ sym done;
-      copy = is.copy ∙ sym is.verdict_is;
-      exact = subst (λ b. IsExact (renewed_where b request.caller now last) new.tree new.writers) (sym (ap (λ o. renews o told.verdict) asked ∙ ap (renews op.Tick) is.verdict_is)) left_exact;
+      exact = subst (λ b. IsExact (renewed_where b caller now last) new.tree new.writers) (sym (ap (renews op.Tick) is)) left_exact;
+      unchanged = changing old new verdict (Done (reply.Expired (record { closed = closed; recovering = 0 }))) is refl;
     }
+
+pub denied_tick : (last : List ℕ → Option ℕ) (now : ℕ) (caller : List ℕ) (old : Namesystem) (denial : denied.Denial) → decision old.tree old.users caller op.Tick ≡ Some denial
+    → IsExact last old.tree old.writers → IsPerformed last now caller op.Tick old (Denied denial) old
+denied_tick last now caller old denial is exact =
+    let facts = facts_of last now old in
+    performed_not_done last now caller op.Tick old (Denied denial) (sym (ap (λ d. (denied_or_outcome facts old.tree old.users caller op.Tick d).verdict) is)) refl exact
 
 -- no file is closed where no client's lease is past the limit
 none_expired : (rows : List Row) → filter (is_expired (tree.past_hard [])) rows ≡ []
@@ -61,11 +65,11 @@ none_expired (row ∷ rows) = ap (λ b. cond b (row ∷ filter (is_expired (tree
     by None = refl
     by (Some file) = by_holder (holder_of file.state) (not (ends_uncommitted file.blocks))
 
-pub performed_idle : (last : List ℕ → Option ℕ) (now : ℕ) (request : Request) (old : Namesystem) (told : Told) (past : List (List ℕ)) → request.op ≡ op.Tick → decision old.tree old.users request.caller op.Tick ≡ None
+pub performed_idle : (last : List ℕ → Option ℕ) (now : ℕ) (caller : List ℕ) (old : Namesystem) (verdict : Verdict) (past : List (List ℕ)) → decision old.tree old.users caller op.Tick ≡ None
     → past ≡ clients (renewals_past_hard old.writers.leases.limits now old.writers.leases.renewals) → IsDistinct same (clients old.writers.leases.renewals) → past ≡ []
-    → IsTold (Done (reply.Expired (record { closed = 0; recovering = 0 }))) told → IsExact last old.tree old.writers → IsPerformed last now request old told old
-performed_idle last now request old told past asked granted past_is distinct none is exact =
-    performed_tick last now request old old told past 0 asked granted past_is distinct
+    → verdict ≡ Done (reply.Expired (record { closed = 0; recovering = 0 })) → IsExact last old.tree old.writers → IsPerformed last now caller op.Tick old verdict old
+performed_idle last now caller old verdict past granted past_is distinct none is exact =
+    performed_tick last now caller old old verdict past 0 granted past_is distinct
     (sym (ap (λ p. map (closed_where_expired (tree.past_hard p)) old.tree) none ∙ none_closed old.tree))
     (sym (ap (λ p. length (filter (is_expired (tree.past_hard p)) old.tree)) none ∙ ap length (none_expired old.tree)))
     refl exact is exact

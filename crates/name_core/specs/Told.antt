@@ -1,21 +1,26 @@
--- A verdict with a copy of it.
+-- The verdicts that may come with a change, and a verdict with a copy of it.
 use Rattle.std.specs.Prelude.{◌≡◌, Bool, true, false}
 use Rattle.hdfs_types.specs.declared.reply.Reply.{Reply}
-use Rattle.hdfs_types.specs.declared.reply.Reply.TheVariants.{Empty}
+use Rattle.hdfs_types.specs.declared.reply.Reply.TheVariants.{Empty, Deleted, Released, Closed, Expired}
 use Rattle.flat_rows.specs.declared.verdict.Verdict.{Verdict}
 use Rattle.flat_rows.specs.declared.verdict.Verdict.TheVariants.{Done, Denied, Refused}
 use Rattle.name_core.specs.declared.told.Told.{Told}
 
+-- what may be reported of a change. No copy of it takes memory.
+abbrev pub reports_change : Reply → Bool
+reports_change Empty = true
+reports_change (Deleted count) = true
+reports_change Released = true
+reports_change (Closed bytes) = true
+reports_change (Expired files) = true
+reports_change _ = false
+
+-- the namespace, the users or leases may have changed where this is the verdict
+abbrev pub may_change : Verdict → Bool
+may_change (Done reply) = reports_change reply
+may_change (Denied denial) = false
+may_change (Refused refusal) = false
+
 pub record IsTold (verdict : Verdict) (told : Told) : Type 0 where
   pub verdict_is : told.verdict ≡ verdict
   pub copy : told.copy ≡ verdict
-
-abbrev pub is_empty : Reply → Bool
-is_empty Empty = true
-is_empty _ = false
-
--- it is done, and there is nothing to report
-abbrev pub is_plain : Verdict → Bool
-is_plain (Done reply) = is_empty reply
-is_plain (Denied denial) = false
-is_plain (Refused refusal) = false

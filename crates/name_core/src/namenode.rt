@@ -1,11 +1,12 @@
-ghost use Rattle.std.specs.Prelude.{◌≡◌, ◌<◌, ◌++◌, [], ◌∷◌, length, reverse, true, vec_len, vec_capacity, IfOk, OnErr};
+ghost use Rattle.std.specs.Prelude.{◌≡◌, ◌+◌, ◌<◌, ◌++◌, [], ◌∷◌, length, reverse, slice_get, true, vec_len, vec_capacity, IfOk, OnErr, OnOk};
+ghost use Rattle.std.specs.Option.{option_copied};
 ghost use Rattle.hdfs_types.specs.Request.{is_look};
 ghost use Rattle.hdfs_values.specs.Who.{IsWho};
 ghost use Rattle.history.specs.LegalHistory.{IsLegal};
 ghost use Rattle.history.specs.State.{rows_of, users_of};
-ghost use Rattle.name_core.specs.NameCore.{Steps, Looks};
+ghost use Rattle.name_core.specs.NameCore.{Steps, Looks, stepped};
 
-use crate::namesystem::{Namesystem, perform};
+use crate::namesystem::{Namesystem, perform, perform_with_copy};
 use crate::told::Told;
 use fs_operations::apply::answer_look;
 use hdfs_types::op::Request;
@@ -43,12 +44,26 @@ fn known_who(alloc: Global, text: &str) -> Result<Who, AllocError>
     }
 }
 
-// Puts an item where there is room for it.
-fn append<T: Drop>(items: &mut Vec<T>, item: T)
-    requires { vec_len items.old < vec_capacity items.old }
-    ensures { items.new.items ≡ items.old.items ++ item ∷ [] }
+// Makes room for an entry, and tells the place that it will have.
+fn next_place(history: &mut Vec<HistoryEntry>) -> Result<u64, AllocError>
+    ensures history { history.new.items ≡ history.old.items }
+    ensures room { OnOk result (vec_len history.new < vec_capacity history.new) }
+    ensures place { IfOk result (λ place. place ≡ length history.old.items + 1) }
 {
-    let Ok(()) = items.push(item) else {
+    let entries = history.len() as u64;
+    if entries == u64::MAX {
+        return Err(AllocError);
+    }
+    history.reserve(1)?;
+    Ok(entries + 1)
+}
+
+// Puts an entry where there is room for it. Takes no memory.
+fn put(history: &mut Vec<HistoryEntry>, entry: HistoryEntry)
+    requires { vec_len history.old < vec_capacity history.old }
+    ensures { history.new.items ≡ history.old.items ++ entry ∷ [] }
+{
+    let Ok(()) = history.push(entry) else {
         unreachable!()
     };
 }
@@ -93,7 +108,7 @@ fn record(
         request: copies.kept,
         verdict: told.verdict,
     };
-    append(history, entry);
+    put(history, entry);
     Answer {
         place,
         request: copies.answered,
@@ -170,6 +185,13 @@ impl NameCore {
         self.history.as_slice()
     }
 
+    /// The last entry, where there is one. Takes no memory.
+    pub fn last(&self) -> Option<&HistoryEntry>
+        ensures { option_copied result ≡ slice_get self.now.entries 0 }
+    {
+        self.history().last()
+    }
+
     /// The namespace as it is now. Takes no memory.
     pub fn tree(&self) -> &Tree
         ensures { result.now ≡ rows_of self.now.config self.now.entries }
@@ -211,8 +233,44 @@ impl NameCore {
         })
     }
 
-    /// Answers a request, does it where no need fails and nothing refuses it, and appends it to the history, whatever the
-    /// verdict. `pass` and `index` say whose request it is. Costs what the request costs, and never the history.
+    /// Does a request where no need fails and nothing refuses it, and moves it into the history with the verdict, whatever that is;
+    /// `last` lends both. `pass` and `index` say whose request it is. Costs what the request costs, and never the history.
+    ///
+    /// # Errors
+    /// Out of memory. Nothing has changed then, and there is no entry.
+    pub fn append(&mut self, pass: u64, index: u64, request: Request) -> Result<(), AllocError>
+        ensures ok { OnOk result (self.new ≡ stepped self.old pass index request) }
+        ensures err { OnErr result (self.new ≡ self.old) }
+    {
+        let clock = self.clock.later(request.moment);
+        let Ok(place) = next_place(&mut self.history) else {
+            drop(request);
+            return Err(AllocError);
+        };
+        let _root = self.system.tree.root();
+        let Ok(verdict) = perform(
+            self.alloc,
+            &mut self.system,
+            &mut self.open_paths,
+            &request,
+            clock,
+        ) else {
+            drop(request);
+            return Err(AllocError);
+        };
+        self.clock = clock;
+        let entry = HistoryEntry {
+            place,
+            pass,
+            index,
+            request,
+            verdict,
+        };
+        put(&mut self.history, entry);
+        Ok(())
+    }
+
+    /// Does what `append` does, with copies of the request, and answers the request and a copy of the verdict.
     ///
     /// # Errors
     /// Out of memory. Nothing has changed then, and there is no entry.
@@ -220,16 +278,11 @@ impl NameCore {
         ensures ok { IfOk result (λ answer. Steps self.old pass index request.now answer self.new) }
         ensures err { OnErr result (self.new ≡ self.old) }
     {
-        let entries = self.history.len() as u64;
-        if entries == u64::MAX {
-            return Err(AllocError);
-        }
-        let place = entries + 1;
         let now = self.clock.later(request.moment);
-        self.history.reserve(1)?;
+        let place = next_place(&mut self.history)?;
         let copies = copies(request)?;
         let _root = self.system.tree.root();
-        let Ok(told) = perform(
+        let Ok(told) = perform_with_copy(
             self.alloc,
             &mut self.system,
             &mut self.open_paths,

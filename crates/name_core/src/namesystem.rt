@@ -1,26 +1,31 @@
 ghost use Rattle.std.specs.Prelude.{◌≡◌, ◌≤◌, ℕ, List, Option, true, IfOk, OnOk, OnErr};
+ghost use Rattle.hdfs_types.specs.Verb.{read_op, update_op, write_op};
+ghost use Rattle.hdfs_types.specs.declared.op.Op.TheVariants as op;
+ghost use Rattle.hdfs_types.specs.declared.reply.Reply.TheVariants as reply;
+ghost use Rattle.required_rights.specs.RequiredRights.{required_rights};
 ghost use Rattle.namespace_rows.specs.Namespace.{IsNamespace};
 ghost use Rattle.flat_rows.specs.FileOutcome.{LeaseFacts};
 ghost use Rattle.flat_rows.specs.Outcome.{step};
-ghost use Rattle.hdfs_types.specs.WritingVerbs.{writes_or_deletes};
+ghost use Rattle.flat_rows.specs.declared.verdict.Verdict.TheVariants.{Done};
 ghost use Rattle.write_rules.specs.Judged.{takeover};
-ghost use Rattle.hdfs_types.specs.Request.{keeps_leases};
-ghost use Rattle.hdfs_types.specs.declared.op.Op.TheVariants as op;
 ghost use Rattle.history.specs.ClockAndLease as spec;
-ghost use Rattle.history.specs.Laws.{is_done};
+ghost use Rattle.flat_rows.specs.Verdicts.{is_done};
 ghost use Rattle.lease_manager.specs.Leases as lease;
 ghost use Rattle.lease_manager.specs.Leases.{latest_moment};
 ghost use Rattle.lease_manager.specs.Writers.{moment_of};
 ghost use Rattle.file_effects.specs.Effected.{IsExact, IsFree};
 ghost use Rattle.name_core.specs.Performed.{IsPerformed, IsUndone, facts_of};
 
-use crate::told::{Told, is_done, is_plain, told_done, told_expired, told_plain, with_copy};
+use crate::told::{Told, is_done, with_copy};
 use file_effects::effect::effect;
 use file_effects::expiry::expire;
 use flat_rows::verdict::Verdict;
-use fs_operations::apply::apply;
-use hdfs_types::op::{Op, Request, keeps_leases};
-use hdfs_types::reply::{ObjectKind, Refusal, Reply};
+use fs_operations::apply::needs;
+use fs_operations::change::apply_update;
+use fs_operations::read::answer;
+use hdfs_types::op::Request;
+use hdfs_types::reply::{Expired, ObjectKind, Refusal, Reply};
+use hdfs_types::verb::{Read, Update, Verb, Write};
 use hdfs_values::moment::Moment;
 use hdfs_values::who::Who;
 use inode_tree::tree::Tree;
@@ -28,6 +33,7 @@ use lease_manager::leases::LeaseState;
 use lease_manager::open_paths::OpenPaths;
 use lease_manager::writers::Writers;
 use principals::users::Users;
+use required_rights::demand::Needs;
 use std::alloc::{AllocError, Global};
 use write_rules::write::{Judged, judge, judge_tick};
 
@@ -39,9 +45,29 @@ pub struct Namesystem {
     pub writers: Writers,
 }
 
-/// Notes where open files are once a rename is done.
-fn note_move(tree: &Tree, open_paths: &mut OpenPaths, op: &Op) {
-    let Op::Rename(from, to) = op else {
+// ---- verbs that leave leases as they are
+
+/// A verb that changes nothing.
+fn perform_read(
+    alloc: Global,
+    system: &Namesystem,
+    caller: &Who,
+    needs: &Needs,
+    read: Read<'_>,
+) -> Result<Verdict, AllocError>
+    requires needs { needs.now ≡ required_rights (read_op read) }
+    requires namespace { IsNamespace system.now.tree }
+    ensures { (last : List ℕ → Option ℕ) (now : ℕ) → IsExact last system.now.tree system.now.writers → IfOk result (λ verdict. IsPerformed last now caller.now (read_op read.entry) system.now verdict system.now) }
+{
+    answer(alloc, &system.tree, &system.users, caller, needs, read)
+}
+
+/// Notes where open files are where a rename is done.
+fn note_move(tree: &Tree, open_paths: &mut OpenPaths, update: &Update<'_>, verdict: &Verdict) {
+    if !is_done(verdict) {
+        return;
+    }
+    let Update::Rename(from, to) = update else {
         return;
     };
     let Some(inode) = tree.get(to) else {
@@ -57,50 +83,55 @@ fn note_move(tree: &Tree, open_paths: &mut OpenPaths, op: &Op) {
     }
 }
 
-/// A request that leaves leases as they are.
-fn perform_plain(
+/// A verb that changes the namespace or the users.
+fn perform_update(
     alloc: Global,
     system: &mut Namesystem,
     open_paths: &mut OpenPaths,
-    request: &Request,
-) -> Result<Told, AllocError>
-    requires verb { keeps_leases request.now.op ≡ true }
+    caller: &Who,
+    needs: &Needs,
+    update: &Update<'_>,
+) -> Result<Verdict, AllocError>
+    requires needs { needs.now ≡ required_rights (update_op update.now) }
     requires namespace { IsNamespace system.old.tree }
-    ensures ok { (last : List ℕ → Option ℕ) (now : ℕ) → IsExact last system.old.tree system.old.writers → IfOk result (λ told. IsPerformed last now request.now system.old told system.new) }
+    ensures ok { (last : List ℕ → Option ℕ) (now : ℕ) → IsExact last system.old.tree system.old.writers → IfOk result (λ verdict. IsPerformed last now caller.now (update_op update.now) system.old verdict system.new) }
     ensures writers { system.new.writers ≡ system.old.writers }
     ensures err { OnErr result (IsUndone system.old system.new) }
 {
-    let verdict = apply(alloc, &mut system.tree, &mut system.users, request)?;
-    if is_plain(&verdict) {
-        note_move(&system.tree, open_paths, &request.op);
-        return Ok(told_plain(verdict));
-    }
-    match with_copy(verdict) {
-        Ok(told) => Ok(told),
-        Err(_) => Err(AllocError),
-    }
+    let verdict = apply_update(
+        alloc,
+        &mut system.tree,
+        &mut system.users,
+        caller,
+        needs,
+        update,
+    )?;
+    note_move(&system.tree, open_paths, update, &verdict);
+    Ok(verdict)
 }
+
+// ---- renewals
 
 /// A renewal of the caller's lease.
 fn perform_renewal(
     system: &mut Namesystem,
-    request: &Request,
+    caller: &Who,
     now: Moment,
-) -> Result<Told, AllocError>
-    requires latest { latest_moment system.old.writers.leases.renewals ≤ now }
-    requires verb { request.now.op ≡ op.Renew }
-    ensures ok { (last : List ℕ → Option ℕ) → IsExact last system.old.tree system.old.writers → IfOk result (λ told. IsPerformed last now request.now system.old told system.new) }
+) -> Result<Verdict, AllocError>
+    requires { latest_moment system.old.writers.leases.renewals ≤ now }
+    ensures ok { (last : List ℕ → Option ℕ) → IsExact last system.old.tree system.old.writers → IfOk result (λ verdict. IsPerformed last now caller.now op.Renew system.old verdict system.new) }
     ensures limits { system.new.writers.leases.limits ≡ system.old.writers.leases.limits }
     ensures latest { OnOk result (latest_moment system.new.writers.leases.renewals ≤ now) }
     ensures err { OnErr result (IsUndone system.old system.new) }
 {
-    if system.writers.files.count(&request.caller) == 0 {
-        let told = with_copy(Verdict::Refused(Refusal::NoLease))?;
-        return Ok(told);
+    if system.writers.files.count(caller) == 0 {
+        return Ok(Verdict::Refused(Refusal::NoLease));
     }
-    system.writers.renew(&request.caller, now)?;
-    Ok(told_done())
+    system.writers.renew(caller, now)?;
+    Ok(Verdict::Done(Reply::Empty))
 }
+
+// ---- verbs that write files, and the deletion
 
 /// Whether a client's lease is live. Takes no memory.
 fn is_live(writers: &Writers, client: &Who, now: Moment) -> bool
@@ -127,70 +158,69 @@ fn takeover(
     Ok(Verdict::Done(Reply::Released))
 }
 
-/// The verdict on a request that writes a file, or on a deletion.
+/// The verdict on a verb that writes a file, or on a deletion.
 fn decide(
     alloc: Global,
     system: &Namesystem,
-    request: &Request,
+    caller: &Who,
+    needs: &Needs,
+    write: &Write<'_>,
     now: Moment,
 ) -> Result<Verdict, AllocError>
-    requires verb { writes_or_deletes request.now.op ≡ true }
-    ensures free { IfOk result (λ verdict. is_done verdict ≡ true → IsFree request.now.op request.now.caller system.now.tree system.now.users) }
-    ensures verdict { (last : List ℕ → Option ℕ) → IsExact last system.now.tree system.now.writers → IfOk result (λ verdict. verdict ≡ (step (facts_of last now system.now) system.now.tree system.now.users request.now.caller request.now.op).verdict) }
+    requires { needs.now ≡ required_rights (write_op write.now) }
+    ensures free { IfOk result (λ verdict. is_done verdict ≡ true → IsFree (write_op write.now) caller.now system.now.tree system.now.users) }
+    ensures verdict { (last : List ℕ → Option ℕ) → IsExact last system.now.tree system.now.writers → IfOk result (λ verdict. verdict ≡ (step (facts_of last now system.now) system.now.tree system.now.users caller.now (write_op write.now)).verdict) }
 {
-    match judge(
-        alloc,
-        &system.tree,
-        &system.users,
-        &request.caller,
-        &request.op,
-    )? {
+    match judge(alloc, &system.tree, &system.users, caller, needs, write)? {
         Judged::Verdict(verdict) => Ok(verdict),
         Judged::Held {
             holder,
             ends_uncommitted,
         } => {
-            let verdict = takeover(&system.writers, holder, ends_uncommitted, now)?;
+            let verdict = takeover(&system.writers, &holder, ends_uncommitted, now)?;
             Ok(verdict)
         }
     }
 }
 
-/// A request that writes a file, or a deletion.
+/// A verb that writes a file, or a deletion.
 fn perform_write(
     alloc: Global,
     system: &mut Namesystem,
     open_paths: &mut OpenPaths,
-    request: &Request,
+    caller: &Who,
+    needs: &Needs,
+    write: &Write<'_>,
     now: Moment,
-) -> Result<Told, AllocError>
+) -> Result<Verdict, AllocError>
     requires latest { latest_moment system.old.writers.leases.renewals ≤ now }
-    requires verb { writes_or_deletes request.now.op ≡ true }
+    requires needs { needs.now ≡ required_rights (write_op write.now) }
     requires namespace { IsNamespace system.old.tree }
-    ensures ok { (last : List ℕ → Option ℕ) → IsExact last system.old.tree system.old.writers → IfOk result (λ told. IsPerformed last now request.now system.old told system.new) }
+    ensures ok { (last : List ℕ → Option ℕ) → IsExact last system.old.tree system.old.writers → IfOk result (λ verdict. IsPerformed last now caller.now (write_op write.now) system.old verdict system.new) }
     ensures limits { system.new.writers.leases.limits ≡ system.old.writers.leases.limits }
     ensures latest { OnOk result (latest_moment system.new.writers.leases.renewals ≤ now) }
     ensures err { OnErr result (IsUndone system.old system.new) }
 {
-    let verdict = decide(alloc, system, request, now)?;
-    let told = with_copy(verdict)?;
-    if !is_done(&told.verdict) {
-        return Ok(told);
+    let verdict = decide(alloc, system, caller, needs, write, now)?;
+    if !is_done(&verdict) {
+        return Ok(verdict);
     }
     let Ok(()) = effect(
         alloc,
         &mut system.tree,
         &mut system.writers,
         open_paths,
-        &request.op,
-        &request.caller,
+        write,
+        caller,
         now,
     ) else {
-        drop(told);
+        drop(verdict);
         return Err(AllocError);
     };
-    Ok(told)
+    Ok(verdict)
 }
+
+// ---- ticks
 
 /// The clients whose leases are past the hard limit.
 fn clients_past(alloc: Global, writers: &Writers, now: Moment) -> Result<Vec<Who>, AllocError>
@@ -204,30 +234,40 @@ fn clients_past(alloc: Global, writers: &Writers, now: Moment) -> Result<Vec<Who
     Ok(past)
 }
 
+/// That so many files are closed. Takes no memory.
+fn closed_files(closed: u64) -> Verdict
+    ensures { result ≡ Done (reply.Expired (record { closed = closed; recovering = 0 })) }
+{
+    Verdict::Done(Reply::Expired(Expired {
+        closed,
+        recovering: 0,
+    }))
+}
+
 /// A request to close the files of all clients whose leases are past the hard limit. Costs what `expire` costs, and where there
 /// are no such clients nothing that grows.
 fn perform_tick(
     alloc: Global,
     system: &mut Namesystem,
     open_paths: &mut OpenPaths,
-    request: &Request,
+    caller: &Who,
+    needs: &Needs,
     now: Moment,
-) -> Result<Told, AllocError>
-    requires namespace { IsNamespace system.old.tree }
+) -> Result<Verdict, AllocError>
     requires latest { latest_moment system.old.writers.leases.renewals ≤ now }
-    requires verb { request.now.op ≡ op.Tick }
-    ensures ok { (last : List ℕ → Option ℕ) → IsExact last system.old.tree system.old.writers → IfOk result (λ told. IsPerformed last now request.now system.old told system.new) }
+    requires needs { needs.now ≡ required_rights op.Tick }
+    requires namespace { IsNamespace system.old.tree }
+    ensures ok { (last : List ℕ → Option ℕ) → IsExact last system.old.tree system.old.writers → IfOk result (λ verdict. IsPerformed last now caller.now op.Tick system.old verdict system.new) }
     ensures limits { system.new.writers.leases.limits ≡ system.old.writers.leases.limits }
     ensures latest { OnOk result (latest_moment system.new.writers.leases.renewals ≤ now) }
     ensures err { OnErr result (IsUndone system.old system.new) }
 {
-    if let Some(denial) = judge_tick(alloc, &system.tree, &system.users, &request.caller)? {
-        let told = with_copy(Verdict::Denied(denial))?;
-        return Ok(told);
+    if let Some(denial) = judge_tick(alloc, &system.tree, &system.users, caller, needs)? {
+        return Ok(Verdict::Denied(denial));
     }
     let past = clients_past(alloc, &system.writers, now)?;
     if past.is_empty() {
-        return Ok(told_expired(0));
+        return Ok(closed_files(0));
     }
     let closed = expire(
         alloc,
@@ -236,14 +276,45 @@ fn perform_tick(
         open_paths,
         &past,
     )?;
-    Ok(told_expired(closed))
+    Ok(closed_files(closed))
 }
+
+// ---- all
 
 /// Answers a request, and does it where no need fails and nothing refuses it.
 ///
 /// # Errors
-/// Out of memory; nothing has changed.
+/// Out of memory, and nothing has changed.
 pub fn perform(
+    alloc: Global,
+    system: &mut Namesystem,
+    open_paths: &mut OpenPaths,
+    request: &Request,
+    now: Moment,
+) -> Result<Verdict, AllocError>
+    requires latest { latest_moment system.old.writers.leases.renewals ≤ now }
+    requires namespace { IsNamespace system.old.tree }
+    ensures ok { (last : List ℕ → Option ℕ) → IsExact last system.old.tree system.old.writers → IfOk result (λ verdict. IsPerformed last now request.now.caller request.now.op system.old verdict system.new) }
+    ensures limits { system.new.writers.leases.limits ≡ system.old.writers.leases.limits }
+    ensures latest { OnOk result (latest_moment system.new.writers.leases.renewals ≤ now) }
+    ensures err { OnErr result (IsUndone system.old system.new) }
+{
+    let caller = &request.caller;
+    let needs = needs(alloc, &request.op)?;
+    match request.op.verb() {
+        Verb::Read(read) => perform_read(alloc, system, caller, &needs, read),
+        Verb::Update(update) => perform_update(alloc, system, open_paths, caller, &needs, &update),
+        Verb::Write(write) => perform_write(alloc, system, open_paths, caller, &needs, &write, now),
+        Verb::Renew => perform_renewal(system, caller, now),
+        Verb::Tick => perform_tick(alloc, system, open_paths, caller, &needs, now),
+    }
+}
+
+/// Answers a request as `perform` does, and copies the verdict.
+///
+/// # Errors
+/// Out of memory, and nothing has changed.
+pub fn perform_with_copy(
     alloc: Global,
     system: &mut Namesystem,
     open_paths: &mut OpenPaths,
@@ -252,17 +323,13 @@ pub fn perform(
 ) -> Result<Told, AllocError>
     requires latest { latest_moment system.old.writers.leases.renewals ≤ now }
     requires namespace { IsNamespace system.old.tree }
-    ensures ok { (last : List ℕ → Option ℕ) → IsExact last system.old.tree system.old.writers → IfOk result (λ told. IsPerformed last now request.now system.old told system.new) }
+    ensures ok { (last : List ℕ → Option ℕ) → IsExact last system.old.tree system.old.writers → IfOk result (λ told. IsPerformed last now request.now.caller request.now.op system.old told.verdict system.new) }
+    ensures copy { IfOk result (λ told. told.copy ≡ told.verdict) }
     ensures limits { system.new.writers.leases.limits ≡ system.old.writers.leases.limits }
     ensures latest { OnOk result (latest_moment system.new.writers.leases.renewals ≤ now) }
-    ensures err { OnErr result (IsUndone system.old system.new) }
+    ensures err { (last : List ℕ → Option ℕ) → IsExact last system.old.tree system.old.writers → OnErr result (IsUndone system.old system.new) }
 {
-    if keeps_leases(&request.op) {
-        return perform_plain(alloc, system, open_paths, request);
-    }
-    match &request.op {
-        Op::Renew => perform_renewal(system, request, now),
-        Op::Tick => perform_tick(alloc, system, open_paths, request, now),
-        _ => perform_write(alloc, system, open_paths, request, now),
-    }
+    let verdict = perform(alloc, system, open_paths, request, now)?;
+    let told = with_copy(verdict)?;
+    Ok(told)
 }

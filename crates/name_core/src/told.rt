@@ -1,11 +1,9 @@
-ghost use Rattle.std.specs.Prelude.{◌≡◌, true, IfOk};
-ghost use Rattle.flat_rows.specs.declared.verdict.Verdict.TheVariants.{Done};
-ghost use Rattle.hdfs_types.specs.declared.reply.Reply.TheVariants as reply;
-ghost use Rattle.history.specs.Laws as law;
-ghost use Rattle.name_core.specs.Told.{IsTold, is_plain};
+ghost use Rattle.std.specs.Prelude.{◌≡◌, false, IfOk, OnErr};
+ghost use Rattle.flat_rows.specs.Verdicts as kind;
+ghost use Rattle.name_core.specs.Told.{IsTold, may_change};
 
 use flat_rows::verdict::Verdict;
-use hdfs_types::reply::{Expired, Reply};
+use hdfs_types::reply::Reply;
 use std::alloc::AllocError;
 
 /// A verdict for the history, and a copy of it for the caller.
@@ -17,64 +15,37 @@ pub struct Told {
 
 /// Whether the request is done. Takes no memory.
 pub fn is_done(verdict: &Verdict) -> bool
-    ensures { result ≡ law.is_done verdict.now }
+    ensures { result ≡ kind.is_done verdict.now }
 {
     matches!(verdict, Verdict::Done(_))
 }
 
-/// Whether the request is done, and there is nothing to report. Takes no memory.
-pub fn is_plain(verdict: &Verdict) -> bool
-    ensures { result ≡ is_plain verdict.now }
+/// A copy of a verdict. Takes no memory where the verdict may come with a change.
+fn copy_of(verdict: &Verdict) -> Result<Verdict, AllocError>
+    ensures ok { IfOk result (λ copy. copy ≡ verdict.now) }
+    ensures err { OnErr result (may_change verdict.now ≡ false) }
 {
-    matches!(verdict, Verdict::Done(Reply::Empty))
+    match verdict {
+        Verdict::Done(Reply::Empty) => Ok(Verdict::Done(Reply::Empty)),
+        Verdict::Done(Reply::Deleted(count)) => Ok(Verdict::Done(Reply::Deleted(*count))),
+        Verdict::Done(Reply::Released) => Ok(Verdict::Done(Reply::Released)),
+        Verdict::Done(Reply::Closed(bytes)) => Ok(Verdict::Done(Reply::Closed(*bytes))),
+        Verdict::Done(Reply::Expired(files)) => Ok(Verdict::Done(Reply::Expired(*files))),
+        _ => verdict.clone(),
+    }
 }
 
 /// A verdict with a copy of it.
 ///
 /// # Errors
-/// Out of memory.
+/// Out of memory, which never meets a verdict that may come with a change.
 pub fn with_copy(verdict: Verdict) -> Result<Told, AllocError>
-    ensures { IfOk result (IsTold verdict) }
+    ensures ok { IfOk result (IsTold verdict) }
+    ensures err { OnErr result (may_change verdict ≡ false) }
 {
-    let Ok(copy) = verdict.clone() else {
+    let Ok(copy) = copy_of(&verdict) else {
         drop(verdict);
         return Err(AllocError);
     };
     Ok(Told { verdict, copy })
-}
-
-/// A verdict without a reply of its own, with a copy of it. Takes no memory.
-#[tactic(auto, using(crate::proofs::Performing::plain_is))]
-pub fn told_plain(verdict: Verdict) -> Told
-    requires { is_plain verdict ≡ true }
-    ensures { IsTold verdict result }
-{
-    Told {
-        verdict,
-        copy: Verdict::Done(Reply::Empty),
-    }
-}
-
-/// That a request is done, and there is nothing to report. Takes no memory.
-pub fn told_done() -> Told
-    ensures { IsTold (Done reply.Empty) result }
-{
-    Told {
-        verdict: Verdict::Done(Reply::Empty),
-        copy: Verdict::Done(Reply::Empty),
-    }
-}
-
-/// That so many files are closed. Takes no memory.
-pub fn told_expired(closed: u64) -> Told
-    ensures { IsTold (Done (reply.Expired (record { closed = closed; recovering = 0 }))) result }
-{
-    let expired = Expired {
-        closed,
-        recovering: 0,
-    };
-    Told {
-        verdict: Verdict::Done(Reply::Expired(expired)),
-        copy: Verdict::Done(Reply::Expired(expired)),
-    }
 }

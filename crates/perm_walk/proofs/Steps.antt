@@ -1,6 +1,5 @@
 -- A judged operation is a step.
-use Rattle.std.proofs.Common.{◌≡◌, ℕ, List, Result, Ok, Err, refl}
-use Rattle.std.specs.Prelude.{IfOk}
+use Rattle.std.proofs.Common.{◌≡◌, ℕ, List, refl}
 use Rattle.hdfs_types.specs.declared.op.Op.{Op}
 use Rattle.principals.specs.Users.{Users, Caller, caller_of}
 use Rattle.namespace_rows.specs.declared.row.Row.{Row}
@@ -12,7 +11,3 @@ use Rattle.perm_walk.specs.JudgedStep.{judged_step}
 pub as_step : (leases : LeaseFacts) (rows : List Row) (users : Users) (caller : List ℕ) (asking : Caller) (needs : List Demand) (op taken : Op) → asking ≡ caller_of users caller → needs ≡ required_rights op → op ≡ taken
     → judged_step leases rows users asking needs taken ≡ step leases rows users caller op
 as_step leases rows users caller asking needs op taken who all is = rw (who, all, is) refl
-
-pub if_ok : {T E : Type 0} {P Q : T → Type 0} (r : Result T E) → ((x : T) → P x → Q x) → IfOk r P → IfOk r Q
-if_ok (Ok x) f h = f x h
-if_ok (Err e) f h = h

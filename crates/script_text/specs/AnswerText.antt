@@ -1,7 +1,8 @@
 -- The answer to a line, and how it is printed.
-use Rattle.std.specs.Prelude.{ℕ, Bool, true, false, List, [], ◌∷◌, ◌++◌, codes}
+use Rattle.std.specs.Prelude.{ℕ, Bool, true, false, List, [], ◌∷◌, ◌++◌, Result, Ok, Err, codes}
 use Rattle.std.specs.Fmt.{decimal}
 use Rattle.hdfs_values.specs.Faults.{ill_formed_text}
+use Rattle.hdfs_values.specs.declared.fault.IllFormed.{IllFormed}
 use Rattle.hdfs_types.specs.Reply.{status_text, acl_status_text, names_text, summary_text, refusal_text}
 use Rattle.hdfs_types.specs.declared.reply.Expired.{Expired as ExpiredFiles}
 use Rattle.hdfs_types.specs.declared.reply.Reply.{Reply}
@@ -33,15 +34,21 @@ verdict_text (Done reply) = reply_text reply
 verdict_text (Denied denial) = codes "denied " ++ denial_text denial
 verdict_text (Refused refusal) = codes "refused " ++ refusal_text refusal
 
-abbrev pub answer_text : Answer → List ℕ
-answer_text (Bad fault) = codes "bad " ++ ill_formed_text fault
-answer_text (Given verdict) = verdict_text verdict
+-- a line is answered by the verdict on its request, or by how it is ill-formed
+abbrev pub answer_text : Result Verdict IllFormed → List ℕ
+answer_text (Err fault) = codes "bad " ++ ill_formed_text fault
+answer_text (Ok verdict) = verdict_text verdict
+
+-- what an answer tells
+abbrev pub said_by : Answer → Result Verdict IllFormed
+said_by (Bad fault) = Err fault
+said_by (Given verdict) = Ok verdict.now
 
 -- the line's number, a blank, the answer and a line feed
-abbrev pub answer_line : ℕ → Answer → List ℕ
+abbrev pub answer_line : ℕ → Result Verdict IllFormed → List ℕ
 answer_line number answer = decimal number ++ (32 ∷ (answer_text answer ++ (10 ∷ [])))
 
 -- whether the line was ill-formed
-abbrev pub is_bad : Answer → Bool
-is_bad (Bad fault) = true
-is_bad (Given verdict) = false
+abbrev pub is_bad : Result Verdict IllFormed → Bool
+is_bad (Err fault) = true
+is_bad (Ok verdict) = false

@@ -10,32 +10,18 @@ use hdfs_values::fault::IllFormed;
 use std::fmt;
 
 /// What is printed for a line of a script.
-#[derive(Drop)]
-pub enum Answer {
+#[derive(Clone, Copy)]
+pub enum Answer<'a> {
     /// The line is no request.
     Bad(IllFormed),
     /// What the NameNode answered.
-    Given(Verdict),
+    Given(&'a Verdict),
 }
 
-impl Answer {
-    ghost use Rattle.script_text.specs.AnswerText.{is_bad};
+impl fmt::Display for Answer<'_> {
+    ghost use Rattle.script_text.specs.AnswerText.{answer_text, said_by};
 
-    /// Whether the line was ill-formed.
-    pub fn is_bad(&self) -> bool
-        ensures { result ≡ is_bad self.now }
-    {
-        match self {
-            Answer::Bad(_) => true,
-            Answer::Given(_) => false,
-        }
-    }
-}
-
-impl fmt::Display for Answer {
-    ghost use Rattle.script_text.specs.AnswerText.{answer_text};
-
-    ghost output = { λ answer. Some (answer_text answer) };
+    ghost output = { λ answer. Some (answer_text (said_by answer)) };
 
     fn fmt<W: fmt::Write>(&self, f: &mut fmt::Formatter<W>) -> fmt::Result {
         match self {

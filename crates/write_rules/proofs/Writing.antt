@@ -4,17 +4,18 @@ use Rattle.std.specs.Option.{option_or}
 use Rattle.hdfs_types.specs.declared.op.Op.{Op}
 use Rattle.hdfs_types.specs.declared.op.Op.TheVariants.{Append}
 use Rattle.hdfs_types.specs.declared.reply.Refusal.{Refusal}
-use Rattle.principals.specs.Users.{Users, Caller}
+use Rattle.principals.specs.Users.{Users, Caller, caller_of}
 use Rattle.namespace_rows.specs.declared.file_row.FileRow.{FileRow}
 use Rattle.namespace_rows.specs.declared.row.Row.{Row}
 use Rattle.namespace_rows.specs.Rows.{row_at}
 use Rattle.namespace_rows.specs.Files.{holder_of, holder_of_file}
 use Rattle.flat_rows.specs.FileOutcome.{LeaseFacts, directory_there, of_file, if_some_file, refused_takeover, appended_reply, holder_at}
-use Rattle.required_rights.specs.RequiredRights.{Demand}
+use Rattle.required_rights.specs.RequiredRights.{Demand, required_rights}
 use Rattle.flat_rows.specs.Decision.{denial_among}
-use Rattle.flat_rows.specs.Outcome.{first_some, beneath_file, nothing_at, refusals_of_file, first_refusal, reply_of, refused_or_done, denied_or_outcome}
+use Rattle.flat_rows.specs.Outcome.{Step, step, first_some, beneath_file, nothing_at, refusals_of_file, first_refusal, reply_of, refused_or_done, denied_or_outcome}
 use Rattle.perm_walk.specs.Found.{file_at_row, IsFileThere}
 use Rattle.perm_walk.specs.JudgedStep.{judged_step}
+use Rattle.perm_walk.proofs.Steps.{as_step}
 use Rattle.write_rules.specs.Judged.{refused_or}
 
 -- where nothing stands against any verb on a file, what stands against this one
@@ -55,3 +56,8 @@ append_verdict leases path rows users caller needs file there granted =
     ∙ ap (λ holder. refused_or (appended_reply holder) (first_refusal leases caller.name (Append path) rows users)) (sym (holder_of_this (row_at path rows) file there.at))
     ∙ verdict_is leases rows users caller.name (Append path) (first_refusal leases caller.name (Append path) rows users)
     ∙ ap (λ denied. (denied_or_outcome leases rows users caller.name (Append path) denied).verdict) (sym granted)
+
+-- the verdict on what is judged with its needs is that of the step
+pub as_judged : (leases : LeaseFacts) (rows : List Row) (users : Users) (caller : List ℕ) (asking : Caller) (needs : List Demand) (what taken : Op) → asking ≡ caller_of users caller → needs ≡ required_rights what → what ≡ taken
+    → (judged_step leases rows users asking needs taken).verdict ≡ (step leases rows users caller what).verdict
+as_judged leases rows users caller asking needs what taken who all is = ap (λ (s : Step). s.verdict) (as_step leases rows users caller asking needs what taken who all is)

@@ -27,7 +27,7 @@ takeover leases holder ends_uncommitted =
 -- the verdict as leases stand
 abbrev pub verdict_under : LeaseFacts → Judged → answer.Verdict
 verdict_under leases (Verdict verdict) = verdict
-verdict_under leases (Held holder ends_uncommitted) = takeover leases holder.now ends_uncommitted
+verdict_under leases (Held holder ends_uncommitted) = takeover leases holder ends_uncommitted
 
 -- the verdict as leases stand is that of the step
 abbrev pub IsJudged : LeaseFacts → List Row → Users → List ℕ → Op → Judged → Type 0

@@ -13,7 +13,7 @@ ghost use Rattle.namespace_rows.specs.Rows.{is_missing};
 ghost use Rattle.perm_walk.specs.Reached.{IsReach};
 ghost use Rattle.perm_walk.specs.Walked.{AreOn};
 ghost use Rattle.perm_walk.specs.JudgedStep.{judged_step};
-ghost use Rattle.hdfs_types.specs.WritingVerbs.{writes_or_deletes};
+ghost use Rattle.hdfs_types.specs.Verb.{write_op};
 ghost use Rattle.write_rules.specs.Judged.{refused_or, verdict_under, IsJudged};
 
 use flat_rows::denial::Denial;
@@ -21,6 +21,7 @@ use flat_rows::verdict::Verdict;
 use hdfs_types::file::{FileState, LastBlock};
 use hdfs_types::op::Op;
 use hdfs_types::reply::{ObjectKind, Refusal, Reply};
+use hdfs_types::verb::Write;
 use hdfs_values::path::Path;
 use hdfs_values::who::Who;
 use inode_tree::tree::Tree;
@@ -30,20 +31,17 @@ use perm_walk::reach::Reach;
 use perm_walk::walk::{Walked, walk, walk_along};
 use principals::caller::Caller;
 use principals::users::Users;
-use required_rights::demand::{Needs, needs_of};
+use required_rights::demand::Needs;
 use std::alloc::{AllocError, Global};
 
 /// What is judged of a verb that writes files, before anything changes.
 #[derive(Drop)]
-pub enum Judged<'a> {
+pub enum Judged {
     /// The verdict, however leases stand.
     Verdict(Verdict),
     /// An append to a file that another client has open. While that client's lease is live it is refused as `LeaseHeld`; else the
     /// file is released, but where the length of its last block isn't committed, which is refused as `TooFewNodes`.
-    Held {
-        holder: &'a Who,
-        ends_uncommitted: bool,
-    },
+    Held { holder: Who, ends_uncommitted: bool },
 }
 
 // ---- creating
@@ -197,7 +195,7 @@ pub fn judge_complete(
 // ---- appending
 
 /// Judges whether a client can append to a file.
-fn appended<'a>(client: &Who, file: &'a FileRow) -> Result<Judged<'a>, AllocError>
+fn appended(client: &Who, file: &FileRow) -> Result<Judged, AllocError>
     ensures { (leases : LeaseFacts) → IfOk result (λ judged. verdict_under leases judged ≡ refused_or (appended_reply (holder_of file.now.state)) (refused_takeover leases client.now file.now)) }
 {
     let holder = match &file.state {
@@ -211,24 +209,24 @@ fn appended<'a>(client: &Who, file: &'a FileRow) -> Result<Judged<'a>, AllocErro
         return Ok(Judged::Verdict(Verdict::Refused(Refusal::LeaseHeld(holder.clone()?))));
     }
     Ok(Judged::Held {
-        holder,
+        holder: holder.clone()?,
         ends_uncommitted: file.blocks.ends_uncommitted(),
     })
 }
 
 /// Judges by its needs whether the caller can append to a file, over what is lent: one that is closed is opened, and one that
-/// another client has open is released where his lease isn't live. One descent along the path; takes memory only for a denial and
-/// a refusal.
+/// another client has open is released where his lease isn't live. One descent along the path; takes memory only for a denial, a
+/// refusal and the other client's name.
 ///
 /// # Errors
 /// Out of memory.
-pub fn judge_append<'a>(
+pub fn judge_append(
     alloc: Global,
-    tree: &'a Tree,
+    tree: &Tree,
     caller: &Caller,
     needs: &Needs,
-    path: &'a Path,
-) -> Result<Judged<'a>, AllocError>
+    path: &Path,
+) -> Result<Judged, AllocError>
     requires { AreOn path.now needs.now }
     ensures { (leases : LeaseFacts) (users : Users) → IfOk result (λ judged. verdict_under leases judged ≡ (judged_step leases tree.now users caller.now needs.now (Op.Append path.now)).verdict) }
 {
@@ -245,7 +243,7 @@ pub fn judge_append<'a>(
 // ---- deleting
 
 /// How many files and directories a deletion takes away: one where it isn't recursive, since nothing is beneath then. A number
-/// that doesn't fit in 64 bits fails as if out of memory.
+/// that can't be told counts as out of memory.
 fn deleted_at(tree: &Tree, path: &Path, recursive: bool) -> Result<u64, AllocError>
     requires there { is_missing path.now tree.now ≡ false }
     requires alone { recursive ≡ false → is_alone (rows_under path.now tree.now) ≡ true }
@@ -296,58 +294,40 @@ pub fn judge_delete(
 
 // ---- all
 
-/// Judges a verb with its needs.
-fn judge_with<'a>(
-    alloc: Global,
-    tree: &'a Tree,
-    users: &Users,
-    caller: &Who,
-    needs: &Needs,
-    op: &'a Op,
-) -> Result<Judged<'a>, AllocError>
-    requires verb { writes_or_deletes op.now ≡ true }
-    requires needs { needs.now ≡ required_rights op.now }
-    ensures { (leases : LeaseFacts) → IfOk result (IsJudged leases tree.now users.now caller.now op.now) }
-{
-    let asking = users.caller(caller);
-    match op {
-        Op::Create(path, _, _, over) => Ok(Judged::Verdict(judge_create(
-            alloc, tree, &asking, needs, path, *over,
-        )?)),
-        Op::Append(path) => judge_append(alloc, tree, &asking, needs, path),
-        Op::AddBlock(path, last) => Ok(Judged::Verdict(judge_add_block(
-            alloc, tree, &asking, needs, path, *last,
-        )?)),
-        Op::Complete(path, last) => Ok(Judged::Verdict(judge_complete(
-            alloc, tree, &asking, needs, path, *last,
-        )?)),
-        Op::Delete(path, recursive) => Ok(Judged::Verdict(judge_delete(
-            alloc, tree, &asking, needs, path, *recursive,
-        )?)),
-        _ => unreachable!(),
-    }
-}
-
-/// Judges a verb that writes files, or a deletion, and changes nothing: first the first need that fails, then the first refusal of
-/// the operation's list, then done; what hangs on the lease of another client is left open. What a done verb changes is then a
-/// call of `make_file`, `Tree::rewrite` or `Tree::remove`. Costs the path, one look-up in a map for each name; `complete` also the
-/// blocks of the file, and a recursive `delete` the sub-tree (HDFS Architecture, "The File System Namespace"; HDFS Permissions
-/// Guide, "Permission Checks").
+/// Judges with its needs a verb that writes a file, or a deletion, and changes nothing: first the first need that fails, then the
+/// first refusal of the operation's list, then done; what hangs on the lease of another client is left open. Costs the path, one
+/// look-up in a map for each name; `complete` also the blocks of the file, and a recursive `delete` the sub-tree (HDFS
+/// Architecture, "The File System Namespace"; HDFS Permissions Guide, "Permission Checks").
 ///
 /// # Errors
 /// Out of memory.
-pub fn judge<'a>(
+pub fn judge(
     alloc: Global,
-    tree: &'a Tree,
+    tree: &Tree,
     users: &Users,
     caller: &Who,
-    op: &'a Op,
-) -> Result<Judged<'a>, AllocError>
-    requires { writes_or_deletes op.now ≡ true }
-    ensures { (leases : LeaseFacts) → IfOk result (IsJudged leases tree.now users.now caller.now op.now) }
+    needs: &Needs,
+    write: &Write<'_>,
+) -> Result<Judged, AllocError>
+    requires { needs.now ≡ required_rights (write_op write.now) }
+    ensures { (leases : LeaseFacts) → IfOk result (IsJudged leases tree.now users.now caller.now (write_op write.now)) }
 {
-    let needs = needs_of(alloc, op)?;
-    judge_with(alloc, tree, users, caller, &needs, op)
+    let asking = users.caller(caller);
+    match write {
+        Write::Create(path, _, _, over) => Ok(Judged::Verdict(judge_create(
+            alloc, tree, &asking, needs, path, *over,
+        )?)),
+        Write::Append(path) => judge_append(alloc, tree, &asking, needs, path),
+        Write::AddBlock(path, last) => Ok(Judged::Verdict(judge_add_block(
+            alloc, tree, &asking, needs, path, *last,
+        )?)),
+        Write::Complete(path, last) => Ok(Judged::Verdict(judge_complete(
+            alloc, tree, &asking, needs, path, *last,
+        )?)),
+        Write::Delete(path, recursive) => Ok(Judged::Verdict(judge_delete(
+            alloc, tree, &asking, needs, path, *recursive,
+        )?)),
+    }
 }
 
 /// Whether the caller may have the files of clients closed whose leases are past the hard limit: the denial, or none. Nothing
@@ -360,9 +340,10 @@ pub fn judge_tick(
     tree: &Tree,
     users: &Users,
     caller: &Who,
+    needs: &Needs,
 ) -> Result<Option<Denial>, AllocError>
+    requires { needs.now ≡ required_rights Op.Tick }
     ensures { IfOk result (λ denial. denial ≡ decision tree.now users.now caller.now Op.Tick) }
 {
-    let asked = needs_of(alloc, &Op::Tick)?;
-    walk(alloc, tree, users, caller, &asked)
+    walk(alloc, tree, users, caller, needs)
 }

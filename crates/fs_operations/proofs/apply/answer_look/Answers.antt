@@ -1,7 +1,10 @@
-use Rattle.std.proofs.Common.{ap}
-use Rattle.flat_rows.specs.Outcome.{Step}
-use Rattle.perm_walk.proofs.Steps.{if_ok}
+use Rattle.std.proofs.Common.{◌∙◌, sym, ap}
+use Rattle.std.proofs.lemmas.Result.{IfOk-weaker}
+use Rattle.hdfs_types.specs.Verb.{op_of}
+use Rattle.flat_rows.specs.Outcome.{Step, step}
 use Rattle.fs_operations.proofs.apply.answer_look.Goals as goal
 
 pub returns : goal.returns
-returns c = λ leases. if_ok c.tell.result (λ verdict is. ap (λ (s : Step). s.verdict) is) (c.tell.ensures leases)
+returns c = λ leases.
+    let op_is = sym (ap op_of c.in-Read.is) ∙ c.verb.ensures in
+    IfOk-weaker c.answer.result _ _ (λ verdict is. ap (λ (s : Step). s.verdict) (is ∙ ap (step leases c.args.tree.now c.args.users.now c.args.caller.now) op_is)) (c.answer.ensures leases)

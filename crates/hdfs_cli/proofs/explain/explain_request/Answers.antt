@@ -1,6 +1,6 @@
 use Rattle.std.proofs.Common.{◌∙◌, ap, map}
 use Rattle.history.specs.Config.{standard}
-use Rattle.hdfs_cli.specs.Output.{State, after_lines}
+use Rattle.script_runs.specs.Output.{State, after_lines}
 use Rattle.hdfs_cli.specs.Explanation.{trail_text, trail_on}
 use Rattle.hdfs_cli.proofs.explain.explain_request.Goals as goal
 

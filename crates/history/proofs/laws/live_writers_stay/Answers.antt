@@ -2,7 +2,7 @@ use Rattle.std.proofs.Common.{ap, ◌∙◌}
 use Rattle.flat_rows.specs.Outcome.{step}
 use Rattle.history.specs.State.{users_of, rows_of, lease_facts}
 use Rattle.history.specs.LegalHistory.{now_at}
-use Rattle.history.specs.Laws.{is_done}
+use Rattle.flat_rows.specs.Verdicts.{is_done}
 use Rattle.history.proofs.Writers.{turned_away, named}
 use Rattle.history.proofs.laws.live_writers_stay.Goals as goal
 

@@ -4,9 +4,9 @@ use Rattle.name_core.proofs.namesystem.perform_renewal.Goals as goal
 
 pub returns-then-count-eq0-clause-ok : goal.returns-then-count-eq0-clause-ok
 returns-then-count-eq0-clause-ok c = λ last exact.
-    refused_renewal last c.args.now c.args.request.now c.args.system.now c.in_ok-told.told c.count.result c.requires.verb c.count.ensures c.if-count-eq0.true c.in_ok-told.ensures exact
+    refused_renewal last c.args.now c.args.caller.now c.args.system.now c.count.result c.count.ensures c.if-count-eq0.true exact
 
 pub returns-clause-ok : goal.returns-clause-ok
 returns-clause-ok c = λ last exact.
-    done_renewal last c.args.now c.args.request.now c.args.system.now (record { tree = c.args.system.now.tree; users = c.args.system.now.users; writers = c.renew.new.self }) c.told_done.result c.count.result
-    c.requires.verb c.count.ensures c.if-count-eq0.false refl refl c.in_ok-renew.ensures.files c.in_ok-renew.ensures.leased c.told_done.ensures exact
+    done_renewal last c.args.now c.args.caller.now c.args.system.now (record { tree = c.args.system.now.tree; users = c.args.system.now.users; writers = c.renew.new.self }) c.count.result
+    c.count.ensures c.if-count-eq0.false refl refl c.in_ok-renew.ensures.files c.in_ok-renew.ensures.leased exact

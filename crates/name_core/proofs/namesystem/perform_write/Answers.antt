@@ -1,12 +1,13 @@
 use Rattle.std.proofs.Common.{refl, sym, ◌∙◌}
+use Rattle.hdfs_types.specs.Verb.{write_op}
 use Rattle.name_core.proofs.Performing.{performed_not_done, performed_write}
 use Rattle.name_core.proofs.namesystem.perform_write.Goals as goal
 
 pub returns-then-not-is_done-clause-ok : goal.returns-then-not-is_done-clause-ok
 returns-then-not-is_done-clause-ok c = λ last exact.
-    performed_not_done last c.args.now c.args.request.now c.args.system.now c.in_ok-told.told c.in_ok-verdict.verdict (c.in_ok-verdict.ensures.verdict last exact) (sym c.is_done.ensures ∙ c.if-not-is_done.true) c.in_ok-told.ensures exact
+    performed_not_done last c.args.now c.args.caller.now (write_op c.args.write.now) c.args.system.now c.in_ok-verdict.verdict (c.in_ok-verdict.ensures.verdict last exact) (sym c.is_done.ensures ∙ c.if-not-is_done.true) exact
 
 pub returns-clause-ok : goal.returns-clause-ok
 returns-clause-ok c = λ last exact.
-    performed_write last c.args.now c.args.request.now c.args.system.now (record { tree = c.effect.new.tree; users = c.args.system.now.users; writers = c.effect.new.writers }) c.in_ok-told.told c.in_ok-verdict.verdict
-    (c.in_ok-verdict.ensures.verdict last exact) (sym c.is_done.ensures ∙ c.if-not-is_done.false) c.requires.verb c.in_ok-told.ensures c.in-Ok.ensures.ok refl exact
+    performed_write last c.args.now c.args.caller.now c.args.write.now c.args.system.now (record { tree = c.effect.new.tree; users = c.args.system.now.users; writers = c.effect.new.writers }) c.in_ok-verdict.verdict
+    (c.in_ok-verdict.ensures.verdict last exact) (sym c.is_done.ensures ∙ c.if-not-is_done.false) c.in-Ok.ensures.ok refl exact

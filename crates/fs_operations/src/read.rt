@@ -1,0 +1,253 @@
+ghost use Rattle.std.specs.Prelude.{◌≡◌, ◌<◌, ◌^◌, ◌-◌, ℕ, List, Some, None, IfOk, map};
+ghost use Rattle.std.specs.Option.{option_copied};
+ghost use Rattle.hdfs_types.specs.Verb.{read_op};
+ghost use Rattle.principals.specs.Users.{Users};
+ghost use Rattle.required_rights.specs.RequiredRights.{required_rights};
+ghost use Rattle.flat_rows.specs.FileOutcome.{LeaseFacts, detail_of_row};
+ghost use Rattle.flat_rows.specs.Changes as changes;
+ghost use Rattle.flat_rows.specs.Outcome as spec;
+ghost use Rattle.perm_walk.specs.Walked.{AreOn};
+ghost use Rattle.perm_walk.specs.JudgedStep.{judged_step};
+
+use acl_entries::print::print;
+use flat_rows::verdict::Verdict;
+use hdfs_types::file::FileDetail;
+use hdfs_types::op::Op;
+use hdfs_types::reply::{AclStatus, ContentSummary, FileStatus, Names, ObjectKind, Reply};
+use hdfs_types::verb::Read;
+use hdfs_values::name::Name;
+use hdfs_values::path::Path;
+use hdfs_values::who::Who;
+use inode_tree::tree::Tree;
+use namespace_rows::file_row::FileRow;
+use perm_walk::component::Component;
+use perm_walk::found::{Found, FoundFile, counts_at, length_told, standing, standing_file};
+use perm_walk::walk::{Walked, walk_along};
+use principals::caller::Caller;
+use principals::users::Users;
+use required_rights::demand::Needs;
+use std::alloc::{AllocError, Global};
+
+/// What is reported of a file alone.
+fn detail_of(file: Option<&FileRow>) -> Result<Option<FileDetail>, AllocError>
+    ensures { IfOk result (λ detail. detail ≡ detail_of_row (option_copied file.entry)) }
+{
+    let Some(file) = file else {
+        return Ok(None);
+    };
+    Ok(Some(FileDetail {
+        replication: file.replication,
+        length: length_told(file)?,
+        state: file.state.clone()?,
+    }))
+}
+
+fn status_of(component: &Component) -> Result<Reply, AllocError>
+    ensures { IfOk result (λ reply. reply ≡ spec.status_of (Some component.now)) }
+{
+    let inode = component.inode();
+    Ok(Reply::Status(FileStatus {
+        kind: inode.kind(),
+        mode: inode.acl().mode(),
+        has_acl: inode.acl().has_acl(),
+        owner: inode.owner().clone()?,
+        group: inode.group().clone()?,
+        file: detail_of(inode.file())?,
+    }))
+}
+
+/// Reports what has a path. Costs also the blocks of a file.
+fn stat(
+    alloc: Global,
+    tree: &Tree,
+    caller: &Caller,
+    needs: &Needs,
+    path: &Path,
+) -> Result<Verdict, AllocError>
+    requires { AreOn path.now needs.now }
+    ensures { (leases : LeaseFacts) (users : Users) → IfOk result (λ verdict. record { verdict = verdict; rows = tree.now; users = users } ≡ judged_step leases tree.now users caller.now needs.now (Op.Stat path.now)) }
+{
+    let reach = match walk_along(alloc, tree, caller, needs, path)? {
+        Walked::Denied(denial) => return Ok(Verdict::Denied(denial)),
+        Walked::Reached(reach) => reach,
+    };
+    match standing(alloc, reach)? {
+        Found::There(component) => Ok(Verdict::Done(status_of(&component)?)),
+        Found::Refused(refusal) => Ok(Verdict::Refused(refusal)),
+    }
+}
+
+fn acl_status_of(alloc: Global, component: &Component) -> Result<Reply, AllocError>
+    ensures { IfOk result (λ reply. reply ≡ spec.acl_status_of (Some component.now)) }
+{
+    let inode = component.inode();
+    let owner = inode.owner().clone()?;
+    let group = inode.group().clone()?;
+    let text = print(alloc, inode.acl())?;
+    Ok(Reply::Acl(AclStatus::new(owner, group, text)))
+}
+
+/// Reports the access control list of what has a path.
+fn get_acl(
+    alloc: Global,
+    tree: &Tree,
+    caller: &Caller,
+    needs: &Needs,
+    path: &Path,
+) -> Result<Verdict, AllocError>
+    requires { AreOn path.now needs.now }
+    ensures { (leases : LeaseFacts) (users : Users) → IfOk result (λ verdict. record { verdict = verdict; rows = tree.now; users = users } ≡ judged_step leases tree.now users caller.now needs.now (Op.GetAcl path.now)) }
+{
+    let reach = match walk_along(alloc, tree, caller, needs, path)? {
+        Walked::Denied(denial) => return Ok(Verdict::Denied(denial)),
+        Walked::Reached(reach) => reach,
+    };
+    match standing(alloc, reach)? {
+        Found::There(component) => Ok(Verdict::Done(acl_status_of(alloc, &component)?)),
+        Found::Refused(refusal) => Ok(Verdict::Refused(refusal)),
+    }
+}
+
+fn copies(alloc: Global, names: &[&Name]) -> Result<Vec<Name>, AllocError>
+    ensures { IfOk result (λ copies. copies.items ≡ map (λ name. name.now) names.now) }
+{
+    let mut copies = Vec::with_capacity(alloc, names.len())?;
+    for name in names {
+        let name: &Name = *name;
+        copies.push(name.clone()?)?;
+    }
+    Ok(copies)
+}
+
+/// The name of a file at a path.
+fn own_name(alloc: Global, path: &Path) -> Result<Vec<Name>, AllocError>
+    ensures { IfOk result (λ names. names.items ≡ spec.own_name path.now) }
+{
+    match path.names().last() {
+        Some(name) => Ok(vec![in alloc; name.clone()?]?),
+        None => Ok(Vec::new(alloc)),
+    }
+}
+
+fn listed(
+    alloc: Global,
+    tree: &Tree,
+    path: &Path,
+    component: &Component,
+) -> Result<Vec<Name>, AllocError>
+    ensures { IfOk result (λ names. names.items ≡ spec.listed path.now (Some component.now) tree.now) }
+{
+    match component.inode().kind() {
+        ObjectKind::Directory => copies(alloc, &tree.children(path)?),
+        ObjectKind::File => own_name(alloc, path),
+    }
+}
+
+/// Lists the names that a directory holds, or a file's own. Costs also what it holds.
+fn list(
+    alloc: Global,
+    tree: &Tree,
+    caller: &Caller,
+    needs: &Needs,
+    path: &Path,
+) -> Result<Verdict, AllocError>
+    requires { AreOn path.now needs.now }
+    ensures { (leases : LeaseFacts) (users : Users) → IfOk result (λ verdict. record { verdict = verdict; rows = tree.now; users = users } ≡ judged_step leases tree.now users caller.now needs.now (Op.List path.now)) }
+{
+    let reach = match walk_along(alloc, tree, caller, needs, path)? {
+        Walked::Denied(denial) => return Ok(Verdict::Denied(denial)),
+        Walked::Reached(reach) => reach,
+    };
+    match standing(alloc, reach)? {
+        Found::There(component) => {
+            let names = listed(alloc, tree, path, &component)?;
+            Ok(Verdict::Done(Reply::Names(Names::new(names))))
+        }
+        Found::Refused(refusal) => Ok(Verdict::Refused(refusal)),
+    }
+}
+
+/// What there is at a path and beneath it; a number that can't be told counts as out of memory.
+fn content_at(tree: &Tree, path: &Path) -> Result<ContentSummary, AllocError>
+    ensures { IfOk result (λ content. Reply.Summary content ≡ spec.summary_of (changes.rows_under path.now tree.now)) }
+{
+    let counts = counts_at(tree, path)?;
+    let Some(bytes) = counts.bytes else {
+        return Err(AllocError);
+    };
+    Ok(ContentSummary {
+        directories: counts.directories,
+        files: counts.files,
+        bytes,
+    })
+}
+
+/// Counts what stands at a path and beneath it. Costs also what stands there.
+fn summary(
+    alloc: Global,
+    tree: &Tree,
+    caller: &Caller,
+    needs: &Needs,
+    path: &Path,
+) -> Result<Verdict, AllocError>
+    requires { AreOn path.now needs.now }
+    ensures { (leases : LeaseFacts) (users : Users) → IfOk result (λ verdict. record { verdict = verdict; rows = tree.now; users = users } ≡ judged_step leases tree.now users caller.now needs.now (Op.Summary path.now)) }
+{
+    let reach = match walk_along(alloc, tree, caller, needs, path)? {
+        Walked::Denied(denial) => return Ok(Verdict::Denied(denial)),
+        Walked::Reached(reach) => reach,
+    };
+    if let Found::Refused(refusal) = standing(alloc, reach)? {
+        return Ok(Verdict::Refused(refusal));
+    }
+    Ok(Verdict::Done(Reply::Summary(content_at(tree, path)?)))
+}
+
+/// Opens a file to read it. Costs also its blocks.
+fn open(
+    alloc: Global,
+    tree: &Tree,
+    caller: &Caller,
+    needs: &Needs,
+    path: &Path,
+) -> Result<Verdict, AllocError>
+    requires { AreOn path.now needs.now }
+    ensures { (leases : LeaseFacts) (users : Users) → IfOk result (λ verdict. record { verdict = verdict; rows = tree.now; users = users } ≡ judged_step leases tree.now users caller.now needs.now (Op.Open path.now)) }
+{
+    let reach = match walk_along(alloc, tree, caller, needs, path)? {
+        Walked::Denied(denial) => return Ok(Verdict::Denied(denial)),
+        Walked::Reached(reach) => reach,
+    };
+    match standing_file(alloc, reach)? {
+        FoundFile::There(file) => Ok(Verdict::Done(Reply::Opened(length_told(file)?))),
+        FoundFile::Refused(refusal) => Ok(Verdict::Refused(refusal)),
+    }
+}
+
+/// Answers a verb that changes nothing, with its needs, over what is lent: first the first need that fails, then the first refusal
+/// of the operation's list, then what it asks for. Costs the path that it names, one look-up in a map for each name; `stat` and
+/// `open` also the blocks of the file, `ls` what is listed, and `du` the sub-tree with its blocks (HDFS Architecture, "The File
+/// System Namespace"; HDFS Permissions Guide, "Permission Checks").
+///
+/// # Errors
+/// Out of memory.
+pub fn answer(
+    alloc: Global,
+    tree: &Tree,
+    users: &Users,
+    caller: &Who,
+    needs: &Needs,
+    read: Read<'_>,
+) -> Result<Verdict, AllocError>
+    requires { needs.now ≡ required_rights (read_op read) }
+    ensures { (leases : LeaseFacts) → IfOk result (λ verdict. record { verdict = verdict; rows = tree.now; users = users.now } ≡ spec.step leases tree.now users.now caller.now (read_op read.entry)) }
+{
+    let asking = users.caller(caller);
+    match read {
+        Read::Stat(path) => stat(alloc, tree, &asking, needs, path),
+        Read::List(path) => list(alloc, tree, &asking, needs, path),
+        Read::Summary(path) => summary(alloc, tree, &asking, needs, path),
+        Read::GetAcl(path) => get_acl(alloc, tree, &asking, needs, path),
+        Read::Open(path) => open(alloc, tree, &asking, needs, path),
+    }
+}

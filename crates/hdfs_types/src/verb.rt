@@ -1,0 +1,90 @@
+ghost use Rattle.std.specs.Prelude.{◌≡◌};
+ghost use Rattle.hdfs_types.specs.Verb.{op_of};
+
+use crate::file::LastBlock;
+use crate::op::Op;
+use hdfs_values::groups::Groups;
+use hdfs_values::path::Path;
+use hdfs_values::replication::Repl;
+use hdfs_values::who::Who;
+use permission_specs::acl_change::AclChange;
+use permission_specs::mode::Mode;
+
+/// A verb that changes nothing: the looks, and to open a file to read it, which is no look, since it grants something.
+#[derive(Clone, Copy)]
+pub enum Read<'a> {
+    Stat(&'a Path),
+    List(&'a Path),
+    Summary(&'a Path),
+    GetAcl(&'a Path),
+    Open(&'a Path),
+}
+
+/// A verb that changes the namespace or the users, and neither asks who has which file open to write, nor changes it.
+#[derive(Clone, Copy)]
+pub enum Update<'a> {
+    Mkdirs(&'a Path, Mode),
+    Rename(&'a Path, &'a Path),
+    SetMode(&'a Path, Mode),
+    SetOwner(&'a Path, &'a Option<Who>, &'a Option<Who>),
+    SetAcl(&'a Path, &'a AclChange),
+    SetReplication(&'a Path, Repl),
+    AddUser(&'a Who, &'a Groups),
+    SetGroups(&'a Who, &'a Groups),
+}
+
+/// A verb that writes a file, or the deletion: who has which file open to write may change.
+#[derive(Clone, Copy)]
+pub enum Write<'a> {
+    Create(&'a Path, Mode, Repl, bool),
+    Append(&'a Path),
+    AddBlock(&'a Path, Option<LastBlock>),
+    Complete(&'a Path, Option<LastBlock>),
+    Delete(&'a Path, bool),
+}
+
+/// The verb of an operation, by what it may change.
+#[derive(Clone, Copy)]
+pub enum Verb<'a> {
+    Read(Read<'a>),
+    Update(Update<'a>),
+    Write(Write<'a>),
+    Renew,
+    Tick,
+}
+
+impl Op {
+    /// The verb, which lends what the operation names. Takes no memory.
+    pub fn verb(&self) -> Verb<'_>
+        ensures { op_of result ≡ self.now }
+    {
+        match self {
+            Op::Stat(path) => Verb::Read(Read::Stat(path)),
+            Op::List(path) => Verb::Read(Read::List(path)),
+            Op::Summary(path) => Verb::Read(Read::Summary(path)),
+            Op::GetAcl(path) => Verb::Read(Read::GetAcl(path)),
+            Op::Open(path) => Verb::Read(Read::Open(path)),
+            Op::Mkdirs(path, mode) => Verb::Update(Update::Mkdirs(path, *mode)),
+            Op::Rename(from, to) => Verb::Update(Update::Rename(from, to)),
+            Op::SetMode(path, mode) => Verb::Update(Update::SetMode(path, *mode)),
+            Op::SetOwner(path, owner, group) => {
+                Verb::Update(Update::SetOwner(path, owner, group))
+            }
+            Op::SetAcl(path, change) => Verb::Update(Update::SetAcl(path, change)),
+            Op::SetReplication(path, replication) => {
+                Verb::Update(Update::SetReplication(path, *replication))
+            }
+            Op::AddUser(user, groups) => Verb::Update(Update::AddUser(user, groups)),
+            Op::SetGroups(user, groups) => Verb::Update(Update::SetGroups(user, groups)),
+            Op::Create(path, mode, replication, over) => {
+                Verb::Write(Write::Create(path, *mode, *replication, *over))
+            }
+            Op::Append(path) => Verb::Write(Write::Append(path)),
+            Op::AddBlock(path, last) => Verb::Write(Write::AddBlock(path, *last)),
+            Op::Complete(path, last) => Verb::Write(Write::Complete(path, *last)),
+            Op::Delete(path, recursive) => Verb::Write(Write::Delete(path, *recursive)),
+            Op::Renew => Verb::Renew,
+            Op::Tick => Verb::Tick,
+        }
+    }
+}

@@ -1,0 +1,14 @@
+use Rattle.std.proofs.Common.{◌∙◌, ap, ap₂, sym, rules}
+use Rattle.hdfs_values.specs.ShortText.{held_bytes}
+use Rattle.hdfs_values.specs.Text.{text_cmp}
+use Rattle.hdfs_values.proofs.ShortTexts.{held_order}
+use Rattle.hdfs_values.proofs.short_text.ShortTextOrd.cmp.Goals as goal
+
+pub returns-in-Inline-Inline : goal.returns-in-Inline-Inline
+returns-in-Inline-Inline c =
+    let both = c.in-Inline-Inline in
+    let own = rw both.is-0 at c.self.invariant in
+    let others = rw both.is-1 at c.other.invariant in
+    c.order.ensures
+    ∙ held_order both.length both.others_length both.bytes both.others_bytes (search rules) (search rules) own.0 others.0 own.1 others.1
+    ∙ ap₂ text_cmp (sym (ap held_bytes both.is-0) ∙ c.self.view_is) (sym (ap held_bytes both.is-1) ∙ c.other.view_is)

@@ -1,0 +1,197 @@
+ghost use Rattle.std.specs.Prelude.{◌≡◌, ◌≢◌, ◌+◌, ◌≤◌, length, IsOk, IfOk};
+ghost use Rattle.std.proofs.Common.{rules};
+ghost use Rattle.std.specs.Cmp.{partial_order_from_own_ties};
+ghost use Rattle.std.specs.Cmp.Rules.{comparing};
+ghost use Rattle.std.specs.Ordering.{as_partial_cmp, nat_cmp, ordering_then};
+ghost use Rattle.std.specs.Simd.Lanes.{chunk};
+ghost use Rattle.std.specs.Slice.Scan.{big_endian};
+ghost use Rattle.hdfs_values.specs.Text.{same, text_cmp};
+
+use std::alloc::{AllocError, Global};
+use std::cmp::Ordering;
+use std::marker::Model;
+use std::str;
+
+/// The most bytes that a text holds without memory of its own. With them a text takes 32 bytes.
+const INLINE_BYTES: usize = 22;
+
+/// Where a text stands.
+#[derive(Drop)]
+enum Held {
+    /// Within the value: the text's length, and its bytes before zeros.
+    Inline(u8, [u8; INLINE_BYTES]),
+    /// In memory of its own, as it is longer.
+    Boxed(String),
+}
+
+/// A text. One of at most 22 bytes takes no memory.
+#[derive(Drop)]
+pub(crate) struct ShortText {
+    held: Held,
+}
+
+impl Model for ShortText {
+    ghost use Rattle.std.specs.Prelude.{List, ℕ};
+
+    ghost Value = { List ℕ };
+
+    ghost use Rattle.hdfs_values.specs.ShortText.{held_bytes, IsHeld};
+
+    ghost view = { λ text. held_bytes text.held };
+
+    ghost invariant = { λ text. IsHeld text.held };
+}
+
+/// The eight bytes from a place on as a number, the first one highest.
+fn word(bytes: &[u8], at: usize) -> u64
+    requires { at + 8 ≤ length bytes.now }
+    ensures { result ≡ big_endian 0 (chunk at 8 bytes.now) }
+{
+    u64::from_be_bytes([
+        bytes[at],
+        bytes[at + 1],
+        bytes[at + 2],
+        bytes[at + 3],
+        bytes[at + 4],
+        bytes[at + 5],
+        bytes[at + 6],
+        bytes[at + 7],
+    ])
+}
+
+/// The order of two numbers that differ. Each branch ends in an answer of its own, from which a search goes on at once.
+fn unequal(own: u64, others: u64) -> Ordering
+    requires { own ≢ others }
+    ensures { result ≡ nat_cmp own others }
+{
+    if own < others {
+        Ordering::Less
+    } else {
+        Ordering::Greater
+    }
+}
+
+/// The order of two texts that stand within their values, by words of their bytes; the last word overlaps the one before. The zeros
+/// behind a text are below all that stands there in another, unless that is zeros too: then the shorter text is the lower one.
+fn order(own: &[u8], own_length: u8, others: &[u8], others_length: u8) -> Ordering
+    requires own { length own.now ≡ 22 }
+    requires others { length others.now ≡ 22 }
+    ensures { result ≡ ordering_then (text_cmp own.now others.now) (nat_cmp own_length others_length) }
+{
+    let (first, others_first) = (word(own, 0), word(others, 0));
+    if first != others_first {
+        return unequal(first, others_first);
+    }
+    let (second, others_second) = (word(own, 8), word(others, 8));
+    if second != others_second {
+        return unequal(second, others_second);
+    }
+    let (last, others_last) = (word(own, 14), word(others, 14));
+    if last != others_last {
+        return unequal(last, others_last);
+    }
+    own_length.cmp(&others_length)
+}
+
+/// A text of at most 22 bytes.
+fn inline(text: &str) -> ShortText
+    requires { length text.now ≤ 22 }
+    ensures { result ≡ text.now }
+{
+    let mut bytes = [0; INLINE_BYTES];
+    bytes[..text.len()].copy_from_slice(text.as_bytes());
+    ShortText {
+        held: Held::Inline(text.len() as u8, bytes),
+    }
+}
+
+impl ShortText {
+    /// A copy of a text.
+    ///
+    /// # Errors
+    /// Out of memory, where the text has more than 22 bytes.
+    pub(crate) fn copied(alloc: Global, text: &str) -> Result<ShortText, AllocError>
+        ensures ok { IfOk result (λ copy. copy ≡ text.now) }
+        ensures short { length text.now ≤ 22 → IsOk result }
+    {
+        if text.len() <= INLINE_BYTES {
+            return Ok(inline(text));
+        }
+        let text = String::from_str(alloc, text)?;
+        Ok(ShortText {
+            held: Held::Boxed(text),
+        })
+    }
+
+    /// The text.
+    pub(crate) fn as_str(&self) -> &str
+        ensures { result.now ≡ self.now }
+    {
+        match &self.held {
+            Held::Inline(length, bytes) => unsafe {
+                str::from_utf8_unchecked(&bytes[..usize::from(*length)])
+            },
+            Held::Boxed(text) => text.as_str(),
+        }
+    }
+}
+
+/// Out of memory, only where the text has more than 22 bytes.
+impl Clone for ShortText {
+    ghost is_clone = { λ text copy. copy ≡ text };
+
+    fn clone(&self) -> Result<ShortText, AllocError>
+        ensures copy { IfOk result (λ copy. copy ≡ self.now) }
+        ensures short { length self.now ≤ 22 → IsOk result }
+    {
+        match &self.held {
+            Held::Inline(length, bytes) => Ok(ShortText {
+                held: Held::Inline(*length, *bytes),
+            }),
+            Held::Boxed(text) => ShortText::copied(*text.allocator(), text.as_str()),
+        }
+    }
+}
+
+impl PartialEq for ShortText {
+    ghost eq = { same };
+
+    ghost laws = { Prim.search (comparing, rules) };
+
+    fn eq(&self, other: &ShortText) -> bool {
+        self.cmp(other).is_eq()
+    }
+}
+
+impl Eq for ShortText {
+    ghost laws = { Prim.search (comparing, rules) };
+}
+
+impl Ord for ShortText {
+    ghost cmp = { text_cmp };
+
+    ghost total = { Prim.search (comparing, rules) };
+
+    ghost matches_partial_cmp = { Prim.search (comparing, rules) };
+
+    ghost matches_eq = { Prim.search (comparing, rules) };
+
+    fn cmp(&self, other: &ShortText) -> Ordering {
+        match (&self.held, &other.held) {
+            (Held::Inline(length, bytes), Held::Inline(others_length, others_bytes)) => {
+                order(bytes, *length, others_bytes, *others_length)
+            }
+            _ => self.as_str().cmp(other.as_str()),
+        }
+    }
+}
+
+impl PartialOrd for ShortText {
+    ghost partial_cmp = { as_partial_cmp text_cmp };
+
+    ghost laws = { partial_order_from_own_ties (Prim.search (comparing, rules)) (Prim.search (comparing, rules)) };
+
+    fn partial_cmp(&self, other: &ShortText) -> Option<Ordering> {
+        Some(self.cmp(other))
+    }
+}

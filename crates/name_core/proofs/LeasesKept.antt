@@ -1,0 +1,60 @@
+-- Verbs that leave leases as they are.
+use Rattle.std.proofs.Common.{◌≡◌, ℕ, true, false, ◌&&◌, List, length, nat_lt, Option, Some, None, refl, sym, ap, ◌∙◌, cond}
+use Rattle.hdfs_values.specs.Text.{same}
+use Rattle.hdfs_types.specs.Request.{keeps_leases}
+use Rattle.hdfs_types.specs.Verb.{read_op, update_op}
+use Rattle.hdfs_types.specs.declared.op.Op.{Op}
+use Rattle.hdfs_types.specs.declared.op.Op.TheVariants as op
+use Rattle.hdfs_types.specs.declared.reply.Reply.TheVariants.{Empty}
+use Rattle.hdfs_types.specs.declared.verb.Read.{Read}
+use Rattle.hdfs_types.specs.declared.verb.Read.TheVariants as read
+use Rattle.hdfs_types.specs.declared.verb.Update.{Update}
+use Rattle.hdfs_types.specs.declared.verb.Update.TheVariants as update
+use Rattle.principals.specs.Users.{Users}
+use Rattle.namespace_rows.specs.declared.row.Row.{Row}
+use Rattle.flat_rows.specs.declared.verdict.Verdict.{Verdict}
+use Rattle.flat_rows.specs.declared.verdict.Verdict.TheVariants.{Done, Denied, Refused}
+use Rattle.namespace_rows.specs.Namespace.{IsNamespace}
+use Rattle.namespace_rows.specs.Files.{open_files}
+use Rattle.flat_rows.specs.FileOutcome.{LeaseFacts}
+use Rattle.flat_rows.specs.Outcome.{step, reply_of}
+use Rattle.flat_rows.proofs.Keeping.{kept_open}
+use Rattle.history.specs.ClockAndLease.{renews}
+use Rattle.lease_manager.specs.declared.writers.Writers.{Writers}
+use Rattle.lease_manager.specs.Writers.{count_of}
+use Rattle.file_effects.specs.Effected.{IsExact, renewed_where}
+
+pub read_keeps : (verb : Read) → keeps_leases (read_op verb) ≡ true
+read_keeps (read.Stat path) = refl
+read_keeps _ = refl
+
+pub update_keeps : (verb : Update) → keeps_leases (update_op verb) ≡ true
+update_keeps (update.Mkdirs path mode) = refl
+update_keeps _ = refl
+
+-- there is nothing to report of an update
+pub empty_reply : (leases : LeaseFacts) (verb : Update) (rows : List Row) → reply_of leases (update_op verb) rows ≡ Empty
+empty_reply leases (update.Mkdirs path mode) rows = refl
+empty_reply leases _ rows = refl
+
+-- none renews a lease
+pub renews_not : (what : Op) (verdict : Verdict) → keeps_leases what ≡ true → renews what verdict ≡ false
+renews_not what (Denied denial) h = refl
+renews_not what (Refused refusal) h = refl
+renews_not (op.Delete path recursive) (Done told) h = cc
+renews_not (op.Create path mode replication over) (Done told) h = cc
+renews_not (op.Append path) (Done told) h = cc
+renews_not (op.AddBlock path last) (Done told) h = cc
+renews_not (op.Complete path last) (Done told) h = cc
+renews_not op.Renew (Done told) h = cc
+renews_not op.Tick (Done told) h = cc
+renews_not _ (Done told) h = refl
+
+-- each client has as many files open, and the same lease
+pub exact_kept : (last : List ℕ → Option ℕ) (now : ℕ) (leases : LeaseFacts) (rows : List Row) (users : Users) (caller : List ℕ) (what : Op) (verdict : Verdict) (left : List Row) (writers : Writers)
+    → keeps_leases what ≡ true → IsNamespace rows → left ≡ (step leases rows users caller what).rows → IsExact last rows writers → IsExact (renewed_where (renews what verdict) caller now last) left writers
+exact_kept last now leases rows users caller what verdict left writers k namespace is exact =
+    record {
+      files = λ client. exact.files client ∙ (sym (kept_open client rows namespace leases users caller what k) ∙ ap (λ rs. length (open_files client rs)) (sym is));
+      leased = λ client. exact.leased client ∙ ap (λ b. cond (nat_lt 0 (count_of writers.files client)) (cond (b && same caller client) (Some now) (last client)) None) (sym (renews_not what verdict k));
+    }

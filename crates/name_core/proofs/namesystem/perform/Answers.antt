@@ -1,0 +1,38 @@
+use Rattle.std.proofs.Common.{◌∙◌, sym, ap, subst}
+use Rattle.std.specs.Result.{IfOk}
+use Rattle.hdfs_types.specs.Verb.{op_of}
+use Rattle.required_rights.specs.RequiredRights.{required_rights}
+use Rattle.name_core.specs.Performed.{IsPerformed}
+use Rattle.name_core.proofs.namesystem.perform.Goals as goal
+
+pub perform_read-requires-clause-needs : goal.perform_read-requires-clause-needs
+perform_read-requires-clause-needs c = c.in_ok-needs.ensures ∙ ap required_rights (sym c.verb.ensures ∙ ap op_of c.in-Read.is)
+
+pub perform_update-requires-clause-needs : goal.perform_update-requires-clause-needs
+perform_update-requires-clause-needs c = c.in_ok-needs.ensures ∙ ap required_rights (sym c.verb.ensures ∙ ap op_of c.in-Update.is)
+
+pub perform_write-requires-clause-needs : goal.perform_write-requires-clause-needs
+perform_write-requires-clause-needs c = c.in_ok-needs.ensures ∙ ap required_rights (sym c.verb.ensures ∙ ap op_of c.in-Write.is)
+
+pub perform_tick-requires-clause-needs : goal.perform_tick-requires-clause-needs
+perform_tick-requires-clause-needs c = c.in_ok-needs.ensures ∙ ap required_rights (sym c.verb.ensures ∙ ap op_of c.in-Tick.is)
+
+pub returns-in-Read-clause-ok : goal.returns-in-Read-clause-ok
+returns-in-Read-clause-ok c = λ last exact.
+    subst (λ what. IfOk c.perform_read.result (λ verdict. IsPerformed last c.args.now c.args.request.now.caller what c.args.system.now verdict c.args.system.now)) (sym (ap op_of c.in-Read.is) ∙ c.verb.ensures) (c.perform_read.ensures last c.args.now exact)
+
+pub returns-in-Update-clause-ok : goal.returns-in-Update-clause-ok
+returns-in-Update-clause-ok c = λ last exact.
+    subst (λ what. IfOk c.perform_update.result (λ verdict. IsPerformed last c.args.now c.args.request.now.caller what c.args.system.now verdict c.perform_update.new.system)) (sym (ap op_of c.in-Update.is) ∙ c.verb.ensures) (c.perform_update.ensures.ok last c.args.now exact)
+
+pub returns-in-Write-clause-ok : goal.returns-in-Write-clause-ok
+returns-in-Write-clause-ok c = λ last exact.
+    subst (λ what. IfOk c.perform_write.result (λ verdict. IsPerformed last c.args.now c.args.request.now.caller what c.args.system.now verdict c.perform_write.new.system)) (sym (ap op_of c.in-Write.is) ∙ c.verb.ensures) (c.perform_write.ensures.ok last exact)
+
+pub returns-in-Renew-clause-ok : goal.returns-in-Renew-clause-ok
+returns-in-Renew-clause-ok c = λ last exact.
+    subst (λ what. IfOk c.perform_renewal.result (λ verdict. IsPerformed last c.args.now c.args.request.now.caller what c.args.system.now verdict c.perform_renewal.new.system)) (sym (ap op_of c.in-Renew.is) ∙ c.verb.ensures) (c.perform_renewal.ensures.ok last exact)
+
+pub returns-clause-ok : goal.returns-clause-ok
+returns-clause-ok c = λ last exact.
+    subst (λ what. IfOk c.perform_tick.result (λ verdict. IsPerformed last c.args.now c.args.request.now.caller what c.args.system.now verdict c.perform_tick.new.system)) (sym (ap op_of c.in-Tick.is) ∙ c.verb.ensures) (c.perform_tick.ensures.ok last exact)

@@ -1,0 +1,9 @@
+use Rattle.std.proofs.Common.{refl}
+use Rattle.name_core.specs.declared.namesystem.Namesystem.{Namesystem}
+use Rattle.name_core.proofs.Performing.{performed_update}
+use Rattle.name_core.proofs.namesystem.perform_update.Goals as goal
+
+pub returns-clause-ok : goal.returns-clause-ok
+returns-clause-ok c = λ last now exact.
+    let new : Namesystem = record { tree = c.apply_update.new.tree; users = c.apply_update.new.users; writers = c.args.system.now.writers } in
+    performed_update last now c.args.caller.now c.args.update.now c.args.system.now new c.in_ok-verdict.verdict c.requires.namespace refl c.in_ok-verdict.ensures.ok exact

@@ -1,0 +1,4 @@
+pub mod Vectors
+pub mod Known
+pub mod Lines
+pub mod Endings
