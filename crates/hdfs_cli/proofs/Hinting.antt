@@ -1,17 +1,16 @@
 -- The lines of a script that are answered `bad` are its ill-formed ones.
-use Rattle.std.proofs.Common.{◌≡◌, ℕ, ◌+◌, Bool, true, false, List, [], ◌∷◌, ◌++◌, Option, Some, None, Result, Ok, Err, refl, sym, ap, ◌∙◌, append_assoc, append-nil}
+use Rattle.std.proofs.Common.{◌≡◌, ℕ, ◌+◌, Bool, true, false, List, [], ◌∷◌, ◌++◌, None, Result, Ok, Err, refl, sym, ap, ◌∙◌, append_assoc, append-nil}
 use Rattle.std.specs.Prelude.{if◌then◌else◌}
-use Rattle.std.specs.List.{fold}
 use Rattle.std.specs.Result.{result_err}
 use Rattle.std.proofs.lemmas.List.Elements.{filter_map-append}
 use Rattle.hdfs_values.specs.declared.fault.IllFormed.{IllFormed}
 use Rattle.hdfs_types.specs.declared.op.Request.{Request}
 use Rattle.history.specs.Config.{standard}
-use Rattle.script_hints.specs.Hints.{NumberedFault, fault_before, fault_in, fault_in_trimmed, faults_from, faults_of}
+use Rattle.script_hints.specs.Hints.{NumberedFault, fault_before, faults_from, faults_of}
 use Rattle.script_text.specs.Script.{request_of}
 use Rattle.script_words.specs.Words.{lines_of, without_return, is_skipped, words_of}
 use Rattle.hdfs_cli.specs.Hinted.{bad_at, bad_answers}
-use Rattle.script_runs.specs.Output.{Numbered, State, Answered, answered, after_answer, after_trimmed, after_line, opening, behind_lines, answers_of}
+use Rattle.script_runs.specs.Output.{Numbered, State, answered, after_answer, after_line, opening, behind_lines, answers_of}
 
 abbrev bads : State → List NumberedFault
 bads state = bad_answers state.answers

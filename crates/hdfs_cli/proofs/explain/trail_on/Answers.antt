@@ -9,4 +9,4 @@ returns c =
     let op = c.args.request.now.op in
     let users = users_of c.args.session.now.core.entries in
     subst (λ rows. IfOk c.trail-needs.result (λ needs. needs.items ≡ trail rows users caller op)) (c.in_ok-rows.ensures ∙ c.tree.ensures)
-    (subst (λ users. IfOk c.trail-needs.result (λ needs. needs.items ≡ trail c.in_ok-rows.rows users caller op)) c.users.ensures c.trail-needs.ensures)
+    (subst (λ users. IfOk c.trail-needs.result (λ needs. needs.items ≡ trail c.in_ok-rows.rows users caller op)) c.users-users.ensures c.trail-needs.ensures)
