@@ -25,7 +25,7 @@ returns-clause-ok c state shows =
     let front = text_of state.answers in
     let answer : Numbered = record { number = state.number + 1; answer = Ok (verdict_of standard state.entries request) } in
     let printed : string_bytes c.print_last.new.out ≡ string_bytes old.out ++ line old.number old.core.config old.core.entries =
-        subst (λ (core : NameCore). IfSome (slice_get core.entries 0) (λ entry. string_bytes c.print_last.new.out ≡ string_bytes old.out ++ answer_line (old.number + 1) (Ok entry.verdict))) c.in_ok-append.ensures.ok c.in_ok-print_last.ensures.ok in
+    subst (λ (core : NameCore). IfSome (slice_get core.entries 0) (λ entry. string_bytes c.print_last.new.out ≡ string_bytes old.out ++ answer_line (old.number + 1) (Ok entry.verdict))) c.in_ok-append.ensures.ok c.in_ok-print_last.ensures.ok in
     record {
       number = ap (λ n. n + 1) shows.number;
       config = ap (λ (core : NameCore). core.config) c.in_ok-append.ensures.ok ∙ shows.config;

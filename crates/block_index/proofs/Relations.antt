@@ -1,0 +1,59 @@
+-- Which nodes have to do with which blocks, behind a change of one node's blocks.
+use Rattle.std.proofs.Common.{◌≡◌, ℕ, ◌==◌, Bool, true, false, ◌&&◌, ◌||◌, List, [], take, drop, Some, None, unwrap_or, refl, sym, ap, ◌∙◌, cond}
+use Rattle.std.specs.List.{list_any}
+use Rattle.std.proofs.lemmas.List.{take-append-drop}
+use Rattle.std.proofs.lemmas.List.Folds.{list_any-append}
+use Rattle.std.specs.Map.{lookup, set_value}
+use Rattle.std.proofs.lemmas.Map.Steps.{set_value_same}
+use Rattle.block_records.specs.Numbers.{is_number, has_number, entry_at}
+use Rattle.block_index.specs.Relation.{blocks_at, relates}
+use Rattle.block_records.proofs.Numbers.{number_is}
+
+other_node : (v here : Bool) (b : Bool) → here ≡ cond (b && false) v here
+other_node v here true = refl
+other_node v here false = refl
+
+this_node : (v here : Bool) (b : Bool) → cond b v here ≡ cond (b && true) v here
+this_node v here true = refl
+this_node v here false = refl
+
+-- one node's blocks are others, which tell apart the block alone
+pub related_at : (v : Bool) (old new : List (ℕ × List ℕ)) (node block n b : ℕ) (own now : List ℕ)
+    → blocks_at old node ≡ own
+    → ((q : ℕ) → list_any (is_number q) now ≡ cond (is_number block q) v (list_any (is_number q) own))
+    → ((q : ℕ) → entry_at q new ≡ cond (is_number node q) (Some now) (entry_at q old))
+    → relates new n b ≡ cond (is_number block b && is_number node n) v (relates old n b)
+related_at v old new node block n b own now there set put =
+    ap (λ found. list_any (is_number b) (unwrap_or found [])) (put n) ∙ by (is_number node n) refl
+  where
+    by : (x : Bool) → is_number node n ≡ x → list_any (is_number b) (unwrap_or (cond x (Some now) (entry_at n old)) []) ≡ cond (is_number block b && x) v (relates old n b)
+    by false at = other_node v (relates old n b) (is_number block b)
+    by true at =
+        set b
+        ∙ ap (λ blocks. cond (is_number block b) v (list_any (is_number b) blocks)) (sym there ∙ ap (blocks_at old) (number_is node n at))
+        ∙ this_node v (relates old n b) (is_number block b)
+
+-- a node that has nothing to do with any block
+pub unrelated : (old : List (ℕ × List ℕ)) (node block n b : ℕ) → entry_at node old ≡ None → relates old n b ≡ cond (is_number block b && is_number node n) false (relates old n b)
+unrelated old node block n b none = by (is_number block b) (is_number node n) refl
+  where
+    by : (y x : Bool) → is_number node n ≡ x → relates old n b ≡ cond (y && x) false (relates old n b)
+    by false x at = refl
+    by true false at = refl
+    by true true at = ap (λ q. list_any (is_number b) (blocks_at old q)) (sym (number_is node n at)) ∙ ap (λ found. list_any (is_number b) (unwrap_or found [])) none
+
+-- blocks written back change nothing
+pub written_back : {K X : Type 0} (test : K → Bool) (table new : List (K × X)) (own : X) → lookup test table ≡ Some own → new ≡ set_value test table own → new ≡ table
+written_back test table new own there h = h ∙ set_value_same test table own there
+
+-- a front of nodes has no other nodes
+pub front_lacks : (n : ℕ) (nodes : List ℕ) (i : ℕ) → has_number n nodes ≡ false → has_number n (take i nodes) ≡ false
+front_lacks n nodes i lacks = by (has_number n (take i nodes)) (has_number n (drop i nodes)) (sym lacks ∙ (ap (has_number n) (sym (take-append-drop i nodes)) ∙ list_any-append (λ other. other == n) (take i nodes) (drop i nodes)))
+  where
+    by : (x y : Bool) → false ≡ (x || y) → x ≡ false
+    by true y h = sym h
+    by false y h = refl
+
+pub not_of_front : (x : Bool) (n : ℕ) (nodes : List ℕ) (i : ℕ) → (x && has_number n nodes) ≡ false → (x && has_number n (take i nodes)) ≡ false
+not_of_front true n nodes i lacks = front_lacks n nodes i lacks
+not_of_front false n nodes i lacks = refl

@@ -1,0 +1,188 @@
+ghost use Rattle.std.specs.Prelude.{◌≡◌, ℕ, ◌&&◌, true, false, [], not, is_some, length, if◌then◌else◌, OnOk, OnErr};
+ghost use Rattle.std.specs.List.{list_any};
+ghost use Rattle.std.specs.List.Sorted.{IsStrictlySortedBy};
+ghost use Rattle.std.specs.Ordering.{nat_cmp};
+ghost use Rattle.block_records.specs.Numbers.{is_number, has_number, entry_at};
+ghost use Rattle.block_index.specs.Relation.{blocks_at, relates};
+
+use block_records::node_set::NodeSet;
+use block_records::reports::Reports;
+use hdfs_values::ids::BlockId;
+use hdfs_values::node_id::NodeId;
+use std::alloc::{AllocError, Global};
+use std::collections::{BTreeMap, BTreeSet};
+use std::marker::Model;
+
+/// Blocks by their numbers, each once.
+#[derive(Drop)]
+pub struct BlockSet {
+    ids: BTreeSet<BlockId>,
+}
+
+impl Model for BlockSet {
+    ghost use Rattle.std.specs.Prelude.{List, ℕ};
+
+    ghost Value = { List ℕ };
+
+    ghost view = { λ set. set.ids.keys };
+}
+
+impl BlockSet {
+    /// No block. Takes no memory.
+    pub fn new(alloc: Global) -> BlockSet
+        ensures { result ≡ [] }
+    {
+        BlockSet {
+            ids: BTreeSet::new(alloc),
+        }
+    }
+
+    /// How many blocks. Takes no memory.
+    pub fn len(&self) -> usize
+        ensures count { result ≡ length self.now }
+        ensures ascending { IsStrictlySortedBy nat_cmp self.now }
+    {
+        self.ids.len()
+    }
+
+    /// Adds a block, which may be there. Costs a look-up.
+    ///
+    /// # Errors
+    /// Out of memory. Nothing has changed then.
+    pub fn insert(&mut self, block: BlockId) -> Result<(), AllocError>
+        ensures ok { OnOk result ((other : ℕ) → list_any (is_number other) self.new ≡ (if is_number block other then true else list_any (is_number other) self.old)) }
+        ensures err { OnErr result (self.new ≡ self.old) }
+    {
+        self.ids.insert(block)?;
+        Ok(())
+    }
+
+    /// Takes a block away, which may not be there. Costs a look-up, and takes no memory.
+    pub fn remove(&mut self, block: BlockId)
+        ensures { (other : ℕ) → list_any (is_number other) self.new ≡ (if is_number block other then false else list_any (is_number other) self.old) }
+    {
+        self.ids.remove(&block);
+    }
+}
+
+/// Which blocks each DataNode has to do with. A call costs a look-up for each pair that it names.
+#[derive(Drop)]
+pub struct NodeBlocks {
+    nodes: BTreeMap<NodeId, BlockSet>,
+    alloc: Global,
+}
+
+impl Model for NodeBlocks {
+    ghost use Rattle.std.specs.Prelude.{List, ℕ};
+
+    ghost Value = { List (ℕ × List ℕ) };
+
+    ghost view = { λ table. table.nodes.entries };
+}
+
+impl NodeBlocks {
+    /// No node has to do with a block. Takes no memory.
+    pub fn new(alloc: Global) -> NodeBlocks
+        ensures { result ≡ [] }
+    {
+        NodeBlocks {
+            nodes: BTreeMap::new(alloc),
+            alloc,
+        }
+    }
+
+    /// How many blocks a node has to do with. Takes no memory.
+    pub fn count(&self, node: NodeId) -> usize
+        ensures count { result ≡ length (blocks_at self.now node) }
+        ensures ascending { IsStrictlySortedBy nat_cmp (blocks_at self.now node) }
+    {
+        match self.nodes.get(&node) {
+            Some(blocks) => blocks.len(),
+            None => 0,
+        }
+    }
+
+    /// Notes that a node has to do with a block.
+    ///
+    /// # Errors
+    /// Out of memory. Nothing has changed then.
+    pub fn insert(&mut self, node: NodeId, block: BlockId) -> Result<(), AllocError>
+        ensures ok { OnOk result ((n b : ℕ) → relates self.new n b ≡ (if is_number block b && is_number node n then true else relates self.old n b)) }
+        ensures err { OnErr result (self.new ≡ self.old) }
+    {
+        if let Some(blocks) = self.nodes.get_mut(&node) {
+            blocks.insert(block)?;
+            return Ok(());
+        }
+        let mut blocks = BlockSet::new(self.alloc);
+        blocks.insert(block)?;
+        self.nodes.insert(node, blocks)?;
+        Ok(())
+    }
+
+    /// Notes that a node has nothing to do with a block. Takes no memory.
+    pub fn remove(&mut self, node: NodeId, block: BlockId)
+        ensures { (n b : ℕ) → relates self.new n b ≡ (if is_number block b && is_number node n then false else relates self.old n b) }
+    {
+        let Some(blocks) = self.nodes.get_mut(&node) else {
+            return;
+        };
+        blocks.remove(block);
+    }
+
+    /// Notes that none of these nodes has anything to do with a block. Takes no memory.
+    pub fn remove_each(&mut self, nodes: &[NodeId], block: BlockId)
+        ensures { (n b : ℕ) → relates self.new n b ≡ (if is_number block b && has_number n nodes.now then false else relates self.old n b) }
+    {
+        for node in nodes {
+            self.remove(*node, block);
+        }
+    }
+
+    /// Notes that none of these nodes has anything to do with a block, but those that are expected to. Takes no memory.
+    pub fn remove_unexpected(&mut self, nodes: &[NodeId], expected: &NodeSet, block: BlockId)
+        ensures { (n b : ℕ) → relates self.new n b ≡ (if is_number block b && (has_number n nodes.now && not (has_number n expected.now)) then false else relates self.old n b) }
+    {
+        for node in nodes {
+            if !expected.contains(*node) {
+                self.remove(*node, block);
+            }
+        }
+    }
+
+    /// Notes that no node that reported a block has anything to do with it. Takes no memory.
+    pub fn remove_reporting(&mut self, mut reports: Reports, block: BlockId)
+        ensures { (n b : ℕ) → relates self.new n b ≡ (if is_number block b && is_some (entry_at n reports) then false else relates self.old n b) }
+    {
+        while let Some(node) = reports.pop() {
+            self.remove(node, block);
+        }
+    }
+
+    // Notes each of these nodes, up to the first for which there is no memory.
+    fn insert_front(&mut self, nodes: &[NodeId], block: BlockId) -> Result<(), AllocError>
+        ensures ok { OnOk result ((n b : ℕ) → relates self.new n b ≡ (if is_number block b && has_number n nodes.now then true else relates self.old n b)) }
+        ensures err { OnErr result ((n b : ℕ) → (is_number block b && has_number n nodes.now) ≡ false → relates self.new n b ≡ relates self.old n b) }
+    {
+        for node in nodes {
+            self.insert(*node, block)?;
+        }
+        Ok(())
+    }
+
+    /// Notes that each of these nodes has to do with a block, with which none of them had anything to do.
+    ///
+    /// # Errors
+    /// Out of memory. Nothing has changed then.
+    pub fn insert_each(&mut self, nodes: &[NodeId], block: BlockId) -> Result<(), AllocError>
+        requires { (n : ℕ) → has_number n nodes.now ≡ true → relates self.old n block ≡ false }
+        ensures ok { OnOk result ((n b : ℕ) → relates self.new n b ≡ (if is_number block b && has_number n nodes.now then true else relates self.old n b)) }
+        ensures err { OnErr result ((n b : ℕ) → relates self.new n b ≡ relates self.old n b) }
+    {
+        if self.insert_front(nodes, block).is_err() {
+            self.remove_each(nodes, block);
+            return Err(AllocError);
+        }
+        Ok(())
+    }
+}

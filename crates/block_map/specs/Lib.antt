@@ -1,0 +1,3 @@
+pub mod BlockFacts
+pub mod BlockEffects
+pub mod Kept

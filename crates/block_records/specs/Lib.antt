@@ -1,0 +1,4 @@
+pub mod Numbers
+pub mod Marks
+pub mod Reports
+pub mod Verdicts

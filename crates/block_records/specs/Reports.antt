@@ -1,0 +1,15 @@
+-- The nodes that reported a block, each with the length that it reported.
+use Rattle.std.specs.Prelude.{ℕ, ◌==◌, Bool, not, List, filter}
+use Rattle.std.specs.List.{list_any}
+use Rattle.std.specs.Map.{keys_of}
+
+-- a node reported this length
+abbrev pub is_reported : List (ℕ × ℕ) → ℕ → Bool
+is_reported reports length = list_any (λ report. report.1 == length) reports
+
+abbrev pub agreeing : ℕ → List (ℕ × ℕ) → List (ℕ × ℕ)
+agreeing length reports = filter (λ report. report.1 == length) reports
+
+-- the nodes that reported another length
+abbrev pub others_of : ℕ → List (ℕ × ℕ) → List ℕ
+others_of length reports = keys_of (filter (λ report. not (report.1 == length)) reports)

@@ -1,0 +1,64 @@
+ghost use Rattle.std.specs.Prelude.{◌≡◌, Some};
+ghost use Rattle.block_records.specs.Verdicts.{holds_by};
+ghost use Rattle.block_records.specs.Verdicts.{agrees, verdict_by};
+
+use crate::node_set::NodeSet;
+use crate::report::ReportVerdict;
+use crate::reports::Reports;
+use hdfs_values::ids::Stamp;
+use hdfs_values::moment::Moment;
+use hdfs_values::node_id::NodeId;
+use hdfs_values::replication::Repl;
+
+/// What is known of a block (HDFS Architecture, "Data Replication").
+#[derive(Drop)]
+pub struct BlockRecord {
+    /// The newest generation stamp.
+    pub stamp: Stamp,
+    /// The length that the block holds for good, once it is known.
+    pub committed: Option<u64>,
+    /// How many replicas the block's file asks for.
+    pub replication: Repl,
+    /// The nodes that are to hold the block.
+    pub expected: NodeSet,
+    /// The nodes that reported the block at its newest stamp.
+    pub reports: Reports,
+    /// When the recovery began that the block is in.
+    pub recovering: Option<Moment>,
+    /// The node that is to lead that recovery and wasn't told of it yet.
+    pub primary: Option<NodeId>,
+    /// When a node was last told to copy the block.
+    pub handed_out: Option<Moment>,
+}
+
+impl BlockRecord {
+    /// Whether a node is to hold the block, or reported it. Costs the expected nodes, and takes no memory.
+    pub fn holds(&self, node: NodeId) -> bool
+        ensures { result ≡ holds_by node (Some self.now) }
+    {
+        self.expected.contains(node) || self.reports.contains(node)
+    }
+
+    // Whether a length isn't another one than that which is committed.
+    fn agrees(&self, length: u64) -> bool
+        ensures { result ≡ agrees length self.now.committed }
+    {
+        match self.committed {
+            Some(committed) => length == committed,
+            None => true,
+        }
+    }
+
+    /// What a report of this stamp and this length amounts to. Takes no memory.
+    pub fn verdict(&self, stamp: Stamp, length: u64) -> ReportVerdict
+        ensures { result ≡ verdict_by (Some self.now) stamp length }
+    {
+        if stamp < self.stamp && self.recovering.is_some() {
+            ReportVerdict::Superseded
+        } else if stamp == self.stamp && self.agrees(length) {
+            ReportVerdict::Valid
+        } else {
+            ReportVerdict::Invalid
+        }
+    }
+}

@@ -1,0 +1,52 @@
+ghost use Rattle.std.specs.Prelude.{◌≡◌};
+ghost use Rattle.block_records.specs.declared.fault.BlockFault.TheVariants.{OutOfMemory};
+
+use hdfs_values::ids::Stamp;
+use std::alloc::{AllocError, AllocFailed};
+
+/// A counter of numbers that are never given twice.
+#[derive(Clone, Copy, PartialEq, Eq)]
+pub enum Counter {
+    BlockId,
+    Stamp,
+}
+
+/// Why the map of blocks doesn't do what it is asked to do.
+#[derive(Clone, Copy, PartialEq, Eq)]
+pub enum BlockRefusal {
+    /// The block isn't known.
+    NotFound,
+    /// The block isn't being recovered.
+    NotOpen,
+    /// No DataNode has reported the block with that length.
+    NotYetReplicated,
+    /// No DataNode is live that could take part.
+    TooFewNodes,
+    /// The block has this newer stamp.
+    StaleStamp(Stamp),
+    /// The numbers of this counter are all given.
+    Spent(Counter),
+}
+
+/// Why a call didn't do what it was asked to do. Nothing has changed then.
+#[derive(Clone, Copy, PartialEq, Eq)]
+pub enum BlockFault {
+    Refused(BlockRefusal),
+    OutOfMemory,
+}
+
+impl From<AllocError> for BlockFault {
+    ghost from_gives = { λ _ fault. fault ≡ OutOfMemory };
+
+    fn from(_error: AllocError) -> BlockFault {
+        BlockFault::OutOfMemory
+    }
+}
+
+impl<T: Drop> From<AllocFailed<T>> for BlockFault {
+    ghost from_gives = { λ _ fault. fault ≡ OutOfMemory };
+
+    fn from(_error: AllocFailed<T>) -> BlockFault {
+        BlockFault::OutOfMemory
+    }
+}

@@ -1,0 +1,81 @@
+ghost use Rattle.std.specs.Prelude.{◌≡◌, ◌+◌, ◌<◌, ℕ, [], IsTrue, ◌↔◌, length, slice_index, IfSome, IsSome, if◌then◌else◌};
+ghost use Rattle.std.specs.List.Sorted.{IsStrictlyIncreasing};
+ghost use Rattle.block_records.specs.Numbers.{has_number};
+
+use hdfs_values::node_id::NodeId;
+use std::alloc::Global;
+use std::marker::Model;
+
+/// DataNodes by their ids, ascending, none twice.
+#[derive(Drop)]
+pub struct NodeSet {
+    nodes: Vec<NodeId>,
+}
+
+impl Model for NodeSet {
+    ghost use Rattle.std.specs.Prelude.{List, ℕ};
+    ghost use Rattle.std.specs.List.Sorted.{IsStrictlyIncreasing};
+
+    ghost Value = { List ℕ };
+
+    ghost view = { λ set. set.nodes.items };
+
+    ghost invariant = { λ set. IsStrictlyIncreasing set.nodes.items };
+}
+
+// Whether each id is below the next.
+fn are_ascending(nodes: &[NodeId]) -> bool
+    ensures { IsTrue result ↔ IsStrictlyIncreasing nodes.now }
+{
+    for i in 1..nodes.len() {
+        if nodes[i - 1] >= nodes[i] {
+            return false;
+        }
+    }
+    true
+}
+
+impl NodeSet {
+    /// No node. Takes no memory.
+    pub fn new(alloc: Global) -> NodeSet
+        ensures { result ≡ [] }
+    {
+        NodeSet {
+            nodes: Vec::new(alloc),
+        }
+    }
+
+    /// These nodes; `None` where the ids don't ascend. Costs the nodes, and takes no memory.
+    pub fn from_ascending(nodes: Vec<NodeId>) -> Option<NodeSet>
+        ensures these { IfSome result (λ set. set ≡ nodes.items) }
+        ensures ascending { IsSome result ↔ IsStrictlyIncreasing nodes.items }
+    {
+        if !are_ascending(&nodes) {
+            return None;
+        }
+        Some(NodeSet { nodes })
+    }
+
+    /// These nodes, whose ids ascend. Takes no memory.
+    pub fn of_ascending(nodes: Vec<NodeId>) -> NodeSet
+        requires { IsStrictlyIncreasing nodes.items }
+        ensures { result ≡ nodes.items }
+    {
+        NodeSet { nodes }
+    }
+
+    /// The nodes in the order of their ids. Takes no memory.
+    pub fn as_slice(&self) -> &[NodeId]
+        ensures nodes { result.now ≡ self.now }
+        ensures ascending { IsStrictlyIncreasing self.now }
+    {
+        &self.nodes
+    }
+
+    /// Whether a node is among them. Costs the nodes, and takes no memory.
+    pub fn contains(&self, node: NodeId) -> bool
+        ensures { result ≡ has_number node self.now }
+    {
+        self.nodes.iter().any(|own| *own == node)
+    }
+}

@@ -1,0 +1,114 @@
+ghost use Rattle.std.specs.Prelude.{◌≡◌, ◌+◌, ◌&&◌, ◌||◌, ℕ, [], not, is_some, length, if◌then◌else◌, IfOk, IfSome, IfNone, OnOk, OnErr, Some, None};
+ghost use Rattle.std.specs.BTreeMap.{insert_entry};
+ghost use Rattle.std.specs.Map.{remove_entry, keys_of};
+ghost use Rattle.std.specs.Ordering.{nat_cmp};
+ghost use Rattle.block_records.specs.Numbers.{is_number, has_number, entry_at};
+ghost use Rattle.block_records.specs.Reports.{is_reported, agreeing, others_of};
+
+use hdfs_values::node_id::NodeId;
+use std::alloc::{AllocError, Global};
+use std::collections::BTreeMap;
+use std::marker::Model;
+
+/// The DataNodes that reported a block at its newest stamp, by their ids, each with the length that it reported.
+#[derive(Drop)]
+pub struct Reports {
+    lengths: BTreeMap<NodeId, u64>,
+}
+
+impl Model for Reports {
+    ghost use Rattle.std.specs.Prelude.{List, ℕ};
+
+    ghost Value = { List (ℕ × ℕ) };
+
+    ghost view = { λ reports. reports.lengths.entries };
+}
+
+impl Reports {
+    /// Nobody has reported. Takes no memory.
+    pub fn new(alloc: Global) -> Reports
+        ensures { result ≡ [] }
+    {
+        Reports {
+            lengths: BTreeMap::new(alloc),
+        }
+    }
+
+    /// Whether a node has reported. Costs a look-up, and takes no memory.
+    pub fn contains(&self, node: NodeId) -> bool
+        ensures { result ≡ is_some (entry_at node self.now) }
+    {
+        self.lengths.contains_key(&node)
+    }
+
+    /// Whether a node has reported this length. Costs the reports, and takes no memory.
+    pub fn has_length(&self, bytes: u64) -> bool
+        ensures { result ≡ is_reported self.now bytes }
+    {
+        self.lengths.iter().any(|(_, own)| *own == bytes)
+    }
+
+    /// The nodes that have reported, by their ids. Costs them.
+    ///
+    /// # Errors
+    /// Out of memory.
+    pub fn nodes(&self, alloc: Global) -> Result<Vec<NodeId>, AllocError>
+        ensures { IfOk result (λ nodes. nodes.items ≡ keys_of self.now) }
+    {
+        self.lengths.keys().copied().collect(alloc)
+    }
+
+    /// Notes that a node reports this length, in place of what it reported before. Costs a look-up.
+    ///
+    /// # Errors
+    /// Out of memory, which only a node that hasn't reported can meet. Nothing has changed then.
+    pub fn insert(&mut self, node: NodeId, bytes: u64) -> Result<(), AllocError>
+        ensures ok { OnOk result (self.new ≡ insert_entry nat_cmp self.old node bytes) }
+        ensures err { OnErr result (self.new ≡ self.old) }
+        ensures absent { OnErr result (entry_at node self.old ≡ None) }
+        ensures others { OnOk result ((other : ℕ) → entry_at other self.new ≡ (if is_number node other then Some bytes else entry_at other self.old)) }
+    {
+        self.lengths.insert(node, bytes)?;
+        Ok(())
+    }
+
+    /// Ends a node's report. Costs a look-up, and takes no memory.
+    pub fn remove(&mut self, node: NodeId)
+        ensures reports { self.new ≡ remove_entry (is_number node) self.old }
+        ensures others { (other : ℕ) → entry_at other self.new ≡ (if is_number node other then None else entry_at other self.old) }
+    {
+        self.lengths.remove(&node);
+    }
+
+    /// The nodes that have reported another length, by their ids. Costs the reports.
+    ///
+    /// # Errors
+    /// Out of memory.
+    pub fn others(&self, alloc: Global, bytes: u64) -> Result<Vec<NodeId>, AllocError>
+        ensures { IfOk result (λ nodes. nodes.items ≡ others_of bytes self.now) }
+    {
+        self.lengths
+            .iter()
+            .filter(|(_, own)| **own != bytes)
+            .map(|(node, _)| *node)
+            .collect(alloc)
+    }
+
+    /// Ends the reports of all other lengths than this. Costs the reports, and takes no memory.
+    pub fn keep(&mut self, bytes: u64)
+        ensures reports { self.new ≡ agreeing bytes self.old }
+        ensures left { (node : ℕ) → is_some (entry_at node self.new) ≡ (is_some (entry_at node self.old) && not (has_number node (others_of bytes self.old))) }
+    {
+        self.lengths.retain(|_, own| *own == bytes);
+    }
+
+    /// Takes out the report of the lowest node, and answers which node that was; `None` where nobody has reported. Takes no memory.
+    pub fn pop(&mut self) -> Option<NodeId>
+        ensures node { IfSome result (λ node. (other : ℕ) → is_some (entry_at other self.old) ≡ (is_number node other || is_some (entry_at other self.new))) }
+        ensures fewer { IfSome result (λ _. length self.new + 1 ≡ length self.old) }
+        ensures none { IfNone result (self.old ≡ []) }
+    {
+        let (node, _) = self.lengths.pop_first()?;
+        Some(node)
+    }
+}

@@ -1,0 +1,222 @@
+ghost use Rattle.std.specs.Prelude.{◌≡◌, ◌<◌, ℕ, [], Some, None, map, filter, length, if◌then◌else◌, option_copied, IfSome, IfOk, OnOk, OnErr};
+ghost use Rattle.std.specs.BTreeMap.{insert_entry};
+ghost use Rattle.std.specs.Map.{remove_entry};
+ghost use Rattle.std.specs.Ordering.{nat_cmp};
+ghost use Rattle.block_records.specs.Numbers.{is_number, entry_at};
+ghost use Rattle.block_placement.specs.Placement.{beside, is_chosen, targets};
+ghost use Rattle.block_tables.specs.Kept.{load};
+ghost use Rattle.block_tables.specs.Changes.{changed, with_report, without_report, with_replication, with_length, without_blocks};
+ghost use Rattle.block_records.specs.Reports.{others_of};
+
+use block_index::node_blocks::NodeBlocks;
+use block_placement::candidate::{Candidate, last_chosen};
+use block_records::block_record::BlockRecord;
+use block_records::node_set::NodeSet;
+use block_records::reports::Reports;
+use hdfs_values::ids::BlockId;
+use hdfs_values::node_id::NodeId;
+use hdfs_values::replication::Repl;
+use std::alloc::{AllocError, Global};
+use std::collections::BTreeMap;
+use std::marker::Model;
+
+/// The blocks that are known, by their numbers, and for each DataNode the blocks that it is to hold or reported.
+#[derive(Drop)]
+pub struct BlockTable {
+    records: BTreeMap<BlockId, BlockRecord>,
+    held: NodeBlocks,
+}
+
+impl Model for BlockTable {
+    ghost use Rattle.std.specs.Prelude.{List, ℕ};
+    ghost use Rattle.block_records.specs.declared.block_record.BlockRecord.{BlockRecord};
+    ghost use Rattle.block_tables.specs.Kept.{IsIndexed};
+
+    ghost Value = { List (ℕ × BlockRecord) };
+
+    ghost view = { λ table. table.records.entries };
+
+    ghost invariant = { λ table. IsIndexed table.records.entries table.held };
+}
+
+impl BlockTable {
+    /// No block is known. Takes no memory.
+    pub fn new(alloc: Global) -> BlockTable
+        ensures { result ≡ [] }
+    {
+        BlockTable {
+            records: BTreeMap::new(alloc),
+            held: NodeBlocks::new(alloc),
+        }
+    }
+
+    /// What is known of a block. Costs a look-up, and takes no memory.
+    pub fn get(&self, block: BlockId) -> Option<&BlockRecord>
+        ensures { option_copied result ≡ entry_at block self.now }
+    {
+        self.records.get(&block)
+    }
+
+    /// How many blocks a node is to hold or reported. Costs a look-up, and takes no memory.
+    pub fn load(&self, node: NodeId) -> usize
+        ensures { result ≡ load self.now node }
+    {
+        // a node holds no more blocks than are known
+        self.held.count(node).min(self.records.len())
+    }
+
+    // These nodes beside their loads.
+    fn candidates(&self, alloc: Global, nodes: &[NodeId]) -> Result<Vec<Candidate>, AllocError>
+        ensures { IfOk result (λ candidates. candidates.items ≡ map (beside (load self.now)) nodes.now) }
+    {
+        nodes
+            .iter()
+            .map(|node| Candidate {
+                load: self.load(*node),
+                node: *node,
+            })
+            .collect(alloc)
+    }
+
+    // Of these nodes those up to the last that is chosen.
+    fn up_to(
+        &self,
+        alloc: Global,
+        nodes: &[NodeId],
+        last: Option<Candidate>,
+    ) -> Result<Vec<NodeId>, AllocError>
+        ensures { IfOk result (λ chosen. chosen.items ≡ filter (λ node. is_chosen last (beside (load self.now) node)) nodes.now) }
+    {
+        nodes
+            .iter()
+            .copied()
+            .filter(|node| {
+                let own = Candidate {
+                    load: self.load(*node),
+                    node: *node,
+                };
+                own.is_chosen(last)
+            })
+            .collect(alloc)
+    }
+
+    /// So many of these nodes that have the fewest blocks, ties to the lowest id; all of them where there are no more. Costs a sort of
+    /// the nodes, and two look-ups for each.
+    ///
+    /// # Errors
+    /// Out of memory.
+    pub fn targets(
+        &self,
+        alloc: Global,
+        nodes: &NodeSet,
+        count: usize,
+    ) -> Result<NodeSet, AllocError>
+        requires { 0 < count }
+        ensures { IfOk result (λ chosen. chosen ≡ targets (load self.now) count nodes.now) }
+    {
+        let nodes = nodes.as_slice();
+        let last = last_chosen(self.candidates(alloc, nodes)?, count);
+        let chosen = self.up_to(alloc, nodes, last)?;
+        Ok(NodeSet::of_ascending(chosen))
+    }
+
+    /// Makes a block known that isn't, and that nobody has reported. Costs a look-up for each expected node.
+    ///
+    /// # Errors
+    /// Out of memory. Nothing has changed then.
+    pub fn insert(&mut self, block: BlockId, own: BlockRecord) -> Result<(), AllocError>
+        requires unknown { entry_at block self.old ≡ None }
+        requires unreported { own.reports ≡ [] }
+        ensures ok { OnOk result (self.new ≡ insert_entry nat_cmp self.old block own) }
+        ensures others { OnOk result ((other : ℕ) → entry_at other self.new ≡ (if is_number block other then Some own else entry_at other self.old)) }
+        ensures err { OnErr result (self.new ≡ self.old) }
+    {
+        self.held.insert_each(own.expected.as_slice(), block)?;
+        if let Err(refused) = self.records.insert(block, own) {
+            let (_, own) = refused.value;
+            self.held.remove_each(own.expected.as_slice(), block);
+            return Err(AllocError);
+        }
+        Ok(())
+    }
+
+    /// Notes that a node reports a block with this length; of a block that isn't known nothing is noted. Costs a look-up of the
+    /// block, and one among its nodes.
+    ///
+    /// # Errors
+    /// Out of memory. Nothing has changed then.
+    pub fn hold(&mut self, block: BlockId, node: NodeId, bytes: u64) -> Result<(), AllocError>
+        ensures ok { OnOk result (self.new ≡ changed (with_report node bytes) block self.old) }
+        ensures err { OnErr result (self.new ≡ self.old) }
+    {
+        let Some(own) = self.records.get_mut(&block) else {
+            return Ok(());
+        };
+        let holds = own.holds(node);
+        self.held.insert(node, block)?;
+        let Err(fault) = own.reports.insert(node, bytes) else {
+            return Ok(());
+        };
+        if !holds {
+            self.held.remove(node, block);
+        }
+        Err(fault)
+    }
+
+    /// Ends a node's report of a block. Costs a look-up of the block, and one among its nodes, and takes no memory.
+    pub fn end_report(&mut self, block: BlockId, node: NodeId)
+        ensures { self.new ≡ changed (without_report node) block self.old }
+    {
+        let Some(own) = self.records.get_mut(&block) else {
+            return;
+        };
+        own.reports.remove(node);
+        if !own.expected.contains(node) {
+            self.held.remove(node, block);
+        }
+    }
+
+    /// Gives a block another replication; nothing changes where the block isn't known. Costs a look-up, and takes no memory.
+    pub fn set_replication(&mut self, block: BlockId, replication: Repl)
+        ensures { self.new ≡ changed (with_replication replication) block self.old }
+    {
+        let Some(own) = self.records.get_mut(&block) else {
+            return;
+        };
+        own.replication = replication;
+    }
+
+    /// Commits a block's length: of the nodes that reported it those are left that reported this length. The others are handed in.
+    /// Costs a look-up for each of them, and takes no memory.
+    pub fn commit(&mut self, block: BlockId, bytes: u64, others: &[NodeId])
+        requires { IfSome (entry_at block self.old) (λ own. others.now ≡ others_of bytes own.reports) }
+        ensures { self.new ≡ changed (with_length bytes) block self.old }
+    {
+        let Some(own) = self.records.get_mut(&block) else {
+            return;
+        };
+        own.committed = Some(bytes);
+        own.reports.keep(bytes);
+        self.held.remove_unexpected(others, &own.expected, block);
+    }
+
+    /// Makes a block known no more. Costs a look-up for each node that was to hold it or reported it, and takes no memory.
+    pub fn remove(&mut self, block: BlockId)
+        ensures { self.new ≡ remove_entry (is_number block) self.old }
+    {
+        let Some(own) = self.records.remove(&block) else {
+            return;
+        };
+        self.held.remove_each(own.expected.as_slice(), block);
+        self.held.remove_reporting(own.reports, block);
+    }
+
+    /// Makes blocks known no more. Costs as `remove` for each of them.
+    pub fn remove_all(&mut self, blocks: &[BlockId])
+        ensures { self.new ≡ without_blocks self.old blocks.now }
+    {
+        for block in blocks {
+            self.remove(*block);
+        }
+    }
+}
