@@ -181,7 +181,7 @@ fn demands_tell_when_they_are_judged(rt: HostRuntime) {
 /// The status or the refusal that is told.
 fn text_of(alloc: Global, verdict: &Verdict) -> Result<String, AllocError> {
     match verdict {
-        Verdict::Done(Reply::Status(status)) => status.to_string(alloc),
+        Verdict::Done(Reply::Status(status)) => status.status().to_string(alloc),
         Verdict::Refused(refusal) => refusal.to_string(alloc),
         _ => Ok(String::new(alloc)),
     }

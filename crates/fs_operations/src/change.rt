@@ -14,6 +14,7 @@ use acl_entries::acl::Acl;
 use default_acl::change::change as change_list;
 use default_acl::chmod::chmod;
 use flat_rows::verdict::Verdict;
+use hdfs_types::given_name::GivenName;
 use hdfs_types::op::Op;
 use hdfs_types::reply::{ObjectKind, Refusal, Reply};
 use hdfs_types::verb::Update;
@@ -139,10 +140,10 @@ fn set_acl(
 }
 
 /// A copy of the name that is given, or else of the one that there is.
-fn given_or(given: &Option<Who>, own: &Who) -> Result<Who, AllocError>
+fn given_or(given: &GivenName, own: &Who) -> Result<Who, AllocError>
     ensures { IfOk result (λ who. who ≡ unwrap_or given.now own.now) }
 {
-    match given {
+    match given.get() {
         Some(who) => who.clone(),
         None => own.clone(),
     }
@@ -151,8 +152,8 @@ fn given_or(given: &Option<Who>, own: &Who) -> Result<Who, AllocError>
 /// Copies of the owner and the group that are given, or else of those that there are.
 fn owners_due(
     inode: Inode<'_>,
-    owner: &Option<Who>,
-    group: &Option<Who>,
+    owner: &GivenName,
+    group: &GivenName,
 ) -> Result<(Who, Who), AllocError>
     ensures owner { IfOk result (λ due. due.0 ≡ unwrap_or owner.now (branch_at inode.entry).top.owner) }
     ensures group { IfOk result (λ due. due.1 ≡ unwrap_or group.now (branch_at inode.entry).top.group) }
@@ -169,8 +170,8 @@ fn set_owner(
     caller: &Caller,
     needs: &Needs,
     path: &Path,
-    owner: &Option<Who>,
-    group: &Option<Who>,
+    owner: &GivenName,
+    group: &GivenName,
 ) -> Result<Verdict, AllocError>
     requires { AreOn path.now needs.now }
     ensures ok { (leases : LeaseFacts) (users : Users) → IfOk result (λ verdict. record { verdict = verdict; rows = tree.new; users = users } ≡ judged_step leases tree.old users caller.now needs.now (Op.SetOwner path.now owner.now group.now)) }

@@ -13,7 +13,9 @@ use acl_entries::print::print;
 use flat_rows::verdict::Verdict;
 use hdfs_types::file::FileDetail;
 use hdfs_types::op::Op;
-use hdfs_types::reply::{AclStatus, ContentSummary, FileStatus, Names, ObjectKind, Reply};
+use hdfs_types::reply::{
+    AclStatus, BoxedAcl, BoxedStatus, ContentSummary, FileStatus, Names, ObjectKind, Reply,
+};
 use hdfs_types::verb::Read;
 use hdfs_values::name::Name;
 use hdfs_values::path::Path;
@@ -42,18 +44,19 @@ fn detail_of(file: Option<&FileRow>) -> Result<Option<FileDetail>, AllocError>
     }))
 }
 
-fn status_of(component: &Component) -> Result<Reply, AllocError>
+fn status_of(alloc: Global, component: &Component) -> Result<Reply, AllocError>
     ensures { IfOk result (λ reply. reply ≡ spec.status_of (Some component.now)) }
 {
     let inode = component.inode();
-    Ok(Reply::Status(FileStatus {
+    let status = FileStatus {
         kind: inode.kind(),
         mode: inode.acl().mode(),
         has_acl: inode.acl().has_acl(),
         owner: inode.owner().clone()?,
         group: inode.group().clone()?,
         file: detail_of(inode.file())?,
-    }))
+    };
+    Ok(Reply::Status(BoxedStatus::new(alloc, status)?))
 }
 
 /// Reports what has a path. Costs also the blocks of a file.
@@ -72,7 +75,7 @@ fn stat(
         Walked::Reached(reach) => reach,
     };
     match standing(alloc, reach)? {
-        Found::There(component) => Ok(Verdict::Done(status_of(&component)?)),
+        Found::There(component) => Ok(Verdict::Done(status_of(alloc, &component)?)),
         Found::Refused(refusal) => Ok(Verdict::Refused(refusal)),
     }
 }
@@ -84,7 +87,8 @@ fn acl_status_of(alloc: Global, component: &Component) -> Result<Reply, AllocErr
     let owner = inode.owner().clone()?;
     let group = inode.group().clone()?;
     let text = print(alloc, inode.acl())?;
-    Ok(Reply::Acl(AclStatus::new(owner, group, text)))
+    let status = AclStatus::new(owner, group, text);
+    Ok(Reply::Acl(BoxedAcl::new(alloc, status)?))
 }
 
 /// Reports the access control list of what has a path.

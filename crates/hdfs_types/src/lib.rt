@@ -3,6 +3,7 @@
 #![tactic(auto)]
 
 pub mod file;
+pub mod given_name;
 pub mod op;
 pub mod reply;
 pub mod verb;

@@ -3,6 +3,7 @@ ghost use Rattle.hdfs_types.specs.Request as spec;
 ghost use Rattle.hdfs_types.specs.declared.op.Op.TheVariants as made;
 
 use crate::file::LastBlock;
+use crate::given_name::GivenName;
 use hdfs_values::groups::Groups;
 use hdfs_values::moment::Moment;
 use hdfs_values::path::Path;
@@ -31,8 +32,8 @@ pub enum Op {
     Rename(Path, Path),
     /// Gives what has a path another mode.
     SetMode(Path, Mode),
-    /// Gives what has a path another owner and another group; `None` keeps what it has.
-    SetOwner(Path, Option<Who>, Option<Who>),
+    /// Gives what has a path another owner and another group; one that isn't given stays as it is.
+    SetOwner(Path, GivenName, GivenName),
     /// Changes the access control list of what has a path.
     SetAcl(Path, AclChange),
     /// Makes a user known, with these groups.
@@ -56,16 +57,6 @@ pub enum Op {
     Renew,
     /// Closes the files of all clients whose leases are past the hard limit.
     Tick,
-}
-
-/// A copy of a name that may be left out.
-fn copied(who: &Option<Who>) -> Result<Option<Who>, AllocError>
-    ensures { IfOk result (λ copy. copy ≡ who.now) }
-{
-    match who {
-        Some(who) => Ok(Some(who.clone()?)),
-        None => Ok(None),
-    }
 }
 
 fn clone_mkdirs(path: &Path, mode: Mode) -> Result<Op, AllocError>
@@ -116,10 +107,10 @@ fn clone_set_mode(path: &Path, mode: Mode) -> Result<Op, AllocError>
     Ok(Op::SetMode(path.clone()?, mode))
 }
 
-fn clone_set_owner(path: &Path, owner: &Option<Who>, group: &Option<Who>) -> Result<Op, AllocError>
+fn clone_set_owner(path: &Path, owner: &GivenName, group: &GivenName) -> Result<Op, AllocError>
     ensures { IfOk result (λ op. op ≡ made.SetOwner path.now owner.now group.now) }
 {
-    Ok(Op::SetOwner(path.clone()?, copied(owner)?, copied(group)?))
+    Ok(Op::SetOwner(path.clone()?, owner.clone()?, group.clone()?))
 }
 
 fn clone_set_acl(path: &Path, change: &AclChange) -> Result<Op, AllocError>

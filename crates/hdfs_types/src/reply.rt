@@ -7,7 +7,7 @@ use hdfs_values::name::Name;
 use hdfs_values::path::Path;
 use hdfs_values::who::Who;
 use permission_specs::mode::Mode;
-use std::alloc::AllocError;
+use std::alloc::{AllocError, Global};
 use std::fmt;
 use std::marker::Model;
 
@@ -75,6 +75,50 @@ impl fmt::Display for FileStatus {
             Some(detail) => write!(f, "{kind} {mode}{mark} {owner} {group}{detail}"),
             None => write!(f, "{kind} {mode}{mark} {owner} {group}"),
         }
+    }
+}
+
+/// What `stat` reports, in a box: most replies are far smaller, and a history keeps one for each entry.
+#[derive(Drop)]
+pub struct BoxedStatus {
+    status: Box<FileStatus>,
+}
+
+impl Model for BoxedStatus {
+    ghost use Rattle.hdfs_types.specs.declared.reply.FileStatus.{FileStatus};
+
+    ghost Value = { FileStatus };
+
+    ghost view = { λ boxed. boxed.status.value };
+}
+
+impl BoxedStatus {
+    /// This, in a box.
+    ///
+    /// # Errors
+    /// Out of memory.
+    pub fn new(alloc: Global, status: FileStatus) -> Result<BoxedStatus, AllocError>
+        ensures { IfOk result (λ boxed. boxed ≡ status) }
+    {
+        Ok(BoxedStatus {
+            status: Box::new(alloc, status)?,
+        })
+    }
+
+    pub fn status(&self) -> &FileStatus
+        ensures { result.now ≡ self.now }
+    {
+        &self.status
+    }
+}
+
+impl Clone for BoxedStatus {
+    ghost is_clone = { λ boxed copy. copy ≡ boxed };
+
+    fn clone(&self) -> Result<BoxedStatus, AllocError> {
+        Ok(BoxedStatus {
+            status: self.status.clone()?,
+        })
     }
 }
 
@@ -225,6 +269,50 @@ impl fmt::Display for AclStatus {
     }
 }
 
+/// What `getfacl` reports, in a box: most replies are far smaller, and a history keeps one for each entry.
+#[derive(Drop)]
+pub struct BoxedAcl {
+    status: Box<AclStatus>,
+}
+
+impl Model for BoxedAcl {
+    ghost use Rattle.hdfs_types.specs.AclStatus.{AclStatus};
+
+    ghost Value = { AclStatus };
+
+    ghost view = { λ boxed. boxed.status.value };
+}
+
+impl BoxedAcl {
+    /// This, in a box.
+    ///
+    /// # Errors
+    /// Out of memory.
+    pub fn new(alloc: Global, status: AclStatus) -> Result<BoxedAcl, AllocError>
+        ensures { IfOk result (λ boxed. boxed ≡ status) }
+    {
+        Ok(BoxedAcl {
+            status: Box::new(alloc, status)?,
+        })
+    }
+
+    pub fn status(&self) -> &AclStatus
+        ensures { result.now ≡ self.now }
+    {
+        &self.status
+    }
+}
+
+impl Clone for BoxedAcl {
+    ghost is_clone = { λ boxed copy. copy ≡ boxed };
+
+    fn clone(&self) -> Result<BoxedAcl, AllocError> {
+        Ok(BoxedAcl {
+            status: self.status.clone()?,
+        })
+    }
+}
+
 /// How many files `tick` has closed, and of how many it has begun to recover the last block.
 #[derive(Clone, Copy, PartialEq, Eq)]
 pub struct Expired {
@@ -237,8 +325,8 @@ pub struct Expired {
 pub enum Reply {
     /// It is done, and there is nothing to report.
     Empty,
-    Status(FileStatus),
-    Acl(AclStatus),
+    Status(BoxedStatus),
+    Acl(BoxedAcl),
     /// The names that a directory holds, or a file's own.
     Names(Names),
     Summary(ContentSummary),

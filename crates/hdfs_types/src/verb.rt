@@ -2,6 +2,7 @@ ghost use Rattle.std.specs.Prelude.{◌≡◌};
 ghost use Rattle.hdfs_types.specs.Verb.{op_of};
 
 use crate::file::LastBlock;
+use crate::given_name::GivenName;
 use crate::op::Op;
 use hdfs_values::groups::Groups;
 use hdfs_values::path::Path;
@@ -26,7 +27,7 @@ pub enum Update<'a> {
     Mkdirs(&'a Path, Mode),
     Rename(&'a Path, &'a Path),
     SetMode(&'a Path, Mode),
-    SetOwner(&'a Path, &'a Option<Who>, &'a Option<Who>),
+    SetOwner(&'a Path, &'a GivenName, &'a GivenName),
     SetAcl(&'a Path, &'a AclChange),
     SetReplication(&'a Path, Repl),
     AddUser(&'a Who, &'a Groups),

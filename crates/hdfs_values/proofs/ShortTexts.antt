@@ -2,7 +2,7 @@
 -- is that of the words of eight of their bytes, the first byte highest.
 use Rattle.std.proofs.Common.{◌≡◌, ◌≢◌, ℕ, zero, suc, ◌+◌, ◌-◌, ◌*◌, ◌<◌, ◌≤◌, List, [], ◌∷◌, ◌++◌, length, take, drop, replicate, refl, sym, ap, subst, ◌∙◌, arith, Fits, w8}
 use Rattle.std.proofs.Math.ListN.{get_or}
-use Rattle.std.proofs.lemmas.List.{length-append, length-replicate, length-take-le, take-append-drop, length-drop, drop-drop, take_all, get_or-drop}
+use Rattle.std.proofs.lemmas.List.{length-append, length-replicate, length-take-le, take-append-drop, length-drop, take_all, get_or-drop}
 use Rattle.std.specs.Cmp.{ranks, nat_cmp_is}
 use Rattle.std.specs.Cmp.Lexicographic.{slice_cmp}
 use Rattle.std.specs.Ordering.{nat_cmp, ordering_then, ordering_index, MatchOrdering}
@@ -157,47 +157,35 @@ module _ (n x y : ℕ) (us vs : List ℕ) (p : n ≤ length us) (q : n ≤ lengt
 later : (i : ℕ) (xs : List ℕ) → Bytes xs → Bytes (drop i xs)
 later i xs g = λ k. subst (Fits w8) (sym (get_or-drop i xs k 0)) (g (i + k))
 
--- two lists of 22 bytes, by their words at 0 and 8, and at 14
-module _ (xs ys : List ℕ) (p : length xs ≡ 22) (q : length ys ≡ 22) (g : Bytes xs) (h : Bytes ys) where
+-- two lists of 14 bytes, by their words at 0 and at 6
+module _ (xs ys : List ℕ) (p : length xs ≡ 14) (q : length ys ≡ 14) (g : Bytes xs) (h : Bytes ys) where
   abbrev IsAt : ℕ → ℕ → ℕ → Type 0
   IsAt i x y = (x ≡ big_endian 0 (take 8 (drop i xs))) × (y ≡ big_endian 0 (take 8 (drop i ys)))
 
   pub at_first : (x y : ℕ) → IsAt 0 x y → (x ≢ y) → nat_cmp x y ≡ slice_cmp nat_cmp xs ys
   at_first x y at = spelt_apart 8 x y xs ys (omega arith) (omega arith) g h at.0 at.1
 
-  pub past_first : (x y : ℕ) → IsAt 0 x y → x ≡ y → slice_cmp nat_cmp (drop 8 xs) (drop 8 ys) ≡ slice_cmp nat_cmp xs ys
+  pub past_first : (x y : ℕ) → IsAt 0 x y → x ≡ y → slice_cmp nat_cmp (drop 6 xs) (drop 6 ys) ≡ slice_cmp nat_cmp xs ys
   past_first x y at e =
-      behind 8 8 xs ys (omega arith) (omega arith) (omega arith) (spelt_alike 8 x y xs ys (omega arith) (omega arith) g h at.0 at.1 e)
+      behind 6 8 xs ys (omega arith) (omega arith) (omega arith) (spelt_alike 8 x y xs ys (omega arith) (omega arith) g h at.0 at.1 e)
 
-  pub at_second : (x y : ℕ) → IsAt 8 x y → (x ≢ y) → nat_cmp x y ≡ slice_cmp nat_cmp (drop 8 xs) (drop 8 ys)
-  at_second x y at =
-      spelt_apart 8 x y (drop 8 xs) (drop 8 ys) (omega (arith, length-drop 8 xs)) (omega (arith, length-drop 8 ys)) (later 8 xs g) (later 8 ys h) at.0 at.1
-
-  pub past_second : (x y : ℕ) → IsAt 8 x y → x ≡ y → slice_cmp nat_cmp (drop 14 xs) (drop 14 ys) ≡ slice_cmp nat_cmp (drop 8 xs) (drop 8 ys)
-  past_second x y at e =
-      let us = drop 8 xs in
-      let vs = drop 8 ys in
-      let alike = spelt_alike 8 x y us vs (omega (arith, length-drop 8 xs)) (omega (arith, length-drop 8 ys)) (later 8 xs g) (later 8 ys h) at.0 at.1 e in
-      (λ i. slice_cmp nat_cmp (sym (drop-drop 6 8 xs) i) (sym (drop-drop 6 8 ys) i))
-      ∙ behind 6 8 us vs (omega arith) (omega (arith, length-drop 8 xs)) (omega (arith, length-drop 8 ys)) alike
-
-  pub at_last : (x y : ℕ) → IsAt 14 x y → nat_cmp x y ≡ slice_cmp nat_cmp (drop 14 xs) (drop 14 ys)
+  pub at_last : (x y : ℕ) → IsAt 6 x y → nat_cmp x y ≡ slice_cmp nat_cmp (drop 6 xs) (drop 6 ys)
   at_last x y at =
-      spelt 8 x y (drop 14 xs) (drop 14 ys) (omega (arith, length-drop 14 xs)) (omega (arith, length-drop 14 ys)) (later 14 xs g) (later 14 ys h) at.0 at.1
-      ∙ (λ i. slice_cmp nat_cmp (take_all 8 (drop 14 xs) (omega (arith, length-drop 14 xs)) i) (take_all 8 (drop 14 ys) (omega (arith, length-drop 14 ys)) i))
+      spelt 8 x y (drop 6 xs) (drop 6 ys) (omega (arith, length-drop 6 xs)) (omega (arith, length-drop 6 ys)) (later 6 xs g) (later 6 ys h) at.0 at.1
+      ∙ (λ i. slice_cmp nat_cmp (take_all 8 (drop 6 xs) (omega (arith, length-drop 6 xs)) i) (take_all 8 (drop 6 ys) (omega (arith, length-drop 6 ys)) i))
 
-  pub past_last : (x y : ℕ) → IsAt 14 x y → x ≡ y → slice_cmp nat_cmp (drop 14 xs) (drop 14 ys) ≡ Equal
+  pub past_last : (x y : ℕ) → IsAt 6 x y → x ≡ y → slice_cmp nat_cmp (drop 6 xs) (drop 6 ys) ≡ Equal
   past_last x y at e = sym (at_last x y at) ∙ level x y e
 
 -- texts of n and m bytes before zeros, as they stand
-pub held_order : (n m : ℕ) (xs ys : List ℕ) → length xs ≡ 22 → length ys ≡ 22 → n ≤ 22 → m ≤ 22
-    → drop n xs ≡ replicate (22 - n) 0 → drop m ys ≡ replicate (22 - m) 0
+pub held_order : (n m : ℕ) (xs ys : List ℕ) → length xs ≡ 14 → length ys ≡ 14 → n ≤ 14 → m ≤ 14
+    → drop n xs ≡ replicate (14 - n) 0 → drop m ys ≡ replicate (14 - m) 0
     → ordering_then (slice_cmp nat_cmp xs ys) (nat_cmp n m) ≡ slice_cmp nat_cmp (take n xs) (take m ys)
 held_order n m xs ys p q k l f g =
     let a = take n xs in
     let b = take m ys in
     let i : length a ≡ n = length-take-le n xs (omega arith) in
     let j : length b ≡ m = length-take-le m ys (omega arith) in
-    let us : a ++ replicate (22 - n) 0 ≡ xs = ap (λ z. a ++ z) (sym f) ∙ take-append-drop n xs in
-    let vs : b ++ replicate (22 - m) 0 ≡ ys = ap (λ z. b ++ z) (sym g) ∙ take-append-drop m ys in
-    (λ t. ordering_then (slice_cmp nat_cmp (sym us t) (sym vs t)) (nat_cmp (sym i t) (sym j t))) ∙ filled a b (22 - n) (22 - m) (omega arith)
+    let us : a ++ replicate (14 - n) 0 ≡ xs = ap (λ z. a ++ z) (sym f) ∙ take-append-drop n xs in
+    let vs : b ++ replicate (14 - m) 0 ≡ ys = ap (λ z. b ++ z) (sym g) ∙ take-append-drop m ys in
+    (λ t. ordering_then (slice_cmp nat_cmp (sym us t) (sym vs t)) (nat_cmp (sym i t) (sym j t))) ∙ filled a b (14 - n) (14 - m) (omega arith)

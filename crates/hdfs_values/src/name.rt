@@ -17,7 +17,7 @@ use std::fmt;
 use std::marker::Model;
 
 /// A component of a path: 1 to 255 bytes of UTF-8 without `/`, `:`, NUL and line feed, and neither `.` nor `..`
-/// (HDFS Architecture, "The File System Namespace"). Names are ordered by their bytes. A name of at most 22 bytes takes no memory, so
+/// (HDFS Architecture, "The File System Namespace"). Names are ordered by their bytes. A name of at most 14 bytes takes no memory, so
 /// that a clone of it succeeds.
 #[derive(Drop)]
 pub struct Name {
@@ -85,7 +85,7 @@ impl Name {
         Ok(Name::copied(alloc, text)?)
     }
 
-    /// A copy of a text that is a name. One of at most 22 bytes takes no memory.
+    /// A copy of a text that is a name. One of at most 14 bytes takes no memory.
     pub(crate) fn copied(alloc: Global, text: &str) -> Result<Name, AllocError>
         requires { IsName text.now }
         ensures { IfOk result (λ name. name ≡ text.now) }

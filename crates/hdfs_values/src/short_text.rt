@@ -12,8 +12,8 @@ use std::cmp::Ordering;
 use std::marker::Model;
 use std::str;
 
-/// The most bytes that a text holds without memory of its own. With them a text takes 32 bytes.
-const INLINE_BYTES: usize = 22;
+/// The most bytes that a text holds without memory of its own. With them a text takes 16 bytes.
+const INLINE_BYTES: usize = 14;
 
 /// Where a text stands.
 #[derive(Drop)]
@@ -21,10 +21,10 @@ enum Held {
     /// Within the value: the text's length, and its bytes before zeros.
     Inline(u8, [u8; INLINE_BYTES]),
     /// In memory of its own, as it is longer.
-    Boxed(String),
+    Boxed(Box<String>),
 }
 
-/// A text. One of at most 22 bytes takes no memory.
+/// A text. One of at most 14 bytes takes no memory.
 #[derive(Drop)]
 pub(crate) struct ShortText {
     held: Held,
@@ -74,28 +74,24 @@ fn unequal(own: u64, others: u64) -> Ordering
 /// The order of two texts that stand within their values, by words of their bytes; the last word overlaps the one before. The zeros
 /// behind a text are below all that stands there in another, unless that is zeros too: then the shorter text is the lower one.
 fn order(own: &[u8], own_length: u8, others: &[u8], others_length: u8) -> Ordering
-    requires own { length own.now ≡ 22 }
-    requires others { length others.now ≡ 22 }
+    requires own { length own.now ≡ 14 }
+    requires others { length others.now ≡ 14 }
     ensures { result ≡ ordering_then (text_cmp own.now others.now) (nat_cmp own_length others_length) }
 {
     let (first, others_first) = (word(own, 0), word(others, 0));
     if first != others_first {
         return unequal(first, others_first);
     }
-    let (second, others_second) = (word(own, 8), word(others, 8));
-    if second != others_second {
-        return unequal(second, others_second);
-    }
-    let (last, others_last) = (word(own, 14), word(others, 14));
+    let (last, others_last) = (word(own, 6), word(others, 6));
     if last != others_last {
         return unequal(last, others_last);
     }
     own_length.cmp(&others_length)
 }
 
-/// A text of at most 22 bytes.
+/// A text of at most 14 bytes.
 fn inline(text: &str) -> ShortText
-    requires { length text.now ≤ 22 }
+    requires { length text.now ≤ 14 }
     ensures { result ≡ text.now }
 {
     let mut bytes = [0; INLINE_BYTES];
@@ -109,17 +105,17 @@ impl ShortText {
     /// A copy of a text.
     ///
     /// # Errors
-    /// Out of memory, where the text has more than 22 bytes.
+    /// Out of memory, where the text has more than 14 bytes.
     pub(crate) fn copied(alloc: Global, text: &str) -> Result<ShortText, AllocError>
         ensures ok { IfOk result (λ copy. copy ≡ text.now) }
-        ensures short { length text.now ≤ 22 → IsOk result }
+        ensures short { length text.now ≤ 14 → IsOk result }
     {
         if text.len() <= INLINE_BYTES {
             return Ok(inline(text));
         }
         let text = String::from_str(alloc, text)?;
         Ok(ShortText {
-            held: Held::Boxed(text),
+            held: Held::Boxed(Box::new(alloc, text)?),
         })
     }
 
@@ -136,13 +132,13 @@ impl ShortText {
     }
 }
 
-/// Out of memory, only where the text has more than 22 bytes.
+/// Out of memory, only where the text has more than 14 bytes.
 impl Clone for ShortText {
     ghost is_clone = { λ text copy. copy ≡ text };
 
     fn clone(&self) -> Result<ShortText, AllocError>
         ensures copy { IfOk result (λ copy. copy ≡ self.now) }
-        ensures short { length self.now ≤ 22 → IsOk result }
+        ensures short { length self.now ≤ 14 → IsOk result }
     {
         match &self.held {
             Held::Inline(length, bytes) => Ok(ShortText {

@@ -20,7 +20,7 @@ use std::hash::{Hash, Hasher};
 use std::marker::Model;
 
 /// The name of a user or of a group: 1 to 255 bytes from 0x21 to 0x7e without `:`, `,` and `/` (HDFS Permissions
-/// Guide, "User Identity" and "Group Mapping"). Names are ordered by their bytes. A name of at most 22 bytes takes no memory, so that a
+/// Guide, "User Identity" and "Group Mapping"). Names are ordered by their bytes. A name of at most 14 bytes takes no memory, so that a
 /// clone of it succeeds.
 #[derive(Drop)]
 pub struct Who {

@@ -1,4 +1,5 @@
 use hdfs_types::file::LastBlock;
+use hdfs_types::given_name::GivenName;
 use hdfs_types::op::{Op, Request};
 use hdfs_values::fault::ParseFault;
 use hdfs_values::groups::Groups;
@@ -20,8 +21,8 @@ fn read(alloc: Global, line: &str) -> Result<Request, ParseFault> {
 }
 
 /// A name, or `(kept)` where none is given.
-fn name_of(who: &Option<Who>) -> &str {
-    match who {
+fn name_of(who: &GivenName) -> &str {
+    match who.get() {
         Some(who) => who.as_str(),
         None => "(kept)",
     }
@@ -96,8 +97,8 @@ fn behind_path(
 fn owners_of(
     alloc: Global,
     path: &Path,
-    owner: &Option<Who>,
-    group: &Option<Who>,
+    owner: &GivenName,
+    group: &GivenName,
 ) -> Result<String, AllocError> {
     let (owner, group) = (name_of(owner), name_of(group));
     format!(in alloc; "SetOwner {path} {owner} {group}")

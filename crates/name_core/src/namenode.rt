@@ -58,16 +58,6 @@ fn next_place(history: &mut Vec<HistoryEntry>) -> Result<u64, AllocError>
     Ok(entries + 1)
 }
 
-// Puts an entry where there is room for it. Takes no memory.
-fn put(history: &mut Vec<HistoryEntry>, entry: HistoryEntry)
-    requires { vec_len history.old < vec_capacity history.old }
-    ensures { history.new.items ≡ history.old.items ++ entry ∷ [] }
-{
-    let Ok(()) = history.push(entry) else {
-        unreachable!()
-    };
-}
-
 // Copies of a request, for the history and for the answer.
 #[derive(Drop)]
 struct RequestCopies {
@@ -108,7 +98,7 @@ fn record(
         request: copies.kept,
         verdict: told.verdict,
     };
-    put(history, entry);
+    history.push_reserved(entry);
     Answer {
         place,
         request: copies.answered,
@@ -266,7 +256,7 @@ impl NameCore {
             request,
             verdict,
         };
-        put(&mut self.history, entry);
+        self.history.push_reserved(entry);
         Ok(())
     }
 

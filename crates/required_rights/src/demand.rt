@@ -4,6 +4,7 @@ ghost use Rattle.permission_specs.specs.Rights.{rights};
 ghost use Rattle.required_rights.specs.RequiredRights as spec;
 
 use crate::need::Need;
+use hdfs_types::given_name::GivenName;
 use hdfs_types::op::Op;
 use hdfs_values::name::Name;
 use hdfs_values::path::Path;
@@ -294,11 +295,11 @@ impl<'a> Needs<'a> {
 fn add_owner_needs<'a>(
     demands: &mut Vec<Demand<'a>>,
     path: &'a Path,
-    owner: &Option<Who>,
+    owner: &GivenName,
 ) -> Result<(), AllocError>
     ensures { OnOk result (demands.new.items ≡ demands.old.items ++ spec.owner_demands path.now owner.now) }
 {
-    if let Some(user) = owner {
+    if let Some(user) = owner.get() {
         demands.push(Demand::giving_away(path, user)?)?;
     }
     Ok(())
@@ -308,11 +309,11 @@ fn add_owner_needs<'a>(
 fn add_group_needs<'a>(
     demands: &mut Vec<Demand<'a>>,
     path: &'a Path,
-    group: &Option<Who>,
+    group: &GivenName,
 ) -> Result<(), AllocError>
     ensures { OnOk result (demands.new.items ≡ demands.old.items ++ spec.group_demands path.now group.now) }
 {
-    if let Some(group) = group {
+    if let Some(group) = group.get() {
         demands.push(Demand::membership(path, group)?)?;
     }
     Ok(())
@@ -322,8 +323,8 @@ fn add_group_needs<'a>(
 fn needs_of_owner<'a>(
     alloc: Global,
     path: &'a Path,
-    owner: &Option<Who>,
-    group: &Option<Who>,
+    owner: &GivenName,
+    group: &GivenName,
 ) -> Result<Vec<Demand<'a>>, AllocError>
     ensures { IfOk result (λ demands. demands.items ≡ spec.strict_traversal path.now ∷ spec.ownership path.now ∷ (spec.owner_demands path.now owner.now ++ spec.group_demands path.now group.now)) }
 {

@@ -46,8 +46,8 @@ fn print_reply<W: fmt::Write>(reply: &Reply, f: &mut fmt::Formatter<W>) -> fmt::
 {
     match reply {
         Reply::Empty => f.write_str("ok"),
-        Reply::Status(status) => print_behind("ok ", status, f),
-        Reply::Acl(status) => print_behind("ok ", status, f),
+        Reply::Status(status) => print_behind("ok ", status.status(), f),
+        Reply::Acl(status) => print_behind("ok ", status.status(), f),
         Reply::Names(names) => print_behind("ok list", names, f),
         Reply::Summary(summary) => print_behind("ok summary", summary, f),
         Reply::Deleted(count) => print_behind("ok deleted ", count, f),

@@ -3,6 +3,7 @@ ghost use Rattle.script_words.specs.LineForms.{Forms, FormsOption};
 ghost use Rattle.script_words.specs.Words.{words_of};
 ghost use Rattle.script_text.specs.Script as spec;
 
+use hdfs_types::given_name::GivenName;
 use hdfs_types::op::{Op, Request};
 use hdfs_values::fault::{IllFormed, ParseFault};
 use hdfs_values::moment::Moment;
@@ -82,6 +83,8 @@ fn chown_of(alloc: Global, path: &str, owner: &str, group: &str) -> Result<Op, P
     let path = path_word(alloc, path)?;
     let owner = change_word(alloc, owner)?;
     let group = change_word(alloc, group)?;
+    let owner = GivenName::new(alloc, owner)?;
+    let group = GivenName::new(alloc, group)?;
     Ok(Op::SetOwner(path, owner, group))
 }
 

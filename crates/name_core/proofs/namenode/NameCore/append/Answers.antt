@@ -8,16 +8,16 @@ use Rattle.name_core.proofs.Keeping.{Adds, kept_more}
 use Rattle.name_core.proofs.Recording.{adds_of, appended}
 use Rattle.name_core.proofs.namenode.NameCore.append.Goals as goal
 
-abbrev after : goal.After-put → Inside
-after c = record { config = c.self.inside.config; system = c.perform.new.system; open_paths = c.perform.new.open_paths; clock = c.later-clock.result; history = c.put.new.history; alloc = c.self.inside.alloc }
+abbrev after : goal.After-push_reserved → Inside
+after c = record { config = c.self.inside.config; system = c.perform.new.system; open_paths = c.perform.new.open_paths; clock = c.later-clock.result; history = c.push_reserved.new.self; alloc = c.self.inside.alloc }
 
-abbrev entry : goal.After-put → HistoryEntry
+abbrev entry : goal.After-push_reserved → HistoryEntry
 entry c = record { place = c.in-Ok.place; pass = c.args.pass; index = c.args.index; request = c.args.request; verdict = c.in-Ok-perform.verdict }
 
-added : (c : goal.After-put) → Adds c.self.inside (after c) (entry c)
+added : (c : goal.After-push_reserved) → Adds c.self.inside (after c) (entry c)
 added c =
     adds_of c.self.inside (after c) c.args.request c.args.request c.in-Ok.place c.args.pass c.args.index c.in-Ok-perform.verdict refl refl
-    (c.put.ensures ∙ ap (λ items. items ++ entry c ∷ []) c.in-Ok.ensures.history) c.later-clock.ensures (c.in-Ok-perform.ensures.ok (last_renewal (entries_of c.self.inside)) c.self.invariant.exact)
+    (c.push_reserved.ensures.items ∙ ap (λ items. items ++ entry c ∷ []) c.in-Ok.ensures.history) c.later-clock.ensures (c.in-Ok-perform.ensures.ok (last_renewal (entries_of c.self.inside)) c.self.invariant.exact)
     c.in-Ok-perform.ensures.limits c.in-Ok-perform.ensures.latest c.in-Ok.ensures.place
 
 pub invariant_of-self-2 : goal.invariant_of-self-2
