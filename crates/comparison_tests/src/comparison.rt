@@ -2,6 +2,7 @@ use flat_rows::decision::verdict;
 use flat_rows::denial::Denial;
 use flat_rows::verdict::Verdict;
 use hdfs_cli::explain::rows_of;
+use hdfs_types::key::Key;
 use hdfs_types::op::Request;
 use hdfs_values::fault::ParseFault;
 use history::config::Config;
@@ -140,7 +141,7 @@ fn denials_on(alloc: Global, core: &mut NameCore, script: &str) -> Result<String
 }
 
 fn denials(alloc: Global, script: &str) -> Result<String, Fail> {
-    let mut core = NameCore::open(alloc, Config::standard())?;
+    let mut core = NameCore::open(alloc, Config::standard(), Key::new([0; 20]))?;
     let found = denials_on(alloc, &mut core, script);
     drop(core);
     found

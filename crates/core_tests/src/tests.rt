@@ -1,16 +1,21 @@
 ghost use Rattle.std.specs.Prelude.{◌≡◌, ◌≤◌, IfOk, OnOk};
 ghost use Rattle.lease_manager.specs.Leases.{latest_moment};
 
+use block_tokens::ring::KeyRing;
 use flat_rows::verdict::Verdict;
+use hdfs_types::key::Key;
 use hdfs_types::op::{Op, Request};
-use hdfs_types::reply::Reply;
+use hdfs_types::reply::{Counter, Refusal, Reply};
+use hdfs_values::ids::Serial;
 use hdfs_values::moment::Moment;
 use hdfs_values::path::Path;
 use hdfs_values::replication::Repl;
 use hdfs_values::who::Who;
+use history::config::{Config, Counters};
 use inode_tree::tree::Tree;
 use lease_manager::open_paths::OpenPaths;
 use lease_manager::writers::Writers;
+use name_core::namenode::NameCore;
 use name_core::namesystem::{Namesystem, perform};
 use permission_specs::mode::Mode;
 use principals::users::Users;
@@ -176,6 +181,7 @@ fn system(alloc: Global) -> Result<Namesystem, Fail>
         tree: Tree::new(alloc, superuser.clone()?, supergroup.clone()?),
         users: Users::new(alloc, superuser, supergroup),
         writers: Writers::new(alloc, 60_000, 1_200_000),
+        ring: KeyRing::new(alloc, Serial::new(1), Key::new([0; 20]), 36_000_000),
     })
 }
 
@@ -240,5 +246,54 @@ fn files_are_closed_that_are_not_known(rt: HostRuntime) -> Result<(), Fail> {
     let closed = closed_of_one(rt.alloc(), &mut system);
     drop(system);
     assert_eq!(rt; closed?, 1);
+    Ok(())
+}
+
+// A request of the superuser for another key.
+fn rolling(alloc: Global) -> Result<Request, Fail> {
+    let moment = Moment::new(0).ok_or("a moment")?;
+    let caller = who(alloc, "hdfs")?;
+    Ok(Request {
+        caller,
+        moment,
+        op: Op::RollKey(Key::new([0x16; 20])),
+    })
+}
+
+// The serial of the key that a core makes next; nothing where all are given away.
+fn next_serial(alloc: Global, core: &mut NameCore) -> Result<Option<Serial>, Fail> {
+    let request = rolling(alloc)?;
+    core.append(0, 0, request)?;
+    let entry = core.last().ok_or("an entry")?;
+    match &entry.verdict {
+        Verdict::Done(Reply::Serial(serial)) => Ok(Some(*serial)),
+        Verdict::Refused(Refusal::Spent(Counter::Serial)) => Ok(None),
+        _ => Err(Fail::from("a serial")),
+    }
+}
+
+// What a core that opens with this serial answers to two requests for a key.
+fn next_serials(alloc: Global, serial: u32) -> Result<[Option<Serial>; 2], Fail> {
+    let standard = Config::standard();
+    let first = Counters {
+        serial,
+        ..standard.first()
+    };
+    let config = Config::new(standard.durations(), standard.replica_limit(), first);
+    let mut core = NameCore::open(alloc, config.ok_or("a config")?, Key::new([1; 20]))?;
+    let found = next_serial(alloc, &mut core).and_then(|one| Ok([
+        one,
+        next_serial(alloc, &mut core)?,
+    ]));
+    drop(core);
+    found
+}
+
+#[test]
+fn the_greatest_serial_is_never_given(rt: HostRuntime) -> Result<(), Fail> {
+    let last = next_serials(rt.alloc(), u32::MAX - 2)?;
+    assert_eq!(rt; last, [Some(Serial::new(u32::MAX - 1)), None]);
+    let spent = next_serials(rt.alloc(), u32::MAX - 1)?;
+    assert_eq!(rt; spent, [None, None]);
     Ok(())
 }

@@ -19,7 +19,8 @@ use Rattle.namespace_rows.specs.First.{first}
 use Rattle.namespace_rows.specs.Rows.{is_directory, row_at, ancestor, file_above}
 use Rattle.namespace_rows.specs.Namespace.{IsNamespace, suits_kind, suits_parts, is_root}
 use Rattle.namespace_rows.specs.Files.{new_file, holder_of, holder_of_file, is_client, open_files, holders}
-use Rattle.flat_rows.specs.FileOutcome.{LeaseFacts, directory_there, file_there, holder_at, of_file, if_some_file, refused_write, refused_by_state}
+use Rattle.flat_rows.specs.FileOutcome.{directory_there, file_there, holder_at, of_file, if_some_file, refused_write, refused_by_state}
+use Rattle.flat_rows.specs.Facts.{Facts}
 use Rattle.flat_rows.specs.Outcome.{beneath_file, nothing_at, with_new, refused_where}
 use Rattle.flat_rows.specs.Changes.{rows_under, without, changed, rewritten}
 use Rattle.namespace_rows.proofs.Tests.{both, all_kept}
@@ -31,9 +32,9 @@ use Rattle.lease_manager.specs.declared.writers.Writers.{Writers}
 use Rattle.lease_manager.specs.Writers.{count_of}
 use Rattle.file_effects.specs.Effected.{IsFree}
 
--- no lease is live, and none past the hard limit
-pub no_facts : LeaseFacts
-no_facts = record { is_live = λ client. false; is_past_hard = λ client. false }
+-- no lease is live, and none past the hard limit; and no key can be made
+pub no_facts : Facts
+no_facts = record { leases = record { is_live = λ client. false; is_past_hard = λ client. false }; next_serial = None }
 
 some_none : {X : Type 0} (x : X) → Some x ≡ None → ⊥
 some_none x e = cc

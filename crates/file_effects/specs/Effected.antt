@@ -8,7 +8,7 @@ use Rattle.namespace_rows.specs.declared.row.Row.{Row}
 use Rattle.flat_rows.specs.declared.verdict.Verdict.TheVariants.{Done}
 use Rattle.namespace_rows.specs.Rows.{ancestor}
 use Rattle.namespace_rows.specs.Files.{new_file, open_files}
-use Rattle.flat_rows.specs.FileOutcome.{LeaseFacts}
+use Rattle.flat_rows.specs.Facts.{Facts}
 use Rattle.flat_rows.specs.Outcome.{first_refusal, reply_of, rows_after, with_new}
 use Rattle.history.specs.ClockAndLease.{renews}
 use Rattle.lease_manager.specs.declared.writers.Writers.{Writers}
@@ -32,9 +32,9 @@ pub record IsCreated (path : List (List ℕ)) (mode replication : ℕ) (caller :
 
 -- nothing refuses the operation
 abbrev pub IsFree : Op → List ℕ → List Row → Users → Type 0
-IsFree op caller rows users = (leases : LeaseFacts) × (first_refusal leases caller op rows users ≡ None)
+IsFree op caller rows users = (facts : Facts) × (first_refusal facts caller op rows users ≡ None)
 
 -- what an operation leaves that nothing refuses
 pub record IsEffected (op : Op) (caller : List ℕ) (now : ℕ) (rows : List Row) (writers : Writers) (rows_left : List Row) (writers_left : Writers) : Type 0 where
-  pub tree : (leases : LeaseFacts) → rows_left ≡ rows_after leases op caller rows
-  pub exact : (leases : LeaseFacts) (last : List ℕ → Option ℕ) → IsExact last rows writers → IsExact (renewed_where (renews op (Done (reply_of leases op rows))) caller now last) rows_left writers_left
+  pub tree : (facts : Facts) → rows_left ≡ rows_after facts op caller rows
+  pub exact : (facts : Facts) (last : List ℕ → Option ℕ) → IsExact last rows writers → IsExact (renewed_where (renews op (Done (reply_of facts op rows))) caller now last) rows_left writers_left

@@ -1,5 +1,6 @@
 ghost use Rattle.std.specs.Prelude.{◌≡◌, Bool, true, false, None, Some, IfOk, OnOk, OnErr};
-ghost use Rattle.flat_rows.specs.FileOutcome.{LeaseFacts, directory_there};
+ghost use Rattle.flat_rows.specs.FileOutcome.{directory_there};
+ghost use Rattle.flat_rows.specs.Facts.{Facts};
 ghost use Rattle.flat_rows.specs.Outcome as spec;
 ghost use Rattle.namespace_rows.specs.Rows.{row_at, is_missing, file_above, ancestor};
 ghost use Rattle.hdfs_types.specs.declared.op.Op.TheVariants as op;
@@ -87,7 +88,7 @@ pub fn make_file(
 ) -> Result<(), AllocError>
     requires clear { file_above path.now tree.old ≡ None }
     requires file { directory_there (row_at path.now tree.old) ≡ None }
-    ensures ok { (leases : LeaseFacts) (over : Bool) → OnOk result (tree.new ≡ spec.rows_after leases (op.Create path.now mode replication over) caller.now tree.old) }
+    ensures ok { (facts : Facts) (over : Bool) → OnOk result (tree.new ≡ spec.rows_after facts (op.Create path.now mode replication over) caller.now tree.old) }
     ensures err { OnErr result (tree.new ≡ tree.old) }
 {
     let file = FileRow::opened(alloc, replication, caller.clone()?);

@@ -21,7 +21,7 @@ use Rattle.flat_rows.specs.Changes.{changed, are_paths}
 use Rattle.flat_rows.specs.Denial as denied
 use Rattle.flat_rows.specs.Decision.{decision}
 use Rattle.namespace_rows.specs.Files.{is_open_by, with_replication}
-use Rattle.flat_rows.specs.FileOutcome.{LeaseFacts}
+use Rattle.flat_rows.specs.Facts.{Facts}
 use Rattle.flat_rows.specs.Outcome.{step, denied_or_outcome, refused_or_done, first_refusal, first_some, something_at, nothing_at, beneath_file, refused_where, rows_moved, rows_after, made_at, with_new, with_mode_at, with_owner_at, with_acl_at, with_list_at}
 use Rattle.flat_rows.proofs.Holders.{tally, tally_rewritten, tally_moved, kept_file}
 use Rattle.flat_rows.proofs.Making.{tally_made}
@@ -78,8 +78,8 @@ module _ (client : List ℕ) (rows : List Row) (namespace : IsNamespace rows) wh
       by (Ok acl) = tally_rewritten client path (change.List acl) (λ r. refl) rows
       by (Err refusal) = refl
 
-  module _ (leases : LeaseFacts) (users : Users) (caller : List ℕ) where
-    kept_done : (what : Op) → keeps_leases what ≡ true → first_refusal leases caller what rows users ≡ None → count (rows_after leases what caller rows) ≡ count rows
+  module _ (facts : Facts) (users : Users) (caller : List ℕ) where
+    kept_done : (what : Op) → keeps_leases what ≡ true → first_refusal facts caller what rows users ≡ None → count (rows_after facts what caller rows) ≡ count rows
     kept_done (op.Mkdirs path mode) k e = kept_made path mode caller (row_at path rows) refl
     kept_done (op.Rename from to) k e =
         let free =
@@ -103,16 +103,17 @@ module _ (client : List ℕ) (rows : List Row) (namespace : IsNamespace rows) wh
     kept_done (op.AddBlock path last) k e = cc
     kept_done (op.Complete path last) k e = cc
     kept_done (op.Delete path recursive) k e = cc
+    kept_done (op.RollKey key) k e = cc
     kept_done op.Renew k e = cc
     kept_done op.Tick k e = cc
 
-    pub kept_open : (what : Op) → keeps_leases what ≡ true → count (step leases rows users caller what).rows ≡ count rows
+    pub kept_open : (what : Op) → keeps_leases what ≡ true → count (step facts rows users caller what).rows ≡ count rows
     kept_open what k = by_decision (decision rows users caller what)
       where
-        by_refusal : (refusal : Option Refusal) → first_refusal leases caller what rows users ≡ refusal → count (refused_or_done leases rows users caller what refusal).rows ≡ count rows
+        by_refusal : (refusal : Option Refusal) → first_refusal facts caller what rows users ≡ refusal → count (refused_or_done facts rows users caller what refusal).rows ≡ count rows
         by_refusal None e = kept_done what k e
         by_refusal (Some refusal) e = refl
 
-        by_decision : (denial : Option denied.Denial) → count (denied_or_outcome leases rows users caller what denial).rows ≡ count rows
-        by_decision None = by_refusal (first_refusal leases caller what rows users) refl
+        by_decision : (denial : Option denied.Denial) → count (denied_or_outcome facts rows users caller what denial).rows ≡ count rows
+        by_decision None = by_refusal (first_refusal facts caller what rows users) refl
         by_decision (Some denial) = refl

@@ -6,4 +6,5 @@ pub mod Kept
 pub mod Changes
 pub mod Verdicts
 pub mod FileOutcome
+pub mod Facts
 pub mod Outcome

@@ -1,5 +1,6 @@
 -- What an operation that no need forbids answers, and the rows and users that it leaves: the first refusal of its list that
--- applies, else done. What it asks of leases is handed in; which leases it renews is a question over a history of answers.
+-- applies, else done. What it asks of leases and keys is handed in; which leases it renews, and which keys there are, are questions over
+-- a history of answers.
 -- (HDFS Architecture, "The File System Namespace"; HDFS Permissions Guide, "Overview".)
 use Rattle.std.specs.Prelude.{ℕ, ◌+◌, Bool, true, false, ◌&&◌, ◌||◌, not, List, [], ◌∷◌, ◌++◌, map, filter, length, drop, if◌then◌else◌, Option, Some, None, unwrap_or, Result, Ok, Err}
 use Rattle.std.specs.Option.{option_map}
@@ -15,7 +16,8 @@ use Rattle.hdfs_types.specs.declared.file.FileState.TheVariants.{Closed}
 use Rattle.hdfs_types.specs.declared.reply.Reply.{Reply}
 use Rattle.hdfs_types.specs.declared.reply.Reply.TheVariants as reply
 use Rattle.hdfs_types.specs.declared.reply.Refusal.{Refusal}
-use Rattle.hdfs_types.specs.declared.reply.Refusal.TheVariants.{BadPath, NotFound, NotDirectory, Exists, NotEmpty, IsRoot, UnderItself, NoLease, TooFewNodes}
+use Rattle.hdfs_types.specs.declared.reply.Refusal.TheVariants.{BadPath, NotFound, NotDirectory, Exists, NotEmpty, IsRoot, UnderItself, NoLease, TooFewNodes, Spent}
+use Rattle.hdfs_types.specs.declared.reply.Counter.TheVariants.{Serial}
 use Rattle.acl_entries.specs.Acl.{Acl, shown_mode, has_acl, entries}
 use Rattle.permission_specs.specs.SpecText.{spec_text}
 use Rattle.partial_acl.specs.AclChange.{acl_change, with_mode}
@@ -31,7 +33,8 @@ use Rattle.namespace_rows.specs.declared.file_row.FileRow.{FileRow}
 use Rattle.namespace_rows.specs.declared.row.Change.TheVariants as change
 use Rattle.flat_rows.specs.Changes.{rows_under, child_names, last_name, without, moved_row, moved, rewritten, are_paths}
 use Rattle.namespace_rows.specs.Files.{new_file, has_open_file}
-use Rattle.flat_rows.specs.FileOutcome.{LeaseFacts, directory_there, file_there, of_file, refused_takeover, refused_write, refused_commit, detail_of_row, bytes_of, bytes_at, appended_reply, holder_at, state_after_append, is_expired, closed_where_expired}
+use Rattle.flat_rows.specs.FileOutcome.{directory_there, file_there, of_file, refused_takeover, refused_write, refused_commit, detail_of_row, bytes_of, bytes_at, appended_reply, holder_at, state_after_append, is_expired, closed_where_expired}
+use Rattle.flat_rows.specs.Facts.{Facts}
 use Rattle.flat_rows.specs.Denial as denied
 use Rattle.flat_rows.specs.Decision.{decision}
 
@@ -69,6 +72,11 @@ abbrev pub refused_change : AclChange → Option Row → Option Refusal
 refused_change change None = None
 refused_change change (Some row) = result_err (acl_change change row.kind row.acl)
 
+-- all serials of keys are given away
+abbrev pub refused_roll : Option ℕ → Option Refusal
+refused_roll None = Some (Spent Serial)
+refused_roll (Some serial) = None
+
 abbrev pub is_alone : List Row → Bool
 is_alone [] = true
 is_alone (row ∷ []) = true
@@ -90,35 +98,36 @@ abbrev pub rows_moved : List (List ℕ) → List (List ℕ) → List Row → Lis
 rows_moved from to rows = map (moved_row from to) (rows_under from rows)
 
 -- the first refusal that applies
-abbrev pub first_refusal : LeaseFacts → List ℕ → Op → List Row → Users → Option Refusal
-first_refusal leases caller (op.Mkdirs path mode) rows users = first_some (beneath_file path rows ∷ file_at (row_at path rows) ∷ [])
-first_refusal leases caller (op.Stat path) rows users = refusal_of_missing path rows
-first_refusal leases caller (op.List path) rows users = refusal_of_missing path rows
-first_refusal leases caller (op.Summary path) rows users = refusal_of_missing path rows
-first_refusal leases caller (op.Delete path recursive) rows users = first_some (
+abbrev pub first_refusal : Facts → List ℕ → Op → List Row → Users → Option Refusal
+first_refusal facts caller (op.Mkdirs path mode) rows users = first_some (beneath_file path rows ∷ file_at (row_at path rows) ∷ [])
+first_refusal facts caller (op.Stat path) rows users = refusal_of_missing path rows
+first_refusal facts caller (op.List path) rows users = refusal_of_missing path rows
+first_refusal facts caller (op.Summary path) rows users = refusal_of_missing path rows
+first_refusal facts caller (op.Delete path recursive) rows users = first_some (
     refused_where (is_root path) IsRoot ∷ beneath_file path rows ∷ nothing_at (row_at path rows)
     ∷ refused_where (not recursive && not (is_alone (rows_under path rows))) NotEmpty ∷ [])
-first_refusal leases caller (op.Rename from to) rows users = first_some (
+first_refusal facts caller (op.Rename from to) rows users = first_some (
     refused_where (is_root from || is_root to) IsRoot ∷ beneath_file from rows ∷ nothing_at (row_at from rows) ∷ beneath_file to rows
     ∷ refused_where (is_prefix from to) UnderItself ∷ something_at (row_at to rows) ∷ refused_where (is_none (directory_of to rows)) NotFound
     ∷ refused_where (not (are_paths (rows_moved from to rows))) BadPath ∷ [])
-first_refusal leases caller (op.SetMode path mode) rows users = refusal_of_missing path rows
-first_refusal leases caller (op.SetOwner path owner group) rows users = refusal_of_missing path rows
-first_refusal leases caller (op.GetAcl path) rows users = refusal_of_missing path rows
-first_refusal leases caller (op.SetAcl path change) rows users = first_some (beneath_file path rows ∷ nothing_at (row_at path rows) ∷ refused_change change (row_at path rows) ∷ [])
-first_refusal leases caller (op.AddUser user groups) rows users = refusal_of_new users user
-first_refusal leases caller (op.SetGroups user groups) rows users = refusal_of_known users user
-first_refusal leases caller (op.Create path mode replication over) rows users =
+first_refusal facts caller (op.SetMode path mode) rows users = refusal_of_missing path rows
+first_refusal facts caller (op.SetOwner path owner group) rows users = refusal_of_missing path rows
+first_refusal facts caller (op.GetAcl path) rows users = refusal_of_missing path rows
+first_refusal facts caller (op.SetAcl path change) rows users = first_some (beneath_file path rows ∷ nothing_at (row_at path rows) ∷ refused_change change (row_at path rows) ∷ [])
+first_refusal facts caller (op.AddUser user groups) rows users = refusal_of_new users user
+first_refusal facts caller (op.SetGroups user groups) rows users = refusal_of_known users user
+first_refusal facts caller (op.Create path mode replication over) rows users =
     first_some (beneath_file path rows ∷ directory_there (row_at path rows) ∷ file_there over (row_at path rows) ∷ [])
-first_refusal leases caller (op.Append path) rows users = first_some (refusals_of_file path rows ++ of_file (refused_takeover leases caller) (row_at path rows) ∷ [])
-first_refusal leases caller (op.AddBlock path last) rows users = first_some (
+first_refusal facts caller (op.Append path) rows users = first_some (refusals_of_file path rows ++ of_file (refused_takeover facts.leases caller) (row_at path rows) ∷ [])
+first_refusal facts caller (op.AddBlock path last) rows users = first_some (
     refusals_of_file path rows ++ of_file (refused_write caller) (row_at path rows) ∷ of_file (refused_commit last) (row_at path rows) ∷ Some TooFewNodes ∷ [])
-first_refusal leases caller (op.Complete path last) rows users = first_some (
+first_refusal facts caller (op.Complete path last) rows users = first_some (
     refusals_of_file path rows ++ of_file (refused_write caller) (row_at path rows) ∷ of_file (refused_commit last) (row_at path rows) ∷ [])
-first_refusal leases caller (op.Open path) rows users = first_some (refusals_of_file path rows)
-first_refusal leases caller (op.SetReplication path replication) rows users = first_some (refusals_of_file path rows)
-first_refusal leases caller op.Renew rows users = refused_where (not (has_open_file caller rows)) NoLease
-first_refusal leases caller op.Tick rows users = None
+first_refusal facts caller (op.Open path) rows users = first_some (refusals_of_file path rows)
+first_refusal facts caller (op.SetReplication path replication) rows users = first_some (refusals_of_file path rows)
+first_refusal facts caller (op.RollKey key) rows users = refused_roll facts.next_serial
+first_refusal facts caller op.Renew rows users = refused_where (not (has_open_file caller rows)) NoLease
+first_refusal facts caller op.Tick rows users = None
 
 -- what `stat` tells of a row; where there is none, NotFound came first
 abbrev pub status_of : Option Row → Reply
@@ -148,27 +157,33 @@ bytes_in (row ∷ rows) = bytes_of row.file + bytes_in rows
 abbrev pub summary_of : List Row → Reply
 summary_of rows = reply.Summary (record { directories = length (filter is_directory rows); files = length (filter (λ row. not (is_directory row)) rows); bytes = bytes_in rows })
 
-abbrev pub reply_of : LeaseFacts → Op → List Row → Reply
-reply_of leases (op.Stat path) rows = status_of (row_at path rows)
-reply_of leases (op.List path) rows = reply.Names (listed path (row_at path rows) rows)
-reply_of leases (op.Summary path) rows = summary_of (rows_under path rows)
-reply_of leases (op.Delete path recursive) rows = reply.Deleted (length (rows_under path rows))
-reply_of leases (op.GetAcl path) rows = acl_status_of (row_at path rows)
-reply_of leases (op.Mkdirs path mode) rows = reply.Empty
-reply_of leases (op.Rename from to) rows = reply.Empty
-reply_of leases (op.SetMode path mode) rows = reply.Empty
-reply_of leases (op.SetOwner path owner group) rows = reply.Empty
-reply_of leases (op.SetAcl path change) rows = reply.Empty
-reply_of leases (op.AddUser user groups) rows = reply.Empty
-reply_of leases (op.SetGroups user groups) rows = reply.Empty
-reply_of leases (op.Create path mode replication over) rows = reply.Empty
-reply_of leases (op.Append path) rows = appended_reply (holder_at (row_at path rows))
-reply_of leases (op.AddBlock path last) rows = reply.Empty  -- always refused, as yet
-reply_of leases (op.Complete path last) rows = reply.Closed (bytes_at (row_at path rows))
-reply_of leases (op.Open path) rows = reply.Opened (bytes_at (row_at path rows))
-reply_of leases (op.SetReplication path replication) rows = reply.Empty
-reply_of leases op.Renew rows = reply.Empty
-reply_of leases op.Tick rows = reply.Expired (record { closed = length (filter (is_expired leases) rows); recovering = 0 })
+-- the serial of a new key; where there is none, the spent serial was refused
+abbrev pub serial_reply : Option ℕ → Reply
+serial_reply None = reply.Empty
+serial_reply (Some serial) = reply.Serial serial
+
+abbrev pub reply_of : Facts → Op → List Row → Reply
+reply_of facts (op.Stat path) rows = status_of (row_at path rows)
+reply_of facts (op.List path) rows = reply.Names (listed path (row_at path rows) rows)
+reply_of facts (op.Summary path) rows = summary_of (rows_under path rows)
+reply_of facts (op.Delete path recursive) rows = reply.Deleted (length (rows_under path rows))
+reply_of facts (op.GetAcl path) rows = acl_status_of (row_at path rows)
+reply_of facts (op.Mkdirs path mode) rows = reply.Empty
+reply_of facts (op.Rename from to) rows = reply.Empty
+reply_of facts (op.SetMode path mode) rows = reply.Empty
+reply_of facts (op.SetOwner path owner group) rows = reply.Empty
+reply_of facts (op.SetAcl path change) rows = reply.Empty
+reply_of facts (op.AddUser user groups) rows = reply.Empty
+reply_of facts (op.SetGroups user groups) rows = reply.Empty
+reply_of facts (op.Create path mode replication over) rows = reply.Empty
+reply_of facts (op.Append path) rows = appended_reply (holder_at (row_at path rows))
+reply_of facts (op.AddBlock path last) rows = reply.Empty  -- always refused, as yet
+reply_of facts (op.Complete path last) rows = reply.Closed (bytes_at (row_at path rows))
+reply_of facts (op.Open path) rows = reply.Opened (bytes_at (row_at path rows))
+reply_of facts (op.SetReplication path replication) rows = reply.Empty
+reply_of facts (op.RollKey key) rows = serial_reply facts.next_serial
+reply_of facts op.Renew rows = reply.Empty
+reply_of facts op.Tick rows = reply.Expired (record { closed = length (filter (is_expired facts.leases) rows); recovering = 0 })
 
 -- What is made beneath the names that are still to be made: the last, behind which there is none, has the mode that was asked for,
 -- and is a file where one was.
@@ -227,27 +242,28 @@ abbrev pub with_acl_at : List (List ℕ) → AclChange → Option Row → List R
 with_acl_at path form None rows = rows
 with_acl_at path form (Some row) rows = with_list_at path (acl_change form row.kind row.acl) rows
 
-abbrev pub rows_after : LeaseFacts → Op → List ℕ → List Row → List Row
-rows_after leases (op.Mkdirs path mode) caller rows = made_at path mode caller (row_at path rows) rows
-rows_after leases (op.Delete path recursive) caller rows = without path rows
-rows_after leases (op.Rename from to) caller rows = moved from to rows
-rows_after leases (op.SetMode path mode) caller rows = with_mode_at path mode (row_at path rows) rows
-rows_after leases (op.SetOwner path owner group) caller rows = with_owner_at path owner group (row_at path rows) rows
-rows_after leases (op.SetAcl path change) caller rows = with_acl_at path change (row_at path rows) rows
-rows_after leases (op.GetAcl path) caller rows = rows
-rows_after leases (op.Stat path) caller rows = rows
-rows_after leases (op.List path) caller rows = rows
-rows_after leases (op.Summary path) caller rows = rows
-rows_after leases (op.AddUser user groups) caller rows = rows
-rows_after leases (op.SetGroups user groups) caller rows = rows
-rows_after leases (op.Create path mode replication over) caller rows = with_new path mode (Some (new_file replication caller)) caller (ancestor path rows) rows
-rows_after leases (op.Append path) caller rows = rewritten path (change.State (state_after_append caller (holder_at (row_at path rows)))) rows
-rows_after leases (op.AddBlock path last) caller rows = rows
-rows_after leases (op.Complete path last) caller rows = rewritten path (change.State Closed) rows
-rows_after leases (op.Open path) caller rows = rows
-rows_after leases (op.SetReplication path replication) caller rows = rewritten path (change.Replication replication) rows
-rows_after leases op.Renew caller rows = rows
-rows_after leases op.Tick caller rows = map (closed_where_expired leases) rows
+abbrev pub rows_after : Facts → Op → List ℕ → List Row → List Row
+rows_after facts (op.Mkdirs path mode) caller rows = made_at path mode caller (row_at path rows) rows
+rows_after facts (op.Delete path recursive) caller rows = without path rows
+rows_after facts (op.Rename from to) caller rows = moved from to rows
+rows_after facts (op.SetMode path mode) caller rows = with_mode_at path mode (row_at path rows) rows
+rows_after facts (op.SetOwner path owner group) caller rows = with_owner_at path owner group (row_at path rows) rows
+rows_after facts (op.SetAcl path change) caller rows = with_acl_at path change (row_at path rows) rows
+rows_after facts (op.GetAcl path) caller rows = rows
+rows_after facts (op.Stat path) caller rows = rows
+rows_after facts (op.List path) caller rows = rows
+rows_after facts (op.Summary path) caller rows = rows
+rows_after facts (op.AddUser user groups) caller rows = rows
+rows_after facts (op.SetGroups user groups) caller rows = rows
+rows_after facts (op.Create path mode replication over) caller rows = with_new path mode (Some (new_file replication caller)) caller (ancestor path rows) rows
+rows_after facts (op.Append path) caller rows = rewritten path (change.State (state_after_append caller (holder_at (row_at path rows)))) rows
+rows_after facts (op.AddBlock path last) caller rows = rows
+rows_after facts (op.Complete path last) caller rows = rewritten path (change.State Closed) rows
+rows_after facts (op.Open path) caller rows = rows
+rows_after facts (op.SetReplication path replication) caller rows = rewritten path (change.Replication replication) rows
+rows_after facts (op.RollKey key) caller rows = rows
+rows_after facts op.Renew caller rows = rows
+rows_after facts op.Tick caller rows = map (closed_where_expired facts.leases) rows
 
 abbrev pub users_after : Op → Users → Users
 users_after (op.AddUser user groups) users = with_user users user groups
@@ -268,21 +284,22 @@ users_after (op.AddBlock path last) users = users
 users_after (op.Complete path last) users = users
 users_after (op.Open path) users = users
 users_after (op.SetReplication path replication) users = users
+users_after (op.RollKey key) users = users
 users_after op.Renew users = users
 users_after op.Tick users = users
 
-abbrev pub refused_or_done : LeaseFacts → List Row → Users → List ℕ → Op → Option Refusal → Step
-refused_or_done leases rows users caller op None = record { verdict = Done (reply_of leases op rows); rows = rows_after leases op caller rows; users = users_after op users }
-refused_or_done leases rows users caller op (Some refusal) = record { verdict = Refused refusal; rows = rows; users = users }
+abbrev pub refused_or_done : Facts → List Row → Users → List ℕ → Op → Option Refusal → Step
+refused_or_done facts rows users caller op None = record { verdict = Done (reply_of facts op rows); rows = rows_after facts op caller rows; users = users_after op users }
+refused_or_done facts rows users caller op (Some refusal) = record { verdict = Refused refusal; rows = rows; users = users }
 
 -- a refusal leaves rows and users as they are
-abbrev pub outcome : LeaseFacts → List Row → Users → List ℕ → Op → Step
-outcome leases rows users caller op = refused_or_done leases rows users caller op (first_refusal leases caller op rows users)
+abbrev pub outcome : Facts → List Row → Users → List ℕ → Op → Step
+outcome facts rows users caller op = refused_or_done facts rows users caller op (first_refusal facts caller op rows users)
 
-abbrev pub denied_or_outcome : LeaseFacts → List Row → Users → List ℕ → Op → Option denied.Denial → Step
-denied_or_outcome leases rows users caller op None = outcome leases rows users caller op
-denied_or_outcome leases rows users caller op (Some denial) = record { verdict = Denied denial; rows = rows; users = users }
+abbrev pub denied_or_outcome : Facts → List Row → Users → List ℕ → Op → Option denied.Denial → Step
+denied_or_outcome facts rows users caller op None = outcome facts rows users caller op
+denied_or_outcome facts rows users caller op (Some denial) = record { verdict = Denied denial; rows = rows; users = users }
 
 -- the decision first, and then the outcome
-abbrev pub step : LeaseFacts → List Row → Users → List ℕ → Op → Step
-step leases rows users caller op = denied_or_outcome leases rows users caller op (decision rows users caller op)
+abbrev pub step : Facts → List Row → Users → List ℕ → Op → Step
+step facts rows users caller op = denied_or_outcome facts rows users caller op (decision rows users caller op)

@@ -13,7 +13,7 @@ use Rattle.namespace_rows.specs.First.{first}
 use Rattle.namespace_rows.specs.Rows.{is_directory, is_none, is_missing, row_at, if_directory, directory_of}
 use Rattle.namespace_rows.specs.Namespace.{is_child, has_parent}
 use Rattle.flat_rows.specs.Changes.{are_paths}
-use Rattle.flat_rows.specs.FileOutcome.{LeaseFacts}
+use Rattle.flat_rows.specs.Facts.{Facts}
 use Rattle.flat_rows.specs.Outcome.{refused_where, nothing_at, something_at, beneath_file, first_refusal, rows_moved}
 use Rattle.namespace_rows.proofs.Tests.{or_right}
 use Rattle.namespace_rows.proofs.PathOrders.{same_path_is}
@@ -52,8 +52,8 @@ pub record Free (from to : List (List ℕ)) (rows : List Row) : Type 0 where
   pub beside : not (is_prefix from to) ≡ true
   pub within : are_paths (rows_moved from to rows) ≡ true
 
-pub unrefused_rename : (leases : LeaseFacts) (caller : List ℕ) (from to : List (List ℕ)) (rows : List Row) (users : Users) → first_refusal leases caller (Rename from to) rows users ≡ None → Free from to rows
-unrefused_rename leases caller from to rows users h =
+pub unrefused_rename : (facts : Facts) (caller : List ℕ) (from to : List (List ℕ)) (rows : List Row) (users : Users) → first_refusal facts caller (Rename from to) rows users ≡ None → Free from to rows
+unrefused_rename facts caller from to rows users h =
     let a = neither _ _ h in
     let b = neither (beneath_file from rows) _ a.1 in
     let c = neither (nothing_at (row_at from rows)) _ b.1 in

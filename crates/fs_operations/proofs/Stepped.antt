@@ -7,14 +7,14 @@ use Rattle.principals.specs.Users.{Users, Caller, caller_of}
 use Rattle.namespace_rows.specs.declared.row.Row.{Row}
 use Rattle.required_rights.specs.RequiredRights.{Demand, required_rights}
 use Rattle.flat_rows.specs.declared.verdict.Verdict.{Verdict}
-use Rattle.flat_rows.specs.FileOutcome.{LeaseFacts}
+use Rattle.flat_rows.specs.Facts.{Facts}
 use Rattle.flat_rows.specs.Outcome.{step}
 use Rattle.perm_walk.specs.JudgedStep.{judged_step}
 use Rattle.perm_walk.proofs.Steps.{as_step}
 
-pub as_stepped : {E : Type 0} (leases : LeaseFacts) (rows left : List Row) (users known : Users) (caller : List ℕ) (asking : Caller) (needs : List Demand) (what taken : Op) (result : Result Verdict E)
+pub as_stepped : {E : Type 0} (facts : Facts) (rows left : List Row) (users known : Users) (caller : List ℕ) (asking : Caller) (needs : List Demand) (what taken : Op) (result : Result Verdict E)
     → asking ≡ caller_of users caller → needs ≡ required_rights what → what ≡ taken
-    → IfOk result (λ v. record { verdict = v; rows = left; users = known } ≡ judged_step leases rows users asking needs taken)
-    → IfOk result (λ v. record { verdict = v; rows = left; users = known } ≡ step leases rows users caller what)
-as_stepped leases rows left users known caller asking needs what taken result who all is told =
-    IfOk-weaker result _ _ (λ v e. e ∙ as_step leases rows users caller asking needs what taken who all is) told
+    → IfOk result (λ v. record { verdict = v; rows = left; users = known } ≡ judged_step facts rows users asking needs taken)
+    → IfOk result (λ v. record { verdict = v; rows = left; users = known } ≡ step facts rows users caller what)
+as_stepped facts rows left users known caller asking needs what taken result who all is told =
+    IfOk-weaker result _ _ (λ v e. e ∙ as_step facts rows users caller asking needs what taken who all is) told

@@ -1,6 +1,6 @@
 ghost use Rattle.std.specs.Prelude.{◌≡◌, true, IfOk, OnErr};
 ghost use Rattle.hdfs_types.specs.Request.{is_look, keeps_leases};
-ghost use Rattle.flat_rows.specs.FileOutcome.{LeaseFacts};
+ghost use Rattle.flat_rows.specs.Facts.{Facts};
 ghost use Rattle.required_rights.specs.RequiredRights.{required_rights};
 ghost use Rattle.flat_rows.specs.Outcome as spec;
 
@@ -25,7 +25,7 @@ pub fn needs<'a>(alloc: Global, op: &'a Op) -> Result<Needs<'a>, AllocError>
     needs_of(alloc, op)
 }
 
-/// Decides a request that leaves leases as they are, and does it where no need fails and nothing refuses it, as `answer`
+/// Decides a request that leaves leases and keys as they are, and does it where no need fails and nothing refuses it, as `answer`
 /// and `apply_update` do.
 ///
 /// # Errors
@@ -37,7 +37,7 @@ pub fn apply(
     request: &Request,
 ) -> Result<Verdict, AllocError>
     requires { keeps_leases request.now.op ≡ true }
-    ensures ok { (leases : LeaseFacts) → IfOk result (λ verdict. record { verdict = verdict; rows = tree.new; users = users.new } ≡ spec.step leases tree.old users.old request.now.caller request.now.op) }
+    ensures ok { (facts : Facts) → IfOk result (λ verdict. record { verdict = verdict; rows = tree.new; users = users.new } ≡ spec.step facts tree.old users.old request.now.caller request.now.op) }
     ensures err { OnErr result ((tree.new ≡ tree.old) × (users.new ≡ users.old)) }
 {
     let needs = needs(alloc, &request.op)?;
@@ -46,7 +46,7 @@ pub fn apply(
         Verb::Update(update) => {
             apply_update(alloc, tree, users, &request.caller, &needs, &update)
         }
-        Verb::Write(_) | Verb::Renew | Verb::Tick => unreachable!(),
+        Verb::Write(_) | Verb::RollKey(_) | Verb::Renew | Verb::Tick => unreachable!(),
     }
 }
 
@@ -62,7 +62,7 @@ pub fn answer_look(
     op: &Op,
 ) -> Result<Verdict, AllocError>
     requires { is_look op.now ≡ true }
-    ensures { (leases : LeaseFacts) → IfOk result (λ verdict. verdict ≡ (spec.step leases tree.now users.now caller.now op.now).verdict) }
+    ensures { (facts : Facts) → IfOk result (λ verdict. verdict ≡ (spec.step facts tree.now users.now caller.now op.now).verdict) }
 {
     let needs = needs(alloc, op)?;
     let Verb::Read(read) = op.verb() else {

@@ -3,7 +3,7 @@ ghost use Rattle.hdfs_types.specs.Verb.{update_op};
 ghost use Rattle.principals.specs.Users.{Users, caller_of};
 ghost use Rattle.partial_acl.specs.AclChange.{acl_change};
 ghost use Rattle.required_rights.specs.RequiredRights.{required_rights};
-ghost use Rattle.flat_rows.specs.FileOutcome.{LeaseFacts};
+ghost use Rattle.flat_rows.specs.Facts.{Facts};
 ghost use Rattle.flat_rows.specs.Outcome as spec;
 ghost use Rattle.inode_tree.specs.Tree.{branch_at};
 ghost use Rattle.perm_walk.specs.Reached.{IsReach};
@@ -46,7 +46,7 @@ fn mkdirs(
     mode: Mode,
 ) -> Result<Verdict, AllocError>
     requires { AreOn path.now needs.now }
-    ensures ok { (leases : LeaseFacts) (users : Users) → IfOk result (λ verdict. record { verdict = verdict; rows = tree.new; users = users } ≡ judged_step leases tree.old users caller.now needs.now (Op.Mkdirs path.now mode)) }
+    ensures ok { (facts : Facts) (users : Users) → IfOk result (λ verdict. record { verdict = verdict; rows = tree.new; users = users } ≡ judged_step facts tree.old users caller.now needs.now (Op.Mkdirs path.now mode)) }
     ensures err { OnErr result (tree.new ≡ tree.old) }
 {
     let reach = match walk_along(alloc, tree, caller, needs, path)? {
@@ -76,7 +76,7 @@ fn set_mode(
     mode: Mode,
 ) -> Result<Verdict, AllocError>
     requires { AreOn path.now needs.now }
-    ensures ok { (leases : LeaseFacts) (users : Users) → IfOk result (λ verdict. record { verdict = verdict; rows = tree.new; users = users } ≡ judged_step leases tree.old users caller.now needs.now (Op.SetMode path.now mode)) }
+    ensures ok { (facts : Facts) (users : Users) → IfOk result (λ verdict. record { verdict = verdict; rows = tree.new; users = users } ≡ judged_step facts tree.old users caller.now needs.now (Op.SetMode path.now mode)) }
     ensures err { OnErr result (tree.new ≡ tree.old) }
 {
     let reach = match walk_along(alloc, tree, caller, needs, path)? {
@@ -120,7 +120,7 @@ fn set_acl(
     change: &AclChange,
 ) -> Result<Verdict, AllocError>
     requires { AreOn path.now needs.now }
-    ensures ok { (leases : LeaseFacts) (users : Users) → IfOk result (λ verdict. record { verdict = verdict; rows = tree.new; users = users } ≡ judged_step leases tree.old users caller.now needs.now (Op.SetAcl path.now change.now)) }
+    ensures ok { (facts : Facts) (users : Users) → IfOk result (λ verdict. record { verdict = verdict; rows = tree.new; users = users } ≡ judged_step facts tree.old users caller.now needs.now (Op.SetAcl path.now change.now)) }
     ensures err { OnErr result (tree.new ≡ tree.old) }
 {
     let reach = match walk_along(alloc, tree, caller, needs, path)? {
@@ -174,7 +174,7 @@ fn set_owner(
     group: &GivenName,
 ) -> Result<Verdict, AllocError>
     requires { AreOn path.now needs.now }
-    ensures ok { (leases : LeaseFacts) (users : Users) → IfOk result (λ verdict. record { verdict = verdict; rows = tree.new; users = users } ≡ judged_step leases tree.old users caller.now needs.now (Op.SetOwner path.now owner.now group.now)) }
+    ensures ok { (facts : Facts) (users : Users) → IfOk result (λ verdict. record { verdict = verdict; rows = tree.new; users = users } ≡ judged_step facts tree.old users caller.now needs.now (Op.SetOwner path.now owner.now group.now)) }
     ensures err { OnErr result (tree.new ≡ tree.old) }
 {
     let reach = match walk_along(alloc, tree, caller, needs, path)? {
@@ -200,7 +200,7 @@ fn set_replication(
     replication: Repl,
 ) -> Result<Verdict, AllocError>
     requires { AreOn path.now needs.now }
-    ensures ok { (leases : LeaseFacts) (users : Users) → IfOk result (λ verdict. record { verdict = verdict; rows = tree.new; users = users } ≡ judged_step leases tree.old users caller.now needs.now (Op.SetReplication path.now replication)) }
+    ensures ok { (facts : Facts) (users : Users) → IfOk result (λ verdict. record { verdict = verdict; rows = tree.new; users = users } ≡ judged_step facts tree.old users caller.now needs.now (Op.SetReplication path.now replication)) }
     ensures err { OnErr result (tree.new ≡ tree.old) }
 {
     let reach = match walk_along(alloc, tree, caller, needs, path)? {
@@ -225,7 +225,7 @@ fn refusal_of_rename(
 ) -> Result<Option<Refusal>, AllocError>
     requires from { IsReach from.now tree.now from_reach }
     requires to { IsReach to.now tree.now to_reach }
-    ensures { (leases : LeaseFacts) (user : List ℕ) (users : Users) → IfOk result (λ refusal. refusal ≡ spec.first_refusal leases user (Op.Rename from.now to.now) tree.now users) }
+    ensures { (facts : Facts) (user : List ℕ) (users : Users) → IfOk result (λ refusal. refusal ≡ spec.first_refusal facts user (Op.Rename from.now to.now) tree.now users) }
 {
     if from.depth() == 0 || to.depth() == 0 {
         return Ok(Some(Refusal::IsRoot));
@@ -261,7 +261,7 @@ fn rename(
     from: &Path,
     to: &Path,
 ) -> Result<Verdict, AllocError>
-    ensures ok { (leases : LeaseFacts) (users : Users) → IfOk result (λ verdict. record { verdict = verdict; rows = tree.new; users = users } ≡ judged_step leases tree.old users caller.now needs.now (Op.Rename from.now to.now)) }
+    ensures ok { (facts : Facts) (users : Users) → IfOk result (λ verdict. record { verdict = verdict; rows = tree.new; users = users } ≡ judged_step facts tree.old users caller.now needs.now (Op.Rename from.now to.now)) }
     ensures err { OnErr result (tree.new ≡ tree.old) }
 {
     let (from_reach, to_reach) = match walk_along_both(alloc, tree, caller, needs, from, to)? {
@@ -285,7 +285,7 @@ fn add_user(
     user: &Who,
     groups: &Groups,
 ) -> Result<Verdict, AllocError>
-    ensures ok { (leases : LeaseFacts) → IfOk result (λ verdict. record { verdict = verdict; rows = tree.now; users = users.new } ≡ judged_step leases tree.now users.old (caller_of users.old caller.now) needs.now (Op.AddUser user.now groups.now)) }
+    ensures ok { (facts : Facts) → IfOk result (λ verdict. record { verdict = verdict; rows = tree.now; users = users.new } ≡ judged_step facts tree.now users.old (caller_of users.old caller.now) needs.now (Op.AddUser user.now groups.now)) }
     ensures err { OnErr result (users.new ≡ users.old) }
 {
     if let Some(denial) = walk(alloc, tree, users, caller, needs)? {
@@ -308,7 +308,7 @@ fn set_groups(
     user: &Who,
     groups: &Groups,
 ) -> Result<Verdict, AllocError>
-    ensures ok { (leases : LeaseFacts) → IfOk result (λ verdict. record { verdict = verdict; rows = tree.now; users = users.new } ≡ judged_step leases tree.now users.old (caller_of users.old caller.now) needs.now (Op.SetGroups user.now groups.now)) }
+    ensures ok { (facts : Facts) → IfOk result (λ verdict. record { verdict = verdict; rows = tree.now; users = users.new } ≡ judged_step facts tree.now users.old (caller_of users.old caller.now) needs.now (Op.SetGroups user.now groups.now)) }
     ensures err { OnErr result (users.new ≡ users.old) }
 {
     if let Some(denial) = walk(alloc, tree, users, caller, needs)? {
@@ -336,7 +336,7 @@ pub fn apply_update(
     update: &Update<'_>,
 ) -> Result<Verdict, AllocError>
     requires { needs.now ≡ required_rights (update_op update.now) }
-    ensures ok { (leases : LeaseFacts) → IfOk result (λ verdict. record { verdict = verdict; rows = tree.new; users = users.new } ≡ spec.step leases tree.old users.old caller.now (update_op update.now)) }
+    ensures ok { (facts : Facts) → IfOk result (λ verdict. record { verdict = verdict; rows = tree.new; users = users.new } ≡ spec.step facts tree.old users.old caller.now (update_op update.now)) }
     ensures err { OnErr result ((tree.new ≡ tree.old) × (users.new ≡ users.old)) }
 {
     let asking = users.caller(caller);

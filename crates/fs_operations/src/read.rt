@@ -3,7 +3,8 @@ ghost use Rattle.std.specs.Option.{option_copied};
 ghost use Rattle.hdfs_types.specs.Verb.{read_op};
 ghost use Rattle.principals.specs.Users.{Users};
 ghost use Rattle.required_rights.specs.RequiredRights.{required_rights};
-ghost use Rattle.flat_rows.specs.FileOutcome.{LeaseFacts, detail_of_row};
+ghost use Rattle.flat_rows.specs.FileOutcome.{detail_of_row};
+ghost use Rattle.flat_rows.specs.Facts.{Facts};
 ghost use Rattle.flat_rows.specs.Changes as changes;
 ghost use Rattle.flat_rows.specs.Outcome as spec;
 ghost use Rattle.perm_walk.specs.Walked.{AreOn};
@@ -68,7 +69,7 @@ fn stat(
     path: &Path,
 ) -> Result<Verdict, AllocError>
     requires { AreOn path.now needs.now }
-    ensures { (leases : LeaseFacts) (users : Users) → IfOk result (λ verdict. record { verdict = verdict; rows = tree.now; users = users } ≡ judged_step leases tree.now users caller.now needs.now (Op.Stat path.now)) }
+    ensures { (facts : Facts) (users : Users) → IfOk result (λ verdict. record { verdict = verdict; rows = tree.now; users = users } ≡ judged_step facts tree.now users caller.now needs.now (Op.Stat path.now)) }
 {
     let reach = match walk_along(alloc, tree, caller, needs, path)? {
         Walked::Denied(denial) => return Ok(Verdict::Denied(denial)),
@@ -100,7 +101,7 @@ fn get_acl(
     path: &Path,
 ) -> Result<Verdict, AllocError>
     requires { AreOn path.now needs.now }
-    ensures { (leases : LeaseFacts) (users : Users) → IfOk result (λ verdict. record { verdict = verdict; rows = tree.now; users = users } ≡ judged_step leases tree.now users caller.now needs.now (Op.GetAcl path.now)) }
+    ensures { (facts : Facts) (users : Users) → IfOk result (λ verdict. record { verdict = verdict; rows = tree.now; users = users } ≡ judged_step facts tree.now users caller.now needs.now (Op.GetAcl path.now)) }
 {
     let reach = match walk_along(alloc, tree, caller, needs, path)? {
         Walked::Denied(denial) => return Ok(Verdict::Denied(denial)),
@@ -156,7 +157,7 @@ fn list(
     path: &Path,
 ) -> Result<Verdict, AllocError>
     requires { AreOn path.now needs.now }
-    ensures { (leases : LeaseFacts) (users : Users) → IfOk result (λ verdict. record { verdict = verdict; rows = tree.now; users = users } ≡ judged_step leases tree.now users caller.now needs.now (Op.List path.now)) }
+    ensures { (facts : Facts) (users : Users) → IfOk result (λ verdict. record { verdict = verdict; rows = tree.now; users = users } ≡ judged_step facts tree.now users caller.now needs.now (Op.List path.now)) }
 {
     let reach = match walk_along(alloc, tree, caller, needs, path)? {
         Walked::Denied(denial) => return Ok(Verdict::Denied(denial)),
@@ -195,7 +196,7 @@ fn summary(
     path: &Path,
 ) -> Result<Verdict, AllocError>
     requires { AreOn path.now needs.now }
-    ensures { (leases : LeaseFacts) (users : Users) → IfOk result (λ verdict. record { verdict = verdict; rows = tree.now; users = users } ≡ judged_step leases tree.now users caller.now needs.now (Op.Summary path.now)) }
+    ensures { (facts : Facts) (users : Users) → IfOk result (λ verdict. record { verdict = verdict; rows = tree.now; users = users } ≡ judged_step facts tree.now users caller.now needs.now (Op.Summary path.now)) }
 {
     let reach = match walk_along(alloc, tree, caller, needs, path)? {
         Walked::Denied(denial) => return Ok(Verdict::Denied(denial)),
@@ -216,7 +217,7 @@ fn open(
     path: &Path,
 ) -> Result<Verdict, AllocError>
     requires { AreOn path.now needs.now }
-    ensures { (leases : LeaseFacts) (users : Users) → IfOk result (λ verdict. record { verdict = verdict; rows = tree.now; users = users } ≡ judged_step leases tree.now users caller.now needs.now (Op.Open path.now)) }
+    ensures { (facts : Facts) (users : Users) → IfOk result (λ verdict. record { verdict = verdict; rows = tree.now; users = users } ≡ judged_step facts tree.now users caller.now needs.now (Op.Open path.now)) }
 {
     let reach = match walk_along(alloc, tree, caller, needs, path)? {
         Walked::Denied(denial) => return Ok(Verdict::Denied(denial)),
@@ -244,7 +245,7 @@ pub fn answer(
     read: Read<'_>,
 ) -> Result<Verdict, AllocError>
     requires { needs.now ≡ required_rights (read_op read) }
-    ensures { (leases : LeaseFacts) → IfOk result (λ verdict. record { verdict = verdict; rows = tree.now; users = users.now } ≡ spec.step leases tree.now users.now caller.now (read_op read.entry)) }
+    ensures { (facts : Facts) → IfOk result (λ verdict. record { verdict = verdict; rows = tree.now; users = users.now } ≡ spec.step facts tree.now users.now caller.now (read_op read.entry)) }
 {
     let asking = users.caller(caller);
     match read {

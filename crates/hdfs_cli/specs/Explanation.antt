@@ -8,13 +8,13 @@ use Rattle.flat_rows.specs.declared.trail.Judged.{Judged}
 use Rattle.flat_rows.specs.DenialText.{judged_text}
 use Rattle.flat_rows.specs.Decision.{trail}
 use Rattle.history.specs.declared.entry.HistoryEntry.{HistoryEntry}
-use Rattle.history.specs.Config.{Config, standard}
+use Rattle.history.specs.Config.{Opening}
 use Rattle.history.specs.State.{rows_of, users_of}
 use Rattle.hdfs_cli.specs.declared.explain.Explained.{Explained}
 use Rattle.hdfs_cli.specs.declared.explain.Explained.TheVariants.{Trail, NoRequest}
 use Rattle.script_words.specs.Words.{lines_of, without_return, is_skipped, words_of}
 use Rattle.script_text.specs.Script.{request_of}
-use Rattle.script_runs.specs.Output.{State, after_lines, status_of}
+use Rattle.script_runs.specs.Output.{State, script_opening, after_lines, status_of}
 
 abbrev pub well_formed : Result Request IllFormed → Option Request
 well_formed (Ok request) = Some request
@@ -38,11 +38,11 @@ abbrev pub trail_text : List Judged → List ℕ
 trail_text needs = flat_map judged_line needs ++ (if list_all (λ need. need.granted) needs then codes "granted\n" else [])
 
 -- on the namespace and the users that the entries give
-abbrev pub trail_on : Config → List HistoryEntry → Request → List Judged
-trail_on config entries request = trail (rows_of config entries) (users_of entries) request.caller request.op
+abbrev pub trail_on : Opening → List HistoryEntry → Request → List Judged
+trail_on opening entries request = trail (rows_of opening entries) (users_of entries) request.caller request.op
 
 abbrev pub trail_of : State → Request → List Judged
-trail_of state request = trail_on standard state.entries request
+trail_of state request = trail_on script_opening state.entries request
 
 abbrev pub explanation_by : State → Option Request → List ℕ
 explanation_by state None = []

@@ -87,7 +87,7 @@ pub(crate) fn trail_on(
     session: &Session,
     request: &Request,
 ) -> Result<Vec<Judged>, AllocError>
-    ensures { IfOk result (λ needs. needs.items ≡ spec.trail_on session.now.core.config session.now.core.entries request.now) }
+    ensures { IfOk result (λ needs. needs.items ≡ spec.trail_on session.now.core.opening session.now.core.entries request.now) }
 {
     let rows = rows_of(alloc, session.core.tree())?;
     let users = session.core.users();
@@ -98,7 +98,7 @@ pub(crate) fn trail_on(
 
 /// What is printed of the needs of a request.
 fn needs_text(alloc: Global, session: &Session, request: &Request) -> Result<String, AllocError>
-    ensures { IfOk result (λ text. string_bytes text ≡ spec.trail_text (spec.trail_on session.now.core.config session.now.core.entries request.now)) }
+    ensures { IfOk result (λ text. string_bytes text ≡ spec.trail_text (spec.trail_on session.now.core.opening session.now.core.entries request.now)) }
 {
     let needs = trail_on(alloc, session, request)?;
     let text = text_of(alloc, &needs);
@@ -113,7 +113,7 @@ fn explain_request(
     before: &[&str],
     request: &Request,
 ) -> Result<Explanation, AllocError>
-    requires { Shows output.opening session.old }
+    requires { Shows output.no_lines session.old }
     ensures text { IfOk result (λ explanation. string_bytes explanation.text ≡ spec.explanation_by (output.after_lines (map (λ line. line.now) before.now)) (Some request.now)) }
     ensures found { IfOk result (λ explanation. explanation.found ≡ Explained.Trail (output.status_of (output.after_lines (map (λ line. line.now) before.now)).answers)) }
 {

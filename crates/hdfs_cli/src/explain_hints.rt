@@ -105,7 +105,7 @@ fn run_to(
     request: &Request,
     out: &mut String,
 ) -> Result<(), AllocError>
-    requires { Shows output.opening session.old }
+    requires { Shows output.no_lines session.old }
 {
     run_lines(alloc, session, before)?;
     add_rename_hints(alloc, line, session, request, out)?;

@@ -12,8 +12,10 @@ use Rattle.hdfs_types.specs.File.{detail_text}
 use Rattle.hdfs_types.specs.declared.file.FileDetail.{FileDetail}
 use Rattle.hdfs_types.specs.declared.reply.FileStatus.{FileStatus}
 use Rattle.hdfs_types.specs.declared.reply.ContentSummary.{ContentSummary}
+use Rattle.hdfs_types.specs.declared.reply.Counter.{Counter}
+use Rattle.hdfs_types.specs.declared.reply.Counter.TheVariants as counter
 use Rattle.hdfs_types.specs.declared.reply.Refusal.{Refusal}
-use Rattle.hdfs_types.specs.declared.reply.Refusal.TheVariants.{BadPath, NotFound, NotDirectory, IsDirectory, Exists, NotEmpty, IsRoot, UnderItself, BadAcl, TooManyEntries, LeaseHeld, RecoveryRunning, NoLease, NotOpen, NotYetReplicated, TooFewNodes, BadName}
+use Rattle.hdfs_types.specs.declared.reply.Refusal.TheVariants.{BadPath, NotFound, NotDirectory, IsDirectory, Exists, NotEmpty, IsRoot, UnderItself, BadAcl, TooManyEntries, LeaseHeld, RecoveryRunning, NoLease, NotOpen, NotYetReplicated, TooFewNodes, Spent, BadName}
 
 abbrev pub object_kind_text : ObjectKind → List ℕ
 object_kind_text File = codes "file"
@@ -42,6 +44,11 @@ names_text names = flat_map (λ name. 32 ∷ name) names
 abbrev pub summary_text : ContentSummary → List ℕ
 summary_text summary = 32 ∷ (decimal summary.directories ++ (32 ∷ (decimal summary.files ++ (32 ∷ decimal summary.bytes))))
 
+abbrev pub counter_text : Counter → List ℕ
+counter_text counter.BlockId = codes "BlockId"
+counter_text counter.Stamp = codes "Stamp"
+counter_text counter.Serial = codes "Serial"
+
 abbrev pub refusal_code : Refusal → ℕ
 refusal_code BadPath = 1
 refusal_code NotFound = 2
@@ -59,6 +66,7 @@ refusal_code NoLease = 13
 refusal_code NotOpen = 14
 refusal_code NotYetReplicated = 15
 refusal_code TooFewNodes = 16
+refusal_code (Spent counter) = 18
 refusal_code BadName = 19
 
 -- the code and the name, without what is told behind them
@@ -79,6 +87,7 @@ refusal_title NoLease = codes "13 NoLease"
 refusal_title NotOpen = codes "14 NotOpen"
 refusal_title NotYetReplicated = codes "15 NotYetReplicated"
 refusal_title TooFewNodes = codes "16 TooFewNodes"
+refusal_title (Spent counter) = codes "18 Spent"
 refusal_title BadName = codes "19 BadName"
 
 abbrev pub refusal_text : Refusal → List ℕ
@@ -98,4 +107,5 @@ refusal_text NoLease = codes "13 NoLease"
 refusal_text NotOpen = codes "14 NotOpen"
 refusal_text NotYetReplicated = codes "15 NotYetReplicated"
 refusal_text TooFewNodes = codes "16 TooFewNodes"
+refusal_text (Spent counter) = codes "18 Spent " ++ counter_text counter
 refusal_text BadName = codes "19 BadName"

@@ -38,5 +38,6 @@ abbrev pub op_of : Verb → Op
 op_of (verb.Read read) = read_op read
 op_of (verb.Update update) = update_op update
 op_of (verb.Write write) = write_op write
+op_of (verb.RollKey key) = op.RollKey key
 op_of verb.Renew = op.Renew
 op_of verb.Tick = op.Tick

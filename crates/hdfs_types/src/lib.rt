@@ -4,6 +4,7 @@
 
 pub mod file;
 pub mod given_name;
+pub mod key;
 pub mod op;
 pub mod reply;
 pub mod verb;

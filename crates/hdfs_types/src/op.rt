@@ -4,6 +4,7 @@ ghost use Rattle.hdfs_types.specs.declared.op.Op.TheVariants as made;
 
 use crate::file::LastBlock;
 use crate::given_name::GivenName;
+use crate::key::Key;
 use hdfs_values::groups::Groups;
 use hdfs_values::moment::Moment;
 use hdfs_values::path::Path;
@@ -53,6 +54,8 @@ pub enum Op {
     Open(Path),
     /// Gives a file another replication.
     SetReplication(Path, Repl),
+    /// Makes a key the one under which tokens are issued from now on.
+    RollKey(Key),
     /// Renews the caller's lease.
     Renew,
     /// Closes the files of all clients whose leases are past the hard limit.
@@ -193,6 +196,7 @@ impl Clone for Op {
             Op::Complete(path, last) => clone_complete(path, *last),
             Op::Open(path) => clone_open(path),
             Op::SetReplication(path, replication) => clone_set_replication(path, *replication),
+            Op::RollKey(key) => Ok(Op::RollKey(*key)),
             Op::Renew => Ok(Op::Renew),
             Op::Tick => Ok(Op::Tick),
         }
@@ -240,6 +244,7 @@ pub fn is_look(op: &Op) -> bool
         | Op::Complete(_, _)
         | Op::Open(_)
         | Op::SetReplication(_, _)
+        | Op::RollKey(_)
         | Op::Renew
         | Op::Tick => false,
     }

@@ -3,6 +3,7 @@ ghost use Rattle.std.specs.String.{string_bytes};
 
 use crate::file::FileDetail;
 use hdfs_values::fault::AclFault;
+use hdfs_values::ids::Serial;
 use hdfs_values::name::Name;
 use hdfs_values::path::Path;
 use hdfs_values::who::Who;
@@ -339,6 +340,8 @@ pub enum Reply {
     /// The file holds so many bytes.
     Opened(u64),
     Expired(Expired),
+    /// The serial number of the key under which tokens are issued from now on.
+    Serial(Serial),
 }
 
 impl Clone for Reply {
@@ -356,7 +359,31 @@ impl Clone for Reply {
             Reply::Closed(bytes) => Ok(Reply::Closed(*bytes)),
             Reply::Opened(bytes) => Ok(Reply::Opened(*bytes)),
             Reply::Expired(expired) => Ok(Reply::Expired(*expired)),
+            Reply::Serial(serial) => Ok(Reply::Serial(*serial)),
         }
+    }
+}
+
+/// What is numbered in ascending order, and never by the greatest number that there is of it.
+#[derive(Clone, Copy, PartialEq, Eq)]
+pub enum Counter {
+    BlockId,
+    Stamp,
+    Serial,
+}
+
+/// Prints the name of what is numbered.
+impl fmt::Display for Counter {
+    ghost use Rattle.hdfs_types.specs.Reply.{counter_text};
+
+    ghost output = { λ counter. Some (counter_text counter) };
+
+    fn fmt<W: fmt::Write>(&self, f: &mut fmt::Formatter<W>) -> fmt::Result {
+        f.write_str(match self {
+            Counter::BlockId => "BlockId",
+            Counter::Stamp => "Stamp",
+            Counter::Serial => "Serial",
+        })
     }
 }
 
@@ -395,6 +422,8 @@ pub enum Refusal {
     NotYetReplicated,
     /// No DataNode is live that could hold the block: code 16.
     TooFewNodes,
+    /// All numbers of that kind are given away: code 18.
+    Spent(Counter),
     /// That name is a DataNode's: code 19.
     BadName,
 }
@@ -420,6 +449,7 @@ impl Clone for Refusal {
             Refusal::NotOpen => Ok(Refusal::NotOpen),
             Refusal::NotYetReplicated => Ok(Refusal::NotYetReplicated),
             Refusal::TooFewNodes => Ok(Refusal::TooFewNodes),
+            Refusal::Spent(counter) => Ok(Refusal::Spent(*counter)),
             Refusal::BadName => Ok(Refusal::BadName),
         }
     }
@@ -449,6 +479,7 @@ impl Refusal {
             Refusal::NotOpen => 14,
             Refusal::NotYetReplicated => 15,
             Refusal::TooFewNodes => 16,
+            Refusal::Spent(_) => 18,
             Refusal::BadName => 19,
         }
     }
@@ -474,6 +505,7 @@ impl Refusal {
             Refusal::NotOpen => "14 NotOpen",
             Refusal::NotYetReplicated => "15 NotYetReplicated",
             Refusal::TooFewNodes => "16 TooFewNodes",
+            Refusal::Spent(_) => "18 Spent",
             Refusal::BadName => "19 BadName",
         }
     }
@@ -491,6 +523,7 @@ impl fmt::Display for Refusal {
             Refusal::NotDirectory(file) => write!(f, "{title} {file}"),
             Refusal::BadAcl(fault) => write!(f, "{title} {fault}"),
             Refusal::LeaseHeld(client) => write!(f, "{title} {client}"),
+            Refusal::Spent(counter) => write!(f, "{title} {counter}"),
             _ => f.write_str(title),
         }
     }

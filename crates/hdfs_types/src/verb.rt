@@ -3,6 +3,7 @@ ghost use Rattle.hdfs_types.specs.Verb.{op_of};
 
 use crate::file::LastBlock;
 use crate::given_name::GivenName;
+use crate::key::Key;
 use crate::op::Op;
 use hdfs_values::groups::Groups;
 use hdfs_values::path::Path;
@@ -50,6 +51,7 @@ pub enum Verb<'a> {
     Read(Read<'a>),
     Update(Update<'a>),
     Write(Write<'a>),
+    RollKey(Key),
     Renew,
     Tick,
 }
@@ -84,6 +86,7 @@ impl Op {
             Op::AddBlock(path, last) => Verb::Write(Write::AddBlock(path, *last)),
             Op::Complete(path, last) => Verb::Write(Write::Complete(path, *last)),
             Op::Delete(path, recursive) => Verb::Write(Write::Delete(path, *recursive)),
+            Op::RollKey(key) => Verb::RollKey(*key),
             Op::Renew => Verb::Renew,
             Op::Tick => Verb::Tick,
         }

@@ -23,6 +23,7 @@ use Rattle.namespace_rows.specs.Rows.{row_at, file_above, is_directory}
 use Rattle.namespace_rows.specs.Namespace.{is_ascending, is_before_all}
 use Rattle.namespace_rows.specs.Files.{holder_of, holder_of_file, is_open_by, is_client, ends_uncommitted}
 use Rattle.flat_rows.specs.FileOutcome.{LeaseFacts, directory_there, if_some_file, of_file, refused_append, refused_recovery, refused_takeover, holder_at}
+use Rattle.flat_rows.specs.Facts.{Facts}
 use Rattle.flat_rows.specs.Outcome.{beneath_file, nothing_at, first_some, denied_or_outcome, refused_or_done, step}
 use Rattle.namespace_rows.proofs.Tests.{both}
 use Rattle.namespace_rows.proofs.PathOrders.{same_path_is, less_is}
@@ -89,15 +90,15 @@ held : (leases : LeaseFacts) (caller writer : List ℕ) (at : Option Row) → ho
 held leases caller writer None h live = cc
 held leases caller writer (Some row) h live = held_by_file leases caller writer row.file h live
 
-module _ (leases : LeaseFacts) (rows : List Row) (users : Users) (caller : List ℕ) (path : List (List ℕ)) where
+module _ (facts : Facts) (rows : List Row) (users : Users) (caller : List ℕ) (path : List (List ℕ)) where
   abbrev append : Op
   append = op.Append path
 
   abbrev after : Option denied.Denial → Verdict
-  after denial = (denied_or_outcome leases rows users caller append denial).verdict
+  after denial = (denied_or_outcome facts rows users caller append denial).verdict
 
   abbrev under : Option Refusal → Verdict
-  under refusal = (refused_or_done leases rows users caller append refusal).verdict
+  under refusal = (refused_or_done facts rows users caller append refusal).verdict
 
   last_applies : (a b c d : Option Refusal) (refusal : Refusal) → d ≡ Some refusal → is_done (under (first_some (a ∷ b ∷ c ∷ d ∷ []))) ≡ false
   last_applies (Some a) b c d refusal is = refl
@@ -106,18 +107,18 @@ module _ (leases : LeaseFacts) (rows : List Row) (users : Users) (caller : List 
   last_applies None None None None refusal is = cc
   last_applies None None None (Some d) refusal is = refl
 
-  pub turned_away : (writer : List ℕ) → holder_at (row_at path rows) ≡ Some writer → leases.is_live writer ≡ true → is_done (step leases rows users caller append).verdict ≡ false
+  pub turned_away : (writer : List ℕ) → holder_at (row_at path rows) ≡ Some writer → facts.leases.is_live writer ≡ true → is_done (step facts rows users caller append).verdict ≡ false
   turned_away writer at live = by (decision rows users caller append)
     where
       by : (denial : Option denied.Denial) → is_done (after denial) ≡ false
       by (Some denial) = refl
-      by None = last_applies (beneath_file path rows) (nothing_at (row_at path rows)) (directory_there (row_at path rows)) (of_file (refused_takeover leases caller) (row_at path rows)) (LeaseHeld writer) (held leases caller writer (row_at path rows) at live)
+      by None = last_applies (beneath_file path rows) (nothing_at (row_at path rows)) (directory_there (row_at path rows)) (of_file (refused_takeover facts.leases caller) (row_at path rows)) (LeaseHeld writer) (held facts.leases caller writer (row_at path rows) at live)
 
   pub named : (row : Row) (writer : List ℕ) → row_at path rows ≡ Some row → is_directory row ≡ false → holder_at (Some row) ≡ Some writer → file_above path rows ≡ None
-      → decision rows users caller append ≡ None → leases.is_live writer ≡ true → (step leases rows users caller append).verdict ≡ Refused (LeaseHeld writer)
+      → decision rows users caller append ≡ None → facts.leases.is_live writer ≡ true → (step facts rows users caller append).verdict ≡ Refused (LeaseHeld writer)
   named row writer at file holds clear granted live =
       ap after granted
-      ∙ ap (λ o. under (first_some (beneath_file path rows ∷ nothing_at o ∷ directory_there o ∷ of_file (refused_takeover leases caller) o ∷ []))) at
-      ∙ ap (λ a. under (first_some (option_map (λ file. NotDirectory file.path) a ∷ None ∷ directory_there (Some row) ∷ of_file (refused_takeover leases caller) (Some row) ∷ []))) clear
-      ∙ ap (λ b. under (first_some (None ∷ None ∷ cond b (Some IsDirectory) None ∷ of_file (refused_takeover leases caller) (Some row) ∷ []))) file
-      ∙ ap (λ o. under (first_some (None ∷ None ∷ None ∷ o ∷ []))) (held leases caller writer (Some row) holds live)
+      ∙ ap (λ o. under (first_some (beneath_file path rows ∷ nothing_at o ∷ directory_there o ∷ of_file (refused_takeover facts.leases caller) o ∷ []))) at
+      ∙ ap (λ a. under (first_some (option_map (λ file. NotDirectory file.path) a ∷ None ∷ directory_there (Some row) ∷ of_file (refused_takeover facts.leases caller) (Some row) ∷ []))) clear
+      ∙ ap (λ b. under (first_some (None ∷ None ∷ cond b (Some IsDirectory) None ∷ of_file (refused_takeover facts.leases caller) (Some row) ∷ []))) file
+      ∙ ap (λ o. under (first_some (None ∷ None ∷ None ∷ o ∷ []))) (held facts.leases caller writer (Some row) holds live)

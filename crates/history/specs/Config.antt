@@ -1,6 +1,6 @@
 -- What a NameNode opens with.
 -- (The limits of leases and of silent DataNodes are those of HDFS, but that the hard limit is 20 minutes.)
-use Rattle.std.specs.Prelude.{ℕ, ◌-◌, ◌^◌, Bool, nat_lt, IsTrue}
+use Rattle.std.specs.Prelude.{ℕ, List, ◌-◌, ◌^◌, Bool, nat_lt, IsTrue}
 use Rattle.lease_manager.specs.Leases.{Limits}
 use Rattle.history.specs.declared.config.Durations.{Durations}
 use Rattle.history.specs.declared.config.Counters.{Counters}
@@ -25,6 +25,11 @@ standard =
       replica_limit = 134217728;
       first = record { block = 1; stamp = 1001; serial = 1 };
     }
+
+-- what a NameNode opens with: its settings, and the bytes of the first key under which tokens are issued
+pub record Opening : Type 0 where
+  pub config : Config
+  pub key : List ℕ
 
 abbrev pub limits_of : Config → Limits
 limits_of settings = record { soft = settings.durations.soft_limit; hard = settings.durations.hard_limit }

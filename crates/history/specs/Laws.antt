@@ -15,9 +15,10 @@ use Rattle.namespace_rows.specs.Files.{is_open_by}
 use Rattle.flat_rows.specs.FileOutcome.{holder_at}
 use Rattle.flat_rows.specs.Decision.{decision}
 use Rattle.history.specs.declared.entry.HistoryEntry.{HistoryEntry}
-use Rattle.history.specs.Config.{Config}
+use Rattle.history.specs.Config.{Opening}
 use Rattle.history.specs.ClockAndLease.{last_renewal}
-use Rattle.history.specs.State.{users_of, rows_of, lease_facts}
+use Rattle.history.specs.Keys.{ring_of}
+use Rattle.history.specs.State.{users_of, rows_of, facts_of}
 use Rattle.history.specs.LegalHistory.{now_at, verdict_of}
 
 -- ---- one writer at a time
@@ -32,33 +33,34 @@ FilesHaveOneWriter = (rows : List Row) (path : List (List ℕ)) (client other : 
     → IsNamespace rows → writes path client rows ≡ true → writes path other rows ≡ true → client ≡ other
 
 -- the same of what these entries give
-abbrev pub HasOneWriter : Config → List HistoryEntry → Type 0
-HasOneWriter config entries = (path : List (List ℕ)) (client other : List ℕ)
-    → writes path client (rows_of config entries) ≡ true → writes path other (rows_of config entries) ≡ true → client ≡ other
+abbrev pub HasOneWriter : Opening → List HistoryEntry → Type 0
+HasOneWriter opening entries = (path : List (List ℕ)) (client other : List ℕ)
+    → writes path client (rows_of opening entries) ≡ true → writes path other (rows_of opening entries) ≡ true → client ≡ other
 
 -- an append to a file that a client has open whose lease is live isn't done, whoever asks for it
 abbrev pub LiveWritersStay : Type 0
-LiveWritersStay = (config : Config) (earlier : List HistoryEntry) (request : Request) (path : List (List ℕ)) (writer : List ℕ)
-    → request.op ≡ op.Append path → holder_at (row_at path (rows_of config earlier)) ≡ Some writer
-    → (lease_facts config earlier (now_at earlier request)).is_live writer ≡ true → is_done (verdict_of config earlier request) ≡ false
+LiveWritersStay = (opening : Opening) (earlier : List HistoryEntry) (request : Request) (path : List (List ℕ)) (writer : List ℕ)
+    → request.op ≡ op.Append path → holder_at (row_at path (rows_of opening earlier)) ≡ Some writer
+    → (facts_of opening earlier (now_at earlier request)).leases.is_live writer ≡ true → is_done (verdict_of opening earlier request) ≡ false
 
 -- and it names that client, where no need fails and the path is that of a file
 abbrev pub LiveWritersAreNamed : Type 0
-LiveWritersAreNamed = (config : Config) (earlier : List HistoryEntry) (request : Request) (path : List (List ℕ)) (row : Row) (writer : List ℕ)
-    → request.op ≡ op.Append path → row_at path (rows_of config earlier) ≡ Some row → is_directory row ≡ false → holder_at (Some row) ≡ Some writer
-    → file_above path (rows_of config earlier) ≡ None → decision (rows_of config earlier) (users_of earlier) request.caller (op.Append path) ≡ None
-    → (lease_facts config earlier (now_at earlier request)).is_live writer ≡ true → verdict_of config earlier request ≡ Refused (LeaseHeld writer)
+LiveWritersAreNamed = (opening : Opening) (earlier : List HistoryEntry) (request : Request) (path : List (List ℕ)) (row : Row) (writer : List ℕ)
+    → request.op ≡ op.Append path → row_at path (rows_of opening earlier) ≡ Some row → is_directory row ≡ false → holder_at (Some row) ≡ Some writer
+    → file_above path (rows_of opening earlier) ≡ None → decision (rows_of opening earlier) (users_of earlier) request.caller (op.Append path) ≡ None
+    → (facts_of opening earlier (now_at earlier request)).leases.is_live writer ≡ true → verdict_of opening earlier request ≡ Refused (LeaseHeld writer)
 
 -- ---- entries that change nothing but the clock
 
--- users, namespace and renewals are as before the last entry
-pub record IsSame (config : Config) (entry : HistoryEntry) (earlier : List HistoryEntry) : Type 0 where
+-- users, namespace, renewals and keys are as before the last entry
+pub record IsSame (opening : Opening) (entry : HistoryEntry) (earlier : List HistoryEntry) : Type 0 where
   pub users : users_of (entry ∷ earlier) ≡ users_of earlier
-  pub rows : rows_of config (entry ∷ earlier) ≡ rows_of config earlier
+  pub rows : rows_of opening (entry ∷ earlier) ≡ rows_of opening earlier
   pub renewals : (client : List ℕ) → last_renewal (entry ∷ earlier) client ≡ last_renewal earlier client
+  pub keys : ring_of opening (entry ∷ earlier) ≡ ring_of opening earlier
 
 abbrev pub WhatIsNotDoneChangesNothing : Type 0
-WhatIsNotDoneChangesNothing = (config : Config) (entry : HistoryEntry) (earlier : List HistoryEntry) → is_done entry.verdict ≡ false → IsSame config entry earlier
+WhatIsNotDoneChangesNothing = (opening : Opening) (entry : HistoryEntry) (earlier : List HistoryEntry) → is_done entry.verdict ≡ false → IsSame opening entry earlier
 
 abbrev pub LooksChangeNothing : Type 0
-LooksChangeNothing = (config : Config) (entry : HistoryEntry) (earlier : List HistoryEntry) → is_look entry.request.op ≡ true → IsSame config entry earlier
+LooksChangeNothing = (opening : Opening) (entry : HistoryEntry) (earlier : List HistoryEntry) → is_look entry.request.op ≡ true → IsSame opening entry earlier

@@ -1,6 +1,7 @@
 pub mod Config
 pub mod Kept
 pub mod ClockAndLease
+pub mod Keys
 pub mod State
 pub mod LegalHistory
 pub mod Laws

@@ -7,11 +7,14 @@ use Rattle.flat_rows.specs.declared.verdict.Verdict.{Verdict}
 use Rattle.flat_rows.specs.declared.verdict.Verdict.TheVariants.{Done, Denied, Refused}
 use Rattle.namespace_rows.specs.Opening.{root_row}
 use Rattle.namespace_rows.specs.Files.{has_open_file}
-use Rattle.flat_rows.specs.FileOutcome.{LeaseFacts}
+use Rattle.block_tokens.specs.Ring.{Ring, next_serial}
+use Rattle.flat_rows.specs.Facts.{Facts}
 use Rattle.flat_rows.specs.Outcome.{rows_after, users_after}
 use Rattle.history.specs.declared.entry.HistoryEntry.{HistoryEntry}
-use Rattle.history.specs.Config.{Config, limits_of}
+use Rattle.history.specs.Config.{Opening, limits_of}
 use Rattle.history.specs.ClockAndLease.{clock_of, last_renewal, lease_in, facts_at}
+use Rattle.history.specs.Keys.{ring_of}
+use Rattle.lease_manager.specs.Leases.{Limits}
 
 -- ---- users
 
@@ -33,25 +36,29 @@ users_of (entry ∷ earlier) = users_by entry.request.op entry.verdict (users_of
 
 -- ---- the namespace
 
-abbrev pub rows_by : LeaseFacts → Op → List ℕ → Verdict → List Row → List Row
-rows_by leases op caller (Done told) rows = rows_after leases op caller rows
-rows_by leases op caller (Denied denial) rows = rows
-rows_by leases op caller (Refused refusal) rows = rows
+-- what an outcome asks of leases, each given by its last renewal, and of the keys
+abbrev pub facts_with : Limits → ℕ → (List ℕ → Option ℕ) → Ring → Facts
+facts_with limits now lease ring = record { leases = facts_at limits now lease; next_serial = next_serial ring.serial }
 
-abbrev pub rows_of : Config → List HistoryEntry → List Row
-rows_of config [] = root_row superuser supergroup ∷ []
-rows_of config (entry ∷ earlier) =
-    rows_by (facts_at (limits_of config) (clock_of (entry ∷ earlier)) (lease_in (last_renewal earlier) (rows_of config earlier))) entry.request.op entry.request.caller entry.verdict (rows_of config earlier)
+abbrev pub rows_by : Facts → Op → List ℕ → Verdict → List Row → List Row
+rows_by facts op caller (Done told) rows = rows_after facts op caller rows
+rows_by facts op caller (Denied denial) rows = rows
+rows_by facts op caller (Refused refusal) rows = rows
+
+abbrev pub rows_of : Opening → List HistoryEntry → List Row
+rows_of opening [] = root_row superuser supergroup ∷ []
+rows_of opening (entry ∷ earlier) =
+    rows_by (facts_with (limits_of opening.config) (clock_of (entry ∷ earlier)) (lease_in (last_renewal earlier) (rows_of opening earlier)) (ring_of opening earlier)) entry.request.op entry.request.caller entry.verdict (rows_of opening earlier)
 
 -- ---- leases
 
-abbrev pub has_lease : Config → List HistoryEntry → List ℕ → Bool
-has_lease config entries client = has_open_file client (rows_of config entries)
+abbrev pub has_lease : Opening → List HistoryEntry → List ℕ → Bool
+has_lease opening entries client = has_open_file client (rows_of opening entries)
 
 -- the last renewal of a client that has a lease
-abbrev pub lease_of : Config → List HistoryEntry → List ℕ → Option ℕ
-lease_of config entries client = lease_in (last_renewal entries) (rows_of config entries) client
+abbrev pub lease_of : Opening → List HistoryEntry → List ℕ → Option ℕ
+lease_of opening entries client = lease_in (last_renewal entries) (rows_of opening entries) client
 
--- how the leases stand at a moment
-abbrev pub lease_facts : Config → List HistoryEntry → ℕ → LeaseFacts
-lease_facts config entries now = facts_at (limits_of config) now (lease_of config entries)
+-- how leases and keys stand at a moment
+abbrev pub facts_of : Opening → List HistoryEntry → ℕ → Facts
+facts_of opening entries now = facts_with (limits_of opening.config) now (lease_of opening entries) (ring_of opening entries)

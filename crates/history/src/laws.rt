@@ -14,7 +14,7 @@ pub fn live_writers_stay()
     ensures named { law.LiveWritersAreNamed }
 {}
 
-/// What is denied or refused leaves users, namespace and renewals as they are, and so does a request that only looks.
+/// What is denied or refused leaves users, namespace, renewals and keys as they are, and so does a request that only looks.
 pub fn nothing_changes()
     ensures not_done { law.WhatIsNotDoneChangesNothing }
     ensures looks { law.LooksChangeNothing }

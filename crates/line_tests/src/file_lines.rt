@@ -29,7 +29,7 @@ fn verbs_of_files_count_their_words(rt: HostRuntime) -> Result<(), Fail> {
 }
 
 /// Requests, and words that are ill-formed, alone and before another.
-static SAID: [(&str, &str); 39] = [
+static SAID: [(&str, &str); 45] = [
     ("7 ann create /a 1644 3", "7 ann Create /a 1644 3 false"),
     ("0 ann create /a 0 016 over", "0 ann Create /a 0000 16 true"),
     ("0 ann append /a", "0 ann Append /a"),
@@ -44,6 +44,27 @@ static SAID: [(&str, &str); 39] = [
     ("0 ann setrep /a 01", "0 ann SetReplication /a 1"),
     ("4611686018427387904 - renew", "4611686018427387904 - Renew"),
     ("0 ann tick", "0 ann Tick"),
+    (
+        "0 ann rollkey 00112233445566778899aAbBcCdDeEfF00112233",
+        "0 ann RollKey 00112233445566778899aabbccddeeff00112233",
+    ),
+    (
+        "0 ann rollkey 00112233445566778899aAbBcCdDeEfF0011223",
+        "0 BadLine",
+    ),
+    (
+        "0 ann rollkey 00112233445566778899aAbBcCdDeEfF001122",
+        "0 BadLine",
+    ),
+    (
+        "0 ann rollkey 00112233445566778899aAbBcCdDeEfF0011223344",
+        "0 BadLine",
+    ),
+    (
+        "0 ann rollkey 00112233445566778899aAbBcCdDeEfF0011223g",
+        "0 BadLine",
+    ),
+    ("0 ann rollkey ", "0 BadLine"),
     ("0 ann create /.. 999 77", "1 BadPath"),
     ("0 ann create /.. 999 77 under", "1 BadPath"),
     ("0 ann create /a 999 77", "20 BadMode"),

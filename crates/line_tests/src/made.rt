@@ -1,5 +1,6 @@
 use hdfs_types::file::LastBlock;
 use hdfs_types::given_name::GivenName;
+use hdfs_types::key::Key;
 use hdfs_types::op::{Op, Request};
 use hdfs_values::fault::ParseFault;
 use hdfs_values::groups::Groups;
@@ -121,7 +122,13 @@ fn user_in(alloc: Global, word: &str, user: &Who, groups: &Groups) -> Result<Str
     Ok(out)
 }
 
-/// The parts of an operation on a file, behind the name of its variant.
+/// A key, in lower case digits.
+fn rolled(alloc: Global, key: &Key) -> Result<String, AllocError> {
+    let digits = hex::encode(alloc, key.as_bytes())?;
+    format!(in alloc; "RollKey {digits}")
+}
+
+/// The parts of an operation on a file, or on the NameNode, behind the name of its variant.
 fn file_parts_of(alloc: Global, op: &Op) -> Result<String, AllocError> {
     match op {
         Op::Create(path, mode, replication, over) => {
@@ -134,6 +141,7 @@ fn file_parts_of(alloc: Global, op: &Op) -> Result<String, AllocError> {
         Op::SetReplication(path, replication) => {
             behind_path(alloc, "SetReplication", path, replication.to_string(alloc))
         }
+        Op::RollKey(key) => rolled(alloc, key),
         Op::Renew => String::from_str(alloc, "Renew"),
         Op::Tick => String::from_str(alloc, "Tick"),
         _ => String::from_str(alloc, "(other)"),

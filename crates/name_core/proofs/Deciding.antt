@@ -1,10 +1,11 @@
 -- The verdict on a request that writes a file, and what it is free of.
-use Rattle.std.proofs.Common.{◌≡◌, ℕ, Bool, true, false, List, Option, refl, sym, ap, ◌∙◌}
+use Rattle.std.proofs.Common.{◌≡◌, ℕ, Bool, true, false, List, Option, None, refl, sym, ap, ◌∙◌}
 use Rattle.hdfs_types.specs.declared.op.Op.{Op}
 use Rattle.principals.specs.Users.{Users}
 use Rattle.namespace_rows.specs.declared.row.Row.{Row}
 use Rattle.flat_rows.specs.declared.verdict.Verdict as answer
 use Rattle.flat_rows.specs.FileOutcome.{LeaseFacts}
+use Rattle.flat_rows.specs.Facts.{Facts}
 use Rattle.flat_rows.specs.Outcome.{step}
 use Rattle.write_rules.specs.declared.write.Judged.{Judged}
 use Rattle.write_rules.specs.Judged.{verdict_under, takeover, IsJudged}
@@ -13,28 +14,29 @@ use Rattle.flat_rows.specs.Verdicts.{is_done}
 use Rattle.name_core.specs.declared.namesystem.Namesystem.{Namesystem}
 use Rattle.lease_manager.specs.Writers.{moment_of}
 use Rattle.file_effects.specs.Effected.{IsExact, IsFree}
-use Rattle.name_core.specs.Performed.{facts_of}
+use Rattle.name_core.specs.Performed.{facts_in}
 use Rattle.name_core.proofs.Performing.{done_free, lease_is}
 
-pub free_of : (leases : LeaseFacts) (rows : List Row) (users : Users) (caller : List ℕ) (what : Op) (verdict : answer.Verdict) → verdict ≡ (step leases rows users caller what).verdict → is_done verdict ≡ true → IsFree what caller rows users
-free_of leases rows users caller what verdict is done = (leases, (done_free leases rows users caller what (ap is_done (sym is) ∙ done)).free)
+pub free_of : (facts : Facts) (rows : List Row) (users : Users) (caller : List ℕ) (what : Op) (verdict : answer.Verdict) → verdict ≡ (step facts rows users caller what).verdict → is_done verdict ≡ true → IsFree what caller rows users
+free_of facts rows users caller what verdict is done = (facts, (done_free facts rows users caller what (ap is_done (sym is) ∙ done)).free)
 
 abbrev live_facts : Bool → LeaseFacts
 live_facts live = record { is_live = λ client. live; is_past_hard = λ client. false }
 
-module _ (system : Namesystem) (caller : List ℕ) (what : Op) (judged : Judged) (all : (leases : LeaseFacts) → IsJudged leases system.tree system.users caller what judged) where
+module _ (system : Namesystem) (caller : List ℕ) (what : Op) (judged : Judged) (all : (facts : Facts) → IsJudged facts system.tree system.users caller what judged) where
   -- however leases stand
-  pub judged_is : (leases : LeaseFacts) (verdict : answer.Verdict) → verdict_under leases judged ≡ verdict → verdict ≡ (step leases system.tree system.users caller what).verdict
-  judged_is leases verdict is = sym is ∙ all leases
+  pub judged_is : (facts : Facts) (verdict : answer.Verdict) → verdict_under facts.leases judged ≡ verdict → verdict ≡ (step facts system.tree system.users caller what).verdict
+  judged_is facts verdict is = sym is ∙ all facts
 
   module _ (now : ℕ) (holder : List ℕ) (ends : Bool) (verdict : answer.Verdict) (held : (leases : LeaseFacts) → verdict_under leases judged ≡ takeover leases holder ends)
       (told : (leases : LeaseFacts) → leases.is_live holder ≡ is_live (state_at system.writers.leases.limits now (moment_of system.writers.leases.renewals holder)) → verdict ≡ takeover leases holder ends) where
     pub held_free : is_done verdict ≡ true → IsFree what caller system.tree system.users
     held_free done =
         let leases = live_facts (is_live (state_at system.writers.leases.limits now (moment_of system.writers.leases.renewals holder))) in
-        free_of leases system.tree system.users caller what verdict (judged_is leases verdict (held leases ∙ sym (told leases refl))) done
+        let facts : Facts = record { leases = leases; next_serial = None } in
+        free_of facts system.tree system.users caller what verdict (judged_is facts verdict (held leases ∙ sym (told leases refl))) done
 
-    pub held_is : (last : List ℕ → Option ℕ) → IsExact last system.tree system.writers → verdict ≡ (step (facts_of last now system) system.tree system.users caller what).verdict
+    pub held_is : (last : List ℕ → Option ℕ) → IsExact last system.tree system.writers → verdict ≡ (step (facts_in last now system) system.tree system.users caller what).verdict
     held_is last exact =
-        let leases = facts_of last now system in
-        judged_is leases verdict (held leases ∙ sym (told leases (ap (λ m. is_live (state_at system.writers.leases.limits now m)) (lease_is last system.tree system.writers holder exact))))
+        let facts = facts_in last now system in
+        judged_is facts verdict (held facts.leases ∙ sym (told facts.leases (ap (λ m. is_live (state_at system.writers.leases.limits now m)) (lease_is last system.tree system.writers holder exact))))

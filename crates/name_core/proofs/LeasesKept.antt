@@ -1,8 +1,8 @@
--- Verbs that leave leases as they are.
+-- Verbs that leave leases, or keys, as they are.
 use Rattle.std.proofs.Common.{◌≡◌, ℕ, true, false, ◌&&◌, List, length, nat_lt, Option, Some, None, refl, sym, ap, ◌∙◌, cond}
 use Rattle.hdfs_values.specs.Text.{same}
 use Rattle.hdfs_types.specs.Request.{keeps_leases}
-use Rattle.hdfs_types.specs.Verb.{read_op, update_op}
+use Rattle.hdfs_types.specs.Verb.{read_op, update_op, write_op}
 use Rattle.hdfs_types.specs.declared.op.Op.{Op}
 use Rattle.hdfs_types.specs.declared.op.Op.TheVariants as op
 use Rattle.hdfs_types.specs.declared.reply.Reply.TheVariants.{Empty}
@@ -16,10 +16,14 @@ use Rattle.flat_rows.specs.declared.verdict.Verdict.{Verdict}
 use Rattle.flat_rows.specs.declared.verdict.Verdict.TheVariants.{Done, Denied, Refused}
 use Rattle.namespace_rows.specs.Namespace.{IsNamespace}
 use Rattle.namespace_rows.specs.Files.{open_files}
-use Rattle.flat_rows.specs.FileOutcome.{LeaseFacts}
+use Rattle.flat_rows.specs.Facts.{Facts}
 use Rattle.flat_rows.specs.Outcome.{step, reply_of}
 use Rattle.flat_rows.proofs.Keeping.{kept_open}
 use Rattle.history.specs.ClockAndLease.{renews}
+use Rattle.hdfs_types.specs.declared.verb.Write.{Write}
+use Rattle.hdfs_types.specs.declared.verb.Write.TheVariants as write
+use Rattle.block_tokens.specs.Ring.{Ring}
+use Rattle.history.specs.Keys.{ring_by}
 use Rattle.lease_manager.specs.declared.writers.Writers.{Writers}
 use Rattle.lease_manager.specs.Writers.{count_of}
 use Rattle.file_effects.specs.Effected.{IsExact, renewed_where}
@@ -33,9 +37,9 @@ update_keeps (update.Mkdirs path mode) = refl
 update_keeps _ = refl
 
 -- there is nothing to report of an update
-pub empty_reply : (leases : LeaseFacts) (verb : Update) (rows : List Row) → reply_of leases (update_op verb) rows ≡ Empty
-empty_reply leases (update.Mkdirs path mode) rows = refl
-empty_reply leases _ rows = refl
+pub empty_reply : (facts : Facts) (verb : Update) (rows : List Row) → reply_of facts (update_op verb) rows ≡ Empty
+empty_reply facts (update.Mkdirs path mode) rows = refl
+empty_reply facts _ rows = refl
 
 -- none renews a lease
 pub renews_not : (what : Op) (verdict : Verdict) → keeps_leases what ≡ true → renews what verdict ≡ false
@@ -50,11 +54,25 @@ renews_not op.Renew (Done told) h = cc
 renews_not op.Tick (Done told) h = cc
 renews_not _ (Done told) h = refl
 
+-- none is a roll of the keys
+pub keys_stay : (what : Op) (verdict : Verdict) (now : ℕ) (ring : Ring) → keeps_leases what ≡ true → ring_by what verdict now ring ≡ ring
+keys_stay what (Denied denial) now ring h = refl
+keys_stay what (Refused refusal) now ring h = refl
+keys_stay (op.RollKey key) (Done told) now ring h = cc
+keys_stay _ (Done told) now ring h = refl
+
+-- nor is a verb that writes files
+pub keys_stay_written : (verb : Write) (verdict : Verdict) (now : ℕ) (ring : Ring) → ring_by (write_op verb) verdict now ring ≡ ring
+keys_stay_written verb (Denied denial) now ring = refl
+keys_stay_written verb (Refused refusal) now ring = refl
+keys_stay_written (write.Append path) (Done told) now ring = refl
+keys_stay_written _ (Done told) now ring = refl
+
 -- each client has as many files open, and the same lease
-pub exact_kept : (last : List ℕ → Option ℕ) (now : ℕ) (leases : LeaseFacts) (rows : List Row) (users : Users) (caller : List ℕ) (what : Op) (verdict : Verdict) (left : List Row) (writers : Writers)
-    → keeps_leases what ≡ true → IsNamespace rows → left ≡ (step leases rows users caller what).rows → IsExact last rows writers → IsExact (renewed_where (renews what verdict) caller now last) left writers
-exact_kept last now leases rows users caller what verdict left writers k namespace is exact =
+pub exact_kept : (last : List ℕ → Option ℕ) (now : ℕ) (facts : Facts) (rows : List Row) (users : Users) (caller : List ℕ) (what : Op) (verdict : Verdict) (left : List Row) (writers : Writers)
+    → keeps_leases what ≡ true → IsNamespace rows → left ≡ (step facts rows users caller what).rows → IsExact last rows writers → IsExact (renewed_where (renews what verdict) caller now last) left writers
+exact_kept last now facts rows users caller what verdict left writers k namespace is exact =
     record {
-      files = λ client. exact.files client ∙ (sym (kept_open client rows namespace leases users caller what k) ∙ ap (λ rs. length (open_files client rs)) (sym is));
+      files = λ client. exact.files client ∙ (sym (kept_open client rows namespace facts users caller what k) ∙ ap (λ rs. length (open_files client rs)) (sym is));
       leased = λ client. exact.leased client ∙ ap (λ b. cond (nat_lt 0 (count_of writers.files client)) (cond (b && same caller client) (Some now) (last client)) None) (sym (renews_not what verdict k));
     }

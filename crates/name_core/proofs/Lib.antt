@@ -3,6 +3,7 @@ pub mod Keeping
 pub mod LeasesKept
 pub mod Performing
 pub mod Ticking
+pub mod Rolling
 pub mod Deciding
 pub mod Looking
 pub mod Recording

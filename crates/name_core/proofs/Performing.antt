@@ -22,10 +22,13 @@ use Rattle.flat_rows.specs.Decision.{decision}
 use Rattle.namespace_rows.specs.Files.{open_files, has_open_file}
 use Rattle.namespace_rows.specs.Rows.{row_at}
 use Rattle.namespace_rows.specs.Namespace.{IsNamespace}
-use Rattle.flat_rows.specs.FileOutcome.{LeaseFacts, appended_reply, holder_at}
+use Rattle.flat_rows.specs.FileOutcome.{appended_reply, holder_at}
+use Rattle.flat_rows.specs.Facts.{Facts}
 use Rattle.flat_rows.specs.Outcome.{Step, step, first_refusal, denied_or_outcome, refused_or_done, refused_where, reply_of, users_after}
 use Rattle.history.specs.ClockAndLease.{renews, lease_in}
 use Rattle.flat_rows.specs.Verdicts.{is_done}
+use Rattle.block_tokens.specs.Ring.{Ring}
+use Rattle.history.specs.Keys.{ring_by}
 use Rattle.history.specs.State.{rows_by, users_by}
 use Rattle.history.proofs.OpenFiles.{any_counted}
 use Rattle.file_effects.proofs.Effects.{no_facts}
@@ -34,9 +37,9 @@ use Rattle.lease_manager.specs.declared.writers.Writers.{Writers}
 use Rattle.lease_manager.specs.Writers.{count_of, moment_of, IsLeased, renewed_at}
 use Rattle.name_core.specs.Told.{may_change}
 use Rattle.file_effects.specs.Effected.{IsExact, IsEffected, renewed_where}
-use Rattle.name_core.specs.Performed.{IsPerformed, IsUndone, facts_of}
+use Rattle.name_core.specs.Performed.{IsPerformed, IsUndone, facts_in}
 use Rattle.name_core.proofs.Stepping.{stepped_rows, stepped_users}
-use Rattle.name_core.proofs.LeasesKept.{exact_kept, update_keeps, empty_reply}
+use Rattle.name_core.proofs.LeasesKept.{exact_kept, update_keeps, empty_reply, keys_stay, keys_stay_written}
 
 -- what holds of each is known together
 pub given_all : {T E L : Type 0} (result : Result T E) (P : L → T → Type 0) (Q : T → Type 0) → ((value : T) → ((l : L) → P l value) → Q value) → ((l : L) → IfOk result (P l)) → IfOk result Q
@@ -62,34 +65,39 @@ lease_is last rows writers client exact = ap (λ b. cond b (last client) None) (
 
 -- ---- what is done, and what isn't
 
-module _ (leases : LeaseFacts) (rows : List Row) (users : Users) (caller : List ℕ) (what : Op) where
+module _ (facts : Facts) (rows : List Row) (users : Users) (caller : List ℕ) (what : Op) where
   pub record IsGranted : Type 0 where
-    pub free : first_refusal leases caller what rows users ≡ None
-    pub told : (step leases rows users caller what).verdict ≡ Done (reply_of leases what rows)
+    pub free : first_refusal facts caller what rows users ≡ None
+    pub told : (step facts rows users caller what).verdict ≡ Done (reply_of facts what rows)
 
   -- what is done is free of refusals
-  pub done_free : is_done (step leases rows users caller what).verdict ≡ true → IsGranted
+  pub done_free : is_done (step facts rows users caller what).verdict ≡ true → IsGranted
   done_free h = by_denial (decision rows users caller what) refl h
     where
-      by_refusal : (refusal : Option Refusal) → first_refusal leases caller what rows users ≡ refusal → decision rows users caller what ≡ None → is_done (refused_or_done leases rows users caller what refusal).verdict ≡ true → IsGranted
+      by_refusal : (refusal : Option Refusal) → first_refusal facts caller what rows users ≡ refusal → decision rows users caller what ≡ None → is_done (refused_or_done facts rows users caller what refusal).verdict ≡ true → IsGranted
       by_refusal None e d k =
           record {
             free = e;
-            told = ap (λ x. (denied_or_outcome leases rows users caller what x).verdict) d ∙ ap (λ x. (refused_or_done leases rows users caller what x).verdict) e;
+            told = ap (λ x. (denied_or_outcome facts rows users caller what x).verdict) d ∙ ap (λ x. (refused_or_done facts rows users caller what x).verdict) e;
           }
       by_refusal (Some refusal) e d k = cc
 
-      by_denial : (denial : Option denied.Denial) → decision rows users caller what ≡ denial → is_done (denied_or_outcome leases rows users caller what denial).verdict ≡ true → IsGranted
-      by_denial None e k = by_refusal (first_refusal leases caller what rows users) refl e k
+      by_denial : (denial : Option denied.Denial) → decision rows users caller what ≡ denial → is_done (denied_or_outcome facts rows users caller what denial).verdict ≡ true → IsGranted
+      by_denial None e k = by_refusal (first_refusal facts caller what rows users) refl e k
       by_denial (Some denial) e k = cc
 
-not_done_same : (what : Op) (caller : List ℕ) (leases : LeaseFacts) (verdict : Verdict) (rows : List Row) (users : Users) → is_done verdict ≡ false → (rows_by leases what caller verdict rows ≡ rows) × (users_by what verdict users ≡ users) × (renews what verdict ≡ false)
-not_done_same what caller leases (Done told) rows users h = cc
-not_done_same what caller leases (Denied denial) rows users h = (refl, refl, refl)
-not_done_same what caller leases (Refused refusal) rows users h = (refl, refl, refl)
+not_done_same : (what : Op) (caller : List ℕ) (facts : Facts) (verdict : Verdict) (rows : List Row) (users : Users) → is_done verdict ≡ false → (rows_by facts what caller verdict rows ≡ rows) × (users_by what verdict users ≡ users) × (renews what verdict ≡ false)
+not_done_same what caller facts (Done told) rows users h = cc
+not_done_same what caller facts (Denied denial) rows users h = (refl, refl, refl)
+not_done_same what caller facts (Refused refusal) rows users h = (refl, refl, refl)
+
+not_done_keys : (what : Op) (verdict : Verdict) (now : ℕ) (ring : Ring) → is_done verdict ≡ false → ring_by what verdict now ring ≡ ring
+not_done_keys what (Done told) now ring h = cc
+not_done_keys what (Denied denial) now ring h = refl
+not_done_keys what (Refused refusal) now ring h = refl
 
 pub undone_same : (system : Namesystem) → IsUndone system system
-undone_same system = record { tree = refl; users = refl; writers = record { leases = refl; files = λ client. refl } }
+undone_same system = record { tree = refl; users = refl; writers = record { leases = refl; files = λ client. refl }; ring = refl }
 
 never : true ≡ false → ⊥
 never e = cc
@@ -101,22 +109,23 @@ changing old new verdict told is may none = absurd (never (sym may ∙ (sym (ap 
 -- ---- verbs that leave leases as they are
 
 abbrev pub Applied : Namesystem → List ℕ → Op → Verdict → Namesystem → Type 0
-Applied old caller what verdict new = (leases : LeaseFacts) → record { verdict = verdict; rows = new.tree; users = new.users } ≡ step leases old.tree old.users caller what
+Applied old caller what verdict new = (facts : Facts) → record { verdict = verdict; rows = new.tree; users = new.users } ≡ step facts old.tree old.users caller what
 
-pub performed_kept : (last : List ℕ → Option ℕ) (now : ℕ) (caller : List ℕ) (what : Op) (old new : Namesystem) (verdict : Verdict) → keeps_leases what ≡ true → IsNamespace old.tree → new.writers ≡ old.writers
+pub performed_kept : (last : List ℕ → Option ℕ) (now : ℕ) (caller : List ℕ) (what : Op) (old new : Namesystem) (verdict : Verdict) → keeps_leases what ≡ true → IsNamespace old.tree → new.writers ≡ old.writers → new.ring ≡ old.ring
     → Applied old caller what verdict new → (may_change verdict ≡ false → IsUndone old new) → IsExact last old.tree old.writers → IsPerformed last now caller what old verdict new
-performed_kept last now caller what old new verdict keeps namespace same_writers applied unchanged exact =
-    let facts = facts_of last now old in
+performed_kept last now caller what old new verdict keeps namespace same_writers same_ring applied unchanged exact =
+    let facts = facts_in last now old in
     record {
       stepped = applied facts;
+      ring = same_ring ∙ sym (keys_stay what verdict now old.ring keeps);
       exact = subst (λ w. IsExact (renewed_where (renews what verdict) caller now last) new.tree w) (sym same_writers)
           (exact_kept last now facts old.tree old.users caller what verdict new.tree old.writers keeps namespace (ap (λ (s : Step). s.rows) (applied facts)) exact);
       unchanged = unchanged;
     }
 
 -- what isn't done is undone
-undone_update : (caller : List ℕ) (what : Op) (old new : Namesystem) (verdict : Verdict) → is_done verdict ≡ false → new.writers ≡ old.writers → Applied old caller what verdict new → IsUndone old new
-undone_update caller what old new verdict none same_writers applied =
+undone_update : (caller : List ℕ) (what : Op) (old new : Namesystem) (verdict : Verdict) → is_done verdict ≡ false → new.writers ≡ old.writers → new.ring ≡ old.ring → Applied old caller what verdict new → IsUndone old new
+undone_update caller what old new verdict none same_writers same_ring applied =
     let is = applied no_facts in
     let after = step no_facts old.tree old.users caller what in
     let judged : verdict ≡ after.verdict = ap (λ (s : Step). s.verdict) is in
@@ -125,6 +134,7 @@ undone_update caller what old new verdict none same_writers applied =
       tree = ap (λ (s : Step). s.rows) is ∙ (stepped_rows no_facts old.tree old.users caller what ∙ stays.0);
       users = ap (λ (s : Step). s.users) is ∙ (stepped_users no_facts old.tree old.users caller what ∙ stays.1);
       writers = record { leases = ap (λ (w : Writers). w.leases) same_writers; files = λ client. ap (λ (w : Writers). count_of w.files client) same_writers };
+      ring = same_ring;
     }
 
 -- there is nothing to report of an update that is done
@@ -134,21 +144,21 @@ done_update caller update old new verdict done applied =
     let granted = done_free no_facts old.tree old.users caller (update_op update) (ap is_done (sym judged) ∙ done) in
     judged ∙ (granted.told ∙ ap (λ r. Done r) (empty_reply no_facts update old.tree))
 
-unchanged_update : (caller : List ℕ) (update : Update) (old new : Namesystem) (verdict : Verdict) → new.writers ≡ old.writers → Applied old caller (update_op update) verdict new → may_change verdict ≡ false → IsUndone old new
-unchanged_update caller update old new verdict same_writers applied none = by (is_done verdict) refl
+unchanged_update : (caller : List ℕ) (update : Update) (old new : Namesystem) (verdict : Verdict) → new.writers ≡ old.writers → new.ring ≡ old.ring → Applied old caller (update_op update) verdict new → may_change verdict ≡ false → IsUndone old new
+unchanged_update caller update old new verdict same_writers same_ring applied none = by (is_done verdict) refl
   where
     by : (b : Bool) → is_done verdict ≡ b → IsUndone old new
     by true e = changing old new verdict (Done reply.Empty) (done_update caller update old new verdict e applied) refl none
-    by false e = undone_update caller (update_op update) old new verdict e same_writers applied
+    by false e = undone_update caller (update_op update) old new verdict e same_writers same_ring applied
 
-pub performed_update : (last : List ℕ → Option ℕ) (now : ℕ) (caller : List ℕ) (update : Update) (old new : Namesystem) (verdict : Verdict) → IsNamespace old.tree → new.writers ≡ old.writers
+pub performed_update : (last : List ℕ → Option ℕ) (now : ℕ) (caller : List ℕ) (update : Update) (old new : Namesystem) (verdict : Verdict) → IsNamespace old.tree → new.writers ≡ old.writers → new.ring ≡ old.ring
     → Applied old caller (update_op update) verdict new → IsExact last old.tree old.writers → IsPerformed last now caller (update_op update) old verdict new
-performed_update last now caller update old new verdict namespace same_writers applied exact =
-    performed_kept last now caller (update_op update) old new verdict (update_keeps update) namespace same_writers applied (unchanged_update caller update old new verdict same_writers applied) exact
+performed_update last now caller update old new verdict namespace same_writers same_ring applied exact =
+    performed_kept last now caller (update_op update) old new verdict (update_keeps update) namespace same_writers same_ring applied (unchanged_update caller update old new verdict same_writers same_ring applied) exact
 
 -- ---- renewals
 
-renewal_step : (facts : LeaseFacts) (rows : List Row) (users : Users) (caller : List ℕ) (b : Bool) → has_open_file caller rows ≡ b
+renewal_step : (facts : Facts) (rows : List Row) (users : Users) (caller : List ℕ) (b : Bool) → has_open_file caller rows ≡ b
     → step facts rows users caller op.Renew ≡ refused_or_done facts rows users caller op.Renew (refused_where (not b) NoLease)
 renewal_step facts rows users caller b h = ap (λ c. refused_or_done facts rows users caller op.Renew (refused_where (not c) NoLease)) h
 
@@ -160,7 +170,8 @@ pub refused_renewal : (last : List ℕ → Option ℕ) (now : ℕ) (caller : Lis
 refused_renewal last now caller old n counted none exact =
     let free : has_open_file caller old.tree ≡ false = has_counted last old.tree old.writers caller exact ∙ none_counted _ n counted none in
     record {
-      stepped = sym (renewal_step (facts_of last now old) old.tree old.users caller false free);
+      stepped = sym (renewal_step (facts_in last now old) old.tree old.users caller false free);
+      ring = refl;
       exact = exact;
       unchanged = λ h. undone_same old;
     }
@@ -169,16 +180,17 @@ some_counted : (n r : ℕ) → r ≡ n → r ≢ 0 → 0 < n
 some_counted n r is some = omega (arith, is, some)
 
 pub done_renewal : (last : List ℕ → Option ℕ) (now : ℕ) (caller : List ℕ) (old new : Namesystem) (n : ℕ) → n ≡ count_of old.writers.files caller → n ≢ 0
-    → new.tree ≡ old.tree → new.users ≡ old.users → new.writers.files ≡ old.writers.files
+    → new.tree ≡ old.tree → new.users ≡ old.users → new.ring ≡ old.ring → new.writers.files ≡ old.writers.files
     → ((last : List ℕ → Option ℕ) → 0 < count_of old.writers.files caller → IsLeased last old.writers → IsLeased (renewed_at caller now last) new.writers)
     → IsExact last old.tree old.writers → IsPerformed last now caller op.Renew old (Done reply.Empty) new
-done_renewal last now caller old new n counted some tree users files leased exact =
+done_renewal last now caller old new n counted some tree users ring files leased exact =
     let positive : 0 < count_of old.writers.files caller = some_counted _ n counted some in
     let held : has_open_file caller old.tree ≡ true = has_counted last old.tree old.writers caller exact ∙ lt-ltb 0 (count_of old.writers.files caller) positive in
     record {
       stepped =
           step_of (record { verdict = Done reply.Empty; rows = old.tree; users = old.users }) (Done reply.Empty) new.tree new.users refl tree users
-          ∙ sym (renewal_step (facts_of last now old) old.tree old.users caller true held);
+          ∙ sym (renewal_step (facts_in last now old) old.tree old.users caller true held);
+      ring = ring;
       exact =
           record {
             files = λ client. ap (λ f. count_of f client) files ∙ (exact.files client ∙ ap (λ t. length (open_files client t)) (sym tree));
@@ -194,23 +206,24 @@ users_stay (write.Append path) users = refl
 users_stay _ users = refl
 
 -- what is reported of one that is done takes no memory
-change_reported : (leases : LeaseFacts) (verb : Write) (rows : List Row) → may_change (Done (reply_of leases (write_op verb) rows)) ≡ true
-change_reported leases (write.Append path) rows = by (holder_at (row_at path.now rows))
+change_reported : (facts : Facts) (verb : Write) (rows : List Row) → may_change (Done (reply_of facts (write_op verb) rows)) ≡ true
+change_reported facts (write.Append path) rows = by (holder_at (row_at path.now rows))
   where
     by : (holder : Option (List ℕ)) → may_change (Done (appended_reply holder)) ≡ true
     by None = refl
     by (Some holder) = refl
-change_reported leases _ rows = refl
+change_reported facts _ rows = refl
 
 -- what isn't done changes nothing
 pub performed_not_done : (last : List ℕ → Option ℕ) (now : ℕ) (caller : List ℕ) (what : Op) (old : Namesystem) (verdict : Verdict)
-    → verdict ≡ (step (facts_of last now old) old.tree old.users caller what).verdict → is_done verdict ≡ false → IsExact last old.tree old.writers → IsPerformed last now caller what old verdict old
+    → verdict ≡ (step (facts_in last now old) old.tree old.users caller what).verdict → is_done verdict ≡ false → IsExact last old.tree old.writers → IsPerformed last now caller what old verdict old
 performed_not_done last now caller what old verdict judged none exact =
-    let facts = facts_of last now old in
+    let facts = facts_in last now old in
     let done = step facts old.tree old.users caller what in
     let stays = not_done_same what caller facts done.verdict old.tree old.users (ap is_done (sym judged) ∙ none) in
     record {
       stepped = step_of done verdict old.tree old.users judged (sym (stepped_rows facts old.tree old.users caller what ∙ stays.0)) (sym (stepped_users facts old.tree old.users caller what ∙ stays.1));
+      ring = sym (not_done_keys what verdict now old.ring none);
       exact =
           record {
             files = exact.files;
@@ -221,10 +234,10 @@ performed_not_done last now caller what old verdict judged none exact =
 
 -- what is done leaves what its effect leaves
 pub performed_write : (last : List ℕ → Option ℕ) (now : ℕ) (caller : List ℕ) (verb : Write) (old new : Namesystem) (verdict : Verdict)
-    → verdict ≡ (step (facts_of last now old) old.tree old.users caller (write_op verb)).verdict → is_done verdict ≡ true
-    → IsEffected (write_op verb) caller now old.tree old.writers new.tree new.writers → new.users ≡ old.users → IsExact last old.tree old.writers → IsPerformed last now caller (write_op verb) old verdict new
-performed_write last now caller verb old new verdict judged done effected users exact =
-    let facts = facts_of last now old in
+    → verdict ≡ (step (facts_in last now old) old.tree old.users caller (write_op verb)).verdict → is_done verdict ≡ true
+    → IsEffected (write_op verb) caller now old.tree old.writers new.tree new.writers → new.users ≡ old.users → new.ring ≡ old.ring → IsExact last old.tree old.writers → IsPerformed last now caller (write_op verb) old verdict new
+performed_write last now caller verb old new verdict judged done effected users ring exact =
+    let facts = facts_in last now old in
     let after = step facts old.tree old.users caller (write_op verb) in
     let granted = done_free facts old.tree old.users caller (write_op verb) (ap is_done (sym judged) ∙ done) in
     record {
@@ -232,6 +245,7 @@ performed_write last now caller verb old new verdict judged done effected users 
           step_of after verdict new.tree new.users judged
           (effected.tree facts ∙ sym (stepped_rows facts old.tree old.users caller (write_op verb) ∙ ap (λ v. rows_by facts (write_op verb) caller v old.tree) granted.told))
           (users ∙ (sym (users_stay verb old.users) ∙ sym (stepped_users facts old.tree old.users caller (write_op verb) ∙ ap (λ v. users_by (write_op verb) v old.users) granted.told)));
+      ring = ring ∙ sym (keys_stay_written verb verdict now old.ring);
       exact = subst (λ v. IsExact (renewed_where (renews (write_op verb) v) caller now last) new.tree new.writers) (sym (judged ∙ granted.told)) (effected.exact facts last exact);
       unchanged = changing old new verdict (Done (reply_of facts (write_op verb) old.tree)) (judged ∙ granted.told) (change_reported facts verb old.tree);
     }

@@ -7,17 +7,17 @@ use Rattle.history.specs.ClockAndLease.{last_renewal}
 use Rattle.name_core.specs.declared.namenode.NameCore.TheInside.{Inside}
 use Rattle.name_core.specs.declared.told.Told.{Told}
 use Rattle.name_core.specs.NameCore.{Steps, stepped}
-use Rattle.name_core.specs.Kept.{IsKept, core_of, entries_of}
+use Rattle.name_core.specs.Kept.{IsKept, core_of, entries_of, opening_of}
 use Rattle.name_core.specs.Performed.{IsPerformed}
 use Rattle.name_core.proofs.Keeping.{Adds, steps_is}
 
-pub adds_of : (a b : Inside) (kept r : Request) (n pass index : ℕ) (verdict : Verdict) → kept ≡ r → b.config ≡ a.config
+pub adds_of : (a b : Inside) (kept r : Request) (n pass index : ℕ) (verdict : Verdict) → kept ≡ r → opening_of b ≡ opening_of a
     → b.history.items ≡ a.history.items ++ record { place = n; pass = pass; index = index; request = kept; verdict = verdict } ∷ [] → b.clock ≡ max a.clock r.moment
     → IsPerformed (last_renewal (entries_of a)) b.clock r.caller r.op a.system verdict b.system → b.system.writers.leases.limits ≡ a.system.writers.leases.limits → latest_moment b.system.writers.leases.renewals ≤ b.clock → n ≡ length a.history.items + 1
     → Adds a b (record { place = n; pass = pass; index = index; request = kept; verdict = verdict })
-adds_of a b kept r n pass index verdict is config history clock performed limits late place =
+adds_of a b kept r n pass index verdict is opening history clock performed limits late place =
     subst (λ k. b.history.items ≡ a.history.items ++ record { place = n; pass = pass; index = index; request = k; verdict = verdict } ∷ [] → Adds a b (record { place = n; pass = pass; index = index; request = k; verdict = verdict })) (sym is)
-    (λ h. record { config = config; history = h; clock = clock; stepped = performed.stepped; exact = performed.exact; limits = limits; latest = late; place = place }) history
+    (λ h. record { opening = opening; history = h; clock = clock; stepped = performed.stepped; ring = performed.ring; exact = performed.exact; limits = limits; latest = late; place = place }) history
 
 -- one entry more
 pub appended : (a b : Inside) (r : Request) (n pass index : ℕ) (verdict : Verdict) → IsKept a → Adds a b (record { place = n; pass = pass; index = index; request = r; verdict = verdict }) → core_of b ≡ stepped (core_of a) pass index r

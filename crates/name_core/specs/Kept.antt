@@ -2,8 +2,9 @@
 use Rattle.std.specs.Prelude.{◌≡◌, ◌≤◌, List, reverse}
 use Rattle.lease_manager.specs.Leases.{latest_moment}
 use Rattle.history.specs.declared.entry.HistoryEntry.{HistoryEntry}
-use Rattle.history.specs.Config.{limits_of}
+use Rattle.history.specs.Config.{Opening, limits_of}
 use Rattle.history.specs.ClockAndLease.{clock_of, last_renewal}
+use Rattle.history.specs.Keys.{ring_of}
 use Rattle.history.specs.State.{rows_of, users_of}
 use Rattle.history.specs.LegalHistory.{IsLegal}
 use Rattle.name_core.specs.declared.namenode.NameCore.TheInside.{Inside}
@@ -13,14 +14,18 @@ use Rattle.file_effects.specs.Effected.{IsExact}
 abbrev pub entries_of : Inside → List HistoryEntry
 entries_of core = reverse core.history.items
 
+abbrev pub opening_of : Inside → Opening
+opening_of core = record { config = core.config; key = core.first_key }
+
 abbrev pub core_of : Inside → NameCore
-core_of core = record { config = core.config; entries = entries_of core }
+core_of core = record { opening = opening_of core; entries = entries_of core }
 
 pub record IsKept (core : Inside) : Type 0 where
-  pub legal : IsLegal core.config (entries_of core)
+  pub legal : IsLegal (opening_of core) (entries_of core)
   pub clock : core.clock ≡ clock_of (entries_of core)
-  pub tree : core.system.tree ≡ rows_of core.config (entries_of core)
+  pub tree : core.system.tree ≡ rows_of (opening_of core) (entries_of core)
   pub users : core.system.users ≡ users_of (entries_of core)
+  pub ring : core.system.ring ≡ ring_of (opening_of core) (entries_of core)
   -- of each client how many files it has open, and its lease
   pub exact : IsExact (last_renewal (entries_of core)) core.system.tree core.system.writers
   pub limits : core.system.writers.leases.limits ≡ limits_of core.config

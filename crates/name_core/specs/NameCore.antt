@@ -3,21 +3,21 @@ use Rattle.std.specs.Prelude.{◌≡◌, ℕ, ◌+◌, List, ◌∷◌, length}
 use Rattle.hdfs_types.specs.declared.op.Request.{Request}
 use Rattle.history.specs.declared.entry.HistoryEntry.{HistoryEntry}
 use Rattle.history.specs.declared.entry.Answer.{Answer}
-use Rattle.history.specs.Config.{Config}
+use Rattle.history.specs.Config.{Opening}
 use Rattle.history.specs.LegalHistory.{verdict_of}
 
 pub record NameCore : Type 0 where
-  pub config : Config
+  pub opening : Opening
   -- the newest first
   pub entries : List HistoryEntry
 
 -- the entry of a request: it has the next place, and the verdict that the entries before it give
 abbrev pub entry_of : NameCore → ℕ → ℕ → Request → HistoryEntry
 entry_of core pass index request =
-    record { place = length core.entries + 1; pass = pass; index = index; request = request; verdict = verdict_of core.config core.entries request }
+    record { place = length core.entries + 1; pass = pass; index = index; request = request; verdict = verdict_of core.opening core.entries request }
 
 abbrev pub stepped : NameCore → ℕ → ℕ → Request → NameCore
-stepped core pass index request = record { config = core.config; entries = entry_of core pass index request ∷ core.entries }
+stepped core pass index request = record { opening = core.opening; entries = entry_of core pass index request ∷ core.entries }
 
 -- what is answered from an entry
 abbrev pub answer_of : HistoryEntry → Answer
@@ -30,4 +30,4 @@ pub record Steps (old : NameCore) (pass index : ℕ) (request : Request) (answer
 
 -- the verdict that a step would have, and as place the number of entries
 abbrev pub Looks : NameCore → Request → Answer → Type 0
-Looks core request answer = answer ≡ record { place = length core.entries; request = request; verdict = verdict_of core.config core.entries request }
+Looks core request answer = answer ≡ record { place = length core.entries; request = request; verdict = verdict_of core.opening core.entries request }

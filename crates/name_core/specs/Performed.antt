@@ -1,27 +1,31 @@
--- What a request leaves of the namespace, the users, and the clients who have files open.
+-- What a request leaves of the namespace, the users, the clients who have files open, and the keys.
 use Rattle.std.specs.Prelude.{◌≡◌, ℕ, false, List, Option}
 use Rattle.hdfs_types.specs.declared.op.Op.{Op}
 use Rattle.flat_rows.specs.declared.verdict.Verdict.{Verdict}
-use Rattle.flat_rows.specs.FileOutcome.{LeaseFacts}
+use Rattle.flat_rows.specs.Facts.{Facts}
 use Rattle.flat_rows.specs.Outcome.{step}
-use Rattle.history.specs.ClockAndLease.{renews, lease_in, facts_at}
+use Rattle.history.specs.ClockAndLease.{renews, lease_in}
+use Rattle.history.specs.Keys.{ring_by}
+use Rattle.history.specs.State.{facts_with}
 use Rattle.lease_manager.specs.Writers.{IsAlike}
 use Rattle.file_effects.specs.Effected.{IsExact, renewed_where}
 use Rattle.name_core.specs.declared.namesystem.Namesystem.{Namesystem}
 use Rattle.name_core.specs.Told.{may_change}
 
--- how leases stand, by the last renewals of clients
-abbrev pub facts_of : (List ℕ → Option ℕ) → ℕ → Namesystem → LeaseFacts
-facts_of last now system = facts_at system.writers.leases.limits now (lease_in last system.tree)
+-- how leases and keys stand, by the last renewals of clients
+abbrev pub facts_in : (List ℕ → Option ℕ) → ℕ → Namesystem → Facts
+facts_in last now system = facts_with system.writers.leases.limits now (lease_in last system.tree) system.ring
 
 -- nothing but room may be other
 pub record IsUndone (old new : Namesystem) : Type 0 where
   pub tree : new.tree ≡ old.tree
   pub users : new.users ≡ old.users
   pub writers : IsAlike old.writers new.writers
+  pub ring : new.ring ≡ old.ring
 
 -- the verdict, and what is left, are those of the step
 pub record IsPerformed (last : List ℕ → Option ℕ) (now : ℕ) (caller : List ℕ) (op : Op) (old : Namesystem) (verdict : Verdict) (new : Namesystem) : Type 0 where
-  pub stepped : record { verdict = verdict; rows = new.tree; users = new.users } ≡ step (facts_of last now old) old.tree old.users caller op
+  pub stepped : record { verdict = verdict; rows = new.tree; users = new.users } ≡ step (facts_in last now old) old.tree old.users caller op
+  pub ring : new.ring ≡ ring_by op verdict now old.ring
   pub exact : IsExact (renewed_where (renews op verdict) caller now last) new.tree new.writers
   pub unchanged : may_change verdict ≡ false → IsUndone old new

@@ -6,7 +6,7 @@ use crate::namenode::NameCore;
 
 /// Whatever requests a core has stepped, no two clients have a file open to write at a time.
 pub fn files_have_one_writer(core: &NameCore)
-    ensures { law.HasOneWriter core.now.config core.now.entries }
+    ensures { law.HasOneWriter core.now.opening core.now.entries }
 {
     let _root = core.tree().root();
 }

@@ -8,9 +8,12 @@ ghost use Rattle.name_core.specs.NameCore.{Steps, Looks, stepped};
 
 use crate::namesystem::{Namesystem, perform, perform_with_copy};
 use crate::told::Told;
+use block_tokens::ring::KeyRing;
 use fs_operations::apply::answer_look;
+use hdfs_types::key::Key;
 use hdfs_types::op::Request;
 use hdfs_values::fault::ParseFault;
+use hdfs_values::ids::Serial;
 use hdfs_values::moment::Moment;
 use hdfs_values::who::Who;
 use history::config::Config;
@@ -106,11 +109,12 @@ fn record(
     }
 }
 
-/// A NameNode's core: what it opened with, and its history, which is legal. Its namespace, its users and its leases are what the
-/// history gives.
+/// A NameNode's core: what it opened with, and its history, which is legal. Its namespace, its users, its leases and its keys are what
+/// the history gives.
 #[derive(Drop)]
 pub struct NameCore {
     config: Config,
+    first_key: Key,
     system: Namesystem,
     open_paths: OpenPaths,
     clock: Moment,
@@ -132,12 +136,13 @@ impl Model for NameCore {
 }
 
 impl NameCore {
-    /// A core without entries: no user is known but the superuser, and the namespace is the root.
+    /// A core without entries: no user is known but the superuser, the namespace is the root, and tokens are issued under this key, which
+    /// has the first serial number.
     ///
     /// # Errors
     /// Out of memory.
-    pub fn open(alloc: Global, config: Config) -> Result<NameCore, AllocError>
-        ensures { IfOk result (λ core. core ≡ record { config = config; entries = [] }) }
+    pub fn open(alloc: Global, config: Config, key: Key) -> Result<NameCore, AllocError>
+        ensures { IfOk result (λ core. core ≡ record { opening = record { config = config; key = key }; entries = [] }) }
     {
         let superuser = known_who(alloc, "hdfs")?;
         let supergroup = known_who(alloc, "supergroup")?;
@@ -145,12 +150,15 @@ impl NameCore {
         let users = Users::new(alloc, superuser, supergroup);
         let durations = config.durations();
         let writers = Writers::new(alloc, durations.soft_limit, durations.hard_limit);
+        let serial = Serial::new(config.first().serial);
         Ok(NameCore {
             config,
+            first_key: key,
             system: Namesystem {
                 tree,
                 users,
                 writers,
+                ring: KeyRing::new(alloc, serial, key, durations.token_lifetime),
             },
             open_paths: OpenPaths::new(alloc),
             clock: first_moment(),
@@ -162,7 +170,7 @@ impl NameCore {
     /// The number of entries. Takes no memory.
     pub fn place(&self) -> u64
         ensures place { result ≡ length self.now.entries }
-        ensures legal { IsLegal self.now.config self.now.entries }
+        ensures legal { IsLegal self.now.opening self.now.entries }
     {
         self.history.len() as u64
     }
@@ -170,7 +178,7 @@ impl NameCore {
     /// The entries, the oldest first. Takes no memory.
     pub fn history(&self) -> &[HistoryEntry]
         ensures entries { reverse result.now ≡ self.now.entries }
-        ensures legal { IsLegal self.now.config self.now.entries }
+        ensures legal { IsLegal self.now.opening self.now.entries }
     {
         self.history.as_slice()
     }
@@ -184,7 +192,7 @@ impl NameCore {
 
     /// The namespace as it is now. Takes no memory.
     pub fn tree(&self) -> &Tree
-        ensures { result.now ≡ rows_of self.now.config self.now.entries }
+        ensures { result.now ≡ rows_of self.now.opening self.now.entries }
     {
         &self.system.tree
     }

@@ -14,17 +14,19 @@ ghost use Rattle.lease_manager.specs.Leases as lease;
 ghost use Rattle.lease_manager.specs.Leases.{latest_moment};
 ghost use Rattle.lease_manager.specs.Writers.{moment_of};
 ghost use Rattle.file_effects.specs.Effected.{IsExact, IsFree};
-ghost use Rattle.name_core.specs.Performed.{IsPerformed, IsUndone, facts_of};
+ghost use Rattle.name_core.specs.Performed.{IsPerformed, IsUndone, facts_in};
 
 use crate::told::{Told, is_done, with_copy};
+use block_tokens::ring::{KeyRing, RollFault};
 use file_effects::effect::effect;
 use file_effects::expiry::expire;
 use flat_rows::verdict::Verdict;
 use fs_operations::apply::needs;
 use fs_operations::change::apply_update;
 use fs_operations::read::answer;
+use hdfs_types::key::Key;
 use hdfs_types::op::Request;
-use hdfs_types::reply::{Expired, ObjectKind, Refusal, Reply};
+use hdfs_types::reply::{Counter, Expired, ObjectKind, Refusal, Reply};
 use hdfs_types::verb::{Read, Update, Verb, Write};
 use hdfs_values::moment::Moment;
 use hdfs_values::who::Who;
@@ -35,14 +37,15 @@ use lease_manager::writers::Writers;
 use principals::users::Users;
 use required_rights::demand::Needs;
 use std::alloc::{AllocError, Global};
-use write_rules::write::{Judged, judge, judge_tick};
+use write_rules::write::{Judged, judge, judge_rights};
 
-/// The namespace, the users, and the clients who have files open.
+/// The namespace, the users, the clients who have files open, and the keys under which tokens are issued.
 #[derive(Drop)]
 pub struct Namesystem {
     pub tree: Tree,
     pub users: Users,
     pub writers: Writers,
+    pub ring: KeyRing,
 }
 
 // ---- verbs that leave leases as they are
@@ -169,7 +172,7 @@ fn decide(
 ) -> Result<Verdict, AllocError>
     requires { needs.now ≡ required_rights (write_op write.now) }
     ensures free { IfOk result (λ verdict. is_done verdict ≡ true → IsFree (write_op write.now) caller.now system.now.tree system.now.users) }
-    ensures verdict { (last : List ℕ → Option ℕ) → IsExact last system.now.tree system.now.writers → IfOk result (λ verdict. verdict ≡ (step (facts_of last now system.now) system.now.tree system.now.users caller.now (write_op write.now)).verdict) }
+    ensures verdict { (last : List ℕ → Option ℕ) → IsExact last system.now.tree system.now.writers → IfOk result (λ verdict. verdict ≡ (step (facts_in last now system.now) system.now.tree system.now.users caller.now (write_op write.now)).verdict) }
 {
     match judge(alloc, &system.tree, &system.users, caller, needs, write)? {
         Judged::Verdict(verdict) => Ok(verdict),
@@ -262,7 +265,7 @@ fn perform_tick(
     ensures latest { OnOk result (latest_moment system.new.writers.leases.renewals ≤ now) }
     ensures err { OnErr result (IsUndone system.old system.new) }
 {
-    if let Some(denial) = judge_tick(alloc, &system.tree, &system.users, caller, needs)? {
+    if let Some(denial) = judge_rights(alloc, &system.tree, &system.users, caller, needs)? {
         return Ok(Verdict::Denied(denial));
     }
     let past = clients_past(alloc, &system.writers, now)?;
@@ -277,6 +280,32 @@ fn perform_tick(
         &past,
     )?;
     Ok(closed_files(closed))
+}
+
+// ---- keys
+
+/// A request to make a key the current one.
+fn perform_roll(
+    alloc: Global,
+    system: &mut Namesystem,
+    caller: &Who,
+    needs: &Needs,
+    key: Key,
+    now: Moment,
+) -> Result<Verdict, AllocError>
+    requires { needs.now ≡ required_rights (op.RollKey key) }
+    ensures ok { (last : List ℕ → Option ℕ) → IsExact last system.old.tree system.old.writers → IfOk result (λ verdict. IsPerformed last now caller.now (op.RollKey key) system.old verdict system.new) }
+    ensures writers { system.new.writers ≡ system.old.writers }
+    ensures err { OnErr result (IsUndone system.old system.new) }
+{
+    if let Some(denial) = judge_rights(alloc, &system.tree, &system.users, caller, needs)? {
+        return Ok(Verdict::Denied(denial));
+    }
+    match system.ring.roll(key, now) {
+        Ok(serial) => Ok(Verdict::Done(Reply::Serial(serial))),
+        Err(RollFault::SpentSerial) => Ok(Verdict::Refused(Refusal::Spent(Counter::Serial))),
+        Err(RollFault::OutOfMemory) => Err(AllocError),
+    }
 }
 
 // ---- all
@@ -305,6 +334,7 @@ pub fn perform(
         Verb::Read(read) => perform_read(alloc, system, caller, &needs, read),
         Verb::Update(update) => perform_update(alloc, system, open_paths, caller, &needs, &update),
         Verb::Write(write) => perform_write(alloc, system, open_paths, caller, &needs, &write, now),
+        Verb::RollKey(key) => perform_roll(alloc, system, caller, &needs, key, now),
         Verb::Renew => perform_renewal(system, caller, now),
         Verb::Tick => perform_tick(alloc, system, open_paths, caller, &needs, now),
     }

@@ -31,6 +31,7 @@ fn copy_of(verdict: &Verdict) -> Result<Verdict, AllocError>
         Verdict::Done(Reply::Released) => Ok(Verdict::Done(Reply::Released)),
         Verdict::Done(Reply::Closed(bytes)) => Ok(Verdict::Done(Reply::Closed(*bytes))),
         Verdict::Done(Reply::Expired(files)) => Ok(Verdict::Done(Reply::Expired(*files))),
+        Verdict::Done(Reply::Serial(serial)) => Ok(Verdict::Done(Reply::Serial(*serial))),
         _ => verdict.clone(),
     }
 }

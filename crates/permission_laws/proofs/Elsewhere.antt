@@ -26,7 +26,8 @@ use Rattle.namespace_rows.proofs.Namespaces.{namespace_tests, ascending_filter}
 use Rattle.namespace_rows.proofs.PathOrders.{same_path_is}
 use Rattle.namespace_rows.proofs.Tests.{both, and}
 use Rattle.flat_rows.specs.Changes.{without, moved, moved_row, rows_under, changed, rewritten}
-use Rattle.flat_rows.specs.FileOutcome.{LeaseFacts, directory_there, file_there, holder_at, state_after_append}
+use Rattle.flat_rows.specs.FileOutcome.{directory_there, file_there, holder_at, state_after_append}
+use Rattle.flat_rows.specs.Facts.{Facts}
 use Rattle.flat_rows.specs.Outcome.{first_refusal, first_some, beneath_file, rows_after, with_new, made_at, new_row, new_rows, mode_of_new, file_of_new, with_mode_at, with_owner_at, with_acl_at, with_list_at}
 use Rattle.flat_rows.proofs.Changes.{same_self, any_kept}
 use Rattle.flat_rows.proofs.Firsts.{first_passes}
@@ -266,7 +267,7 @@ module _ (rows : List Row) (other : List (List ℕ)) where
   pub moved_away : (from to : List (List ℕ)) → is_prefix from other ≡ true → is_prefix to other ≡ false → row_at other (moved from to rows) ≡ None
   moved_away from to inside apart = moved_beside from to apart ∙ without_there from inside
 
-  module _ (leases : LeaseFacts) (users : Users) (name : List ℕ) (namespace : IsNamespace rows) where
+  module _ (facts : Facts) (users : Users) (name : List ℕ) (namespace : IsNamespace rows) where
     -- a new file stands in no directory's place
     takeable : (path : List (List ℕ)) (rest : List (Option Refusal)) (a : Option Refusal) → first_some (a ∷ directory_there (row_at path rows) ∷ rest) ≡ None → (directory : Row) → row_at path rows ≡ Some directory → is_directory directory ≡ false
     takeable path rest a h directory e =
@@ -280,7 +281,7 @@ module _ (rows : List Row) (other : List (List ℕ)) where
     no_row : (row : Row) → None ≡ Some row → ⊥
     no_row row e = cc
 
-    pub stays : (what : Op) (row : Row) → first_refusal leases name what rows users ≡ None → concerns what other ≡ false → row_at other rows ≡ Some row → row_at other (rows_after leases what name rows) ≡ Some row
+    pub stays : (what : Op) (row : Row) → first_refusal facts name what rows users ≡ None → concerns what other ≡ false → row_at other rows ≡ Some row → row_at other (rows_after facts what name rows) ≡ Some row
     stays (op.Mkdirs path mode) row h apart there = by (row_at path rows) refl
       where
         by : (o : Option Row) → row_at path rows ≡ o → row_at other (made_at path mode name o rows) ≡ Some row
@@ -305,10 +306,11 @@ module _ (rows : List Row) (other : List (List ℕ)) where
     stays (op.SetGroups user groups) row h apart there = there
     stays (op.AddBlock path last) row h apart there = there
     stays (op.Open path) row h apart there = there
+    stays (op.RollKey key) row h apart there = there
     stays op.Renew row h apart there = there
     stays op.Tick row h apart there = cc
 
-    pub appears_nowhere_else : (what : Op) → concerns what other ≡ false → is_above_named other what ≡ false → row_at other rows ≡ None → row_at other (rows_after leases what name rows) ≡ None
+    pub appears_nowhere_else : (what : Op) → concerns what other ≡ false → is_above_named other what ≡ false → row_at other rows ≡ None → row_at other (rows_after facts what name rows) ≡ None
     appears_nowhere_else (op.Mkdirs path mode) apart not_above there = by (row_at path rows) refl
       where
         by : (o : Option Row) → row_at path rows ≡ o → row_at other (made_at path mode name o rows) ≡ None
@@ -332,6 +334,7 @@ module _ (rows : List Row) (other : List (List ℕ)) where
     appears_nowhere_else (op.SetGroups user groups) apart not_above there = there
     appears_nowhere_else (op.AddBlock path last) apart not_above there = there
     appears_nowhere_else (op.Open path) apart not_above there = there
+    appears_nowhere_else (op.RollKey key) apart not_above there = there
     appears_nowhere_else op.Renew apart not_above there = there
     appears_nowhere_else op.Tick apart not_above there = cc
 

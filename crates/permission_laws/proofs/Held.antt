@@ -30,7 +30,8 @@ use Rattle.required_rights.specs.declared.need.Need.TheVariants.{Rights, Sticky,
 use Rattle.required_rights.specs.RequiredRights.{Demand, traversal, strict_traversal, sticky_bit, creation, write_above, removal, access, overwriting, over_demands, listing, sub_tree, ownership, giving_away, membership, owner_demands, group_demands, administration}
 use Rattle.flat_rows.specs.Denial.{Denial}
 use Rattle.flat_rows.specs.Decision.{ask_at, asks_of, denial_of, denial_among, decision}
-use Rattle.flat_rows.specs.FileOutcome.{LeaseFacts, directory_there, if_some_file, of_file, refused_by_state, refused_write, refused_commit, holder_at}
+use Rattle.flat_rows.specs.FileOutcome.{directory_there, if_some_file, of_file, refused_by_state, refused_write, refused_commit, holder_at}
+use Rattle.flat_rows.specs.Facts.{Facts}
 use Rattle.flat_rows.specs.Outcome.{beneath_file, nothing_at, first_some, first_refusal}
 use Rattle.flat_rows.proofs.Firsts.{first_passes}
 use Rattle.permission_laws.specs.Attempt.{taken, managed, made, altered, written, administers}
@@ -192,6 +193,7 @@ module _ (rows : List Row) (users : Users) (name : List ℕ) where
   pub administration_held : IsNamespace rows → (what : Op) → decision rows users name what ≡ None → administers what ≡ true → is_super users name ≡ true
   administration_held namespace (op.AddUser user groups) h t = administered namespace h
   administration_held namespace (op.SetGroups user groups) h t = administered namespace h
+  administration_held namespace (op.RollKey key) h t = administered namespace h
   administration_held namespace op.Tick h t = administered namespace h
   administration_held namespace _ h t = cc
 
@@ -278,7 +280,7 @@ module _ (name : List ℕ) where
   writer_at None suits n d h = cc
   writer_at (Some row) suits n d h = writer_of_file (is_directory row) row.acl row.file d (suits row refl) h
 
-  module _ (leases : LeaseFacts) (rows : List Row) (users : Users) (namespace : IsNamespace rows) where
+  module _ (facts : Facts) (rows : List Row) (users : Users) (namespace : IsNamespace rows) where
     fourth : (path : List (List ℕ)) (rest : List (Option Refusal)) → first_some (beneath_file path rows ∷ nothing_at (row_at path rows) ∷ directory_there (row_at path rows) ∷ of_file (refused_write name) (row_at path rows) ∷ rest) ≡ None
         → holder_at (row_at path rows) ≡ Some name
     fourth path rest h =
@@ -289,7 +291,7 @@ module _ (name : List ℕ) where
         let d = or_none (of_file (refused_write name) at) (first_some rest) c.1 in
         writer_at at (λ row is. first_passes (λ r. same_path path r.path) suits_kind rows row (namespace_tests rows namespace).suit is) b.0 c.0 d.0
 
-    pub writer_held : (what : Op) (path : List (List ℕ)) → first_refusal leases name what rows users ≡ None → written what ≡ Some path → holder_at (row_at path rows) ≡ Some name
+    pub writer_held : (what : Op) (path : List (List ℕ)) → first_refusal facts name what rows users ≡ None → written what ≡ Some path → holder_at (row_at path rows) ≡ Some name
     writer_held (op.AddBlock top last) path h t =
         ap (λ p. holder_at (row_at p rows)) (sym (the_same top path t)) ∙ fourth top (of_file (refused_commit last) (row_at top rows) ∷ Some TooFewNodes ∷ []) h
     writer_held (op.Complete top last) path h t =

@@ -14,7 +14,8 @@ use Rattle.namespace_rows.specs.declared.row.Change.{Change}
 use Rattle.namespace_rows.specs.declared.row.Change.TheVariants as change
 use Rattle.namespace_rows.specs.Rows.{row_at}
 use Rattle.flat_rows.specs.Changes.{changed, rewritten}
-use Rattle.flat_rows.specs.FileOutcome.{LeaseFacts, holder_at, state_after_append, is_expired, closed_where_expired}
+use Rattle.flat_rows.specs.FileOutcome.{holder_at, state_after_append, is_expired, closed_where_expired}
+use Rattle.flat_rows.specs.Facts.{Facts}
 use Rattle.flat_rows.specs.Outcome.{rows_after, with_mode_at, with_owner_at, with_acl_at, with_list_at}
 use Rattle.permission_laws.specs.Attempt.{is_about_files, is_about_lists, is_about_owners}
 use Rattle.permission_laws.proofs.RowsAt.{at_map}
@@ -60,22 +61,22 @@ module _ (rows : List Row) (path : List (List ℕ)) (row later : Row) (there : r
           by true = same r
           by false = itself r
 
-  module _ (leases : LeaseFacts) (name : List ℕ) where
-    pub files_alone : (what : Op) → is_about_files what ≡ true → row_at path (rows_after leases what name rows) ≡ Some later → with_file_of row later ≡ row
+  module _ (facts : Facts) (name : List ℕ) where
+    pub files_alone : (what : Op) → is_about_files what ≡ true → row_at path (rows_after facts what name rows) ≡ Some later → with_file_of row later ≡ row
     files_alone (op.Append top) h after = where_same with_file_of top (change.State (state_after_append name (holder_at (row_at top rows)))) (λ r. refl) (λ r. refl) (λ r. refl) after
     files_alone (op.Complete top last) h after = where_same with_file_of top (change.State Closed) (λ r. refl) (λ r. refl) (λ r. refl) after
     files_alone (op.SetReplication top replication) h after = where_same with_file_of top (change.Replication replication) (λ r. refl) (λ r. refl) (λ r. refl) after
-    files_alone op.Tick h after = mapped with_file_of (closed_where_expired leases) keeps stays after
+    files_alone op.Tick h after = mapped with_file_of (closed_where_expired facts.leases) keeps stays after
       where
-        keeps : (r : Row) → (closed_where_expired leases r).path ≡ r.path
-        keeps r = by (is_expired leases r)
+        keeps : (r : Row) → (closed_where_expired facts.leases r).path ≡ r.path
+        keeps r = by (is_expired facts.leases r)
           where
             by : (b : Bool) → (cond b (changed (change.State Closed) r) r).path ≡ r.path
             by true = refl
             by false = refl
 
-        stays : (r : Row) → with_file_of r (closed_where_expired leases r) ≡ r
-        stays r = by (is_expired leases r)
+        stays : (r : Row) → with_file_of r (closed_where_expired facts.leases r) ≡ r
+        stays r = by (is_expired facts.leases r)
           where
             by : (b : Bool) → with_file_of r (cond b (changed (change.State Closed) r) r) ≡ r
             by true = refl
@@ -85,7 +86,7 @@ module _ (rows : List Row) (path : List (List ℕ)) (row later : Row) (there : r
     list_given : (top : List (List ℕ)) (acl : Acl) → row_at path (rewritten top (change.List acl) rows) ≡ Some later → with_list_of row later ≡ row
     list_given top acl after = where_same with_list_of top (change.List acl) (λ r. refl) (λ r. refl) (λ r. refl) after
 
-    pub lists_alone : (what : Op) → is_about_lists what ≡ true → row_at path (rows_after leases what name rows) ≡ Some later → with_list_of row later ≡ row
+    pub lists_alone : (what : Op) → is_about_lists what ≡ true → row_at path (rows_after facts what name rows) ≡ Some later → with_list_of row later ≡ row
     lists_alone (op.SetMode top mode) h after = by (row_at top rows) after
       where
         by : (o : Option Row) → row_at path (with_mode_at top mode o rows) ≡ Some later → with_list_of row later ≡ row
@@ -102,7 +103,7 @@ module _ (rows : List Row) (path : List (List ℕ)) (row later : Row) (there : r
         by (Some r) k = by_made (acl_change form r.kind r.acl) k
     lists_alone _ h after = cc
 
-    pub owners_alone : (what : Op) → is_about_owners what ≡ true → row_at path (rows_after leases what name rows) ≡ Some later → with_owner_of row later ≡ row
+    pub owners_alone : (what : Op) → is_about_owners what ≡ true → row_at path (rows_after facts what name rows) ≡ Some later → with_owner_of row later ≡ row
     owners_alone (op.SetOwner top owner group) h after = by (row_at top rows) after
       where
         by : (o : Option Row) → row_at path (with_owner_at top owner group o rows) ≡ Some later → with_owner_of row later ≡ row

@@ -13,7 +13,7 @@ use Rattle.namespace_rows.specs.First.{first_answer}
 use Rattle.required_rights.specs.RequiredRights.{required_rights}
 use Rattle.flat_rows.specs.Denial.{denial_at}
 use Rattle.flat_rows.specs.Decision.{Ask, asks_of, denial_of}
-use Rattle.flat_rows.specs.FileOutcome.{LeaseFacts}
+use Rattle.flat_rows.specs.Facts.{Facts}
 use Rattle.flat_rows.specs.Outcome.{step, denied_or_outcome, refused_or_done, first_refusal}
 use Rattle.flat_rows.specs.Verdicts.{is_denied}
 
@@ -22,13 +22,13 @@ none_denied caller super [] = refl
 none_denied caller super (ask ∷ asks) =
     ap (λ s. option_or (cond s None (denial_at ask.need ask.row ask.above caller.name caller.groups)) (first_answer (denial_of caller) asks)) super ∙ none_denied caller super asks
 
-module _ (leases : LeaseFacts) (rows : List Row) (users : Users) (caller : List ℕ) (op : Op) where
-  pub never_denied : is_super users caller ≡ true → is_denied (step leases rows users caller op).verdict ≡ false
+module _ (facts : Facts) (rows : List Row) (users : Users) (caller : List ℕ) (op : Op) where
+  pub never_denied : is_super users caller ≡ true → is_denied (step facts rows users caller op).verdict ≡ false
   never_denied super =
-      ap (λ d. is_denied (denied_or_outcome leases rows users caller op d).verdict) (none_denied (caller_of users caller) super (flat_map (asks_of rows) (required_rights op)))
-      ∙ by (first_refusal leases caller op rows users)
+      ap (λ d. is_denied (denied_or_outcome facts rows users caller op d).verdict) (none_denied (caller_of users caller) super (flat_map (asks_of rows) (required_rights op)))
+      ∙ by (first_refusal facts caller op rows users)
     where
-      by : (o : Option Refusal) → is_denied (refused_or_done leases rows users caller op o).verdict ≡ false
+      by : (o : Option Refusal) → is_denied (refused_or_done facts rows users caller op o).verdict ≡ false
       by None = refl
       by (Some refusal) = refl
 

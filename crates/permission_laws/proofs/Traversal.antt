@@ -228,6 +228,7 @@ module _ (rows : List Row) (namespace : IsNamespace rows) (users : Users) (name 
   reached (op.Complete path last) = along path [] (λ free. nothing)
   reached (op.Open path) = accessed path (rights 4)
   reached (op.SetReplication path replication) = accessed path (rights 2)
+  reached (op.RollKey key) = administered
   reached op.Renew = nothing
   reached op.Tick = administered
 
@@ -358,5 +359,6 @@ module _ (rows : List Row) (namespace : IsNamespace rows) (users : Users) (name 
     turned (op.Complete top last) path n up = one_path top [] path n up
     turned (op.Open top) path n up = one_path top (access (rights 4) top ∷ []) path n up
     turned (op.SetReplication top replication) path n up = one_path top (access (rights 2) top ∷ []) path n up
+    turned (op.RollKey key) path n up = cc
     turned op.Renew path n up = cc
     turned op.Tick path n up = cc

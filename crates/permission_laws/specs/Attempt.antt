@@ -13,13 +13,13 @@ use Rattle.namespace_rows.specs.declared.row.Row.{Row}
 use Rattle.namespace_rows.specs.Judgement.{judgement}
 use Rattle.namespace_rows.specs.Namespace.{is_child}
 use Rattle.namespace_rows.specs.Rows.{is_directory, row_at}
-use Rattle.flat_rows.specs.FileOutcome.{LeaseFacts}
+use Rattle.flat_rows.specs.Facts.{Facts}
 use Rattle.flat_rows.specs.Outcome.{Step, step}
 use Rattle.flat_rows.specs.Verdicts.{is_done}
 
--- a caller asks for an operation, where the namespace, the users and the leases are these
+-- a caller asks for an operation, where the namespace, the users, the leases and the keys are these
 pub record Attempt : Type 0 where
-  pub leases : LeaseFacts
+  pub facts : Facts
   pub rows : List Row
   pub users : Users
   pub caller : List ℕ
@@ -28,7 +28,7 @@ pub record Attempt : Type 0 where
 -- ---- what comes of it
 
 abbrev pub ending : Attempt → Step
-ending attempt = step attempt.leases attempt.rows attempt.users attempt.caller attempt.op
+ending attempt = step attempt.facts attempt.rows attempt.users attempt.caller attempt.op
 
 abbrev pub IsDone : Attempt → Type 0
 IsDone attempt = is_done (ending attempt).verdict ≡ true
@@ -90,6 +90,7 @@ paths_of (op.AddBlock path last) = path ∷ []
 paths_of (op.Complete path last) = path ∷ []
 paths_of (op.Open path) = path ∷ []
 paths_of (op.SetReplication path replication) = path ∷ []
+paths_of (op.RollKey key) = []
 paths_of op.Renew = []
 paths_of op.Tick = []
 
@@ -154,6 +155,7 @@ is_about_owners _ = false
 abbrev pub administers : Op → Bool
 administers (op.AddUser user groups) = true
 administers (op.SetGroups user groups) = true
+administers (op.RollKey key) = true
 administers op.Tick = true
 administers _ = false
 

@@ -30,7 +30,7 @@ SuperusersByNameOrGroup = (users : Users) (user : List ℕ) → (same user users
 abbrev pub OthersAreNoSuperusers : Type 0
 OthersAreNoSuperusers = (users : Users) (user : List ℕ) → user ≢ users.superuser → has_group (groups_of users user) users.supergroup ≡ false → is_super users user ≡ false
 
--- only superusers make users known, give them groups and have leases expire
+-- only superusers make users known, give them groups, make keys and have leases expire
 abbrev pub OthersDoNotAdminister : Type 0
 OthersDoNotAdminister = (attempt : Attempt) → IsNamespace attempt.rows → IsDone attempt → administers attempt.op ≡ true → by_superuser attempt ≡ true
 

@@ -10,7 +10,7 @@ pub fn superusers_are_never_denied()
     ensures others { law.OthersAreNoSuperusers }
 {}
 
-/// Only superusers make users known, give them groups and have leases expire; users and groups change by nothing else (HDFS Permissions
+/// Only superusers make users known, give them groups, make keys and have leases expire; users and groups change by nothing else (HDFS Permissions
 /// Guide, "The Super-User").
 pub fn superusers_administer()
     ensures others { law.OthersDoNotAdminister }

@@ -454,7 +454,7 @@ fn demands_of<'a>(alloc: Global, op: &'a Op) -> Result<Vec<Demand<'a>>, AllocErr
         Op::Renew => Ok(Vec::new(alloc)),
         Op::AddUser(_, _) => needs_of_administration(alloc),
         Op::SetGroups(_, _) => needs_of_administration(alloc),
-        Op::Tick => needs_of_administration(alloc),
+        Op::RollKey(_) | Op::Tick => needs_of_administration(alloc),
     }
 }
 

@@ -83,6 +83,8 @@ pub enum LineHint<'a> {
     Count(&'static str, &'static str),
     Number(NumberHint<'a>),
     Form(FormHint<'a>),
+    /// The word is no key. It isn't repeated: nothing prints a key.
+    Key,
     /// A word, and the one that it has to be.
     Instead(&'a str, &'static str),
 }
@@ -95,6 +97,7 @@ impl fmt::Display for LineHint<'_> {
             LineHint::Count(verb, words) => write!(f, "{verb} wants {words}"),
             LineHint::Number(hint) => write!(f, "{hint}"),
             LineHint::Form(hint) => write!(f, "{hint}"),
+            LineHint::Key => f.write_str("a key is 40 hexadecimal digits"),
             LineHint::Instead(word, fixed) => write!(f, "{word:?} instead of {fixed}"),
         }
     }
@@ -194,6 +197,9 @@ fn hint_on_words<'a>(moment: &'a str, verb: &'a str, others: &[&'a str]) -> Line
     }
     if moment_word(moment).is_err() {
         return hint_on_moment(moment);
+    }
+    if is_word(verb, "rollkey") {
+        return LineHint::Key;
     }
     hint_behind_path(verb, others)
 }

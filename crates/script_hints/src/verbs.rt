@@ -12,7 +12,7 @@ pub struct Verb {
 }
 
 /// The verbs of scripts.
-pub static VERBS: [Verb; 20] = [
+pub static VERBS: [Verb; 21] = [
     Verb {
         name: "mkdirs",
         words: "P MODE",
@@ -102,6 +102,11 @@ pub static VERBS: [Verb; 20] = [
         name: "tick",
         words: "",
         counts: [0, 0],
+    },
+    Verb {
+        name: "rollkey",
+        words: "HEX",
+        counts: [1, 1],
     },
     Verb {
         name: "adduser",

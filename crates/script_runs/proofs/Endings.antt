@@ -5,12 +5,11 @@ use Rattle.std.specs.Io.KnownBytes.{Appends}
 use Rattle.std.specs.String.{string_bytes}
 use Rattle.std.proofs.lemmas.List.Splits.{length-slice_split}
 use Rattle.std.proofs.lemmas.List.Concat.{flat_map-append}
-use Rattle.history.specs.Config.{standard}
 use Rattle.script_words.specs.Words.{lines_of, is_skipped, words_of, without_return}
 use Rattle.script_text.specs.Script.{request_of}
 use Rattle.script_text.specs.AnswerText.{answer_line}
 use Rattle.script_runs.specs.Channel.{AppendsFront}
-use Rattle.script_runs.specs.Output.{State, Numbered, opening, answered, after_answer, after_line, answers_of_first, text_of, output_of}
+use Rattle.script_runs.specs.Output.{State, Numbered, no_lines, script_opening, answered, after_answer, after_line, answers_of_first, text_of, output_of}
 use Rattle.script_runs.specs.declared.script.ScriptFault.{ScriptFault}
 use Rattle.script_runs.specs.declared.script.ScriptFault.TheVariants.{OutOfMemory, CannotRead}
 use Rattle.script_runs.specs.declared.script.Session.{Session}
@@ -28,7 +27,7 @@ served_at : (script : List ℕ) (number count : ℕ) (text : List ℕ) → numbe
 served_at script number count text n within is =
     record { within = subst (λ k. k < length (lines_of script)) (sym n) within; is = is ∙ ap (λ k. text_of (answers_of_first k script)) (sym n) }
 
-pub none_served : (script : List ℕ) (session : Session) → Shows opening session → IsAnswersOfFirst session.number script (string_bytes session.out)
+pub none_served : (script : List ℕ) (session : Session) → Shows no_lines session → IsAnswersOfFirst session.number script (string_bytes session.out)
 none_served script session shows = served_at script session.number 0 (string_bytes session.out) shows.number (has_lines script) shows.text
 
 pub nothing_written : (known old : Option (List ℕ)) → IfSome known (λ script. AppendsAnswersOfFirst 0 old old script)
@@ -50,9 +49,9 @@ goes_on a b c p q = record { more = p.more ++ q.more; is = q.is ∙ ap (λ l. l 
 goes_line : (state : State) (line : List ℕ) → Goes state (after_line state line)
 goes_line state line = by_test (is_skipped (without_return line))
   where
-    by_test : (b : Bool) → Goes state (if b then record { number = state.number + 1; entries = state.entries; answers = state.answers } else after_answer state (answered standard state.entries (request_of (words_of (without_return line)))))
+    by_test : (b : Bool) → Goes state (if b then record { number = state.number + 1; entries = state.entries; answers = state.answers } else after_answer state (answered script_opening state.entries (request_of (words_of (without_return line)))))
     by_test true = record { more = []; is = sym (append-nil state.answers) }
-    by_test false = record { more = record { number = state.number + 1; answer = (answered standard state.entries (request_of (words_of (without_return line)))).answer } ∷ []; is = refl }
+    by_test false = record { more = record { number = state.number + 1; answer = (answered script_opening state.entries (request_of (words_of (without_return line)))).answer } ∷ []; is = refl }
 
 goes_lines : (state : State) (lines : List (List ℕ)) → Goes state (fold after_line state lines)
 goes_lines state [] = goes_self state
@@ -69,7 +68,7 @@ pub record Front (text whole : List ℕ) : Type 0 where
 
 pub first_is_front : (served : ℕ) (script text : List ℕ) → IsAnswersOfFirst served script text → Front text (output_of script)
 first_is_front served script text b =
-    let rest = goes_first opening (lines_of script) served in
+    let rest = goes_first no_lines (lines_of script) served in
     record { more = text_of rest.more; is = ap text_of rest.is ∙ flat_map-append (λ numbered. answer_line numbered.number numbered.answer) (answers_of_first served script) rest.more ∙ ap (λ t. t ++ text_of rest.more) (sym b.is) }
 
 pub ended_front : {S E : Type 0} (r : Result S E) (served : ℕ) (script text : List ℕ) → OnOk r (text ≡ output_of script) → OnErr r (IsAnswersOfFirst served script text) → Front text (output_of script)

@@ -1,11 +1,11 @@
 -- What a script prints: the answer to each line that is neither empty nor a comment, behind the line's number. The requests of the
 -- lines make one history, and what is answered is the verdict that the entries before give.
-use Rattle.std.specs.Prelude.{ℕ, ◌+◌, Bool, true, false, List, [], ◌∷◌, ◌++◌, length, take, if◌then◌else◌, Result, Ok, Err, fold}
+use Rattle.std.specs.Prelude.{ℕ, ◌+◌, Bool, true, false, List, [], ◌∷◌, ◌++◌, length, take, replicate, if◌then◌else◌, Result, Ok, Err, fold}
 use Rattle.std.specs.List.{flat_map, list_any}
 use Rattle.hdfs_values.specs.declared.fault.IllFormed.{IllFormed}
 use Rattle.hdfs_types.specs.declared.op.Request.{Request}
 use Rattle.history.specs.declared.entry.HistoryEntry.{HistoryEntry}
-use Rattle.history.specs.Config.{Config, standard}
+use Rattle.history.specs.Config.{Opening, standard}
 use Rattle.history.specs.LegalHistory.{verdict_of}
 use Rattle.flat_rows.specs.declared.verdict.Verdict.{Verdict}
 use Rattle.script_runs.specs.declared.script.Status.{Status}
@@ -13,6 +13,10 @@ use Rattle.script_runs.specs.declared.script.Status.TheVariants as status
 use Rattle.script_words.specs.Words.{lines_of, without_return, is_skipped, words_of}
 use Rattle.script_text.specs.Script.{request_of}
 use Rattle.script_text.specs.AnswerText.{answer_line, is_bad}
+
+-- what the NameNode of a script opens with: the limits that HDFS has by default, and a key of twenty bytes 11
+abbrev pub script_opening : Opening
+script_opening = record { config = standard; key = replicate 20 11 }
 
 -- an answer behind the number of its line
 pub record Numbered : Type 0 where
@@ -31,14 +35,14 @@ pub record Answered : Type 0 where
   pub entries : List HistoryEntry
 
 -- the entry that a request makes behind these. A script is one pass, so the index is the number of entries before it.
-abbrev pub entry_behind : Config → List HistoryEntry → Request → HistoryEntry
-entry_behind config earlier request =
-    record { place = length earlier + 1; pass = 0; index = length earlier; request = request; verdict = verdict_of config earlier request }
+abbrev pub entry_behind : Opening → List HistoryEntry → Request → HistoryEntry
+entry_behind opening earlier request =
+    record { place = length earlier + 1; pass = 0; index = length earlier; request = request; verdict = verdict_of opening earlier request }
 
 -- an ill-formed line makes none
-abbrev pub answered : Config → List HistoryEntry → Result Request IllFormed → Answered
-answered config entries (Err fault) = record { answer = Err fault; entries = entries }
-answered config entries (Ok request) = record { answer = Ok (verdict_of config entries request); entries = entry_behind config entries request ∷ entries }
+abbrev pub answered : Opening → List HistoryEntry → Result Request IllFormed → Answered
+answered opening entries (Err fault) = record { answer = Err fault; entries = entries }
+answered opening entries (Ok request) = record { answer = Ok (verdict_of opening entries request); entries = entry_behind opening entries request ∷ entries }
 
 abbrev pub after_answer : State → Answered → State
 after_answer state a = record {
@@ -50,20 +54,20 @@ after_answer state a = record {
 abbrev pub after_trimmed : State → List ℕ → State
 after_trimmed state line =
     if is_skipped line then record { number = state.number + 1; entries = state.entries; answers = state.answers }
-    else after_answer state (answered standard state.entries (request_of (words_of line)))
+    else after_answer state (answered script_opening state.entries (request_of (words_of line)))
 
 abbrev pub after_line : State → List ℕ → State
 after_line state line = after_trimmed state (without_return line)
 
-abbrev pub opening : State
-opening = record { number = 0; entries = []; answers = [] }
+abbrev pub no_lines : State
+no_lines = record { number = 0; entries = []; answers = [] }
 
 -- what more lines leave behind those before
 abbrev pub behind_lines : State → List (List ℕ) → State
 behind_lines state lines = fold after_line state lines
 
 abbrev pub after_lines : List (List ℕ) → State
-after_lines lines = fold after_line opening lines
+after_lines lines = fold after_line no_lines lines
 
 -- the answers to the lines of a script, and to its first lines alone
 abbrev pub answers_of : List ℕ → List Numbered

@@ -2,14 +2,13 @@
 use Rattle.std.specs.Prelude.{◌≡◌, ◌<◌, ◌+◌, ℕ, List, length, take}
 use Rattle.std.specs.List.{list_any}
 use Rattle.std.specs.String.{string_bytes}
-use Rattle.history.specs.Config.{standard}
 use Rattle.script_runs.specs.declared.script.Session.{Session}
 use Rattle.script_text.specs.AnswerText.{is_bad}
-use Rattle.script_runs.specs.Output.{State, behind_lines, text_of}
+use Rattle.script_runs.specs.Output.{State, script_opening, behind_lines, text_of}
 
 pub record Shows (state : State) (session : Session) : Type 0 where
   pub number : session.number ≡ state.number
-  pub config : session.core.config ≡ standard
+  pub opening : session.core.opening ≡ script_opening
   pub entries : session.core.entries ≡ state.entries
   pub text : string_bytes session.out ≡ text_of state.answers
   pub bad : session.has_bad ≡ list_any (λ numbered. is_bad numbered.answer) state.answers

@@ -2,7 +2,6 @@ ghost use Rattle.std.specs.Prelude.{◌≡◌, ◌≢◌, ◌+◌, ◌<◌, ◌^
 ghost use Rattle.std.specs.Io.KnownBytes.{Appends, Keeps};
 ghost use Rattle.std.specs.String.{string_bytes};
 ghost use Rattle.std.specs.Str.{IsUtf8};
-ghost use Rattle.history.specs.Config.{standard};
 ghost use Rattle.script_text.specs.AnswerText.{answer_line, said_by};
 ghost use Rattle.script_runs.specs.Channel.{AppendsFront};
 ghost use Rattle.script_runs.specs.Output as spec;
@@ -11,6 +10,7 @@ ghost use Rattle.script_runs.specs.Ended.{IsAnswersOfFirst, AppendsAnswersOfFirs
 ghost use Rattle.script_words.specs.Words as words;
 
 use crate::channel::{ReadFault, read_all, write_text};
+use hdfs_types::key::Key;
 use hdfs_types::op::Request;
 use hdfs_values::fault::IllFormed;
 use history::config::Config;
@@ -21,6 +21,9 @@ use script_words::words::{is_skipped, pieces_between, without_return};
 use std::alloc::{AllocError, Global};
 use std::io::{Read, Write};
 use std::mem;
+
+// The first key of a script's NameNode.
+const FIRST_KEY: [u8; 20] = [0x0b; 20];
 
 /// How a script ended that was run to its end.
 #[derive(Clone, Copy, Debug, PartialEq, Eq)]
@@ -104,10 +107,10 @@ impl Session {
     /// # Errors
     /// Out of memory.
     pub fn open(alloc: Global) -> Result<Session, AllocError>
-        ensures { IfOk result (Shows spec.opening) }
+        ensures { IfOk result (Shows spec.no_lines) }
     {
         Ok(Session {
-            core: NameCore::open(alloc, Config::standard())?,
+            core: NameCore::open(alloc, Config::standard(), Key::new(FIRST_KEY))?,
             number: 0,
             has_bad: false,
             out: String::new(alloc),
@@ -136,7 +139,7 @@ impl Session {
     fn answer_request(&mut self, request: Request) -> Result<(), AllocError>
         requires { self.old.number + 1 < 2 ^ 64 }
         ensures number { OnOk result (self.new.number ≡ self.old.number + 1) }
-        ensures ok { (state : spec.State) → Shows state self.old → OnOk result (Shows (spec.after_answer state (spec.answered standard state.entries (Ok request))) self.new) }
+        ensures ok { (state : spec.State) → Shows state self.old → OnOk result (Shows (spec.after_answer state (spec.answered spec.script_opening state.entries (Ok request))) self.new) }
         ensures err { OnErr result (KeepsLines self.old self.new) }
     {
         let index = self.core.place();
@@ -150,7 +153,7 @@ impl Session {
     fn answer_bad(&mut self, fault: IllFormed) -> Result<(), AllocError>
         requires { self.old.number + 1 < 2 ^ 64 }
         ensures number { OnOk result (self.new.number ≡ self.old.number + 1) }
-        ensures ok { (state : spec.State) → Shows state self.old → OnOk result (Shows (spec.after_answer state (spec.answered standard state.entries (Err fault))) self.new) }
+        ensures ok { (state : spec.State) → Shows state self.old → OnOk result (Shows (spec.after_answer state (spec.answered spec.script_opening state.entries (Err fault))) self.new) }
         ensures err { OnErr result (KeepsLines self.old self.new) }
     {
         print_answer(
@@ -168,7 +171,7 @@ impl Session {
     fn answer(&mut self, said: Result<Request, IllFormed>) -> Result<(), AllocError>
         requires { self.old.number + 1 < 2 ^ 64 }
         ensures number { OnOk result (self.new.number ≡ self.old.number + 1) }
-        ensures ok { (state : spec.State) → Shows state self.old → OnOk result (Shows (spec.after_answer state (spec.answered standard state.entries said)) self.new) }
+        ensures ok { (state : spec.State) → Shows state self.old → OnOk result (Shows (spec.after_answer state (spec.answered spec.script_opening state.entries said)) self.new) }
         ensures err { OnErr result (KeepsLines self.old self.new) }
     {
         match said {
@@ -210,9 +213,9 @@ impl Session {
 /// Runs the lines of a script from its beginning. Where memory runs out, the session has counted those before, and holds what they
 /// print.
 pub fn run_lines(alloc: Global, session: &mut Session, lines: &[&str]) -> Result<(), AllocError>
-    requires { Shows spec.opening session.old }
+    requires { Shows spec.no_lines session.old }
     ensures ok { OnOk result (Shows (spec.after_lines (map (λ line. line.now) lines.now)) session.new) }
-    ensures err { OnErr result (HoldsFirst spec.opening (map (λ line. line.now) lines.now) session.new) }
+    ensures err { OnErr result (HoldsFirst spec.no_lines (map (λ line. line.now) lines.now) session.new) }
 {
     session.serve_all(alloc, lines)
 }
@@ -236,7 +239,7 @@ pub fn run_more(alloc: Global, session: &mut Session, text: &str) -> Result<(), 
 /// Runs a script on a NameNode that has answered nothing. Where memory runs out, the session has counted the lines before, and holds
 /// what they print.
 fn run_text(alloc: Global, session: &mut Session, script: &str) -> Result<Status, AllocError>
-    requires { Shows spec.opening session.old }
+    requires { Shows spec.no_lines session.old }
     ensures ok { OnOk result (string_bytes session.new.out ≡ spec.output_of script.now) }
     ensures status { IfOk result (λ status. status ≡ spec.status_of (spec.answers_of script.now)) }
     ensures err { OnErr result (IsAnswersOfFirst session.new.number script.now (string_bytes session.new.out)) }

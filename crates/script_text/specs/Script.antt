@@ -8,7 +8,7 @@ use Rattle.hdfs_types.specs.declared.op.Op.{Op}
 use Rattle.hdfs_types.specs.declared.op.Op.TheVariants as op
 use Rattle.hdfs_types.specs.declared.op.Request.{Request}
 use Rattle.script_text.specs.declared.line.Asker.{Asker}
-use Rattle.script_words.specs.Values.{◌>>=◌, moment_word, who_word, path_word, mode_word, replication_word, recursive_word, over_word, last_words, change_word, groups_word, bare_change, change_by, wants_spec, wants_none}
+use Rattle.script_words.specs.Values.{◌>>=◌, moment_word, who_word, path_word, mode_word, replication_word, recursive_word, over_word, key_word, last_words, change_word, groups_word, bare_change, change_by, wants_spec, wants_none}
 
 abbrev pub mkdirs_of : List ℕ → List ℕ → Result Op IllFormed
 mkdirs_of path mode = do
@@ -143,6 +143,11 @@ setrep_of path replication = do
   r ← replication_word replication
   Ok (op.SetReplication p r)
 
+abbrev pub rollkey_of : List ℕ → Result Op IllFormed
+rollkey_of digits = do
+  k ← key_word digits
+  Ok (op.RollKey k)
+
 -- the operation that a verb alone says
 abbrev pub op_of_none : List ℕ → Option (Result Op IllFormed)
 op_of_none verb =
@@ -151,16 +156,17 @@ op_of_none verb =
 
 -- the operation that a verb and its one word say
 abbrev pub op_of_one : List ℕ → List ℕ → Option (Result Op IllFormed)
-op_of_one verb path =
-    if same verb (codes "stat") then Some (stat_of path) else
-    if same verb (codes "ls") then Some (ls_of path) else
-    if same verb (codes "du") then Some (du_of path) else
-    if same verb (codes "delete") then Some (delete_of path) else
-    if same verb (codes "getfacl") then Some (getfacl_of path) else
-    if same verb (codes "append") then Some (append_of path) else
-    if same verb (codes "addblock") then Some (addblock_of path) else
-    if same verb (codes "complete") then Some (complete_of path) else
-    if same verb (codes "open") then Some (open_of path) else None
+op_of_one verb word =
+    if same verb (codes "stat") then Some (stat_of word) else
+    if same verb (codes "ls") then Some (ls_of word) else
+    if same verb (codes "du") then Some (du_of word) else
+    if same verb (codes "delete") then Some (delete_of word) else
+    if same verb (codes "getfacl") then Some (getfacl_of word) else
+    if same verb (codes "append") then Some (append_of word) else
+    if same verb (codes "addblock") then Some (addblock_of word) else
+    if same verb (codes "complete") then Some (complete_of word) else
+    if same verb (codes "open") then Some (open_of word) else
+    if same verb (codes "rollkey") then Some (rollkey_of word) else None
 
 abbrev pub op_of_two : List ℕ → List ℕ → List ℕ → Option (Result Op IllFormed)
 op_of_two verb first second =

@@ -55,6 +55,7 @@ fn print_reply<W: fmt::Write>(reply: &Reply, f: &mut fmt::Formatter<W>) -> fmt::
         Reply::Closed(bytes) => print_behind("ok closed ", bytes, f),
         Reply::Opened(bytes) => print_behind("ok open ", bytes, f),
         Reply::Expired(files) => print_expired(files, f),
+        Reply::Serial(serial) => print_behind("ok serial ", &serial.get(), f),
     }
 }
 

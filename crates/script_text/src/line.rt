@@ -11,8 +11,8 @@ use hdfs_values::who::Who;
 use script_words::acl_words::{bare_change, change_by, wants_none, wants_spec};
 use script_words::groups_word::groups_word;
 use script_words::values::{
-    change_word, last_words, mode_word, moment_word, over_word, path_word, recursive_word,
-    replication_word, who_word,
+    change_word, key_word, last_words, mode_word, moment_word, over_word, path_word,
+    recursive_word, replication_word, who_word,
 };
 use script_words::words::{is_word, words_in};
 use std::alloc::{AllocError, Global};
@@ -204,6 +204,12 @@ fn setrep_of(alloc: Global, path: &str, replication: &str) -> Result<Op, ParseFa
     Ok(Op::SetReplication(path, replication))
 }
 
+fn rollkey_of(digits: &str) -> Result<Op, ParseFault>
+    ensures { Forms result (spec.rollkey_of digits.now) }
+{
+    Ok(Op::RollKey(key_word(digits)?))
+}
+
 fn op_of_none(verb: &str) -> Option<Result<Op, ParseFault>>
     ensures { FormsOption result (spec.op_of_none verb.now) }
 {
@@ -216,27 +222,29 @@ fn op_of_none(verb: &str) -> Option<Result<Op, ParseFault>>
     }
 }
 
-fn op_of_one(alloc: Global, verb: &str, path: &str) -> Option<Result<Op, ParseFault>>
-    ensures { FormsOption result (spec.op_of_one verb.now path.now) }
+fn op_of_one(alloc: Global, verb: &str, word: &str) -> Option<Result<Op, ParseFault>>
+    ensures { FormsOption result (spec.op_of_one verb.now word.now) }
 {
     if is_word(verb, "stat") {
-        Some(stat_of(alloc, path))
+        Some(stat_of(alloc, word))
     } else if is_word(verb, "ls") {
-        Some(ls_of(alloc, path))
+        Some(ls_of(alloc, word))
     } else if is_word(verb, "du") {
-        Some(du_of(alloc, path))
+        Some(du_of(alloc, word))
     } else if is_word(verb, "delete") {
-        Some(delete_of(alloc, path))
+        Some(delete_of(alloc, word))
     } else if is_word(verb, "getfacl") {
-        Some(getfacl_of(alloc, path))
+        Some(getfacl_of(alloc, word))
     } else if is_word(verb, "append") {
-        Some(append_of(alloc, path))
+        Some(append_of(alloc, word))
     } else if is_word(verb, "addblock") {
-        Some(addblock_of(alloc, path))
+        Some(addblock_of(alloc, word))
     } else if is_word(verb, "complete") {
-        Some(complete_of(alloc, path))
+        Some(complete_of(alloc, word))
     } else if is_word(verb, "open") {
-        Some(open_of(alloc, path))
+        Some(open_of(alloc, word))
+    } else if is_word(verb, "rollkey") {
+        Some(rollkey_of(word))
     } else {
         None
     }

@@ -2,6 +2,7 @@
 use Rattle.std.specs.Prelude.{ℕ, Bool, true, false, ◌||◌, List, [], if◌then◌else◌, Option, Some, None, Result, Ok, Err, codes, ok_or}
 use Rattle.std.specs.List.{list_all}
 use Rattle.std.specs.Option.{option_and_then}
+use Rattle.std.specs.Result.{result_ok}
 use Rattle.hdfs_values.specs.Text.{same}
 use Rattle.hdfs_values.specs.Number.{number_of}
 use Rattle.hdfs_values.specs.Moment.{moment_of}
@@ -17,6 +18,7 @@ use Rattle.hdfs_values.specs.declared.fault.AclFault.{AclFault}
 use Rattle.permission_specs.specs.declared.acl_change.AclChange.{AclChange}
 use Rattle.permission_specs.specs.declared.acl_change.AclChange.TheVariants as change
 use Rattle.permission_specs.specs.SpecText.{spec_of}
+use Rattle.hex.specs.Hex.{decode_sized}
 use Rattle.script_words.specs.Words.{pieces_at}
 
 -- the first fault, else what comes next makes of the value
@@ -48,6 +50,10 @@ replication_word word = ok_or (option_and_then replication_of (number_of word)) 
 -- a number below 2^64, as of a block or of bytes
 abbrev pub number_word : List ℕ → Result ℕ IllFormed
 number_word word = ok_or (number_of word) BadLine
+
+-- the 20 bytes of a key, in 40 hexadecimal digits of either case
+abbrev pub key_word : List ℕ → Result (List ℕ) IllFormed
+key_word word = ok_or (result_ok (decode_sized word 20)) BadLine
 
 -- whether a deletion is recursive, as the word behind its path says
 abbrev pub recursive_word : List ℕ → Result Bool IllFormed

@@ -4,6 +4,7 @@ ghost use Rattle.script_words.specs.Values as spec;
 
 use crate::words::is_word;
 use hdfs_types::file::LastBlock;
+use hdfs_types::key::Key;
 use hdfs_values::fault::{IllFormed, ParseFault};
 use hdfs_values::ids::BlockId;
 use hdfs_values::moment::Moment;
@@ -75,6 +76,17 @@ pub fn number_word(word: &str) -> Result<u64, ParseFault>
     match number_of(word) {
         Some(number) => Ok(number),
         None => Err(ParseFault::IllFormed(IllFormed::BadLine)),
+    }
+}
+
+/// A key: its 20 bytes in 40 hexadecimal digits, of either case.
+pub fn key_word(word: &str) -> Result<Key, ParseFault>
+    ensures { Forms result (spec.key_word word.now) }
+{
+    let mut bytes = [0; 20];
+    match hex::decode_to_slice(word, &mut bytes) {
+        Ok(()) => Ok(Key::new(bytes)),
+        Err(_) => Err(ParseFault::IllFormed(IllFormed::BadLine)),
     }
 }
 

@@ -13,7 +13,7 @@ use Rattle.namespace_rows.specs.First.{first}
 use Rattle.namespace_rows.specs.Rows.{row_at, is_missing, is_none}
 use Rattle.namespace_rows.specs.Namespace.{is_root}
 use Rattle.flat_rows.specs.Changes.{rows_under}
-use Rattle.flat_rows.specs.FileOutcome.{LeaseFacts}
+use Rattle.flat_rows.specs.Facts.{Facts}
 use Rattle.flat_rows.specs.Outcome.{beneath_file, nothing_at, refusal_of_missing, first_refusal, is_alone}
 use Rattle.namespace_rows.proofs.PathOrders.{same_path_is}
 
@@ -26,9 +26,9 @@ pub below_root : (path : List (List ℕ)) → (length path ≡ 0 → ⊥) → is
 below_root [] some = absurd (some refl)
 below_root (name ∷ names) some = refl
 
-pub missing_refused : (leases : LeaseFacts) (caller : List ℕ) (path : List (List ℕ)) (recursive : Bool) (rows : List Row) (users : Users) (refusal : Refusal) → is_root path ≡ false → refusal_of_missing path rows ≡ Some refusal
-    → first_refusal leases caller (Delete path recursive) rows users ≡ Some refusal
-missing_refused leases caller path recursive rows users refusal below missing = rw below (first_of (beneath_file path rows) (nothing_at (row_at path rows)) _ refusal missing)
+pub missing_refused : (facts : Facts) (caller : List ℕ) (path : List (List ℕ)) (recursive : Bool) (rows : List Row) (users : Users) (refusal : Refusal) → is_root path ≡ false → refusal_of_missing path rows ≡ Some refusal
+    → first_refusal facts caller (Delete path recursive) rows users ≡ Some refusal
+missing_refused facts caller path recursive rows users refusal below missing = rw below (first_of (beneath_file path rows) (nothing_at (row_at path rows)) _ refusal missing)
 
 pub parted : {X : Type 0} (p : X → Bool) (xs : List X) → length (filter p xs) + length (filter (λ x. not (p x)) xs) ≡ length xs
 parted p [] = refl

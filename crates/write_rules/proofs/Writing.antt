@@ -9,7 +9,8 @@ use Rattle.namespace_rows.specs.declared.file_row.FileRow.{FileRow}
 use Rattle.namespace_rows.specs.declared.row.Row.{Row}
 use Rattle.namespace_rows.specs.Rows.{row_at}
 use Rattle.namespace_rows.specs.Files.{holder_of, holder_of_file}
-use Rattle.flat_rows.specs.FileOutcome.{LeaseFacts, directory_there, of_file, if_some_file, refused_takeover, appended_reply, holder_at}
+use Rattle.flat_rows.specs.FileOutcome.{directory_there, of_file, if_some_file, refused_takeover, appended_reply, holder_at}
+use Rattle.flat_rows.specs.Facts.{Facts}
 use Rattle.required_rights.specs.RequiredRights.{Demand, required_rights}
 use Rattle.flat_rows.specs.Decision.{denial_among}
 use Rattle.flat_rows.specs.Outcome.{Step, step, first_some, beneath_file, nothing_at, refusals_of_file, first_refusal, reply_of, refused_or_done, denied_or_outcome}
@@ -42,22 +43,22 @@ or_none : (refusal : Option Refusal) → option_or refusal None ≡ refusal
 or_none None = refl
 or_none (Some refusal) = refl
 
-verdict_is : (leases : LeaseFacts) (rows : List Row) (users : Users) (caller : List ℕ) (op : Op) (refusal : Option Refusal) → refused_or (reply_of leases op rows) refusal ≡ (refused_or_done leases rows users caller op refusal).verdict
-verdict_is leases rows users caller op None = refl
-verdict_is leases rows users caller op (Some refusal) = refl
+verdict_is : (facts : Facts) (rows : List Row) (users : Users) (caller : List ℕ) (op : Op) (refusal : Option Refusal) → refused_or (reply_of facts op rows) refusal ≡ (refused_or_done facts rows users caller op refusal).verdict
+verdict_is facts rows users caller op None = refl
+verdict_is facts rows users caller op (Some refusal) = refl
 
-pub append_verdict : (leases : LeaseFacts) (path : List (List ℕ)) (rows : List Row) (users : Users) (caller : Caller) (needs : List Demand) (file : FileRow) → IsFileThere path rows file → denial_among rows caller needs ≡ None
-    → refused_or (appended_reply (holder_of file.state)) (refused_takeover leases caller.name file) ≡ (judged_step leases rows users caller needs (Append path)).verdict
-append_verdict leases path rows users caller needs file there granted =
-    let takeover = of_file (refused_takeover leases caller.name) (row_at path rows) in
-    let refusal : first_refusal leases caller.name (Append path) rows users ≡ refused_takeover leases caller.name file =
-    free_at_file path rows (takeover ∷ []) there.free ∙ or_none takeover ∙ of_this (refused_takeover leases caller.name) (row_at path rows) file there.at in
+pub append_verdict : (facts : Facts) (path : List (List ℕ)) (rows : List Row) (users : Users) (caller : Caller) (needs : List Demand) (file : FileRow) → IsFileThere path rows file → denial_among rows caller needs ≡ None
+    → refused_or (appended_reply (holder_of file.state)) (refused_takeover facts.leases caller.name file) ≡ (judged_step facts rows users caller needs (Append path)).verdict
+append_verdict facts path rows users caller needs file there granted =
+    let takeover = of_file (refused_takeover facts.leases caller.name) (row_at path rows) in
+    let refusal : first_refusal facts caller.name (Append path) rows users ≡ refused_takeover facts.leases caller.name file =
+    free_at_file path rows (takeover ∷ []) there.free ∙ or_none takeover ∙ of_this (refused_takeover facts.leases caller.name) (row_at path rows) file there.at in
     ap (refused_or (appended_reply (holder_of file.state))) (sym refusal)
-    ∙ ap (λ holder. refused_or (appended_reply holder) (first_refusal leases caller.name (Append path) rows users)) (sym (holder_of_this (row_at path rows) file there.at))
-    ∙ verdict_is leases rows users caller.name (Append path) (first_refusal leases caller.name (Append path) rows users)
-    ∙ ap (λ denied. (denied_or_outcome leases rows users caller.name (Append path) denied).verdict) (sym granted)
+    ∙ ap (λ holder. refused_or (appended_reply holder) (first_refusal facts caller.name (Append path) rows users)) (sym (holder_of_this (row_at path rows) file there.at))
+    ∙ verdict_is facts rows users caller.name (Append path) (first_refusal facts caller.name (Append path) rows users)
+    ∙ ap (λ denied. (denied_or_outcome facts rows users caller.name (Append path) denied).verdict) (sym granted)
 
 -- the verdict on what is judged with its needs is that of the step
-pub as_judged : (leases : LeaseFacts) (rows : List Row) (users : Users) (caller : List ℕ) (asking : Caller) (needs : List Demand) (what taken : Op) → asking ≡ caller_of users caller → needs ≡ required_rights what → what ≡ taken
-    → (judged_step leases rows users asking needs taken).verdict ≡ (step leases rows users caller what).verdict
-as_judged leases rows users caller asking needs what taken who all is = ap (λ (s : Step). s.verdict) (as_step leases rows users caller asking needs what taken who all is)
+pub as_judged : (facts : Facts) (rows : List Row) (users : Users) (caller : List ℕ) (asking : Caller) (needs : List Demand) (what taken : Op) → asking ≡ caller_of users caller → needs ≡ required_rights what → what ≡ taken
+    → (judged_step facts rows users asking needs taken).verdict ≡ (step facts rows users caller what).verdict
+as_judged facts rows users caller asking needs what taken who all is = ap (λ (s : Step). s.verdict) (as_step facts rows users caller asking needs what taken who all is)

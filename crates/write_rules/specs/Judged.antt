@@ -10,6 +10,7 @@ use Rattle.namespace_rows.specs.declared.row.Row.{Row}
 use Rattle.flat_rows.specs.declared.verdict.Verdict as answer
 use Rattle.flat_rows.specs.declared.verdict.Verdict.TheVariants.{Done, Refused}
 use Rattle.flat_rows.specs.FileOutcome.{LeaseFacts, refused_recovery}
+use Rattle.flat_rows.specs.Facts.{Facts}
 use Rattle.flat_rows.specs.Outcome.{step}
 use Rattle.write_rules.specs.declared.write.Judged.{Judged}
 use Rattle.write_rules.specs.declared.write.Judged.TheVariants.{Verdict, Held}
@@ -30,5 +31,5 @@ verdict_under leases (Verdict verdict) = verdict
 verdict_under leases (Held holder ends_uncommitted) = takeover leases holder ends_uncommitted
 
 -- the verdict as leases stand is that of the step
-abbrev pub IsJudged : LeaseFacts → List Row → Users → List ℕ → Op → Judged → Type 0
-IsJudged leases rows users caller op judged = verdict_under leases judged ≡ (step leases rows users caller op).verdict
+abbrev pub IsJudged : Facts → List Row → Users → List ℕ → Op → Judged → Type 0
+IsJudged facts rows users caller op judged = verdict_under facts.leases judged ≡ (step facts rows users caller op).verdict

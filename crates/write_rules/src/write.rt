@@ -5,6 +5,7 @@ ghost use Rattle.namespace_rows.specs.declared.row.Row.{Row};
 ghost use Rattle.required_rights.specs.RequiredRights.{required_rights};
 ghost use Rattle.flat_rows.specs.Decision.{decision};
 ghost use Rattle.flat_rows.specs.FileOutcome.{LeaseFacts, refused_write, refused_commit, refused_takeover, appended_reply};
+ghost use Rattle.flat_rows.specs.Facts.{Facts};
 ghost use Rattle.namespace_rows.specs.Files.{holder_of};
 ghost use Rattle.flat_rows.specs.Outcome as spec;
 ghost use Rattle.flat_rows.specs.Outcome.{is_alone};
@@ -52,7 +53,7 @@ fn refusal_of_create(
     reach: Reach<'_>,
     over: bool,
 ) -> Result<Option<Refusal>, AllocError>
-    ensures { (leases : LeaseFacts) (user : List ℕ) (path : List (List ℕ)) (mode replication : ℕ) (rows : List Row) (users : Users) → IsReach path rows reach.entry → IfOk result (λ refusal. refusal ≡ spec.first_refusal leases user (Op.Create path mode replication over) rows users) }
+    ensures { (facts : Facts) (user : List ℕ) (path : List (List ℕ)) (mode replication : ℕ) (rows : List Row) (users : Users) → IsReach path rows reach.entry → IfOk result (λ refusal. refusal ≡ spec.first_refusal facts user (Op.Create path mode replication over) rows users) }
 {
     if let Some(file) = reach.file {
         return Ok(Some(Refusal::NotDirectory(file.to_path(alloc)?)));
@@ -80,7 +81,7 @@ pub fn judge_create(
     over: bool,
 ) -> Result<Verdict, AllocError>
     requires { AreOn path.now needs.now }
-    ensures { (leases : LeaseFacts) (users : Users) (mode replication : ℕ) → IfOk result (λ verdict. verdict ≡ (judged_step leases tree.now users caller.now needs.now (Op.Create path.now mode replication over)).verdict) }
+    ensures { (facts : Facts) (users : Users) (mode replication : ℕ) → IfOk result (λ verdict. verdict ≡ (judged_step facts tree.now users caller.now needs.now (Op.Create path.now mode replication over)).verdict) }
 {
     let reach = match walk_along(alloc, tree, caller, needs, path)? {
         Walked::Denied(denial) => return Ok(Verdict::Denied(denial)),
@@ -146,7 +147,7 @@ pub fn judge_add_block(
     last: Option<LastBlock>,
 ) -> Result<Verdict, AllocError>
     requires { AreOn path.now needs.now }
-    ensures { (leases : LeaseFacts) (users : Users) → IfOk result (λ verdict. verdict ≡ (judged_step leases tree.now users caller.now needs.now (Op.AddBlock path.now last)).verdict) }
+    ensures { (facts : Facts) (users : Users) → IfOk result (λ verdict. verdict ≡ (judged_step facts tree.now users caller.now needs.now (Op.AddBlock path.now last)).verdict) }
 {
     let reach = match walk_along(alloc, tree, caller, needs, path)? {
         Walked::Denied(denial) => return Ok(Verdict::Denied(denial)),
@@ -176,7 +177,7 @@ pub fn judge_complete(
     last: Option<LastBlock>,
 ) -> Result<Verdict, AllocError>
     requires { AreOn path.now needs.now }
-    ensures { (leases : LeaseFacts) (users : Users) → IfOk result (λ verdict. verdict ≡ (judged_step leases tree.now users caller.now needs.now (Op.Complete path.now last)).verdict) }
+    ensures { (facts : Facts) (users : Users) → IfOk result (λ verdict. verdict ≡ (judged_step facts tree.now users caller.now needs.now (Op.Complete path.now last)).verdict) }
 {
     let reach = match walk_along(alloc, tree, caller, needs, path)? {
         Walked::Denied(denial) => return Ok(Verdict::Denied(denial)),
@@ -228,7 +229,7 @@ pub fn judge_append(
     path: &Path,
 ) -> Result<Judged, AllocError>
     requires { AreOn path.now needs.now }
-    ensures { (leases : LeaseFacts) (users : Users) → IfOk result (λ judged. verdict_under leases judged ≡ (judged_step leases tree.now users caller.now needs.now (Op.Append path.now)).verdict) }
+    ensures { (facts : Facts) (users : Users) → IfOk result (λ judged. verdict_under facts.leases judged ≡ (judged_step facts tree.now users caller.now needs.now (Op.Append path.now)).verdict) }
 {
     let reach = match walk_along(alloc, tree, caller, needs, path)? {
         Walked::Denied(denial) => return Ok(Judged::Verdict(Verdict::Denied(denial))),
@@ -274,7 +275,7 @@ pub fn judge_delete(
     recursive: bool,
 ) -> Result<Verdict, AllocError>
     requires { AreOn path.now needs.now }
-    ensures { (leases : LeaseFacts) (users : Users) → IfOk result (λ verdict. verdict ≡ (judged_step leases tree.now users caller.now needs.now (Op.Delete path.now recursive)).verdict) }
+    ensures { (facts : Facts) (users : Users) → IfOk result (λ verdict. verdict ≡ (judged_step facts tree.now users caller.now needs.now (Op.Delete path.now recursive)).verdict) }
 {
     let reach = match walk_along(alloc, tree, caller, needs, path)? {
         Walked::Denied(denial) => return Ok(Verdict::Denied(denial)),
@@ -310,7 +311,7 @@ pub fn judge(
     write: &Write<'_>,
 ) -> Result<Judged, AllocError>
     requires { needs.now ≡ required_rights (write_op write.now) }
-    ensures { (leases : LeaseFacts) → IfOk result (IsJudged leases tree.now users.now caller.now (write_op write.now)) }
+    ensures { (facts : Facts) → IfOk result (IsJudged facts tree.now users.now caller.now (write_op write.now)) }
 {
     let asking = users.caller(caller);
     match write {
@@ -330,20 +331,19 @@ pub fn judge(
     }
 }
 
-/// Whether the caller may have the files of clients closed whose leases are past the hard limit: the denial, or none. Nothing
-/// else refuses it.
+/// Judges an operation by its needs alone, where nothing else refuses it, or what does isn't known here: the denial, or none. Costs a
+/// descent along the paths of the needs, and for a need of a sub-tree the directories there.
 ///
 /// # Errors
 /// Out of memory.
-pub fn judge_tick(
+pub fn judge_rights(
     alloc: Global,
     tree: &Tree,
     users: &Users,
     caller: &Who,
     needs: &Needs,
 ) -> Result<Option<Denial>, AllocError>
-    requires { needs.now ≡ required_rights Op.Tick }
-    ensures { IfOk result (λ denial. denial ≡ decision tree.now users.now caller.now Op.Tick) }
+    ensures { (op : Op) → needs.now ≡ required_rights op → IfOk result (λ denial. denial ≡ decision tree.now users.now caller.now op) }
 {
     walk(alloc, tree, users, caller, needs)
 }

@@ -1,8 +1,8 @@
-use Rattle.std.proofs.Common.{◌∙◌, false, [], sym, ap, subst}
+use Rattle.std.proofs.Common.{◌∙◌, false, [], None, sym, ap, subst}
 use Rattle.hdfs_types.specs.declared.op.Op.TheVariants.{Rename}
 use Rattle.hdfs_types.specs.declared.reply.Reply.TheVariants.{Empty}
 use Rattle.principals.specs.Users.{Users}
-use Rattle.flat_rows.specs.FileOutcome.{LeaseFacts}
+use Rattle.flat_rows.specs.Facts.{Facts}
 use Rattle.flat_rows.specs.Outcome.{denied_or_outcome, refused_or_done}
 use Rattle.perm_walk.specs.Walked.{IsWalkedBoth}
 use Rattle.flat_rows.specs.declared.verdict.Verdict.TheVariants.{Done}
@@ -12,14 +12,14 @@ use Rattle.fs_operations.proofs.change.rename.Goals as goal
 nobody : Users
 nobody = record { known = []; superuser = []; supergroup = [] }
 
-nothing : LeaseFacts
-nothing = record { is_live = λ client. false; is_past_hard = λ client. false }
+nothing : Facts
+nothing = record { leases = record { is_live = λ client. false; is_past_hard = λ client. false }; next_serial = None }
 
 pub returns-in-Some-clause-ok : goal.returns-in-Some-clause-ok
-returns-in-Some-clause-ok c = λ leases users.
+returns-in-Some-clause-ok c = λ facts users.
     let granted = subst (IsWalkedBoth c.args.from.now c.args.to.now c.args.tree.now c.args.caller.now c.args.needs.now) c.in-Reached.is c.in_ok-denial.ensures in
-    ap (refused_or_done leases c.args.tree.now users c.args.caller.now.name (Rename c.args.from.now c.args.to.now)) (sym c.in-Some.is ∙ c.in_ok-refusal.ensures leases c.args.caller.now.name users)
-    ∙ ap (denied_or_outcome leases c.args.tree.now users c.args.caller.now.name (Rename c.args.from.now c.args.to.now)) (sym granted.granted)
+    ap (refused_or_done facts c.args.tree.now users c.args.caller.now.name (Rename c.args.from.now c.args.to.now)) (sym c.in-Some.is ∙ c.in_ok-refusal.ensures facts c.args.caller.now.name users)
+    ∙ ap (denied_or_outcome facts c.args.tree.now users c.args.caller.now.name (Rename c.args.from.now c.args.to.now)) (sym granted.granted)
 
 pub move_to-requires-clause-there : goal.move_to-requires-clause-there
 move_to-requires-clause-there c = (unrefused_rename nothing [] c.args.from.now c.args.to.now c.args.tree.now nobody (sym (c.in_ok-refusal.ensures nothing [] nobody) ∙ c.in_default.is)).there
@@ -37,8 +37,8 @@ pub move_to-requires-clause-within : goal.move_to-requires-clause-within
 move_to-requires-clause-within c = (unrefused_rename nothing [] c.args.from.now c.args.to.now c.args.tree.now nobody (sym (c.in_ok-refusal.ensures nothing [] nobody) ∙ c.in_default.is)).within
 
 pub returns-clause-ok : goal.returns-clause-ok
-returns-clause-ok c = λ leases users.
+returns-clause-ok c = λ facts users.
     let granted = subst (IsWalkedBoth c.args.from.now c.args.to.now c.args.tree.now c.args.caller.now c.args.needs.now) c.in-Reached.is c.in_ok-denial.ensures in
     ap (λ rows. record { verdict = Done Empty; rows = rows; users = users }) c.in_ok-move_to.ensures.ok
-    ∙ ap (refused_or_done leases c.args.tree.now users c.args.caller.now.name (Rename c.args.from.now c.args.to.now)) (sym c.in_default.is ∙ c.in_ok-refusal.ensures leases c.args.caller.now.name users)
-    ∙ ap (denied_or_outcome leases c.args.tree.now users c.args.caller.now.name (Rename c.args.from.now c.args.to.now)) (sym granted.granted)
+    ∙ ap (refused_or_done facts c.args.tree.now users c.args.caller.now.name (Rename c.args.from.now c.args.to.now)) (sym c.in_default.is ∙ c.in_ok-refusal.ensures facts c.args.caller.now.name users)
+    ∙ ap (denied_or_outcome facts c.args.tree.now users c.args.caller.now.name (Rename c.args.from.now c.args.to.now)) (sym granted.granted)

@@ -1,6 +1,5 @@
 use Rattle.std.proofs.Common.{◌∙◌, ap, map}
-use Rattle.history.specs.Config.{standard}
-use Rattle.script_runs.specs.Output.{State, after_lines}
+use Rattle.script_runs.specs.Output.{State, script_opening, after_lines}
 use Rattle.hdfs_cli.specs.Explanation.{trail_text, trail_on}
 use Rattle.hdfs_cli.proofs.explain.explain_request.Goals as goal
 
@@ -9,4 +8,4 @@ returns-clause-text c =
     let state : State = after_lines (map (λ line. line.now) c.args.before.now) in
     let entries = c.run_lines.new.session.core.entries in
     c.in_ok-needs_text.ensures
-    ∙ ap trail_text (ap (λ config. trail_on config entries c.args.request.now) c.in_ok-run_lines.ensures.ok.config ∙ ap (λ entries. trail_on standard entries c.args.request.now) c.in_ok-run_lines.ensures.ok.entries)
+    ∙ ap trail_text (ap (λ opening. trail_on opening entries c.args.request.now) c.in_ok-run_lines.ensures.ok.opening ∙ ap (λ entries. trail_on script_opening entries c.args.request.now) c.in_ok-run_lines.ensures.ok.entries)

@@ -1,7 +1,7 @@
 use Rattle.std.proofs.Common.{ap}
 use Rattle.hdfs_types.specs.Verb.{write_op}
 use Rattle.write_rules.specs.Judged.{verdict_under}
-use Rattle.name_core.specs.Performed.{facts_of}
+use Rattle.name_core.specs.Performed.{facts_in}
 use Rattle.file_effects.proofs.Effects.{no_facts}
 use Rattle.name_core.proofs.Deciding.{free_of, judged_is, held_free, held_is}
 use Rattle.name_core.proofs.namesystem.decide.Goals as goal
@@ -9,11 +9,11 @@ use Rattle.name_core.proofs.namesystem.decide.Goals as goal
 pub returns-in-Verdict-clause-free : goal.returns-in-Verdict-clause-free
 returns-in-Verdict-clause-free c = λ done.
     free_of no_facts c.args.system.now.tree c.args.system.now.users c.args.caller.now (write_op c.args.write.now) c.in-Verdict.verdict
-    (judged_is c.args.system.now c.args.caller.now (write_op c.args.write.now) c.in_ok-verdict.field-0 c.in_ok-verdict.ensures no_facts c.in-Verdict.verdict (ap (verdict_under no_facts) c.in-Verdict.is)) done
+    (judged_is c.args.system.now c.args.caller.now (write_op c.args.write.now) c.in_ok-verdict.field-0 c.in_ok-verdict.ensures no_facts c.in-Verdict.verdict (ap (verdict_under no_facts.leases) c.in-Verdict.is)) done
 
 pub returns-in-Verdict-clause-verdict : goal.returns-in-Verdict-clause-verdict
 returns-in-Verdict-clause-verdict c = λ last exact.
-    judged_is c.args.system.now c.args.caller.now (write_op c.args.write.now) c.in_ok-verdict.field-0 c.in_ok-verdict.ensures (facts_of last c.args.now c.args.system.now) c.in-Verdict.verdict (ap (verdict_under (facts_of last c.args.now c.args.system.now)) c.in-Verdict.is)
+    judged_is c.args.system.now c.args.caller.now (write_op c.args.write.now) c.in_ok-verdict.field-0 c.in_ok-verdict.ensures (facts_in last c.args.now c.args.system.now) c.in-Verdict.verdict (ap (verdict_under (facts_in last c.args.now c.args.system.now).leases) c.in-Verdict.is)
 
 pub returns-in_ok-verdict-in-Held-clause-free : goal.returns-in_ok-verdict-in-Held-clause-free
 returns-in_ok-verdict-in-Held-clause-free c = λ done.

@@ -14,6 +14,9 @@ perform_update-requires-clause-needs c = c.in_ok-needs.ensures ∙ ap required_r
 pub perform_write-requires-clause-needs : goal.perform_write-requires-clause-needs
 perform_write-requires-clause-needs c = c.in_ok-needs.ensures ∙ ap required_rights (sym c.verb.ensures ∙ ap op_of c.in-Write.is)
 
+pub perform_roll-requires : goal.perform_roll-requires
+perform_roll-requires c = c.in_ok-needs.ensures ∙ ap required_rights (sym c.verb.ensures ∙ ap op_of c.in-RollKey.is)
+
 pub perform_tick-requires-clause-needs : goal.perform_tick-requires-clause-needs
 perform_tick-requires-clause-needs c = c.in_ok-needs.ensures ∙ ap required_rights (sym c.verb.ensures ∙ ap op_of c.in-Tick.is)
 
@@ -28,6 +31,10 @@ returns-in-Update-clause-ok c = λ last exact.
 pub returns-in-Write-clause-ok : goal.returns-in-Write-clause-ok
 returns-in-Write-clause-ok c = λ last exact.
     subst (λ what. IfOk c.perform_write.result (λ verdict. IsPerformed last c.args.now c.args.request.now.caller what c.args.system.now verdict c.perform_write.new.system)) (sym (ap op_of c.in-Write.is) ∙ c.verb.ensures) (c.perform_write.ensures.ok last exact)
+
+pub returns-in-RollKey-clause-ok : goal.returns-in-RollKey-clause-ok
+returns-in-RollKey-clause-ok c = λ last exact.
+    subst (λ what. IfOk c.perform_roll.result (λ verdict. IsPerformed last c.args.now c.args.request.now.caller what c.args.system.now verdict c.perform_roll.new.system)) (sym (ap op_of c.in-RollKey.is) ∙ c.verb.ensures) (c.perform_roll.ensures.ok last exact)
 
 pub returns-in-Renew-clause-ok : goal.returns-in-Renew-clause-ok
 returns-in-Renew-clause-ok c = λ last exact.

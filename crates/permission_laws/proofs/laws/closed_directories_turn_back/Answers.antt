@@ -10,15 +10,15 @@ returns-clause-turned c = λ a path directory namespace named up at shut.
     let turn = turned a.rows namespace a.users a.caller directory at shut a.op path named up in
     record {
       denial = turn.denial;
-      verdict = ap (λ (d : Option Denial). (denied_or_outcome a.leases a.rows a.users a.caller a.op d).verdict) turn.decided;
+      verdict = ap (λ (d : Option Denial). (denied_or_outcome a.facts a.rows a.users a.caller a.op d).verdict) turn.decided;
       stands = turn.stands_there;
       shut = turn.shut;
       above = turn.above;
       on_the_way = turn.on_way;
-      rows = ap (λ (d : Option Denial). (denied_or_outcome a.leases a.rows a.users a.caller a.op d).rows) turn.decided;
-      users = ap (λ (d : Option Denial). (denied_or_outcome a.leases a.rows a.users a.caller a.op d).users) turn.decided;
+      rows = ap (λ (d : Option Denial). (denied_or_outcome a.facts a.rows a.users a.caller a.op d).rows) turn.decided;
+      users = ap (λ (d : Option Denial). (denied_or_outcome a.facts a.rows a.users a.caller a.op d).users) turn.decided;
     }
 
 pub returns-clause-told : goal.returns-clause-told
 returns-clause-told c = λ a denial directory namespace verdict up at.
-    reached a.rows namespace a.users a.caller a.op denial (denied a.leases a.rows a.users a.caller a.op denial verdict) directory at up
+    reached a.rows namespace a.users a.caller a.op denial (denied a.facts a.rows a.users a.caller a.op denial verdict) directory at up

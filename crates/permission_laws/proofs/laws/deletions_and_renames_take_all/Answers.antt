@@ -7,12 +7,12 @@ use Rattle.permission_laws.proofs.laws.deletions_and_renames_take_all.Goals as g
 
 pub returns-clause-deleted : goal.returns-clause-deleted
 returns-clause-deleted c = λ a path recursive other is_done asked inside.
-    ap (row_at other) (done a.leases a.rows a.users a.caller a.op is_done).left ∙ ap (λ o. row_at other (rows_after a.leases o a.caller a.rows)) asked ∙ without_there a.rows other path inside
+    ap (row_at other) (done a.facts a.rows a.users a.caller a.op is_done).left ∙ ap (λ o. row_at other (rows_after a.facts o a.caller a.rows)) asked ∙ without_there a.rows other path inside
 
 pub returns-clause-moved : goal.returns-clause-moved
 returns-clause-moved c = λ a from to names row is_done asked there.
-    ap (row_at (to ++ names)) (done a.leases a.rows a.users a.caller a.op is_done).left ∙ ap (λ o. row_at (to ++ names) (rows_after a.leases o a.caller a.rows)) asked ∙ moved_there from to names a.rows row there
+    ap (row_at (to ++ names)) (done a.facts a.rows a.users a.caller a.op is_done).left ∙ ap (λ o. row_at (to ++ names) (rows_after a.facts o a.caller a.rows)) asked ∙ moved_there from to names a.rows row there
 
 pub returns-clause-left : goal.returns-clause-left
 returns-clause-left c = λ a from to other is_done asked inside apart.
-    ap (row_at other) (done a.leases a.rows a.users a.caller a.op is_done).left ∙ ap (λ o. row_at other (rows_after a.leases o a.caller a.rows)) asked ∙ moved_away a.rows other from to inside apart
+    ap (row_at other) (done a.facts a.rows a.users a.caller a.op is_done).left ∙ ap (λ o. row_at other (rows_after a.facts o a.caller a.rows)) asked ∙ moved_away a.rows other from to inside apart

@@ -6,9 +6,9 @@ use Rattle.permission_laws.proofs.Held.{parent_held, all_held}
 use Rattle.permission_laws.proofs.laws.deletions_have_their_rights.Goals as goal
 
 pub returns-clause-directory : goal.returns-clause-directory
-returns-clause-directory c = λ a path directory is_done taken held. parent_held a.rows a.users a.caller a.op path directory (done a.leases a.rows a.users a.caller a.op is_done).allowed taken (directory_holds a.rows path directory held.stands held.kind held.child)
+returns-clause-directory c = λ a path directory is_done taken held. parent_held a.rows a.users a.caller a.op path directory (done a.facts a.rows a.users a.caller a.op is_done).allowed taken (directory_holds a.rows path directory held.stands held.kind held.child)
 
 pub returns-clause-beneath : goal.returns-clause-beneath
 returns-clause-beneath c = λ a path recursive directory is_done asked at kind inside.
     all_held a.rows a.users a.caller path recursive directory
-    (subst (λ o. decision a.rows a.users a.caller o ≡ None) asked (done a.leases a.rows a.users a.caller a.op is_done).allowed) at kind inside
+    (subst (λ o. decision a.rows a.users a.caller o ≡ None) asked (done a.facts a.rows a.users a.caller a.op is_done).allowed) at kind inside

@@ -6,15 +6,15 @@ use Rattle.permission_laws.proofs.laws.parts_change_alone.Goals as goal
 
 pub returns-clause-files : goal.returns-clause-files
 returns-clause-files c = λ a path row later about there after.
-    either_way a.leases a.rows a.users a.caller a.op (λ some. row_at path some ≡ Some later → with_file_of row later ≡ row)
-    (undone_alone a.rows path row later there with_file_of (λ r. refl)) (files_alone a.rows path row later there a.leases a.caller a.op about) after
+    either_way a.facts a.rows a.users a.caller a.op (λ some. row_at path some ≡ Some later → with_file_of row later ≡ row)
+    (undone_alone a.rows path row later there with_file_of (λ r. refl)) (files_alone a.rows path row later there a.facts a.caller a.op about) after
 
 pub returns-clause-lists : goal.returns-clause-lists
 returns-clause-lists c = λ a path row later about there after.
-    either_way a.leases a.rows a.users a.caller a.op (λ some. row_at path some ≡ Some later → with_list_of row later ≡ row)
-    (undone_alone a.rows path row later there with_list_of (λ r. refl)) (lists_alone a.rows path row later there a.leases a.caller a.op about) after
+    either_way a.facts a.rows a.users a.caller a.op (λ some. row_at path some ≡ Some later → with_list_of row later ≡ row)
+    (undone_alone a.rows path row later there with_list_of (λ r. refl)) (lists_alone a.rows path row later there a.facts a.caller a.op about) after
 
 pub returns-clause-owners : goal.returns-clause-owners
 returns-clause-owners c = λ a path row later about there after.
-    either_way a.leases a.rows a.users a.caller a.op (λ some. row_at path some ≡ Some later → with_owner_of row later ≡ row)
-    (undone_alone a.rows path row later there with_owner_of (λ r. refl)) (owners_alone a.rows path row later there a.leases a.caller a.op about) after
+    either_way a.facts a.rows a.users a.caller a.op (λ some. row_at path some ≡ Some later → with_owner_of row later ≡ row)
+    (undone_alone a.rows path row later there with_owner_of (λ r. refl)) (owners_alone a.rows path row later there a.facts a.caller a.op about) after

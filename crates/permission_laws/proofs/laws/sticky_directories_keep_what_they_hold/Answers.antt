@@ -5,4 +5,4 @@ use Rattle.permission_laws.proofs.laws.sticky_directories_keep_what_they_hold.Go
 
 pub returns : goal.returns
 returns c = λ a path row directory is_done taken at held sticky.
-    sticky_held a.rows a.users a.caller a.op path row directory (done a.leases a.rows a.users a.caller a.op is_done).allowed taken at (directory_holds a.rows path directory held.stands held.kind held.child) sticky
+    sticky_held a.rows a.users a.caller a.op path row directory (done a.facts a.rows a.users a.caller a.op is_done).allowed taken at (directory_holds a.rows path directory held.stands held.kind held.child) sticky

@@ -9,10 +9,10 @@ use Rattle.write_rules.proofs.Writing.{append_verdict}
 use Rattle.write_rules.proofs.write.judge_append.Goals as goal
 
 pub returns-in-There : goal.returns-in-There
-returns-in-There c = λ leases users.
+returns-in-There c = λ facts users.
     let granted = subst (IsWalked c.args.path.now c.args.tree.now c.args.caller.now c.args.needs.now) c.in-Reached.is c.in_ok-denial.ensures in
     let there = subst (IsFoundFile c.args.path.now c.args.tree.now) c.in-There.is (c.in_ok-file.ensures c.args.path.now c.args.tree.now granted.leads) in
     IfOk-weaker c.appended.result _ _ (λ judged is. is
-    ∙ ap (λ client. refused_or (appended_reply (holder_of c.in-There.file.now.state)) (refused_takeover leases client c.in-There.file.now)) c.name.ensures
-    ∙ append_verdict leases c.args.path.now c.args.tree.now users c.args.caller.now c.args.needs.now c.in-There.file.now there granted.granted)
-    (c.appended.ensures leases)
+    ∙ ap (λ client. refused_or (appended_reply (holder_of c.in-There.file.now.state)) (refused_takeover facts.leases client c.in-There.file.now)) c.name.ensures
+    ∙ append_verdict facts c.args.path.now c.args.tree.now users c.args.caller.now c.args.needs.now c.in-There.file.now there granted.granted)
+    (c.appended.ensures facts.leases)

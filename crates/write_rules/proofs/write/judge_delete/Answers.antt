@@ -7,9 +7,9 @@ use Rattle.write_rules.proofs.Deleting.{below_root, missing_refused}
 use Rattle.write_rules.proofs.write.judge_delete.Goals as goal
 
 pub returns-in-Refused : goal.returns-in-Refused
-returns-in-Refused c = λ leases users.
+returns-in-Refused c = λ facts users.
     let granted = subst (IsWalked c.args.path.now c.args.tree.now c.args.caller.now c.args.needs.now) c.in-Reached.is c.in_ok-denial.ensures in
     let missing = subst (IsFound c.args.path.now c.args.tree.now) c.in-Refused.is (c.in_ok-refusal.ensures c.args.path.now c.args.tree.now granted.leads) in
-    ap (λ (s : Step). s.verdict) (ap (refused_or_done leases c.args.tree.now users c.args.caller.now.name (Delete c.args.path.now c.args.recursive))
-    (sym (missing_refused leases c.args.caller.now.name c.args.path.now c.args.recursive c.args.tree.now users c.in-Refused.refusal (below_root c.args.path.now (λ none. c.if-depth-eq0.false (c.depth.ensures ∙ none))) missing))
-    ∙ ap (denied_or_outcome leases c.args.tree.now users c.args.caller.now.name (Delete c.args.path.now c.args.recursive)) (sym granted.granted))
+    ap (λ (s : Step). s.verdict) (ap (refused_or_done facts c.args.tree.now users c.args.caller.now.name (Delete c.args.path.now c.args.recursive))
+    (sym (missing_refused facts c.args.caller.now.name c.args.path.now c.args.recursive c.args.tree.now users c.in-Refused.refusal (below_root c.args.path.now (λ none. c.if-depth-eq0.false (c.depth.ensures ∙ none))) missing))
+    ∙ ap (denied_or_outcome facts c.args.tree.now users c.args.caller.now.name (Delete c.args.path.now c.args.recursive)) (sym granted.granted))

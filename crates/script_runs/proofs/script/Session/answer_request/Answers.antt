@@ -5,11 +5,11 @@ use Rattle.std.specs.String.{string_bytes}
 use Rattle.std.proofs.lemmas.List.Concat.{flat_map-append}
 use Rattle.std.proofs.lemmas.List.Folds.{list_any-append}
 use Rattle.history.specs.declared.entry.HistoryEntry.{HistoryEntry}
-use Rattle.history.specs.Config.{Config, standard}
+use Rattle.history.specs.Config.{Opening}
 use Rattle.history.specs.LegalHistory.{verdict_of}
 use Rattle.name_core.specs.NameCore.{NameCore, entry_of}
 use Rattle.script_text.specs.AnswerText.{answer_line, is_bad}
-use Rattle.script_runs.specs.Output.{Numbered, entry_behind, text_of}
+use Rattle.script_runs.specs.Output.{Numbered, script_opening, entry_behind, text_of}
 use Rattle.script_runs.proofs.script.Session.answer_request.Goals as goal
 
 or_false : (b : Bool) → (b || false) ≡ b
@@ -21,26 +21,26 @@ pub returns-clause-ok : goal.returns-clause-ok
 returns-clause-ok c state shows =
     let old = c.args.self.now in
     let request = c.args.request in
-    let line : ℕ → Config → List HistoryEntry → List ℕ = λ n config entries. answer_line (n + 1) (Ok (verdict_of config entries request)) in
+    let line : ℕ → Opening → List HistoryEntry → List ℕ = λ n opening entries. answer_line (n + 1) (Ok (verdict_of opening entries request)) in
     let front = text_of state.answers in
-    let answer : Numbered = record { number = state.number + 1; answer = Ok (verdict_of standard state.entries request) } in
-    let printed : string_bytes c.print_last.new.out ≡ string_bytes old.out ++ line old.number old.core.config old.core.entries =
+    let answer : Numbered = record { number = state.number + 1; answer = Ok (verdict_of script_opening state.entries request) } in
+    let printed : string_bytes c.print_last.new.out ≡ string_bytes old.out ++ line old.number old.core.opening old.core.entries =
     subst (λ (core : NameCore). IfSome (slice_get core.entries 0) (λ entry. string_bytes c.print_last.new.out ≡ string_bytes old.out ++ answer_line (old.number + 1) (Ok entry.verdict))) c.in_ok-append.ensures.ok c.in_ok-print_last.ensures.ok in
     record {
       number = ap (λ n. n + 1) shows.number;
-      config = ap (λ (core : NameCore). core.config) c.in_ok-append.ensures.ok ∙ shows.config;
+      opening = ap (λ (core : NameCore). core.opening) c.in_ok-append.ensures.ok ∙ shows.opening;
       entries =
           ap (λ (core : NameCore). core.entries) c.in_ok-append.ensures.ok
           ∙ ap (λ index. entry_of old.core 0 index request ∷ old.core.entries) c.place-index.ensures.place
-          ∙ ap (λ config. entry_behind config old.core.entries request ∷ old.core.entries) shows.config
-          ∙ ap (λ entries. entry_behind standard entries request ∷ entries) shows.entries;
+          ∙ ap (λ opening. entry_behind opening old.core.entries request ∷ old.core.entries) shows.opening
+          ∙ ap (λ entries. entry_behind script_opening entries request ∷ entries) shows.entries;
       text =
           printed
-          ∙ ap (λ text. text ++ line old.number old.core.config old.core.entries) shows.text
-          ∙ ap (λ n. front ++ line n old.core.config old.core.entries) shows.number
-          ∙ ap (λ config. front ++ line state.number config old.core.entries) shows.config
-          ∙ ap (λ entries. front ++ line state.number standard entries) shows.entries
-          ∙ ap (λ text. front ++ text) (sym (append-nil (line state.number standard state.entries)))
+          ∙ ap (λ text. text ++ line old.number old.core.opening old.core.entries) shows.text
+          ∙ ap (λ n. front ++ line n old.core.opening old.core.entries) shows.number
+          ∙ ap (λ opening. front ++ line state.number opening old.core.entries) shows.opening
+          ∙ ap (λ entries. front ++ line state.number script_opening entries) shows.entries
+          ∙ ap (λ text. front ++ text) (sym (append-nil (line state.number script_opening state.entries)))
           ∙ sym (flat_map-append (λ (numbered : Numbered). answer_line numbered.number numbered.answer) state.answers (answer ∷ []));
       bad =
           shows.bad
