@@ -1,3 +1,4 @@
 pub mod Numbers
 pub mod Reporting
 pub mod Ascending
+pub mod Taking

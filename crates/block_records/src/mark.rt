@@ -1,5 +1,6 @@
-ghost use Rattle.std.specs.Prelude.{◌≡◌, [], OnOk, OnErr};
-ghost use Rattle.block_records.specs.Marks.{with_mark, with_marks};
+ghost use Rattle.std.specs.Prelude.{◌≡◌, [], IfOk, OnOk, OnErr};
+ghost use Rattle.std.specs.List.Sorted.{IsStrictlySortedBy};
+ghost use Rattle.block_records.specs.Marks.{mark_cmp, with_mark, with_marks, without_marks, marks_for, marks_but};
 
 use hdfs_values::ids::{BlockId, Stamp};
 use hdfs_values::node_id::NodeId;
@@ -33,6 +34,47 @@ impl Model for Marks {
     ghost use Rattle.block_records.specs.Marks.{with_marks};
 
     ghost view = { λ marks. with_marks marks.ordered.keys marks.latest.items };
+}
+
+// Puts marks that wait in their places, in the order in which they came.
+fn settle(ordered: &mut BTreeSet<Mark>, latest: &mut VecDeque<Mark>) -> Result<(), AllocError>
+    ensures same { with_marks ordered.new.keys latest.new.items ≡ with_marks ordered.old.keys latest.old.items }
+    ensures settled { OnOk result (latest.new.items ≡ []) }
+{
+    while let Some(mark) = latest.front().copied() {
+        ordered.insert(mark)?;
+        latest.pop_front();
+    }
+    Ok(())
+}
+
+// The marks of a node. Costs a look-up, and these marks.
+fn marks_of(alloc: Global, ordered: &BTreeSet<Mark>, node: NodeId) -> Result<Vec<Mark>, AllocError>
+    ensures marks { IfOk result (λ marks. marks.items ≡ marks_for node ordered.now.keys) }
+    ensures sorted { IsStrictlySortedBy mark_cmp ordered.now.keys }
+{
+    let first = Mark {
+        node,
+        block: BlockId::new(0),
+        stamp: Stamp::new(0),
+    };
+    let mut marks = Vec::new(alloc);
+    for mark in ordered.range(first..) {
+        if mark.node != node {
+            return Ok(marks);
+        }
+        marks.push(*mark)?;
+    }
+    Ok(marks)
+}
+
+// Takes these marks out, each with a look-up. Takes no memory.
+fn remove_each(ordered: &mut BTreeSet<Mark>, marks: &[Mark])
+    ensures { ordered.new.keys ≡ without_marks ordered.old.keys marks.now }
+{
+    for mark in marks {
+        ordered.remove(mark);
+    }
 }
 
 impl Marks {
@@ -69,5 +111,21 @@ impl Marks {
         let mut more = VecDeque::from_vec(marks);
         self.latest.append(&mut more)?;
         Ok(())
+    }
+
+    /// Takes out the marks of a node, and answers them in their order. Costs a look-up for each of them, and for each mark that came
+    /// since the last time.
+    ///
+    /// # Errors
+    /// Out of memory. Nothing has changed then.
+    pub fn take(&mut self, alloc: Global, node: NodeId) -> Result<Vec<Mark>, AllocError>
+        ensures taken { IfOk result (λ marks. marks.items ≡ marks_for node self.old) }
+        ensures left { OnOk result (self.new ≡ marks_but node self.old) }
+        ensures err { OnErr result (self.new ≡ self.old) }
+    {
+        settle(&mut self.ordered, &mut self.latest)?;
+        let marks = marks_of(alloc, &self.ordered, node)?;
+        remove_each(&mut self.ordered, &marks);
+        Ok(marks)
     }
 }
