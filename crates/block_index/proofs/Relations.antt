@@ -1,9 +1,11 @@
 -- Which nodes have to do with which blocks, behind a change of one node's blocks.
-use Rattle.std.proofs.Common.{◌≡◌, ℕ, ◌==◌, Bool, true, false, ◌&&◌, ◌||◌, List, [], take, drop, Some, None, unwrap_or, refl, sym, ap, ◌∙◌, cond}
+use Rattle.std.proofs.Common.{◌≡◌, ℕ, ◌==◌, Bool, true, false, ◌&&◌, ◌||◌, List, [], take, drop, Option, Some, None, unwrap_or, refl, sym, ap, ◌∙◌, cond}
 use Rattle.std.specs.List.{list_any}
 use Rattle.std.proofs.lemmas.List.{take-append-drop}
 use Rattle.std.proofs.lemmas.List.Folds.{list_any-append}
+use Rattle.std.specs.List.Sorted.{IsStrictlySortedBy}
 use Rattle.std.specs.Map.{lookup, set_value}
+use Rattle.std.specs.Ordering.{nat_cmp}
 use Rattle.std.proofs.lemmas.Map.Steps.{set_value_same}
 use Rattle.block_records.specs.Numbers.{is_number, has_number, entry_at}
 use Rattle.block_index.specs.Relation.{blocks_at, relates}
@@ -57,3 +59,16 @@ front_lacks n nodes i lacks = by (has_number n (take i nodes)) (has_number n (dr
 pub not_of_front : (x : Bool) (n : ℕ) (nodes : List ℕ) (i : ℕ) → (x && has_number n nodes) ≡ false → (x && has_number n (take i nodes)) ≡ false
 not_of_front true n nodes i lacks = front_lacks n nodes i lacks
 not_of_front false n nodes i lacks = refl
+
+-- no blocks ascend
+pub none_ascending : IsStrictlySortedBy nat_cmp []
+unfolding IsStrictlySortedBy
+none_ascending = tt
+
+-- a block is among those that are found
+abbrev pub among : ℕ → Option (List ℕ) → Bool
+among block found = list_any (is_number block) (unwrap_or found [])
+
+pub none_at : (x : Bool) (block : ℕ) (found : Option (List ℕ)) → among block (cond x None found) ≡ cond x false (among block found)
+none_at true block found = refl
+none_at false block found = refl

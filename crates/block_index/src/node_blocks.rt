@@ -1,4 +1,4 @@
-ghost use Rattle.std.specs.Prelude.{◌≡◌, ℕ, ◌&&◌, true, false, [], not, is_some, length, if◌then◌else◌, OnOk, OnErr};
+ghost use Rattle.std.specs.Prelude.{◌≡◌, ℕ, ◌&&◌, true, false, [], not, is_some, length, if◌then◌else◌, IfOk, OnOk, OnErr};
 ghost use Rattle.std.specs.List.{list_any};
 ghost use Rattle.std.specs.List.Sorted.{IsStrictlySortedBy};
 ghost use Rattle.std.specs.Ordering.{nat_cmp};
@@ -43,6 +43,17 @@ impl BlockSet {
         ensures ascending { IsStrictlySortedBy nat_cmp self.now }
     {
         self.ids.len()
+    }
+
+    /// The blocks, in order. Costs so many steps.
+    ///
+    /// # Errors
+    /// Out of memory.
+    pub fn to_vec(&self, alloc: Global) -> Result<Vec<BlockId>, AllocError>
+        ensures blocks { IfOk result (λ blocks. blocks.items ≡ self.now) }
+        ensures ascending { IsStrictlySortedBy nat_cmp self.now }
+    {
+        self.ids.iter().copied().collect(alloc)
     }
 
     /// Adds a block, which may be there. Costs a look-up.
@@ -100,6 +111,27 @@ impl NodeBlocks {
             Some(blocks) => blocks.len(),
             None => 0,
         }
+    }
+
+    /// The blocks that a node has to do with, in order. Costs a look-up, and a step for each.
+    ///
+    /// # Errors
+    /// Out of memory.
+    pub fn blocks(&self, alloc: Global, node: NodeId) -> Result<Vec<BlockId>, AllocError>
+        ensures blocks { IfOk result (λ blocks. blocks.items ≡ blocks_at self.now node) }
+        ensures ascending { IsStrictlySortedBy nat_cmp (blocks_at self.now node) }
+    {
+        match self.nodes.get(&node) {
+            Some(blocks) => blocks.to_vec(alloc),
+            None => Ok(Vec::new(alloc)),
+        }
+    }
+
+    /// Notes that a node has nothing to do with any block. Costs a look-up, and takes no memory.
+    pub fn clear(&mut self, node: NodeId)
+        ensures { (n b : ℕ) → relates self.new n b ≡ (if is_number node n then false else relates self.old n b) }
+    {
+        self.nodes.remove(&node);
     }
 
     /// Notes that a node has to do with a block.

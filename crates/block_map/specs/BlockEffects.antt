@@ -6,7 +6,7 @@ use Rattle.std.specs.Map.{keys_of, remove_entry}
 use Rattle.std.specs.Ordering.{nat_cmp}
 use Rattle.block_records.specs.Numbers.{is_number}
 use Rattle.block_records.specs.Reports.{others_of}
-use Rattle.block_records.specs.Marks.{with_mark, with_marks}
+use Rattle.block_records.specs.Marks.{with_mark, with_marks, marks_but}
 use Rattle.block_records.specs.Verdicts.{verdict_by}
 use Rattle.block_tables.specs.Changes.{changed, with_report, without_report, with_replication, with_length, without_blocks}
 use Rattle.block_map.specs.BlockFacts.{BlockFacts, block_of, newest_stamp}
@@ -70,6 +70,10 @@ committed facts block length = record facts {
 
 abbrev pub beaten : BlockFacts → ℕ → ℕ → BlockFacts
 beaten facts node now = record facts { heartbeats = insert_entry nat_cmp facts.heartbeats node now }
+
+-- a node was told of the replicas that it is to remove
+abbrev pub told_marks : BlockFacts → ℕ → BlockFacts
+told_marks facts node = record facts { marks = marks_but node facts.marks }
 
 -- ---- a node's report of a replica
 

@@ -2,6 +2,7 @@ ghost use Rattle.std.specs.Prelude.{◌≡◌, ◌+◌, [], None, Some, map, opt
 ghost use Rattle.std.specs.Option.{option_map};
 ghost use Rattle.block_map.specs.BlockFacts.{newest_stamp, committed_length, recovering_since, expected_nodes, is_live, live_nodes, chosen_targets, is_spent, refused_new_block, refused_targets, refused_commit, IsFaultOf, block_of};
 ghost use Rattle.block_map.specs.BlockEffects as effect;
+ghost use Rattle.block_records.specs.Marks.{marks_for};
 ghost use Rattle.block_records.specs.Verdicts.{verdict_by};
 ghost use Rattle.block_records.specs.declared.block_record.BlockRecord.{BlockRecord};
 
@@ -381,6 +382,19 @@ impl Blocks {
     }
 
     // ---- nodes
+
+    /// Takes out the replicas that a node is to be told to remove, by block and then by stamp: it is told of each once. Costs a look-up
+    /// for each of them, and for each that is to be removed since the last time.
+    ///
+    /// # Errors
+    /// Out of memory. Nothing has changed then.
+    pub fn take_marks(&mut self, node: NodeId) -> Result<Vec<Mark>, AllocError>
+        ensures marks { IfOk result (λ marks. marks.items ≡ marks_for node self.old.marks) }
+        ensures ok { OnOk result (self.new ≡ effect.told_marks self.old node) }
+        ensures err { OnErr result (self.new ≡ self.old) }
+    {
+        self.marks.take(self.alloc, node)
+    }
 
     /// Notes a node's heartbeat. Costs a look-up.
     ///

@@ -2,11 +2,8 @@ use Rattle.std.proofs.Common.{[], subst, unwrap_or, Option, List, ℕ}
 use Rattle.std.specs.List.Sorted.{IsStrictlySortedBy}
 use Rattle.std.specs.Ordering.{nat_cmp}
 use Rattle.block_index.specs.Relation.{blocks_at}
+use Rattle.block_index.proofs.Relations.{none_ascending}
 use Rattle.block_index.proofs.node_blocks.NodeBlocks.count.Goals as goal
-
-none_ascending : IsStrictlySortedBy nat_cmp []
-unfolding IsStrictlySortedBy
-none_ascending = tt
 
 pub returns-in-None-clause-ascending : goal.returns-in-None-clause-ascending
 returns-in-None-clause-ascending c =

@@ -1,0 +1,97 @@
+ghost use Rattle.std.specs.Prelude.{◌≡◌, [], IfOk, OnOk, OnErr};
+ghost use Rattle.recovery_queue.specs.Queue.{put, forgotten, without_each, led_by, told};
+
+use block_index::node_blocks::NodeBlocks;
+use hdfs_values::ids::BlockId;
+use hdfs_values::node_id::NodeId;
+use std::alloc::{AllocError, Global};
+use std::collections::BTreeMap;
+use std::marker::Model;
+
+/// The blocks whose recovery waits until the next heartbeat of the DataNode that is to lead it, each with this node, its primary
+/// (HDFS-265: the NameNode has one DataNode lead the recovery of a block).
+#[derive(Drop)]
+pub struct RecoveryQueue {
+    primaries: BTreeMap<BlockId, NodeId>,
+    // for each primary its blocks
+    blocks: NodeBlocks,
+}
+
+impl Model for RecoveryQueue {
+    ghost use Rattle.std.specs.Prelude.{List, ℕ};
+    ghost use Rattle.recovery_queue.specs.Queue.{IsIndexed};
+
+    ghost Value = { List (ℕ × ℕ) };
+
+    ghost view = { λ queue. queue.primaries.entries };
+
+    ghost invariant = { λ queue. IsIndexed queue.primaries.entries queue.blocks };
+}
+
+// Takes these blocks out of a table, each with a look-up. Takes no memory.
+fn remove_each(primaries: &mut BTreeMap<BlockId, NodeId>, blocks: &[BlockId])
+    ensures { primaries.new.entries ≡ without_each primaries.old.entries blocks.now }
+{
+    for block in blocks {
+        primaries.remove(block);
+    }
+}
+
+impl RecoveryQueue {
+    /// No recovery waits. Takes no memory.
+    pub fn new(alloc: Global) -> RecoveryQueue
+        ensures { result ≡ [] }
+    {
+        RecoveryQueue {
+            primaries: BTreeMap::new(alloc),
+            blocks: NodeBlocks::new(alloc),
+        }
+    }
+
+    /// Has the recovery of a block wait for this primary; one of the block that waits for another isn't told any more. Costs a look-up.
+    ///
+    /// # Errors
+    /// Out of memory. Nothing has changed then.
+    pub fn put(&mut self, block: BlockId, primary: NodeId) -> Result<(), AllocError>
+        ensures ok { OnOk result (self.new ≡ put self.old block primary) }
+        ensures err { OnErr result (self.new ≡ self.old) }
+    {
+        self.blocks.insert(primary, block)?;
+        let Ok(older) = self.primaries.insert(block, primary) else {
+            self.blocks.remove(primary, block);
+            return Err(AllocError);
+        };
+        if let Some(older) = older {
+            if older != primary {
+                self.blocks.remove(older, block);
+            }
+        }
+        Ok(())
+    }
+
+    /// Ends the waiting of a block's recovery, if it waits. Costs a look-up, and takes no memory.
+    pub fn forget(&mut self, block: BlockId)
+        ensures { self.new ≡ forgotten self.old block }
+    {
+        if let Some(primary) = self.primaries.remove(&block) {
+            self.blocks.remove(primary, block);
+        }
+    }
+
+    /// Takes out the blocks whose recovery a node is to lead, by their ids. Costs a look-up for each.
+    ///
+    /// # Errors
+    /// Out of memory. Nothing has changed then.
+    pub fn take(&mut self, alloc: Global, node: NodeId) -> Result<Vec<BlockId>, AllocError>
+        ensures taken { IfOk result (λ blocks. blocks.items ≡ led_by node self.old) }
+        ensures left { OnOk result (self.new ≡ told self.old node) }
+        ensures err { OnErr result (self.new ≡ self.old) }
+    {
+        // its contract tells that the keys ascend
+        let _count = self.primaries.len();
+        let blocks = self.blocks.blocks(alloc, node)?;
+        remove_each(&mut self.primaries, &blocks);
+        self.blocks.clear(node);
+        Ok(blocks)
+    }
+}
