@@ -1,4 +1,4 @@
-use Rattle.std.proofs.Common.{◌≡◌, sym, ap, ◌∙◌}
+use Rattle.std.proofs.Common.{sym, ap, ◌∙◌}
 use Rattle.block_records.specs.Numbers.{entry_at}
 use Rattle.recovery_queue.specs.Queue.{led_by, told, without_each, is_led}
 use Rattle.recovery_queue.proofs.Queued.{led_blocks, told_indexed, taken_out}
