@@ -128,7 +128,7 @@ impl Acl {
 
     /// Takes the default list away. Takes no memory.
     pub fn remove_default(&mut self)
-        ensures { self.new ≡ record { sticky = self.old.sticky; access = self.old.access; default = None } }
+        ensures { self.new ≡ record (self.old) { default = None } }
     {
         self.default = None;
     }
@@ -136,14 +136,14 @@ impl Acl {
     /// Gives what is judged other entries. Takes no memory.
     pub fn set_access(&mut self, access: EntryList)
         requires { is_access_list access ≡ true }
-        ensures { self.new ≡ record { sticky = self.old.sticky; access = access; default = self.old.default } }
+        ensures { self.new ≡ record (self.old) { access = access } }
     {
         self.access = access;
     }
 
     /// Sets or clears the sticky bit.
     pub fn set_sticky(&mut self, sticky: bool)
-        ensures { self.new ≡ record { sticky = sticky; access = self.old.access; default = self.old.default } }
+        ensures { self.new ≡ record (self.old) { sticky = sticky } }
     {
         self.sticky = sticky;
     }
@@ -152,7 +152,7 @@ impl Acl {
     pub fn set_bases(&mut self, bases: Bases, mask: Option<Rights>)
         requires list { IsEntryList (list_of_parts bases mask self.old.access.users self.old.access.groups) }
         requires mask { is_some mask ≡ is_some self.old.access.mask }
-        ensures { self.new ≡ record { sticky = self.old.sticky; access = list_of_parts bases mask self.old.access.users self.old.access.groups; default = self.old.default } }
+        ensures { self.new ≡ record (self.old) { access = list_of_parts bases mask self.old.access.users self.old.access.groups } }
     {
         self.access.set_bases(bases, mask);
     }

@@ -1,19 +1,21 @@
 -- What can happen to what is known of blocks: each call of the map of blocks has one of these effects.
-use Rattle.std.specs.Prelude.{ℕ, ◌==◌, ◌+◌, List, [], ◌++◌, map, if◌then◌else◌, Option, Some, None}
-use Rattle.std.specs.BTreeMap.{insert_entry}
+use Rattle.std.specs.Prelude.{ℕ, ◌==◌, not, List, [], ◌++◌, map, filter, if◌then◌else◌, Option, Some, None}
 use Rattle.std.specs.List.{flat_map}
-use Rattle.std.specs.Map.{keys_of, remove_entry}
-use Rattle.std.specs.Ordering.{nat_cmp}
-use Rattle.block_records.specs.Numbers.{is_number}
+use Rattle.std.specs.Map.{keys_of}
+use Rattle.block_records.specs.Numbers.{has_number}
 use Rattle.block_records.specs.Reports.{others_of}
 use Rattle.block_records.specs.Marks.{with_mark, with_marks, marks_but}
 use Rattle.block_records.specs.Verdicts.{verdict_by}
-use Rattle.block_tables.specs.Changes.{changed, with_report, without_report, with_replication, with_length, without_blocks}
-use Rattle.block_map.specs.BlockFacts.{BlockFacts, block_of, newest_stamp}
 use Rattle.block_records.specs.declared.block_record.BlockRecord.{BlockRecord}
 use Rattle.block_records.specs.declared.report.ReportVerdict.{ReportVerdict}
 use Rattle.block_records.specs.declared.report.ReportVerdict.TheVariants.{Superseded, Invalid, Valid}
 use Rattle.block_records.specs.declared.mark.Mark.{Mark}
+use Rattle.block_tables.specs.Changes.{with_report, without_report, with_replication, with_length, with_recovered}
+use Rattle.recovery_queue.specs.Queue as queue
+use Rattle.heartbeats.specs.Live as nodes
+use Rattle.known_blocks.specs.Known as known
+use Rattle.known_blocks.specs.Known.{Known, altered}
+use Rattle.block_map.specs.BlockFacts.{BlockFacts, block_of, newest_stamp, leader}
 
 -- ---- marks
 
@@ -34,61 +36,89 @@ abbrev pub marks_of_others : ℕ → ℕ → Option BlockRecord → List Mark
 marks_of_others block length None = []
 marks_of_others block length (Some own) = marks_of (others_of length own.reports) block own.stamp
 
+-- the same, but of these nodes
+abbrev pub marks_but_of : List ℕ → ℕ → ℕ → Option BlockRecord → List Mark
+marks_but_of nodes block length None = []
+marks_but_of nodes block length (Some own) = marks_of (filter (λ node. not (has_number node nodes)) (others_of length own.reports)) block own.stamp
+
 -- ---- effects
 
 -- a new block, which these nodes are to hold
-abbrev pub new_record : ℕ → List ℕ → ℕ → BlockRecord
-new_record stamp targets replication = record { stamp = stamp; committed = None; replication = replication; expected = targets; reports = []; recovering = None; primary = None; handed_out = None }
-
 abbrev pub added : BlockFacts → List ℕ → ℕ → BlockFacts
-added facts targets replication = record facts {
-  next_block = facts.next_block + 1;
-  next_stamp = facts.next_stamp + 1;
-  blocks = insert_entry nat_cmp facts.blocks facts.next_block (new_record facts.next_stamp targets replication);
-}
+added facts targets replication = record facts { known = known.added facts.known targets replication }
 
--- a block is known no more, and each node that was to hold it or reported it is to remove its replica
+-- a block is known no more, each node that was to hold it or reported it is to remove its replica, and no recovery of it waits
 abbrev pub removed : BlockFacts → ℕ → BlockFacts
-removed facts block = record facts { blocks = remove_entry (is_number block) facts.blocks; marks = with_marks facts.marks (marks_of_holders block (block_of facts block)) }
+removed facts block = record facts {
+  known = known.removed facts.known block;
+  marks = with_marks facts.marks (marks_of_holders block (block_of facts block));
+  queued = queue.forgotten facts.queued block;
+}
 
 abbrev pub marks_of_all_holders : BlockFacts → List ℕ → List Mark
 marks_of_all_holders facts blocks = flat_map (λ block. marks_of_holders block (block_of facts block)) blocks
 
 -- the same of many blocks at once
 abbrev pub all_removed : BlockFacts → List ℕ → BlockFacts
-all_removed facts blocks = record facts { blocks = without_blocks facts.blocks blocks; marks = with_marks facts.marks (marks_of_all_holders facts blocks) }
+all_removed facts blocks = record facts {
+  known = known.all_removed facts.known blocks;
+  marks = with_marks facts.marks (marks_of_all_holders facts blocks);
+  queued = queue.without_each facts.queued blocks;
+}
 
 abbrev pub replicated : BlockFacts → ℕ → ℕ → BlockFacts
-replicated facts block replication = record facts { blocks = changed (with_replication replication) block facts.blocks }
+replicated facts block replication = record facts { known = altered (with_replication replication) block facts.known }
 
 -- the length is committed, and each node that reported another one is to remove its replica
 abbrev pub committed : BlockFacts → ℕ → ℕ → BlockFacts
 committed facts block length = record facts {
-  blocks = changed (with_length length) block facts.blocks;
+  known = altered (with_length length) block facts.known;
   marks = with_marks facts.marks (marks_of_others block length (block_of facts block));
 }
 
 abbrev pub beaten : BlockFacts → ℕ → ℕ → BlockFacts
-beaten facts node now = record facts { heartbeats = insert_entry nat_cmp facts.heartbeats node now }
+beaten facts node now = record facts { nodes = nodes.beaten facts.nodes node now }
 
 -- a node was told of the replicas that it is to remove
 abbrev pub told_marks : BlockFacts → ℕ → BlockFacts
 told_marks facts node = record facts { marks = marks_but node facts.marks }
 
+-- ---- recoveries
+
+abbrev pub queued_for : Option ℕ → ℕ → List (ℕ × ℕ) → List (ℕ × ℕ)
+queued_for None block queued = queued
+queued_for (Some primary) block queued = queue.put queued block primary
+
+-- a recovery of a block begins under the next stamp, which its leader is to be told; one that waits for another node is forgotten
+abbrev pub begun : BlockFacts → ℕ → ℕ → BlockFacts
+begun facts block now = record facts { known = known.begun facts.known block now; queued = queued_for (leader facts block now) block facts.queued }
+
+-- the length is committed that the recovery found, with the nodes that took part; each other node that reported another length is to
+-- remove its replica
+abbrev pub recovered : BlockFacts → ℕ → ℕ → List ℕ → BlockFacts
+recovered facts block length nodes = record facts {
+  known = altered (with_recovered length nodes) block facts.known;
+  marks = with_marks facts.marks (marks_but_of nodes block length (block_of facts block));
+}
+
+-- a node was told of the recoveries that it is to lead
+abbrev pub told_recoveries : BlockFacts → ℕ → BlockFacts
+told_recoveries facts node = record facts { queued = queue.told facts.queued node }
+
 -- ---- a node's report of a replica
 
 abbrev pub held : BlockFacts → ℕ → ℕ → ℕ → BlockFacts
-held facts node block length = record facts { blocks = changed (with_report node length) block facts.blocks }
+held facts node block length = record facts { known = altered (with_report node length) block facts.known }
 
 -- the node's report ends with a replica of the newest stamp
-abbrev pub without_report_at : Option ℕ → ℕ → ℕ → ℕ → List (ℕ × BlockRecord) → List (ℕ × BlockRecord)
-without_report_at None stamp node block table = table
-without_report_at (Some newest) stamp node block table = if newest == stamp then changed (without_report node) block table else table
+abbrev pub without_report_at : Option ℕ → ℕ → ℕ → ℕ → Known → Known
+without_report_at None stamp node block own = own
+without_report_at (Some newest) stamp node block own = if newest == stamp then altered (without_report node) block own else own
 
 -- the node is to remove its replica
 abbrev pub invalidated : BlockFacts → ℕ → ℕ → ℕ → BlockFacts
 invalidated facts node block stamp = record facts {
-  blocks = without_report_at (newest_stamp facts block) stamp node block facts.blocks;
+  known = without_report_at (newest_stamp facts block) stamp node block facts.known;
   marks = with_mark facts.marks (record { node = node; block = block; stamp = stamp });
 }
 

@@ -1,43 +1,37 @@
 -- What is known of blocks and of the DataNodes that hold them, and the questions that are asked of it.
--- (HDFS Architecture, "Data Replication" and "Data Disk Failure, Heartbeats and Re-Replication".)
-use Rattle.std.specs.Prelude.{◌≡◌, ℕ, ◌==◌, ◌-◌, Bool, false, nat_le, List, [], ◌∷◌, map, filter, if◌then◌else◌, Option, Some, None}
-use Rattle.std.specs.Option.{option_map, option_and_then}
-use Rattle.std.specs.Map.{keys_of}
-use Rattle.block_records.specs.Numbers.{entry_at}
+-- (HDFS Architecture, "Data Replication" and "Data Disk Failure, Heartbeats and Re-Replication"; HDFS-265 for recoveries.)
+use Rattle.std.specs.Prelude.{◌≡◌, ℕ, ◌==◌, not, List, [], ◌∷◌, if◌then◌else◌, Option, Some, None}
+use Rattle.std.specs.List.{filter_map}
+use Rattle.std.specs.Option.{is_some, option_map, option_and_then, option_or}
 use Rattle.block_records.specs.Reports.{is_reported}
 use Rattle.block_records.specs.declared.block_record.BlockRecord.{BlockRecord}
 use Rattle.block_records.specs.declared.fault.BlockFault.{BlockFault}
 use Rattle.block_records.specs.declared.fault.BlockFault.TheVariants.{Refused, OutOfMemory}
 use Rattle.block_records.specs.declared.fault.BlockRefusal.{BlockRefusal}
-use Rattle.block_records.specs.declared.fault.BlockRefusal.TheVariants.{NotYetReplicated, Spent, TooFewNodes}
-use Rattle.block_records.specs.declared.fault.Counter.TheVariants.{BlockId, Stamp}
+use Rattle.block_records.specs.declared.fault.BlockRefusal.TheVariants.{NotFound, NotOpen, NotYetReplicated, StaleStamp, TooFewNodes}
 use Rattle.block_records.specs.declared.mark.Mark.{Mark}
 use Rattle.block_placement.specs.Placement.{targets}
 use Rattle.block_tables.specs.Kept.{load}
-
--- in milliseconds
-pub record Limits : Type 0 where
-  -- a node is live while its last heartbeat isn't older
-  pub dead : ℕ
-  -- a recovery or a copy is asked for again behind this time
-  pub retry : ℕ
+use Rattle.recovery_queue.specs.Queue.{led_by}
+use Rattle.heartbeats.specs.Live.{Heartbeats, live_nodes, primary_of}
+use Rattle.known_blocks.specs.Known as known
+use Rattle.known_blocks.specs.Known.{Known, refused_new_stamp}
+use Rattle.block_map.specs.declared.recovery.Recovery.{Recovery}
 
 pub record BlockFacts : Type 0 where
-  pub limits : Limits
-  -- the numbers that are given next
-  pub next_block : ℕ
-  pub next_stamp : ℕ
-  -- the blocks that were given and not deleted since, by their numbers
-  pub blocks : List (ℕ × BlockRecord)
-  -- the nodes that ever sent a heartbeat, by their ids, each with the moment of the last
-  pub heartbeats : List (ℕ × ℕ)
+  -- in milliseconds: a recovery or a copy is asked for again behind this time
+  pub retry : ℕ
+  pub known : Known
+  pub nodes : Heartbeats
   -- the replicas that nodes are still to be told to remove
   pub marks : List Mark
+  -- the blocks whose recovery a node is still to be told to lead, each with this node
+  pub queued : List (ℕ × ℕ)
 
 -- ---- one block
 
 abbrev pub block_of : BlockFacts → ℕ → Option BlockRecord
-block_of facts block = entry_at block facts.blocks
+block_of facts block = known.block_of facts.known block
 
 -- nothing is told of a block that isn't known
 abbrev pub newest_stamp : BlockFacts → ℕ → Option ℕ
@@ -66,29 +60,25 @@ reports_of facts block = reports_by (block_of facts block)
 
 -- ---- nodes
 
--- a node's last heartbeat isn't older than the limit
-abbrev pub is_recent : ℕ → ℕ → Option ℕ → Bool
-is_recent dead now None = false
-is_recent dead now (Some last) = nat_le (now - last) dead
-
-abbrev pub is_live : BlockFacts → ℕ → ℕ → Bool
-is_live facts now node = is_recent facts.limits.dead now (entry_at node facts.heartbeats)
-
-abbrev pub live_nodes : BlockFacts → ℕ → List ℕ
-live_nodes facts now = filter (is_live facts now) (keys_of facts.heartbeats)
-
 -- the live nodes that have the fewest blocks, as many as there are to be replicas, or all
 abbrev pub chosen_targets : BlockFacts → ℕ → ℕ → List ℕ
-chosen_targets facts now replication = targets (load facts.blocks) replication (live_nodes facts now)
+chosen_targets facts now replication = targets (load facts.known.blocks) replication (live_nodes facts.nodes now)
+
+-- the node that is to lead a recovery of a block: of its expected nodes the live one that was heard of last
+abbrev pub leader : BlockFacts → ℕ → ℕ → Option ℕ
+leader facts block now = primary_of facts.nodes now (expected_nodes facts block)
+
+-- ---- what a node is told
+
+-- of a block that is known its newest stamp and all its expected nodes, live or not
+abbrev pub recovery_by : ℕ → Option BlockRecord → Option Recovery
+recovery_by block found = option_map (λ (own : BlockRecord). record { block = block; stamp = own.stamp; nodes = own.expected }) found
+
+-- the recoveries that a node is to lead, by block
+abbrev pub recoveries_for : BlockFacts → ℕ → List Recovery
+recoveries_for facts node = filter_map (λ block. recovery_by block (block_of facts block)) (led_by node facts.queued)
 
 -- ---- refusals
-
--- the greatest number of the type is never given
-abbrev pub is_spent : ℕ → Bool
-is_spent next = next == 18446744073709551615
-
-abbrev pub refused_new_block : BlockFacts → Option BlockRefusal
-refused_new_block facts = if is_spent facts.next_block then Some (Spent BlockId) else (if is_spent facts.next_stamp then Some (Spent Stamp) else None)
 
 abbrev pub refused_without : List ℕ → Option BlockRefusal
 refused_without [] = Some TooFewNodes
@@ -96,11 +86,28 @@ refused_without (node ∷ nodes) = None
 
 -- a node has to be live
 abbrev pub refused_targets : BlockFacts → ℕ → Option BlockRefusal
-refused_targets facts now = refused_without (live_nodes facts now)
+refused_targets facts now = refused_without (live_nodes facts.nodes now)
 
 -- a node has to have reported the block at its newest stamp with this length
 abbrev pub refused_commit : BlockFacts → ℕ → ℕ → Option BlockRefusal
 refused_commit facts block length = if is_reported (reports_of facts block) length then None else Some NotYetReplicated
+
+abbrev pub refused_unled : Option ℕ → Option BlockRefusal
+refused_unled None = Some TooFewNodes
+refused_unled (Some node) = None
+
+-- the block has to be known, a stamp to be left, and one of its expected nodes to be live
+abbrev pub refused_recovery : BlockFacts → ℕ → ℕ → Option BlockRefusal
+refused_recovery facts block now =
+    if not (is_some (block_of facts block)) then Some NotFound else option_or (refused_new_stamp facts.known) (refused_unled (leader facts block now))
+
+-- the block has to be known, the stamp to be its newest, and a recovery to run
+abbrev pub refused_recovered_by : Option BlockRecord → ℕ → Option BlockRefusal
+refused_recovered_by None stamp = Some NotFound
+refused_recovered_by (Some own) stamp = if not (stamp == own.stamp) then Some (StaleStamp own.stamp) else (if is_some own.recovering then None else Some NotOpen)
+
+abbrev pub refused_recovered : BlockFacts → ℕ → ℕ → Option BlockRefusal
+refused_recovered facts block stamp = refused_recovered_by (block_of facts block) stamp
 
 -- a call that is refused says why; want of memory may stand in the place of any other answer
 abbrev pub IsFaultOf : Option BlockRefusal → BlockFault → Type 0

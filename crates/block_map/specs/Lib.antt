@@ -1,3 +1,2 @@
 pub mod BlockFacts
 pub mod BlockEffects
-pub mod Kept

@@ -1,49 +1,48 @@
-ghost use Rattle.std.specs.Prelude.{◌≡◌, ◌+◌, [], None, Some, map, option_copied, OnOk, OnErr, IfOk, IfErr};
+ghost use Rattle.std.specs.Prelude.{◌≡◌, [], None, Some, map, option_copied, OnOk, OnErr, IfOk, IfErr};
+ghost use Rattle.std.specs.List.{filter_map};
 ghost use Rattle.std.specs.Option.{option_map};
-ghost use Rattle.block_map.specs.BlockFacts.{newest_stamp, committed_length, recovering_since, expected_nodes, is_live, live_nodes, chosen_targets, is_spent, refused_new_block, refused_targets, refused_commit, IsFaultOf, block_of};
+ghost use Rattle.heartbeats.specs.Live.{is_live, live_nodes};
+ghost use Rattle.known_blocks.specs.Known.{refused_new_block};
+ghost use Rattle.block_map.specs.BlockFacts.{newest_stamp, committed_length, recovering_since, expected_nodes, chosen_targets, recovery_by, recoveries_for, refused_targets, refused_commit, refused_recovery, refused_recovered, IsFaultOf, block_of};
 ghost use Rattle.block_map.specs.BlockEffects as effect;
 ghost use Rattle.block_records.specs.Marks.{marks_for};
 ghost use Rattle.block_records.specs.Verdicts.{verdict_by};
 ghost use Rattle.block_records.specs.declared.block_record.BlockRecord.{BlockRecord};
 
-use block_records::block_record::BlockRecord;
-use block_records::fault::{BlockFault, BlockRefusal, Counter};
+use crate::recovery::Recovery;
+use block_records::fault::{BlockFault, BlockRefusal};
 use block_records::mark::{Mark, Marks};
 use block_records::node_set::NodeSet;
 use block_records::report::ReportVerdict;
 use block_records::reports::Reports;
-use block_tables::block_table::BlockTable;
 use hdfs_values::ids::{BlockId, Stamp};
 use hdfs_values::moment::Moment;
 use hdfs_values::node_id::NodeId;
 use hdfs_values::replication::Repl;
+use heartbeats::heartbeats::Heartbeats;
+use known_blocks::known_blocks::KnownBlocks;
+use recovery_queue::queue::RecoveryQueue;
 use std::alloc::{AllocError, Global};
-use std::collections::BTreeMap;
 use std::marker::Model;
 
 /// What the NameNode knows of blocks, and of the DataNodes that hold them (HDFS Architecture, "Data Replication").
 #[derive(Drop)]
 pub struct Blocks {
     // in milliseconds
-    dead: u32,
     retry: u32,
-    next_block: u64,
-    next_stamp: u64,
-    table: BlockTable,
-    heartbeats: BTreeMap<NodeId, Moment>,
+    known: KnownBlocks,
+    nodes: Heartbeats,
     marks: Marks,
+    queue: RecoveryQueue,
     alloc: Global,
 }
 
 impl Model for Blocks {
     ghost use Rattle.block_map.specs.BlockFacts.{BlockFacts};
-    ghost use Rattle.block_map.specs.Kept.{AreBelow};
 
     ghost Value = { BlockFacts };
 
-    ghost view = { λ blocks. record { limits = record { dead = blocks.dead; retry = blocks.retry }; next_block = blocks.next_block; next_stamp = blocks.next_stamp; blocks = blocks.table; heartbeats = blocks.heartbeats.entries; marks = blocks.marks } };
-
-    ghost invariant = { λ blocks. AreBelow blocks.table blocks.next_block };
+    ghost view = { λ blocks. record { retry = blocks.retry; known = blocks.known; nodes = blocks.nodes; marks = blocks.marks; queued = blocks.queue } };
 }
 
 // A mark of each of these nodes.
@@ -69,16 +68,14 @@ impl Blocks {
     /// No block is known, and no DataNode. The limits are in milliseconds; blocks and stamps are given from these numbers on.
     /// Takes no memory.
     pub fn new(alloc: Global, dead: u32, retry: u32, first_block: u64, first_stamp: u64) -> Blocks
-        ensures { result ≡ record { limits = record { dead = dead; retry = retry }; next_block = first_block; next_stamp = first_stamp; blocks = []; heartbeats = []; marks = [] } }
+        ensures { result ≡ record { retry = retry; known = record { next_block = first_block; next_stamp = first_stamp; blocks = [] }; nodes = record { dead = dead; last = [] }; marks = []; queued = [] } }
     {
         Blocks {
-            dead,
             retry,
-            next_block: first_block,
-            next_stamp: first_stamp,
-            table: BlockTable::new(alloc),
-            heartbeats: BTreeMap::new(alloc),
+            known: KnownBlocks::new(alloc, first_block, first_stamp),
+            nodes: Heartbeats::new(alloc, dead),
             marks: Marks::new(alloc),
+            queue: RecoveryQueue::new(alloc),
             alloc,
         }
     }
@@ -89,7 +86,7 @@ impl Blocks {
     pub fn newest(&self, block: BlockId) -> Option<Stamp>
         ensures { result ≡ newest_stamp self.now block }
     {
-        match self.table.get(block) {
+        match self.known.get(block) {
             Some(own) => Some(own.stamp),
             None => None,
         }
@@ -99,7 +96,7 @@ impl Blocks {
     pub fn committed(&self, block: BlockId) -> Option<u64>
         ensures { result ≡ committed_length self.now block }
     {
-        match self.table.get(block) {
+        match self.known.get(block) {
             Some(own) => own.committed,
             None => None,
         }
@@ -109,7 +106,7 @@ impl Blocks {
     pub fn recovering_since(&self, block: BlockId) -> Option<Moment>
         ensures { result ≡ recovering_since self.now block }
     {
-        match self.table.get(block) {
+        match self.known.get(block) {
             Some(own) => own.recovering,
             None => None,
         }
@@ -119,7 +116,7 @@ impl Blocks {
     pub fn expected(&self, block: BlockId) -> &[NodeId]
         ensures { result.now ≡ expected_nodes self.now block }
     {
-        match self.table.get(block) {
+        match self.known.get(block) {
             Some(own) => own.expected.as_slice(),
             None => &[],
         }
@@ -130,7 +127,7 @@ impl Blocks {
     pub fn reporting(&self, block: BlockId) -> Option<&Reports>
         ensures { option_copied result ≡ option_map (λ (own : BlockRecord). own.reports) (block_of self.now block) }
     {
-        match self.table.get(block) {
+        match self.known.get(block) {
             Some(own) => Some(&own.reports),
             None => None,
         }
@@ -138,14 +135,9 @@ impl Blocks {
 
     /// Whether a node's last heartbeat isn't older than the limit. Costs a look-up, and takes no memory.
     pub fn is_live(&self, node: NodeId, now: Moment) -> bool
-        ensures { result ≡ is_live self.now now node }
+        ensures { result ≡ is_live self.now.nodes now node }
     {
-        match self.heartbeats.get(&node) {
-            Some(last) => {
-                now.milliseconds().saturating_sub(last.milliseconds()) <= self.dead as u64
-            }
-            None => false,
-        }
+        self.nodes.is_live(node, now)
     }
 
     /// The nodes that are live. Costs a look-up for each node that ever sent a heartbeat.
@@ -153,15 +145,9 @@ impl Blocks {
     /// # Errors
     /// Out of memory.
     pub fn live_nodes(&self, now: Moment) -> Result<NodeSet, AllocError>
-        ensures { IfOk result (λ nodes. nodes ≡ live_nodes self.now now) }
+        ensures { IfOk result (λ nodes. nodes ≡ live_nodes self.now.nodes now) }
     {
-        let nodes = self
-            .heartbeats
-            .keys()
-            .copied()
-            .filter(|node| self.is_live(*node, now))
-            .collect(self.alloc)?;
-        Ok(NodeSet::of_ascending(nodes))
+        self.nodes.live(now)
     }
 
     /// The nodes that are to hold a new block: of the live ones so many that have the fewest blocks, ties to the lowest id, or all
@@ -179,7 +165,7 @@ impl Blocks {
             return Err(BlockFault::Refused(BlockRefusal::TooFewNodes));
         }
         let count = usize::from(replication.get());
-        Ok(self.table.targets(self.alloc, &live, count)?)
+        Ok(self.known.targets(&live, count)?)
     }
 
     // ---- new blocks
@@ -189,16 +175,10 @@ impl Blocks {
     /// # Errors
     /// `Spent` of block ids, and then of stamps: the greatest number is never given.
     pub fn can_add(&self) -> Result<(), BlockRefusal>
-        ensures ok { OnOk result (refused_new_block self.now ≡ None) }
-        ensures err { IfErr result (λ refusal. refused_new_block self.now ≡ Some refusal) }
+        ensures ok { OnOk result (refused_new_block self.now.known ≡ None) }
+        ensures err { IfErr result (λ refusal. refused_new_block self.now.known ≡ Some refusal) }
     {
-        if self.next_block == u64::MAX {
-            return Err(BlockRefusal::Spent(Counter::BlockId));
-        }
-        if self.next_stamp == u64::MAX {
-            return Err(BlockRefusal::Spent(Counter::Stamp));
-        }
-        Ok(())
+        self.known.can_add()
     }
 
     /// Makes a new block known, with the next id and the next stamp: these nodes are to hold it, nobody reports it, and its length
@@ -211,38 +191,23 @@ impl Blocks {
         targets: NodeSet,
         replication: Repl,
     ) -> Result<(BlockId, Stamp), BlockFault>
-        ensures room { OnOk result (refused_new_block self.old ≡ None) }
-        ensures given { IfOk result (λ new. new ≡ (self.old.next_block, self.old.next_stamp)) }
+        ensures room { OnOk result (refused_new_block self.old.known ≡ None) }
+        ensures given { IfOk result (λ new. new ≡ (self.old.known.next_block, self.old.known.next_stamp)) }
         ensures added { OnOk result (self.new ≡ effect.added self.old targets replication) }
-        ensures fault { IfErr result (IsFaultOf (refused_new_block self.old)) }
+        ensures fault { IfErr result (IsFaultOf (refused_new_block self.old.known)) }
         ensures err { OnErr result (self.new ≡ self.old) }
     {
-        if let Err(refusal) = self.can_add() {
+        if let Err(refusal) = self.known.can_add() {
             return Err(BlockFault::Refused(refusal));
         }
-        let block = BlockId::new(self.next_block);
-        let stamp = Stamp::new(self.next_stamp);
-        let own = BlockRecord {
-            stamp,
-            committed: None,
-            replication,
-            expected: targets,
-            reports: Reports::new(self.alloc),
-            recovering: None,
-            primary: None,
-            handed_out: None,
-        };
-        self.table.insert(block, own)?;
-        self.next_block += 1;
-        self.next_stamp += 1;
-        Ok((block, stamp))
+        Ok(self.known.add(targets, replication)?)
     }
 
     /// Gives a block another replication; nothing changes where the block isn't known. Costs a look-up, and takes no memory.
     pub fn set_replication(&mut self, block: BlockId, replication: Repl)
         ensures { self.new ≡ effect.replicated self.old block replication }
     {
-        self.table.set_replication(block, replication);
+        self.known.set_replication(block, replication);
     }
 
     // The nodes that are to hold a block, and those that reported it.
@@ -250,7 +215,7 @@ impl Blocks {
         ensures { IfOk result (λ nodes. nodes.items ≡ effect.holders_by (block_of self.now block)) }
     {
         let mut nodes = Vec::new(self.alloc);
-        if let Some(own) = self.table.get(block) {
+        if let Some(own) = self.known.get(block) {
             nodes.extend_from_slice(own.expected.as_slice())?;
             nodes.extend_from_slice(&own.reports.nodes(self.alloc)?)?;
         }
@@ -261,7 +226,7 @@ impl Blocks {
     fn marks_of_holders(&self, block: BlockId) -> Result<Vec<Mark>, AllocError>
         ensures { IfOk result (λ marks. marks.items ≡ effect.marks_of_holders block (block_of self.now block)) }
     {
-        let Some(own) = self.table.get(block) else {
+        let Some(own) = self.known.get(block) else {
             return Ok(Vec::new(self.alloc));
         };
         marks_of(self.alloc, &self.holders(block)?, block, own.stamp)
@@ -278,7 +243,8 @@ impl Blocks {
     {
         let marks = self.marks_of_holders(block)?;
         self.marks.add_all(marks)?;
-        self.table.remove(block);
+        self.known.remove(block);
+        self.queue.forget(block);
         Ok(())
     }
 
@@ -303,7 +269,8 @@ impl Blocks {
     {
         let marks = self.marks_of_all_holders(blocks)?;
         self.marks.add_all(marks)?;
-        self.table.remove_all(blocks);
+        self.known.remove_all(blocks);
+        self.queue.forget_each(blocks);
         Ok(())
     }
 
@@ -320,7 +287,7 @@ impl Blocks {
         ensures fault { IfErr result (IsFaultOf (refused_commit self.old block length)) }
         ensures err { OnErr result (self.new ≡ self.old) }
     {
-        let Some(own) = self.table.get(block) else {
+        let Some(own) = self.known.get(block) else {
             return Err(BlockFault::Refused(BlockRefusal::NotYetReplicated));
         };
         if !own.reports.has_length(length) {
@@ -329,8 +296,116 @@ impl Blocks {
         let others = own.reports.others(self.alloc, length)?;
         let marks = marks_of(self.alloc, &others, block, own.stamp)?;
         self.marks.add_all(marks)?;
-        self.table.commit(block, length, &others);
+        self.known.commit(block, length, &others);
         Ok(())
+    }
+
+    // ---- recoveries
+
+    /// Begins a recovery of a block under the next stamp, which is answered and which nobody has reported: of the expected nodes the
+    /// live one that was heard of last is to lead it, and is told so with its next heartbeat. A recovery of the block that waits for
+    /// another node is forgotten. Costs a look-up for each two of the expected nodes, and one for each node that reported the block.
+    ///
+    /// # Errors
+    /// `NotFound` where the block isn't known, `Spent` of stamps, `TooFewNodes` where no expected node is live, or out of memory. Nothing
+    /// has changed then.
+    pub fn begin_recovery(&mut self, block: BlockId, now: Moment) -> Result<Stamp, BlockFault>
+        ensures allowed { OnOk result (refused_recovery self.old block now ≡ None) }
+        ensures given { IfOk result (λ stamp. stamp ≡ self.old.known.next_stamp) }
+        ensures begun { OnOk result (self.new ≡ effect.begun self.old block now) }
+        ensures fault { IfErr result (IsFaultOf (refused_recovery self.old block now)) }
+        ensures err { OnErr result (self.new ≡ self.old) }
+    {
+        let Some(own) = self.known.get(block) else {
+            return Err(BlockFault::Refused(BlockRefusal::NotFound));
+        };
+        if let Err(refusal) = self.known.has_stamp() {
+            return Err(BlockFault::Refused(refusal));
+        }
+        let Some(primary) = self.nodes.primary_of(own.expected.as_slice(), now)? else {
+            return Err(BlockFault::Refused(BlockRefusal::TooFewNodes));
+        };
+        let reporting = own.reports.nodes(self.alloc)?;
+        self.queue.put(block, primary)?;
+        Ok(self.known.begin_recovery(block, now, &reporting))
+    }
+
+    /// Ends the recovery of a block that runs under its newest stamp: the length is committed, these nodes are to hold the block and
+    /// report it, and each other node that reported another length is to remove its replica. Costs a look-up for each node that holds the
+    /// block, before or behind it.
+    ///
+    /// # Errors
+    /// `NotFound` where the block isn't known, `StaleStamp` where another stamp is its newest, `NotOpen` where no recovery runs, or out of
+    /// memory. Nothing has changed then.
+    pub fn commit_recovery(
+        &mut self,
+        block: BlockId,
+        stamp: Stamp,
+        length: u64,
+        nodes: NodeSet,
+    ) -> Result<(), BlockFault>
+        ensures allowed { OnOk result (refused_recovered self.old block stamp ≡ None) }
+        ensures ok { OnOk result (self.new ≡ effect.recovered self.old block length nodes) }
+        ensures fault { IfErr result (IsFaultOf (refused_recovered self.old block stamp)) }
+        ensures err { OnErr result (self.new ≡ self.old) }
+    {
+        let Some(own) = self.known.get(block) else {
+            return Err(BlockFault::Refused(BlockRefusal::NotFound));
+        };
+        if stamp != own.stamp {
+            return Err(BlockFault::Refused(BlockRefusal::StaleStamp(own.stamp)));
+        }
+        if own.recovering.is_none() {
+            return Err(BlockFault::Refused(BlockRefusal::NotOpen));
+        }
+        let others = own.reports.others(self.alloc, length)?;
+        let unnamed = nodes.leave_out(self.alloc, &others)?;
+        let marks = marks_of(self.alloc, &unnamed, block, own.stamp)?;
+        self.known
+            .end_recovery(block, length, nodes, &mut self.marks, marks)?;
+        Ok(())
+    }
+
+    // What a node is told of the recovery of a block, where that is known.
+    fn recovery_of(&self, block: BlockId) -> Result<Option<Recovery>, AllocError>
+        ensures { IfOk result (λ order. order ≡ recovery_by block (block_of self.now block)) }
+    {
+        let Some(own) = self.known.get(block) else {
+            return Ok(None);
+        };
+        Ok(Some(Recovery {
+            block,
+            stamp: own.stamp,
+            nodes: own.expected.clone()?,
+        }))
+    }
+
+    // What a node is told of the recoveries of these blocks.
+    fn recoveries_of(&self, blocks: &[BlockId]) -> Result<Vec<Recovery>, AllocError>
+        ensures { IfOk result (λ orders. orders.items ≡ filter_map (λ block. recovery_by block (block_of self.now block)) blocks.now) }
+    {
+        let mut orders = Vec::new(self.alloc);
+        for block in blocks {
+            if let Some(order) = self.recovery_of(*block)? {
+                orders.push(order)?;
+            }
+        }
+        Ok(orders)
+    }
+
+    /// Takes out the recoveries that a node is to be told to lead, by block: it is told of each once. Costs a look-up for each of them.
+    ///
+    /// # Errors
+    /// Out of memory. Nothing has changed then.
+    pub fn take_recoveries(&mut self, node: NodeId) -> Result<Vec<Recovery>, AllocError>
+        ensures orders { IfOk result (λ orders. orders.items ≡ recoveries_for self.old node) }
+        ensures ok { OnOk result (self.new ≡ effect.told_recoveries self.old node) }
+        ensures err { OnErr result (self.new ≡ self.old) }
+    {
+        let blocks = self.queue.led(self.alloc, node)?;
+        let orders = self.recoveries_of(&blocks)?;
+        let _told = self.queue.take(self.alloc, node)?;
+        Ok(orders)
     }
 
     // ---- reports
@@ -339,7 +414,7 @@ impl Blocks {
     fn verdict(&self, block: BlockId, stamp: Stamp, length: u64) -> ReportVerdict
         ensures { result ≡ verdict_by (block_of self.now block) stamp length }
     {
-        match self.table.get(block) {
+        match self.known.get(block) {
             Some(own) => own.verdict(stamp, length),
             None => ReportVerdict::Invalid,
         }
@@ -353,7 +428,7 @@ impl Blocks {
         let newest = self.newest(block);
         self.marks.add(Mark { node, block, stamp })?;
         if newest == Some(stamp) {
-            self.table.end_report(block, node);
+            self.known.end_report(block, node);
         }
         Ok(())
     }
@@ -377,7 +452,7 @@ impl Blocks {
         match self.verdict(block, stamp, length) {
             ReportVerdict::Superseded => Ok(()),
             ReportVerdict::Invalid => self.invalidate(node, block, stamp),
-            ReportVerdict::Valid => self.table.hold(block, node, length),
+            ReportVerdict::Valid => self.known.hold(block, node, length),
         }
     }
 
@@ -404,7 +479,6 @@ impl Blocks {
         ensures ok { OnOk result (self.new ≡ effect.beaten self.old node now) }
         ensures err { OnErr result (self.new ≡ self.old) }
     {
-        self.heartbeats.insert(node, now)?;
-        Ok(())
+        self.nodes.beat(node, now)
     }
 }

@@ -1,5 +1,7 @@
 //! The NameNode's map of blocks: which blocks are known, with their generation stamps, committed lengths, expected and reporting
-//! DataNodes; the replicas that DataNodes are still to be told to remove; when each DataNode last sent a heartbeat.
+//! DataNodes; the replicas that DataNodes are still to be told to remove, and the recoveries that they are still to be told to lead; when
+//! each DataNode last sent a heartbeat.
 #![tactic(auto)]
 
 pub mod blocks;
+pub mod recovery;

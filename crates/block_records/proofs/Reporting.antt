@@ -1,6 +1,8 @@
 -- The nodes that reported a block: those that are left, and those that aren't.
-use Rattle.std.proofs.Common.{◌≡◌, ◌<◌, ℕ, ◌==◌, Bool, true, false, not, ◌&&◌, ◌||◌, List, [], ◌∷◌, filter, Option, Some, None, refl, sym, ap, ◌∙◌, cond, arith}
-use Rattle.std.proofs.lemmas.Bool.{ne_eqb, eq-eqb}
+use Rattle.std.proofs.Common.{◌≡◌, ◌<◌, ℕ, ◌==◌, Bool, true, false, not, ◌&&◌, ◌||◌, List, [], ◌∷◌, ◌++◌, filter, Option, Some, None, refl, sym, ap, ◌∙◌, cond, arith}
+use Rattle.std.proofs.lemmas.Bool.{ne_eqb, eq-eqb, eqb-true}
+use Rattle.std.proofs.lemmas.List.Folds.{list_any-append}
+use Rattle.std.proofs.lemmas.Map.Views.{any-filter_same}
 use Rattle.std.proofs.lemmas.Map.Entries.{lookup-filter-values, option_filter}
 use Rattle.std.proofs.lemmas.Map.Keys.{IsDistinct-from_sorted}
 use Rattle.std.specs.Cmp.{ranked, eq_by_cmp_equiv, nat_cmp_total}
@@ -67,3 +69,22 @@ pub holds_agreeing : (own new : BlockRecord) (length : ℕ) → new.expected ≡
 holds_agreeing own new length expected kept n =
     left (has_number n own.expected) (is_some (entry_at n own.reports)) (has_number n (others_of length own.reports))
     ∙ (ap (λ x. has_number n own.expected || x) (sym (kept n)) ∙ ap (λ nodes. has_number n nodes || is_some (entry_at n new.reports)) (sym expected))
+
+-- those of a list that pass a test
+pub has_kept : (n : ℕ) (p : ℕ → Bool) (numbers : List ℕ) → has_number n (filter p numbers) ≡ (p n && has_number n numbers)
+has_kept n p numbers = any-filter_same (λ other. other == n) p (p n) (λ k same. ap p (eqb-true k n same)) numbers
+
+-- those of two lists that pass a test
+pub has_either : (n : ℕ) (p : ℕ → Bool) (xs ys zs : List ℕ) → zs ≡ filter p xs ++ filter p ys → has_number n zs ≡ ((has_number n xs || has_number n ys) && p n)
+has_either n p xs ys zs is =
+    ap (has_number n) is
+    ∙ (list_any-append (λ other. other == n) (filter p xs) (filter p ys)
+    ∙ (ap (λ x. x || has_number n (filter p ys)) (has_kept n p xs) ∙ (ap (λ y. (p n && has_number n xs) || y) (has_kept n p ys) ∙ by (p n) (has_number n xs) (has_number n ys))))
+  where
+    by : (b x y : Bool) → ((b && x) || (b && y)) ≡ ((x || y) && b)
+    by true true y = refl
+    by true false true = refl
+    by true false false = refl
+    by false true y = refl
+    by false false true = refl
+    by false false false = refl

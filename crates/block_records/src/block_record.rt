@@ -1,4 +1,5 @@
-ghost use Rattle.std.specs.Prelude.{◌≡◌, Some};
+ghost use Rattle.std.specs.Prelude.{◌≡◌, ℕ, ◌&&◌, not, is_some, filter, IfOk, Some};
+ghost use Rattle.block_records.specs.Numbers.{has_number, entry_at};
 ghost use Rattle.block_records.specs.Verdicts.{holds_by};
 ghost use Rattle.block_records.specs.Verdicts.{agrees, verdict_by};
 
@@ -9,6 +10,7 @@ use hdfs_values::ids::Stamp;
 use hdfs_values::moment::Moment;
 use hdfs_values::node_id::NodeId;
 use hdfs_values::replication::Repl;
+use std::alloc::{AllocError, Global};
 
 /// What is known of a block (HDFS Architecture, "Data Replication").
 #[derive(Drop)]
@@ -25,10 +27,19 @@ pub struct BlockRecord {
     pub reports: Reports,
     /// When the recovery began that the block is in.
     pub recovering: Option<Moment>,
-    /// The node that is to lead that recovery and wasn't told of it yet.
-    pub primary: Option<NodeId>,
     /// When a node was last told to copy the block.
     pub handed_out: Option<Moment>,
+}
+
+// Of these nodes those that report nothing.
+fn silent(alloc: Global, nodes: &[NodeId], reports: &Reports) -> Result<Vec<NodeId>, AllocError>
+    ensures { IfOk result (λ silent. silent.items ≡ filter (λ node. not (is_some (entry_at node reports.now))) nodes.now) }
+{
+    nodes
+        .iter()
+        .copied()
+        .filter(|node| !reports.contains(*node))
+        .collect(alloc)
 }
 
 impl BlockRecord {
@@ -37,6 +48,42 @@ impl BlockRecord {
         ensures { result ≡ holds_by node (Some self.now) }
     {
         self.expected.contains(node) || self.reports.contains(node)
+    }
+
+    /// Of these nodes those that neither are to hold the block nor reported it. Costs the expected nodes for each.
+    ///
+    /// # Errors
+    /// Out of memory.
+    pub fn without_holders(
+        &self,
+        alloc: Global,
+        nodes: &[NodeId],
+    ) -> Result<Vec<NodeId>, AllocError>
+        ensures { IfOk result (λ others. others.items ≡ filter (λ node. not (holds_by node (Some self.now))) nodes.now) }
+    {
+        nodes
+            .iter()
+            .copied()
+            .filter(|node| !self.holds(*node))
+            .collect(alloc)
+    }
+
+    /// The nodes that are to hold the block or reported it, and aren't among those that report it in another list. Costs a look-up for
+    /// each.
+    ///
+    /// # Errors
+    /// Out of memory.
+    pub fn holders_beside(
+        &self,
+        alloc: Global,
+        reports: &Reports,
+    ) -> Result<Vec<NodeId>, AllocError>
+        ensures { IfOk result (λ nodes. (n : ℕ) → has_number n nodes.items ≡ (holds_by n (Some self.now) && not (is_some (entry_at n reports.now)))) }
+    {
+        let mut nodes = silent(alloc, self.expected.as_slice(), reports)?;
+        let reporting = self.reports.nodes(alloc)?;
+        nodes.extend_from_slice(&silent(alloc, &reporting, reports)?)?;
+        Ok(nodes)
     }
 
     // Whether a length isn't another one than that which is committed.

@@ -1,9 +1,9 @@
-ghost use Rattle.std.specs.Prelude.{◌≡◌, ◌+◌, ◌<◌, ℕ, [], IsTrue, ◌↔◌, length, slice_index, IfSome, IsSome, if◌then◌else◌};
+ghost use Rattle.std.specs.Prelude.{◌≡◌, ◌+◌, ◌<◌, ℕ, [], IsTrue, not, filter, ◌↔◌, length, slice_index, IfOk, IfSome, IsSome, if◌then◌else◌};
 ghost use Rattle.std.specs.List.Sorted.{IsStrictlyIncreasing};
 ghost use Rattle.block_records.specs.Numbers.{has_number};
 
 use hdfs_values::node_id::NodeId;
-use std::alloc::Global;
+use std::alloc::{AllocError, Global};
 use std::marker::Model;
 
 /// DataNodes by their ids, ascending, none twice.
@@ -72,10 +72,34 @@ impl NodeSet {
         &self.nodes
     }
 
+    /// Of these nodes those that aren't among them. Costs the nodes for each.
+    ///
+    /// # Errors
+    /// Out of memory.
+    pub fn leave_out(&self, alloc: Global, nodes: &[NodeId]) -> Result<Vec<NodeId>, AllocError>
+        ensures { IfOk result (λ others. others.items ≡ filter (λ node. not (has_number node self.now)) nodes.now) }
+    {
+        nodes
+            .iter()
+            .copied()
+            .filter(|node| !self.contains(*node))
+            .collect(alloc)
+    }
+
     /// Whether a node is among them. Costs the nodes, and takes no memory.
     pub fn contains(&self, node: NodeId) -> bool
         ensures { result ≡ has_number node self.now }
     {
         self.nodes.iter().any(|own| *own == node)
+    }
+}
+
+impl Clone for NodeSet {
+    ghost is_clone = { λ set copy. copy ≡ set };
+
+    fn clone(&self) -> Result<NodeSet, AllocError> {
+        Ok(NodeSet {
+            nodes: self.nodes.clone()?,
+        })
     }
 }

@@ -3,7 +3,7 @@ ghost use Rattle.std.specs.BTreeMap.{insert_entry};
 ghost use Rattle.std.specs.Map.{remove_entry, keys_of};
 ghost use Rattle.std.specs.Ordering.{nat_cmp};
 ghost use Rattle.block_records.specs.Numbers.{is_number, has_number, entry_at};
-ghost use Rattle.block_records.specs.Reports.{is_reported, agreeing, others_of};
+ghost use Rattle.block_records.specs.Reports.{is_reported, agreeing, others_of, with_reports_of};
 
 use hdfs_values::node_id::NodeId;
 use std::alloc::{AllocError, Global};
@@ -102,6 +102,39 @@ impl Reports {
         self.lengths.retain(|_, own| *own == bytes);
     }
 
+    /// Ends all reports. Costs them, and takes no memory.
+    pub fn clear(&mut self)
+        ensures { self.new ≡ [] }
+    {
+        self.lengths.clear();
+    }
+
+    // Notes that each of these nodes reports this length, up to the first for which there is no memory.
+    fn insert_each(&mut self, nodes: &[NodeId], bytes: u64) -> Result<(), AllocError>
+        ensures ok { OnOk result (self.new ≡ with_reports_of nodes.now bytes self.old) }
+        ensures reporting { OnOk result ((q : ℕ) → is_some (entry_at q self.new) ≡ (has_number q nodes.now || is_some (entry_at q self.old))) }
+    {
+        for node in nodes {
+            self.insert(*node, bytes)?;
+        }
+        Ok(())
+    }
+
+    /// The reports of this length, and one of it by each of these nodes: what a recovery leaves that these nodes took part in. Costs the
+    /// reports, and a look-up for each node.
+    ///
+    /// # Errors
+    /// Out of memory.
+    pub fn recovered(&self, nodes: &[NodeId], bytes: u64) -> Result<Reports, AllocError>
+        ensures reports { IfOk result (λ reports. reports ≡ with_reports_of nodes.now bytes (agreeing bytes self.now)) }
+        ensures reporting { IfOk result (λ reports. (q : ℕ) → is_some (entry_at q reports) ≡ (has_number q nodes.now || (is_some (entry_at q self.now) && not (has_number q (others_of bytes self.now))))) }
+    {
+        let mut reports = self.clone()?;
+        reports.keep(bytes);
+        reports.insert_each(nodes, bytes)?;
+        Ok(reports)
+    }
+
     /// Takes out the report of the lowest node, and answers which node that was; `None` where nobody has reported. Takes no memory.
     pub fn pop(&mut self) -> Option<NodeId>
         ensures node { IfSome result (λ node. (other : ℕ) → is_some (entry_at other self.old) ≡ (is_number node other || is_some (entry_at other self.new))) }
@@ -110,5 +143,15 @@ impl Reports {
     {
         let (node, _) = self.lengths.pop_first()?;
         Some(node)
+    }
+}
+
+impl Clone for Reports {
+    ghost is_clone = { λ reports copy. copy ≡ reports };
+
+    fn clone(&self) -> Result<Reports, AllocError> {
+        Ok(Reports {
+            lengths: self.lengths.clone()?,
+        })
     }
 }

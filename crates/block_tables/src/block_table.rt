@@ -1,19 +1,22 @@
 ghost use Rattle.std.specs.Prelude.{◌≡◌, ◌<◌, ℕ, [], Some, None, map, filter, length, if◌then◌else◌, option_copied, IfSome, IfOk, OnOk, OnErr};
 ghost use Rattle.std.specs.BTreeMap.{insert_entry};
-ghost use Rattle.std.specs.Map.{remove_entry};
+ghost use Rattle.std.specs.Map.{remove_entry, keys_of};
 ghost use Rattle.std.specs.Ordering.{nat_cmp};
 ghost use Rattle.block_records.specs.Numbers.{is_number, entry_at};
 ghost use Rattle.block_placement.specs.Placement.{beside, is_chosen, targets};
-ghost use Rattle.block_tables.specs.Kept.{load};
-ghost use Rattle.block_tables.specs.Changes.{changed, with_report, without_report, with_replication, with_length, without_blocks};
-ghost use Rattle.block_records.specs.Reports.{others_of};
+ghost use Rattle.block_tables.specs.Kept.{load, blocks_of};
+ghost use Rattle.block_tables.specs.Changes.{changed, with_report, without_report, with_replication, with_length, without_blocks, with_recovery, with_recovered, with_hand_out, handed_out};
+ghost use Rattle.block_records.specs.Marks.{with_marks};
+ghost use Rattle.block_records.specs.Reports.{others_of, agreeing, with_reports_of};
 
 use block_index::node_blocks::NodeBlocks;
 use block_placement::candidate::{Candidate, last_chosen};
 use block_records::block_record::BlockRecord;
+use block_records::mark::{Mark, Marks};
 use block_records::node_set::NodeSet;
 use block_records::reports::Reports;
-use hdfs_values::ids::BlockId;
+use hdfs_values::ids::{BlockId, Stamp};
+use hdfs_values::moment::Moment;
 use hdfs_values::node_id::NodeId;
 use hdfs_values::replication::Repl;
 use std::alloc::{AllocError, Global};
@@ -37,6 +40,27 @@ impl Model for BlockTable {
     ghost view = { λ table. table.records.entries };
 
     ghost invariant = { λ table. IsIndexed table.records.entries table.held };
+}
+
+// Gives a block what a recovery leaves of it; nothing changes where it isn't known.
+fn set_recovered(
+    records: &mut BTreeMap<BlockId, BlockRecord>,
+    block: BlockId,
+    bytes: u64,
+    nodes: NodeSet,
+    reports: Reports,
+)
+    requires { IfSome (entry_at block records.old.entries) (λ own. reports ≡ with_reports_of nodes bytes (agreeing bytes own.reports)) }
+    ensures changed { records.new.entries ≡ changed (with_recovered bytes nodes) block records.old.entries }
+    ensures others { IfSome (entry_at block records.old.entries) (λ own. (q : ℕ) → entry_at q records.new.entries ≡ (if is_number block q then Some (with_recovered bytes nodes own) else entry_at q records.old.entries)) }
+{
+    let Some(own) = records.get_mut(&block) else {
+        return;
+    };
+    own.committed = Some(bytes);
+    own.recovering = None;
+    own.expected = nodes;
+    own.reports = reports;
 }
 
 impl BlockTable {
@@ -198,6 +222,93 @@ impl BlockTable {
         own.committed = Some(bytes);
         own.reports.keep(bytes);
         self.held.remove_unexpected(others, &own.expected, block);
+    }
+
+    /// Gives a block a newer stamp, which nobody has reported, and notes that a recovery of it begins. The nodes that reported it are
+    /// handed in. Costs a look-up for each of them, and takes no memory.
+    pub fn begin_recovery(
+        &mut self,
+        block: BlockId,
+        stamp: Stamp,
+        now: Moment,
+        reporting: &[NodeId],
+    )
+        requires { IfSome (entry_at block self.old) (λ own. reporting.now ≡ keys_of own.reports) }
+        ensures { self.new ≡ changed (with_recovery stamp now) block self.old }
+    {
+        let Some(own) = self.records.get_mut(&block) else {
+            return;
+        };
+        own.stamp = stamp;
+        own.recovering = Some(now);
+        own.reports.clear();
+        self.held.remove_unexpected(reporting, &own.expected, block);
+    }
+
+    /// Ends the recovery of a block with this length, in which these nodes took part: they are to hold it, and report it, as do those
+    /// that reported that length. Marks that come with it are added, or nothing changes. Costs a look-up for each node that holds the
+    /// block, before or behind it.
+    ///
+    /// # Errors
+    /// Out of memory. Nothing has changed then.
+    pub fn end_recovery(
+        &mut self,
+        alloc: Global,
+        block: BlockId,
+        bytes: u64,
+        nodes: NodeSet,
+        marks: &mut Marks,
+        more: Vec<Mark>,
+    ) -> Result<(), AllocError>
+        ensures ok { OnOk result (self.new ≡ changed (with_recovered bytes nodes) block self.old) }
+        ensures marked { OnOk result (marks.new ≡ with_marks marks.old more.items) }
+        ensures err { OnErr result ((self.new ≡ self.old) × (marks.new ≡ marks.old)) }
+    {
+        let Some(own) = self.records.get(&block) else {
+            return marks.add_all(more);
+        };
+        let reports = own.reports.recovered(nodes.as_slice(), bytes)?;
+        let fresh = own.without_holders(alloc, nodes.as_slice())?;
+        let gone = own.holders_beside(alloc, &reports)?;
+        self.held.insert_each(&fresh, block)?;
+        if marks.add_all(more).is_err() {
+            self.held.remove_each(&fresh, block);
+            return Err(AllocError);
+        }
+        self.held.remove_each(&gone, block);
+        set_recovered(&mut self.records, block, bytes, nodes, reports);
+        Ok(())
+    }
+
+    /// Notes that nodes are told now to copy these blocks; of those that aren't known nothing is noted. Costs a look-up for each, and takes
+    /// no memory.
+    pub fn hand_out(&mut self, blocks: &[BlockId], now: Moment)
+        ensures { self.new ≡ handed_out now self.old blocks.now }
+    {
+        for block in blocks {
+            self.hand_out_one(*block, now);
+        }
+    }
+
+    fn hand_out_one(&mut self, block: BlockId, now: Moment)
+        ensures { self.new ≡ changed (with_hand_out now) block self.old }
+    {
+        let Some(own) = self.records.get_mut(&block) else {
+            return;
+        };
+        own.handed_out = Some(now);
+    }
+
+    /// The blocks that a node is to hold or reported, by their ids. Costs them.
+    ///
+    /// # Errors
+    /// Out of memory.
+    pub fn blocks_of(&self, alloc: Global, node: NodeId) -> Result<Vec<BlockId>, AllocError>
+        ensures { IfOk result (λ blocks. blocks.items ≡ blocks_of self.now node) }
+    {
+        // its contract tells that the keys ascend
+        let _count = self.records.len();
+        self.held.blocks(alloc, node)
     }
 
     /// Makes a block known no more. Costs a look-up for each node that was to hold it or reported it, and takes no memory.

@@ -63,7 +63,7 @@ mask_stays None sum h = cc
 mask_stays (Some mask) sum h = refl
 
 masked_again : (list other : EntryList) → is_some list.mask ≡ true → completed_list list.mask other (all_of list) ≡ list
-masked_again list other h = ap (λ mask. record { user = list.user; users = list.users; group = list.group; groups = list.groups; mask = mask; other = list.other }) (mask_stays list.mask _ h)
+masked_again list other h = ap (λ mask. record list { mask = mask }) (mask_stays list.mask _ h)
 
 no_mask : (mask : Option Rights) → is_none mask ≡ true → mask ≡ None
 no_mask None h = refl
@@ -71,9 +71,9 @@ no_mask (Some mask) h = cc
 
 base_entries_are : (list : EntryList) → list.users ≡ [] → list.groups ≡ [] → list.mask ≡ None → base_entries list.user list.group list.other ≡ list
 base_entries_are list users groups mask =
-    ap (λ named. record { user = list.user; users = named; group = list.group; groups = []; mask = None; other = list.other }) (sym users)
-    ∙ ap (λ named. record { user = list.user; users = list.users; group = list.group; groups = named; mask = None; other = list.other }) (sym groups)
-    ∙ ap (λ own. record { user = list.user; users = list.users; group = list.group; groups = list.groups; mask = own; other = list.other }) (sym mask)
+    ap (λ named. record list { users = named; groups = []; mask = None }) (sym users)
+    ∙ ap (λ named. record list { groups = named; mask = None }) (sym groups)
+    ∙ ap (λ own. record list { mask = own }) (sym mask)
 
 -- the union of the owning group alone is what it has
 alone : (group : Rights) → intersection group group ≡ group

@@ -37,19 +37,19 @@ without path rows = filter (λ row. not (is_prefix path row.path)) rows
 
 -- a row at or beneath `from`, with `to` in the place of that front of its path
 abbrev pub moved_row : List (List ℕ) → List (List ℕ) → Row → Row
-moved_row from to row = record { path = to ++ drop (length from) row.path; kind = row.kind; owner = row.owner; group = row.group; acl = row.acl; file = row.file }
+moved_row from to row = record row { path = to ++ drop (length from) row.path }
 
 -- the rows in which those at and beneath `from` stand at and beneath `to`
 abbrev pub moved : List (List ℕ) → List (List ℕ) → List Row → List Row
 moved from to rows = replaced to (map (moved_row from to) (rows_under from rows)) (without from rows)
 
 abbrev pub with_file : Option FileRow → Row → Row
-with_file file row = record { path = row.path; kind = row.kind; owner = row.owner; group = row.group; acl = row.acl; file = file }
+with_file file row = record row { file = file }
 
 -- a row with one of its parts changed; a directory has neither state nor replication
 abbrev pub changed : Change → Row → Row
-changed (change.Owner owner group) row = record { path = row.path; kind = row.kind; owner = owner; group = group; acl = row.acl; file = row.file }
-changed (change.List acl) row = record { path = row.path; kind = row.kind; owner = row.owner; group = row.group; acl = acl; file = row.file }
+changed (change.Owner owner group) row = record row { owner = owner; group = group }
+changed (change.List acl) row = record row { acl = acl }
 changed (change.State state) row = with_file (option_map (with_state state) row.file) row
 changed (change.Replication replication) row = with_file (option_map (with_replication replication) row.file) row
 

@@ -115,9 +115,13 @@ impl Denial {
         ensures { IfOk result (λ denial. denial ≡ denial_at need.now row above.now caller.now groups.now) }
     {
         if is_met(need, &row, above, caller, groups) {
+            drop(row);
             return Ok(None);
         }
-        let cause = cause_at(alloc, need, &row, above, caller, groups)?;
+        let Ok(cause) = cause_at(alloc, need, &row, above, caller, groups) else {
+            drop(row);
+            return Err(AllocError);
+        };
         let evidence = Box::new(alloc, Evidence { row, cause })?;
         Ok(Some(Denial { evidence }))
     }
@@ -200,10 +204,11 @@ impl Clone for Evidence {
 
     fn clone(&self) -> Result<Evidence, AllocError> {
         let cause = self.cause.clone()?;
-        Ok(Evidence {
-            row: self.row.clone()?,
-            cause,
-        })
+        let Ok(row) = self.row.clone() else {
+            drop(cause);
+            return Err(AllocError);
+        };
+        Ok(Evidence { row, cause })
     }
 }
 

@@ -23,13 +23,13 @@ one_more state (Err fault) others =
     ap (λ (front : List NumberedFault). front ++ others) (filter_map-append (λ (numbered : Numbered). bad_at numbered.number numbered.answer) state.answers _) ∙ append_assoc (bads state) _ others
 
 trimmed : (state : State) (skipped : Bool) (said : Result Request IllFormed) (others : List NumberedFault)
-    → bads (if skipped then record { number = state.number + 1; entries = state.entries; answers = state.answers } else after_answer state (answered script_opening state.entries said)) ++ others
+    → bads (if skipped then record state { number = state.number + 1 } else after_answer state (answered script_opening state.entries said)) ++ others
     ≡ bads state ++ fault_before (state.number + 1) (if skipped then None else result_err said) others
 trimmed state true said others = refl
 trimmed state false said others = one_more state said others
 
 number_after : (state : State) (skipped : Bool) (said : Result Request IllFormed)
-    → (if skipped then record { number = state.number + 1; entries = state.entries; answers = state.answers } else after_answer state (answered script_opening state.entries said)).number ≡ state.number + 1
+    → (if skipped then record state { number = state.number + 1 } else after_answer state (answered script_opening state.entries said)).number ≡ state.number + 1
 number_after state true said = refl
 number_after state false said = refl
 

@@ -13,7 +13,7 @@ use script_hints::numbered::hints_on_lines;
 use script_runs::script::{Session, run_lines, run_more};
 use script_words::words::{is_skipped, pieces_between, without_return};
 use std::alloc::{AllocError, Global};
-use std::str;
+use std::{slice, str};
 
 /// Which path of a rename a need is of, and the role of its component there.
 #[derive(Clone, Copy)]
@@ -45,17 +45,27 @@ fn side_of(demand: &Demand<'_>, from: &Path) -> Side {
     }
 }
 
+/// Adds a side for each component that a need is asked at on these rows.
+fn push_sides(
+    alloc: Global,
+    rows: &[Row],
+    demand: &[Demand<'_>],
+    side: Side,
+    sides: &mut Vec<Side>,
+) -> Result<(), AllocError> {
+    for _ask in &asks_of(alloc, rows, demand)? {
+        sides.push(side)?;
+    }
+    Ok(())
+}
+
 /// The sides of all that a rename is asked for on these rows, in the order of judging.
 fn sides_of(alloc: Global, rows: &[Row], op: &Op, from: &Path) -> Result<Vec<Side>, AllocError> {
     let needs = needs_of(alloc, op)?;
-    let demands = needs.as_slice();
     let mut sides = Vec::new(alloc);
-    for i in 0..demands.len() {
-        let side = side_of(&demands[i], from);
-        let asks = asks_of(alloc, rows, &demands[i..i + 1])?;
-        for _ask in &asks {
-            sides.push(side)?;
-        }
+    for demand in needs.as_slice() {
+        let side = side_of(demand, from);
+        push_sides(alloc, rows, slice::from_ref(demand), side, &mut sides)?;
     }
     Ok(sides)
 }

@@ -1,5 +1,5 @@
 ghost use Rattle.std.specs.Prelude.{◌≡◌, ℕ, List, ◌≤◌, ◌<◌, true, IfOk, length, take, [], ◌∷◌, ◌++◌, Some, MatchOption};
-ghost use Rattle.std.specs.List.{list_all, slice_split};
+ghost use Rattle.std.specs.List.{count_by, list_all, slice_split};
 ghost use Rattle.hdfs_values.specs.Parsed.{Parses};
 ghost use Rattle.hdfs_values.specs.Name.{is_name};
 ghost use Rattle.hdfs_values.specs.Path.{IsPath, IsRelative, is_slash, path_of, path_text, parent_of};
@@ -45,11 +45,25 @@ fn behind_slash(text: &str) -> Option<&str>
     text.strip_prefix('/')
 }
 
+/// How many slashes there are.
+fn slash_count(bytes: &[u8]) -> usize
+    ensures count { result ≡ count_by is_slash bytes.now }
+    ensures few { result ≤ length bytes.now }
+{
+    let mut count = 0;
+    for byte in bytes {
+        if *byte == b'/' {
+            count += 1;
+        }
+    }
+    count
+}
+
 /// How many pieces stand between the slashes of a text.
 fn piece_count(text: &str) -> usize
     ensures { result ≡ length (slice_split is_slash text.now) }
 {
-    text.split('/').count()
+    slash_count(text.as_bytes()) + 1
 }
 
 /// Whether each piece between the slashes of a text is a name.

@@ -189,7 +189,7 @@ there_after to from s rs beside =
 pub moved_placed : (from to : List (List ℕ)) (xs : List Row) → map (moved_row from to) (map (placed from) xs) ≡ map (placed to) xs
 moved_placed from to [] = refl
 moved_placed from to (r ∷ rs) =
-    ap (λ p. record { path = to ++ p; kind = r.kind; owner = r.owner; group = r.group; acl = r.acl; file = r.file } ∷ map (moved_row from to) (map (placed from) rs)) (drop-append_seam from r.path) ∙ ap (λ t. placed to r ∷ t) (moved_placed from to rs)
+    ap (λ p. record r { path = to ++ p } ∷ map (moved_row from to) (map (placed from) rs)) (drop-append_seam from r.path) ∙ ap (λ t. placed to r ∷ t) (moved_placed from to rs)
 
 moved_top : (f : List ℕ) (fs above : List (List ℕ)) (name : List ℕ) (b : Node) → row_of [] b.top ∷ moved (f ∷ fs) (above ++ name ∷ []) b.beneath ≡ moved (f ∷ fs) (above ++ name ∷ []) (rows b)
 moved_top f fs [] name b = refl

@@ -105,9 +105,9 @@ held_parent above name i m b seen is h =
     subst (λ x. IsTrue (holds_parent above name (rows_in x))) is (subst (λ x. IsTrue (holds_parent above name x.beneath)) (sym seen) (parent_held above name b h))
 
 pub file_holds_none : (above : List (List ℕ)) (name : List ℕ) (i : Inside) (file : FileRow) (b : Node) → branch_of i ≡ b → i.held ≡ File file → IsTrue (has_parent (above ++ name ∷ []) (rows b)) → ⊥
-file_holds_none above name i file b seen is h = go above (subst (λ x. IsTrue (has_parent (above ++ name ∷ []) (rows (branch_of (record { owner = i.owner; group = i.group; acl = i.acl; held = x }))))) is (subst (λ x. IsTrue (has_parent (above ++ name ∷ []) (rows x))) (sym seen) h))
+file_holds_none above name i file b seen is h = go above (subst (λ x. IsTrue (has_parent (above ++ name ∷ []) (rows (branch_of (record i { held = x }))))) is (subst (λ x. IsTrue (has_parent (above ++ name ∷ []) (rows x))) (sym seen) h))
   where
-    go : (above : List (List ℕ)) → IsTrue (has_parent (above ++ name ∷ []) (rows (branch_of (record { owner = i.owner; group = i.group; acl = i.acl; held = File file })))) → ⊥
+    go : (above : List (List ℕ)) → IsTrue (has_parent (above ++ name ∷ []) (rows (branch_of (record i { held = File file })))) → ⊥
     go [] k = false≢true k
     go (n ∷ []) k = false≢true k
     go (n ∷ m ∷ ms) k = false≢true k

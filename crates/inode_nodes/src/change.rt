@@ -307,9 +307,16 @@ fn map_of_one(alloc: Global, name: &Name, inner: Node) -> Result<BTreeMap<Name, 
     ensures sorted { IfOk result (λ nodes. IsStrictlySortedBy text_cmp (keys_of nodes.entries)) }
     ensures one { IfOk result (λ nodes. nodes.entries ≡ (name.now, inner) ∷ []) }
 {
-    let name = name.clone()?;
+    let Ok(name) = name.clone() else {
+        drop(inner);
+        return Err(AllocError);
+    };
     let mut nodes = BTreeMap::new(alloc);
-    nodes.insert(name, inner)?;
+    let Ok(before) = nodes.insert(name, inner) else {
+        drop(nodes);
+        return Err(AllocError);
+    };
+    drop(before);
     Ok(nodes)
 }
 

@@ -1,17 +1,19 @@
+use hdfs_values::fault::ParseFault;
+use hdfs_values::name::Name;
 use hdfs_values::path::Path;
 use hdfs_values::who::Who;
 use std::alloc::{AllocError, Global};
 use std::collections::{BTreeMap, BTreeSet};
 use std::marker::Model;
 
-/// Where the files are that each client has open: their paths as texts, in which what is beneath a directory stands together. A
-/// call costs a look-up, if nothing else is said.
+/// Where the files are that each client has open: their paths, in which what is beneath a directory stands together. A call costs a
+/// look-up, if nothing else is said.
 ///
 /// These are hints, of which no contract speaks: the tree confirms each before it is used, and where one is missing, which is so
 /// only where there was no memory for it, the tree is gone through instead.
 #[derive(Drop)]
 pub struct OpenPaths {
-    clients: BTreeMap<Who, BTreeSet<String>>,
+    clients: BTreeMap<Who, BTreeSet<Path>>,
     alloc: Global,
 }
 
@@ -24,60 +26,45 @@ impl Model for OpenPaths {
     ghost view = { λ _. tt };
 }
 
-fn bytes_of(path: &Path) -> usize {
-    let mut bytes: usize = 0;
-    for name in path.names() {
-        bytes = bytes.saturating_add(1).saturating_add(name.as_str().len());
-    }
-    bytes
-}
-
-// A path's text. The root's is empty, so that a slash behind it begins what is beneath.
-fn text_of(alloc: Global, path: &Path) -> Result<String, AllocError> {
-    let mut text = String::with_capacity(alloc, bytes_of(path))?;
-    for name in path.names() {
-        text.push('/')?;
-        text.push_str(name.as_str())?;
-    }
-    Ok(text)
-}
-
-// What the text of each path beneath this one begins with.
-fn front_of(alloc: Global, path: &Path) -> Result<String, AllocError> {
-    let mut front = text_of(alloc, path)?;
-    front.push('/')?;
-    Ok(front)
-}
-
-// The texts that begin with this one.
-fn beginning(
+// Copies of the paths at this one and beneath it.
+fn at_or_under(
     alloc: Global,
-    texts: &BTreeSet<String>,
-    front: &String,
-) -> Result<Vec<String>, AllocError> {
+    paths: &BTreeSet<Path>,
+    front: &Path,
+) -> Result<Vec<Path>, AllocError> {
     let mut found = Vec::new(alloc);
-    for text in texts.range(front..) {
-        if !text.as_str().starts_with(front.as_str()) {
+    for path in paths.range(front..) {
+        if !path.is_at_or_under(front) {
             break;
         }
-        found.push(String::from_str(alloc, text.as_str())?)?;
+        found.push(path.clone()?)?;
     }
     Ok(found)
 }
 
-// Gives each text that begins so another beginning.
-fn move_beginning(
+// The path of names with others before them, where it is within the limits.
+fn joined(alloc: Global, front: &Path, behind: &[Name]) -> Result<Path, ParseFault> {
+    let mut text = String::new(alloc);
+    for name in front.names().iter().chain(behind) {
+        text.push('/')?;
+        text.push_str(name.as_str())?;
+    }
+    Path::parse(alloc, text.as_str())
+}
+
+// Gives each path at one and beneath it another beginning.
+fn move_front(
     alloc: Global,
-    texts: &mut BTreeSet<String>,
-    from: &String,
-    to: &str,
+    paths: &mut BTreeSet<Path>,
+    from: &Path,
+    to: &Path,
 ) -> Result<(), AllocError> {
-    for text in &beginning(alloc, texts, from)? {
-        texts.remove(text.as_str());
-        if let Some(rest) = text.as_str().strip_prefix(from.as_str()) {
-            let mut moved = String::from_str(alloc, to)?;
-            moved.push_str(rest)?;
-            texts.insert(moved)?;
+    for path in &at_or_under(alloc, paths, from)? {
+        paths.remove(path);
+        if let Some(behind) = path.names().get(from.depth()..)
+            && let Ok(moved) = joined(alloc, to, behind)
+        {
+            paths.insert(moved)?;
         }
     }
     Ok(())
@@ -98,13 +85,11 @@ impl OpenPaths {
     /// Out of memory.
     pub fn of_client(&self, client: &Who) -> Result<Vec<Path>, AllocError> {
         let mut paths = Vec::new(self.alloc);
-        let Some(texts) = self.clients.get(client) else {
+        let Some(open) = self.clients.get(client) else {
             return Ok(paths);
         };
-        for text in texts {
-            if let Ok(path) = Path::parse(self.alloc, text.as_str()) {
-                paths.push(path)?;
-            }
+        for path in open {
+            paths.push(path.clone()?)?;
         }
         Ok(paths)
     }
@@ -115,30 +100,24 @@ impl OpenPaths {
     }
 
     fn put(&mut self, path: &Path, client: &Who) -> Result<(), AllocError> {
-        let text = text_of(self.alloc, path)?;
-        if let Some(texts) = self.clients.get_mut(client) {
-            texts.insert(text)?;
+        let path = path.clone()?;
+        if let Some(paths) = self.clients.get_mut(client) {
+            paths.insert(path)?;
             return Ok(());
         }
-        let mut texts = BTreeSet::new(self.alloc);
-        texts.insert(text)?;
-        self.clients.insert(client.clone()?, texts)?;
+        let mut paths = BTreeSet::new(self.alloc);
+        paths.insert(path)?;
+        self.clients.insert(client.clone()?, paths)?;
         Ok(())
     }
 
-    /// Notes that a file is closed that a client had open. A path that there is no memory for stays.
+    /// Notes that a file is closed that a client had open. Takes no memory.
     pub fn close(&mut self, path: &Path, client: &Who) {
-        if let Ok(text) = text_of(self.alloc, path) {
-            self.remove(text.as_str(), client);
-        }
-    }
-
-    fn remove(&mut self, text: &str, client: &Who) {
-        let Some(texts) = self.clients.get_mut(client) else {
+        let Some(paths) = self.clients.get_mut(client) else {
             return;
         };
-        texts.remove(text);
-        if texts.is_empty() {
+        paths.remove(path);
+        if paths.is_empty() {
             self.clients.remove(client);
         }
     }
@@ -152,19 +131,15 @@ impl OpenPaths {
     }
 
     fn remove_at(&mut self, path: &Path, clients: &[Who]) -> Result<(), AllocError> {
-        let text = text_of(self.alloc, path)?;
-        let front = front_of(self.alloc, path)?;
         for client in clients {
-            let _noted = self.remove_beneath(&front, client);
-            self.remove(text.as_str(), client);
-        }
-        Ok(())
-    }
-
-    fn remove_beneath(&mut self, front: &String, client: &Who) -> Result<(), AllocError> {
-        if let Some(texts) = self.clients.get_mut(client) {
-            for text in &beginning(self.alloc, texts, front)? {
-                texts.remove(text.as_str());
+            let Some(paths) = self.clients.get_mut(client) else {
+                continue;
+            };
+            for closed in &at_or_under(self.alloc, paths, path)? {
+                paths.remove(closed);
+            }
+            if paths.is_empty() {
+                self.clients.remove(client);
             }
         }
         Ok(())
@@ -179,17 +154,14 @@ impl OpenPaths {
     /// Notes that a directory is moved. Costs a look-up for each client that has files open, and the open files beneath it.
     pub fn move_directory(&mut self, from: &Path, to: &Path) {
         if !self.clients.is_empty() {
-            let _noted = self.move_beneath(from, to);
+            self.move_beneath(from, to);
         }
     }
 
-    fn move_beneath(&mut self, from: &Path, to: &Path) -> Result<(), AllocError> {
-        let from = front_of(self.alloc, from)?;
-        let to = front_of(self.alloc, to)?;
-        for texts in self.clients.values_mut() {
-            let _noted = move_beginning(self.alloc, texts, &from, to.as_str());
+    fn move_beneath(&mut self, from: &Path, to: &Path) {
+        for paths in self.clients.values_mut() {
+            let _noted = move_front(self.alloc, paths, from, to);
         }
-        Ok(())
     }
 
     /// Notes that all files of a client are closed. Costs these files, and takes no memory.

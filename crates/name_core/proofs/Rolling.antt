@@ -32,7 +32,7 @@ rolled_is leases None rows users caller key granted = ap (denied_or_outcome (wit
 rolled_is leases (Some serial) rows users caller key granted = ap (denied_or_outcome (with_next leases (Some serial)) rows users caller (op.RollKey key)) granted
 
 abbrev with_ring : Namesystem → Ring → Namesystem
-with_ring old ring = record { tree = old.tree; users = old.users; writers = old.writers; ring = ring }
+with_ring old ring = record old { ring = ring }
 
 module _ (last : List ℕ → Option ℕ) (now : ℕ) (caller key : List ℕ) (old : Namesystem) (exact : IsExact last old.tree old.writers) where
   stepped_is : (next : Option ℕ) → next ≡ next_serial old.ring.serial → decision old.tree old.users caller (op.RollKey key) ≡ None

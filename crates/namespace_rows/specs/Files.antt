@@ -32,10 +32,10 @@ abbrev pub new_file : ℕ → List ℕ → FileRow
 new_file replication client = record { replication = replication; blocks = []; state = Open client }
 
 abbrev pub with_state : FileState → FileRow → FileRow
-with_state state file = record { replication = file.replication; blocks = file.blocks; state = state }
+with_state state file = record file { state = state }
 
 abbrev pub with_replication : ℕ → FileRow → FileRow
-with_replication replication file = record { replication = replication; blocks = file.blocks; state = file.state }
+with_replication replication file = record file { replication = replication }
 
 -- the client who has the file open
 abbrev pub holder_of : FileState → Option (List ℕ)

@@ -186,10 +186,10 @@ mask_length (Some a) (Some b) h = refl
 
 pub remasked_good : (list : EntryList) (user other : Rights) (mask : Option Rights) → IsEntryList list → is_some mask ≡ is_some list.mask
     → are_rights user ≡ true → option_map_or are_rights mask true ≡ true → are_rights other ≡ true
-    → IsEntryList (record { user = user; users = list.users; group = list.group; groups = list.groups; mask = mask; other = other })
+    → IsEntryList (record list { user = user; mask = mask; other = other })
 remasked_good list user other mask h masked users masks others =
     let parts : Good list = good list h in
-    let new : EntryList = record { user = user; users = list.users; group = list.group; groups = list.groups; mask = mask; other = other } in
+    let new : EntryList = record list { user = user; mask = mask; other = other } in
     let count : length (entries_in Access new) ≡ length (entries_in Access list) =
     entries_count new ∙ ap (λ n. 3 + n + length list.users + length list.groups) (mask_length mask list.mask masked) ∙ sym (entries_count list) in
     is_good new (record {

@@ -78,6 +78,27 @@ impl RecoveryQueue {
         }
     }
 
+    /// Ends the waiting of the recoveries of these blocks. Costs a look-up for each, and takes no memory.
+    pub fn forget_each(&mut self, blocks: &[BlockId])
+        ensures { self.new ≡ without_each self.old blocks.now }
+    {
+        for block in blocks {
+            self.forget(*block);
+        }
+    }
+
+    /// The blocks whose recovery a node is to lead, by their ids. Costs them.
+    ///
+    /// # Errors
+    /// Out of memory.
+    pub fn led(&self, alloc: Global, node: NodeId) -> Result<Vec<BlockId>, AllocError>
+        ensures { IfOk result (λ blocks. blocks.items ≡ led_by node self.now) }
+    {
+        // its contract tells that the keys ascend
+        let _count = self.primaries.len();
+        self.blocks.blocks(alloc, node)
+    }
+
     /// Takes out the blocks whose recovery a node is to lead, by their ids. Costs a look-up for each.
     ///
     /// # Errors

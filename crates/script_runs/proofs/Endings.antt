@@ -49,7 +49,7 @@ goes_on a b c p q = record { more = p.more ++ q.more; is = q.is ∙ ap (λ l. l 
 goes_line : (state : State) (line : List ℕ) → Goes state (after_line state line)
 goes_line state line = by_test (is_skipped (without_return line))
   where
-    by_test : (b : Bool) → Goes state (if b then record { number = state.number + 1; entries = state.entries; answers = state.answers } else after_answer state (answered script_opening state.entries (request_of (words_of (without_return line)))))
+    by_test : (b : Bool) → Goes state (if b then record state { number = state.number + 1 } else after_answer state (answered script_opening state.entries (request_of (words_of (without_return line)))))
     by_test true = record { more = []; is = sym (append-nil state.answers) }
     by_test false = record { more = record { number = state.number + 1; answer = (answered script_opening state.entries (request_of (words_of (without_return line)))).answer } ∷ []; is = refl }
 

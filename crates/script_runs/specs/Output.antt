@@ -53,7 +53,7 @@ after_answer state a = record {
 
 abbrev pub after_trimmed : State → List ℕ → State
 after_trimmed state line =
-    if is_skipped line then record { number = state.number + 1; entries = state.entries; answers = state.answers }
+    if is_skipped line then record state { number = state.number + 1 }
     else after_answer state (answered script_opening state.entries (request_of (words_of line)))
 
 abbrev pub after_line : State → List ℕ → State

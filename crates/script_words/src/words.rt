@@ -36,14 +36,16 @@ fn push_words<'a>(alloc: Global, words: &mut Vec<&'a str>, piece: &'a str) -> Re
     push_filled(words, &[piece])
 }
 
+/// As many words as nearly all lines have at most.
+const USUAL_WORDS: usize = 8;
+
 /// The words of a line, which spaces and tabs separate.
 pub fn words_in(alloc: Global, line: &str) -> Result<Vec<&str>, AllocError>
     ensures { IfOk result (λ words. map (λ word. word.now) words.items ≡ spec.words_of line.now) }
 {
-    let pieces = pieces_between(alloc, line, ' ')?;
-    let mut words = Vec::with_capacity(alloc, pieces.len())?;
-    for piece in &pieces {
-        push_words(alloc, &mut words, *piece)?;
+    let mut words = Vec::with_capacity(alloc, USUAL_WORDS)?;
+    for piece in line.split(' ') {
+        push_words(alloc, &mut words, piece)?;
     }
     Ok(words)
 }

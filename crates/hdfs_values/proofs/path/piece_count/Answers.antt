@@ -1,7 +1,9 @@
-use Rattle.std.proofs.Common.{lit<}
-use Rattle.std.proofs.lemmas.Iterator.Consumers.{count_from_yields_List}
-use Rattle.std.proofs.lemmas.Iterator.Splits.{YieldsList-from_str_split}
+use Rattle.std.proofs.Common.{◌+◌, ◌∙◌, ap, sym}
+use Rattle.std.specs.List.{count_by}
+use Rattle.std.proofs.lemmas.List.Splits.{length-slice_split}
+use Rattle.hdfs_values.specs.Path.{is_slash}
 use Rattle.hdfs_values.proofs.path.piece_count.Goals as goal
 
 pub returns : goal.returns
-returns c = count_from_yields_List c.split.result _ c.count.ensures.ran (YieldsList-from_str_split 47 c.args.text.now (lit< tt) c.split.ensures.text c.split.ensures.has_more c.split.ensures.pattern)
+returns c =
+    ap (λ n. n + 1) (c.slash_count.ensures.count ∙ ap (count_by is_slash) c.as_bytes.ensures.value) ∙ sym (length-slice_split is_slash c.args.text.now)

@@ -5,5 +5,5 @@ use Rattle.inode_nodes.proofs.change.map_of_one.Goals as goal
 
 pub returns-clause-one : goal.returns-clause-one
 returns-clause-one c =
-    let key = c.in_ok-name.name in
-    c.in_ok-insert.ensures.entries ∙ ap (λ es. insert_entry R es key c.args.inner) c.new-nodes.ensures.empty ∙ ap (λ k. (k, c.args.inner) ∷ []) c.in_ok-name.ensures.cases
+    let key = c.in-Ok.name in
+    c.in-Ok-insert.ensures.entries ∙ ap (λ es. insert_entry R es key c.args.inner) c.new-nodes.ensures.empty ∙ ap (λ k. (k, c.args.inner) ∷ []) c.in-Ok.ensures.cases

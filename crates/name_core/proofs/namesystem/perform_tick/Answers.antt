@@ -15,5 +15,5 @@ returns-then-is_empty-clause-ok c = λ last exact.
 pub returns-clause-ok : goal.returns-clause-ok
 returns-clause-ok c = λ last exact.
     let expired = c.in_ok-closed.ensures.done last exact in
-    performed_tick last c.args.now c.args.caller.now c.args.system.now (record { tree = c.expire.new.tree; users = c.args.system.now.users; writers = c.expire.new.writers; ring = c.args.system.now.ring }) c.closed_files-2.result c.deref.result.now c.in_ok-closed.closed
+    performed_tick last c.args.now c.args.caller.now c.args.system.now (record (c.args.system.now) { tree = c.expire.new.tree; writers = c.expire.new.writers }) c.closed_files-2.result c.deref.result.now c.in_ok-closed.closed
     (sym (c.in_ok-denial.ensures op.Tick c.requires.needs) ∙ c.in_default.is) (c.deref.ensures.value ∙ c.in_ok-past.ensures.past) c.in_ok-past.ensures.renewals.0 expired.tree expired.closed refl refl expired.exact c.closed_files-2.ensures exact

@@ -9,7 +9,7 @@ use Rattle.name_core.proofs.Recording.{adds_of, appended}
 use Rattle.name_core.proofs.namenode.NameCore.append.Goals as goal
 
 abbrev after : goal.After-push_reserved → Inside
-after c = record { config = c.self.inside.config; first_key = c.self.inside.first_key; system = c.perform.new.system; open_paths = c.perform.new.open_paths; clock = c.later-clock.result; history = c.push_reserved.new.self; alloc = c.self.inside.alloc }
+after c = record (c.self.inside) { system = c.perform.new.system; open_paths = c.perform.new.open_paths; clock = c.later-clock.result; history = c.push_reserved.new.self }
 
 abbrev entry : goal.After-push_reserved → HistoryEntry
 entry c = record { place = c.in-Ok.place; pass = c.args.pass; index = c.args.index; request = c.args.request; verdict = c.in-Ok-perform.verdict }

@@ -9,7 +9,7 @@ use Rattle.name_core.proofs.Recording.{adds_of, recorded}
 use Rattle.name_core.proofs.namenode.NameCore.step.Goals as goal
 
 abbrev after : goal.After-record → Inside
-after c = record { config = c.self.inside.config; first_key = c.self.inside.first_key; system = c.perform_with_copy.new.system; open_paths = c.perform_with_copy.new.open_paths; clock = c.later-now.result; history = c.record.new.history; alloc = c.self.inside.alloc }
+after c = record (c.self.inside) { system = c.perform_with_copy.new.system; open_paths = c.perform_with_copy.new.open_paths; clock = c.later-now.result; history = c.record.new.history }
 
 abbrev entry : goal.After-record → HistoryEntry
 entry c = record { place = c.in_ok-place.place; pass = c.args.pass; index = c.args.index; request = c.in_ok-copies.copies.kept; verdict = c.in-Ok.told.verdict }
@@ -23,7 +23,7 @@ added c =
 pub invariant_of-self-in_default : goal.invariant_of-self-in_default
 invariant_of-self-in_default c =
     kept_undone c.self.inside
-    (record { config = c.self.inside.config; first_key = c.self.inside.first_key; system = c.perform_with_copy.new.system; open_paths = c.perform_with_copy.new.open_paths; clock = c.self.inside.clock; history = c.next_place.new.history; alloc = c.self.inside.alloc })
+    (record (c.self.inside) { system = c.perform_with_copy.new.system; open_paths = c.perform_with_copy.new.open_paths; history = c.next_place.new.history })
     c.self.invariant refl c.in_ok-place.ensures.history refl (c.in_default.ensures.err (last_renewal (entries_of c.self.inside)) c.self.invariant.exact)
 
 pub invariant_of-self-2 : goal.invariant_of-self-2

@@ -1,5 +1,0 @@
-use Rattle.block_map.proofs.Below.{below_more}
-use Rattle.block_map.proofs.blocks.Blocks.add.Goals as goal
-
-pub invariant_of-self-2 : goal.invariant_of-self-2
-invariant_of-self-2 c = below_more c.self.inside.next_block c.new-block.result _ c.self.inside.table c.insert.new.self c.new-block.ensures c.in_ok-insert.ensures.others c.self.invariant

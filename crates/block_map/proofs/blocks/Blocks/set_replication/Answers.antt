@@ -1,6 +1,0 @@
-use Rattle.block_tables.specs.Changes.{with_replication}
-use Rattle.block_map.proofs.Below.{below_changed}
-use Rattle.block_map.proofs.blocks.Blocks.set_replication.Goals as goal
-
-pub invariant_of-self : goal.invariant_of-self
-invariant_of-self c = below_changed (with_replication c.args.replication) c.args.block c.self.inside.next_block c.self.inside.table c.set_replication.new.self c.set_replication.ensures c.self.invariant

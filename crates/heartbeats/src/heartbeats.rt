@@ -1,0 +1,141 @@
+ghost use Rattle.std.specs.Prelude.{◌≡◌, [], filter, IfOk, OnOk, OnErr};
+ghost use Rattle.std.specs.List.{find};
+ghost use Rattle.heartbeats.specs.Live as spec;
+
+use block_records::node_set::NodeSet;
+use hdfs_values::moment::Moment;
+use hdfs_values::node_id::NodeId;
+use std::alloc::{AllocError, Global};
+use std::collections::BTreeMap;
+use std::marker::Model;
+
+/// The DataNodes that ever sent a heartbeat, each with the moment of the last (HDFS Architecture, "Data Disk Failure, Heartbeats and
+/// Re-Replication").
+#[derive(Drop)]
+pub struct Heartbeats {
+    // in milliseconds
+    dead: u32,
+    last: BTreeMap<NodeId, Moment>,
+    alloc: Global,
+}
+
+impl Model for Heartbeats {
+    ghost use Rattle.heartbeats.specs.Live.{Heartbeats};
+
+    ghost Value = { Heartbeats };
+
+    ghost view = { λ nodes. record { dead = nodes.dead; last = nodes.last.entries } };
+}
+
+impl Heartbeats {
+    /// No node is known. A node is live while its last heartbeat isn't older than the limit, in milliseconds. Takes no memory.
+    pub fn new(alloc: Global, dead: u32) -> Heartbeats
+        ensures { result ≡ record { dead = dead; last = [] } }
+    {
+        Heartbeats {
+            dead,
+            last: BTreeMap::new(alloc),
+            alloc,
+        }
+    }
+
+    /// Notes a node's heartbeat. Costs a look-up.
+    ///
+    /// # Errors
+    /// Out of memory, which only a node's first heartbeat can meet. Nothing has changed then.
+    pub fn beat(&mut self, node: NodeId, now: Moment) -> Result<(), AllocError>
+        ensures ok { OnOk result (self.new ≡ spec.beaten self.old node now) }
+        ensures err { OnErr result (self.new ≡ self.old) }
+    {
+        self.last.insert(node, now)?;
+        Ok(())
+    }
+
+    /// Whether a node's last heartbeat isn't older than the limit. Costs a look-up, and takes no memory.
+    pub fn is_live(&self, node: NodeId, now: Moment) -> bool
+        ensures { result ≡ spec.is_live self.now now node }
+    {
+        match self.last.get(&node) {
+            Some(last) => {
+                now.milliseconds().saturating_sub(last.milliseconds()) <= self.dead as u64
+            }
+            None => false,
+        }
+    }
+
+    /// The nodes that are live. Costs a look-up for each node that ever sent a heartbeat.
+    ///
+    /// # Errors
+    /// Out of memory.
+    pub fn live(&self, now: Moment) -> Result<NodeSet, AllocError>
+        ensures { IfOk result (λ nodes. nodes ≡ spec.live_nodes self.now now) }
+    {
+        let nodes = self
+            .last
+            .keys()
+            .copied()
+            .filter(|node| self.is_live(*node, now))
+            .collect(self.alloc)?;
+        Ok(NodeSet::of_ascending(nodes))
+    }
+
+    // The moment of a node's last heartbeat; 0 where it sent none.
+    fn last_of(&self, node: NodeId) -> u64
+        ensures { result ≡ spec.last_of self.now node }
+    {
+        match self.last.get(&node) {
+            Some(last) => last.milliseconds(),
+            None => 0,
+        }
+    }
+
+    // Whether a node was heard of later than another, or as late and has the lower id.
+    fn is_ahead(&self, node: NodeId, other: NodeId) -> bool
+        ensures { result ≡ spec.is_ahead self.now node other }
+    {
+        let (own, others) = (self.last_of(node), self.last_of(other));
+        others < own || others == own && node < other
+    }
+
+    // Whether none of these nodes is ahead of one.
+    fn leads(&self, node: NodeId, nodes: &[NodeId]) -> bool
+        ensures { result ≡ spec.leads self.now nodes.now node }
+    {
+        for other in nodes {
+            if self.is_ahead(*other, node) {
+                return false;
+            }
+        }
+        true
+    }
+
+    // Those of these nodes that are live.
+    fn live_among(&self, nodes: &[NodeId], now: Moment) -> Result<Vec<NodeId>, AllocError>
+        ensures { IfOk result (λ live. live.items ≡ filter (spec.is_live self.now now) nodes.now) }
+    {
+        nodes
+            .iter()
+            .copied()
+            .filter(|node| self.is_live(*node, now))
+            .collect(self.alloc)
+    }
+
+    /// Of these nodes the live one that was heard of last, ties to the lowest id; `None` where none is live. Costs a look-up for each two
+    /// of them.
+    ///
+    /// # Errors
+    /// Out of memory.
+    pub fn primary_of(&self, nodes: &[NodeId], now: Moment) -> Result<Option<NodeId>, AllocError>
+        ensures { IfOk result (λ primary. primary ≡ spec.primary_of self.now now nodes.now) }
+    {
+        let live = self.live_among(nodes, now)?;
+        Ok(first_that_leads(self, &live))
+    }
+}
+
+// The first of these nodes that no other of them is ahead of.
+fn first_that_leads(beats: &Heartbeats, nodes: &[NodeId]) -> Option<NodeId>
+    ensures { result ≡ find (spec.leads beats.now nodes.now) nodes.now }
+{
+    nodes.iter().copied().find(|node| beats.leads(*node, nodes))
+}

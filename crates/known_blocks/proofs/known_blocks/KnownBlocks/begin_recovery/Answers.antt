@@ -1,0 +1,6 @@
+use Rattle.block_tables.specs.Changes.{with_recovery}
+use Rattle.known_blocks.proofs.Below.{below_changed}
+use Rattle.known_blocks.proofs.known_blocks.KnownBlocks.begin_recovery.Goals as goal
+
+pub invariant_of-self : goal.invariant_of-self
+invariant_of-self c = below_changed (with_recovery c.new-newest.result c.args.now) c.args.block c.self.inside.next_block c.self.inside.table c.begin_recovery.new.self c.begin_recovery.ensures c.self.invariant

@@ -1,0 +1,68 @@
+-- The blocks that are known, and the numbers that are given next: what can be asked, and what can happen to them.
+-- (HDFS Architecture, "Data Replication"; no number is given twice, and the greatest of its type never.)
+use Rattle.std.specs.Prelude.{ℕ, ◌==◌, ◌+◌, Bool, List, [], if◌then◌else◌, Option, Some, None}
+use Rattle.std.specs.BTreeMap.{insert_entry}
+use Rattle.std.specs.Map.{remove_entry}
+use Rattle.std.specs.Ordering.{nat_cmp}
+use Rattle.block_records.specs.Numbers.{is_number, entry_at}
+use Rattle.block_records.specs.declared.block_record.BlockRecord.{BlockRecord}
+use Rattle.block_records.specs.declared.fault.BlockRefusal.{BlockRefusal}
+use Rattle.block_records.specs.declared.fault.BlockRefusal.TheVariants.{Spent}
+use Rattle.block_records.specs.declared.fault.Counter.TheVariants.{BlockId, Stamp}
+use Rattle.block_tables.specs.Changes.{changed, with_recovery, handed_out, without_blocks}
+
+pub record Known : Type 0 where
+  -- the numbers that are given next
+  pub next_block : ℕ
+  pub next_stamp : ℕ
+  -- the blocks that were given and not deleted since, by their numbers
+  pub blocks : List (ℕ × BlockRecord)
+
+abbrev pub block_of : Known → ℕ → Option BlockRecord
+block_of known block = entry_at block known.blocks
+
+-- ---- refusals
+
+-- the greatest number of the type is never given
+abbrev pub is_spent : ℕ → Bool
+is_spent next = next == 18446744073709551615
+
+abbrev pub refused_new_stamp : Known → Option BlockRefusal
+refused_new_stamp known = if is_spent known.next_stamp then Some (Spent Stamp) else None
+
+abbrev pub refused_new_block : Known → Option BlockRefusal
+refused_new_block known = if is_spent known.next_block then Some (Spent BlockId) else refused_new_stamp known
+
+-- ---- effects
+
+-- a new block, which these nodes are to hold
+abbrev pub new_record : ℕ → List ℕ → ℕ → BlockRecord
+new_record stamp targets replication = record { stamp = stamp; committed = None; replication = replication; expected = targets; reports = []; recovering = None; handed_out = None }
+
+abbrev pub added : Known → List ℕ → ℕ → Known
+added known targets replication = record known {
+  next_block = known.next_block + 1;
+  next_stamp = known.next_stamp + 1;
+  blocks = insert_entry nat_cmp known.blocks known.next_block (new_record known.next_stamp targets replication);
+}
+
+-- what is known of one block changes
+abbrev pub altered : (BlockRecord → BlockRecord) → ℕ → Known → Known
+altered change block known = record known { blocks = changed change block known.blocks }
+
+abbrev pub removed : Known → ℕ → Known
+removed known block = record known { blocks = remove_entry (is_number block) known.blocks }
+
+abbrev pub all_removed : Known → List ℕ → Known
+all_removed known blocks = record known { blocks = without_blocks known.blocks blocks }
+
+-- a recovery of the block begins now, under the next stamp
+abbrev pub begun : Known → ℕ → ℕ → Known
+begun known block now = record known {
+  next_stamp = known.next_stamp + 1;
+  blocks = changed (with_recovery known.next_stamp now) block known.blocks;
+}
+
+-- nodes were told now to copy these blocks
+abbrev pub told : Known → List ℕ → ℕ → Known
+told known blocks now = record known { blocks = handed_out now known.blocks blocks }

@@ -1,0 +1,243 @@
+ghost use Rattle.std.specs.Prelude.{◌≡◌, ◌<◌, [], None, Some, option_copied, OnOk, OnErr, IfOk, IfErr, IfSome};
+ghost use Rattle.std.specs.Map.{keys_of};
+ghost use Rattle.block_records.specs.Marks.{with_marks};
+ghost use Rattle.block_records.specs.Reports.{others_of};
+ghost use Rattle.block_placement.specs.Placement.{targets};
+ghost use Rattle.block_tables.specs.Changes.{with_report, without_report, with_replication, with_length, with_recovered};
+ghost use Rattle.block_tables.specs.Kept.{blocks_of, load};
+ghost use Rattle.known_blocks.specs.Known as spec;
+
+use block_records::block_record::BlockRecord;
+use block_records::fault::{BlockRefusal, Counter};
+use block_records::mark::{Mark, Marks};
+use block_records::node_set::NodeSet;
+use block_records::reports::Reports;
+use block_tables::block_table::BlockTable;
+use hdfs_values::ids::{BlockId, Stamp};
+use hdfs_values::moment::Moment;
+use hdfs_values::node_id::NodeId;
+use hdfs_values::replication::Repl;
+use std::alloc::{AllocError, Global};
+use std::marker::Model;
+
+/// The blocks that are known, by their ids, and the ids and the generation stamps that are given next (HDFS Architecture, "Data
+/// Replication").
+#[derive(Drop)]
+pub struct KnownBlocks {
+    next_block: u64,
+    next_stamp: u64,
+    table: BlockTable,
+    alloc: Global,
+}
+
+impl Model for KnownBlocks {
+    ghost use Rattle.known_blocks.specs.Known.{Known};
+    ghost use Rattle.known_blocks.specs.Kept.{AreBelow};
+
+    ghost Value = { Known };
+
+    ghost view = { λ known. record { next_block = known.next_block; next_stamp = known.next_stamp; blocks = known.table } };
+
+    ghost invariant = { λ known. AreBelow known.table known.next_block };
+}
+
+impl KnownBlocks {
+    /// No block is known; blocks and stamps are given from these numbers on. Takes no memory.
+    pub fn new(alloc: Global, first_block: u64, first_stamp: u64) -> KnownBlocks
+        ensures { result ≡ record { next_block = first_block; next_stamp = first_stamp; blocks = [] } }
+    {
+        KnownBlocks {
+            next_block: first_block,
+            next_stamp: first_stamp,
+            table: BlockTable::new(alloc),
+            alloc,
+        }
+    }
+
+    // ---- questions
+
+    /// What is known of a block. Costs a look-up, and takes no memory.
+    pub fn get(&self, block: BlockId) -> Option<&BlockRecord>
+        ensures { option_copied result ≡ spec.block_of self.now block }
+    {
+        self.table.get(block)
+    }
+
+    /// The blocks that a node is to hold or reported, by their ids. Costs them.
+    ///
+    /// # Errors
+    /// Out of memory.
+    pub fn blocks_of(&self, node: NodeId) -> Result<Vec<BlockId>, AllocError>
+        ensures { IfOk result (λ blocks. blocks.items ≡ blocks_of self.now.blocks node) }
+    {
+        self.table.blocks_of(self.alloc, node)
+    }
+
+    /// So many of these nodes that have the fewest blocks, ties to the lowest id; all of them where there are no more. Costs a sort of
+    /// the nodes, and two look-ups for each.
+    ///
+    /// # Errors
+    /// Out of memory.
+    pub fn targets(&self, nodes: &NodeSet, count: usize) -> Result<NodeSet, AllocError>
+        requires { 0 < count }
+        ensures { IfOk result (λ chosen. chosen ≡ targets (load self.now.blocks) count nodes.now) }
+    {
+        self.table.targets(self.alloc, nodes, count)
+    }
+
+    /// Whether there is a stamp left. Takes no memory.
+    ///
+    /// # Errors
+    /// `Spent` of stamps: the greatest number is never given.
+    pub fn has_stamp(&self) -> Result<(), BlockRefusal>
+        ensures ok { OnOk result (spec.refused_new_stamp self.now ≡ None) }
+        ensures err { IfErr result (λ refusal. spec.refused_new_stamp self.now ≡ Some refusal) }
+    {
+        if self.next_stamp == u64::MAX {
+            return Err(BlockRefusal::Spent(Counter::Stamp));
+        }
+        Ok(())
+    }
+
+    /// Whether there are numbers left for a new block. Takes no memory.
+    ///
+    /// # Errors
+    /// `Spent` of block ids, and then of stamps: the greatest number is never given.
+    pub fn can_add(&self) -> Result<(), BlockRefusal>
+        ensures ok { OnOk result (spec.refused_new_block self.now ≡ None) }
+        ensures err { IfErr result (λ refusal. spec.refused_new_block self.now ≡ Some refusal) }
+    {
+        if self.next_block == u64::MAX {
+            return Err(BlockRefusal::Spent(Counter::BlockId));
+        }
+        self.has_stamp()
+    }
+
+    // ---- blocks that come and go
+
+    /// Makes a new block known, with the next id and the next stamp: these nodes are to hold it, nobody reports it, and its length
+    /// isn't committed. Costs a look-up of the block, and one for each node.
+    ///
+    /// # Errors
+    /// Out of memory. Nothing has changed then.
+    pub fn add(
+        &mut self,
+        targets: NodeSet,
+        replication: Repl,
+    ) -> Result<(BlockId, Stamp), AllocError>
+        requires { spec.refused_new_block self.old ≡ None }
+        ensures given { IfOk result (λ new. new ≡ (self.old.next_block, self.old.next_stamp)) }
+        ensures added { OnOk result (self.new ≡ spec.added self.old targets replication) }
+        ensures err { OnErr result (self.new ≡ self.old) }
+    {
+        let block = BlockId::new(self.next_block);
+        let stamp = Stamp::new(self.next_stamp);
+        let own = BlockRecord {
+            stamp,
+            committed: None,
+            replication,
+            expected: targets,
+            reports: Reports::new(self.alloc),
+            recovering: None,
+            handed_out: None,
+        };
+        self.table.insert(block, own)?;
+        self.next_block += 1;
+        self.next_stamp += 1;
+        Ok((block, stamp))
+    }
+
+    /// Makes a block known no more. Costs a look-up for each node that was to hold it or reported it, and takes no memory.
+    pub fn remove(&mut self, block: BlockId)
+        ensures { self.new ≡ spec.removed self.old block }
+    {
+        self.table.remove(block);
+    }
+
+    /// Makes blocks known no more. Costs as `remove` for each of them.
+    pub fn remove_all(&mut self, blocks: &[BlockId])
+        ensures { self.new ≡ spec.all_removed self.old blocks.now }
+    {
+        self.table.remove_all(blocks);
+    }
+
+    // ---- what is known of one block
+
+    /// Gives a block another replication; nothing changes where the block isn't known. Costs a look-up, and takes no memory.
+    pub fn set_replication(&mut self, block: BlockId, replication: Repl)
+        ensures { self.new ≡ spec.altered (with_replication replication) block self.old }
+    {
+        self.table.set_replication(block, replication);
+    }
+
+    /// Notes that a node reports a block with this length; of a block that isn't known nothing is noted. Costs a look-up of the
+    /// block, and one among its nodes.
+    ///
+    /// # Errors
+    /// Out of memory. Nothing has changed then.
+    pub fn hold(&mut self, block: BlockId, node: NodeId, bytes: u64) -> Result<(), AllocError>
+        ensures ok { OnOk result (self.new ≡ spec.altered (with_report node bytes) block self.old) }
+        ensures err { OnErr result (self.new ≡ self.old) }
+    {
+        self.table.hold(block, node, bytes)
+    }
+
+    /// Ends a node's report of a block. Costs a look-up of the block, and one among its nodes, and takes no memory.
+    pub fn end_report(&mut self, block: BlockId, node: NodeId)
+        ensures { self.new ≡ spec.altered (without_report node) block self.old }
+    {
+        self.table.end_report(block, node);
+    }
+
+    /// Commits a block's length: of the nodes that reported it those are left that reported this length. The others are handed in.
+    /// Costs a look-up for each of them, and takes no memory.
+    pub fn commit(&mut self, block: BlockId, bytes: u64, others: &[NodeId])
+        requires { IfSome (spec.block_of self.old block) (λ own. others.now ≡ others_of bytes own.reports) }
+        ensures { self.new ≡ spec.altered (with_length bytes) block self.old }
+    {
+        self.table.commit(block, bytes, others);
+    }
+
+    /// Begins a recovery of a block under the next stamp, which is answered and which nobody has reported. The nodes that reported the
+    /// block are handed in. Costs a look-up for each of them, and takes no memory.
+    pub fn begin_recovery(&mut self, block: BlockId, now: Moment, reporting: &[NodeId]) -> Stamp
+        requires stamp { spec.refused_new_stamp self.old ≡ None }
+        requires reporting { IfSome (spec.block_of self.old block) (λ own. reporting.now ≡ keys_of own.reports) }
+        ensures given { result ≡ self.old.next_stamp }
+        ensures begun { self.new ≡ spec.begun self.old block now }
+    {
+        let newest = Stamp::new(self.next_stamp);
+        self.table.begin_recovery(block, newest, now, reporting);
+        self.next_stamp += 1;
+        newest
+    }
+
+    /// Ends the recovery of a block with this length, in which these nodes took part: they are to hold it, and report it, as do those
+    /// that reported that length. Marks that come with it are added, or nothing changes. Costs a look-up for each node that holds the
+    /// block, before or behind it.
+    ///
+    /// # Errors
+    /// Out of memory. Nothing has changed then.
+    pub fn end_recovery(
+        &mut self,
+        block: BlockId,
+        bytes: u64,
+        nodes: NodeSet,
+        marks: &mut Marks,
+        more: Vec<Mark>,
+    ) -> Result<(), AllocError>
+        ensures ok { OnOk result (self.new ≡ spec.altered (with_recovered bytes nodes) block self.old) }
+        ensures marked { OnOk result (marks.new ≡ with_marks marks.old more.items) }
+        ensures err { OnErr result ((self.new ≡ self.old) × (marks.new ≡ marks.old)) }
+    {
+        self.table
+            .end_recovery(self.alloc, block, bytes, nodes, marks, more)
+    }
+
+    /// Notes that nodes are told now to copy these blocks. Costs a look-up for each, and takes no memory.
+    pub fn hand_out(&mut self, blocks: &[BlockId], now: Moment)
+        ensures { self.new ≡ spec.told self.old blocks.now now }
+    {
+        self.table.hand_out(blocks, now);
+    }
+}
