@@ -96,7 +96,7 @@ fn files_are_known_where_they_are_moved_to(rt: HostRuntime) -> Result<(), Fail> 
     told?;
     assert_eq!(rt;
         text.as_str(),
-        "/a-b /a/b /a/c/d /ab ./a-b /ab /x/y/b /x/y/c/d ./a-b /c /x/y/b /x/y/c/d ."
+        "/a/b /a/c/d /a-b /ab ./a-b /ab /x/y/b /x/y/c/d ./a-b /c /x/y/b /x/y/c/d ."
     );
     Ok(())
 }
