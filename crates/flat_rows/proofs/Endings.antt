@@ -3,7 +3,7 @@ use Rattle.std.proofs.Common.{◌≡◌, ℕ, Bool, true, false, not, List, [], 
 use Rattle.std.specs.List.{last_or, flat_map}
 use Rattle.std.specs.Option.{is_some, option_or}
 use Rattle.hdfs_types.specs.declared.op.Op.{Op}
-use Rattle.principals.specs.Users.{Users, Caller, caller_of}
+use Rattle.principals.specs.Users.{Users, Caller}
 use Rattle.namespace_rows.specs.declared.row.Row.{Row}
 use Rattle.required_rights.specs.declared.need.By.{By}
 use Rattle.required_rights.specs.declared.need.By.TheVariants.{Superuser}
@@ -11,7 +11,7 @@ use Rattle.flat_rows.specs.declared.trail.Judged.{Judged}
 use Rattle.namespace_rows.specs.First.{first_answer}
 use Rattle.required_rights.specs.RequiredRights.{required_rights}
 use Rattle.flat_rows.specs.Denial.{Denial, Decided, deciding, denial_at}
-use Rattle.flat_rows.specs.Decision.{Ask, asks_of, denial_of, judged, up_to_denied, decision, trail}
+use Rattle.flat_rows.specs.Decision.{Ask, asks_of, denial_of, judged, up_to_denied, asking, decision, trail}
 use Rattle.flat_rows.specs.Laws.{are_granted, failed, ends_failed, is_failed, EndsAs}
 use Rattle.namespace_rows.proofs.Tests.{both, and}
 
@@ -75,7 +75,7 @@ last_tells needs (Some denied) ends = ap ends_failed ends.ends ∙ ap is_failed 
 
 module _ (rows : List Row) (users : Users) (caller : List ℕ) (op : Op) where
   trail_ends : Ends (trail rows users caller op) (decision rows users caller op)
-  trail_ends = up_to_denial (caller_of users caller) (flat_map (asks_of rows) (required_rights op))
+  trail_ends = up_to_denial (asking users caller op) (flat_map (asks_of rows) (required_rights op))
 
 pub ends_where_decided : (rows : List Row) (users : Users) (caller : List ℕ) (op : Op) → ends_failed (trail rows users caller op) ≡ is_some (decision rows users caller op)
 ends_where_decided rows users caller op = last_tells (trail rows users caller op) (decision rows users caller op) (trail_ends rows users caller op)

@@ -1,10 +1,11 @@
 -- The decision: the first need of an operation that fails, or none. A need of a component that isn't there is passed over,
 -- and so is one whose condition doesn't hold.
 -- (HDFS Permissions Guide, "Permission Checks" and "The Super-User".)
-use Rattle.std.specs.Prelude.{ℕ, Bool, true, List, [], ◌∷◌, if◌then◌else◌, Option, None, map}
+use Rattle.std.specs.Prelude.{ℕ, Bool, true, false, List, [], ◌∷◌, if◌then◌else◌, Option, None, map}
 use Rattle.std.specs.List.{flat_map}
 use Rattle.std.specs.Option.{option_to_list}
 use Rattle.hdfs_types.specs.declared.op.Op.{Op}
+use Rattle.hdfs_types.specs.Request.{is_for_nodes}
 use Rattle.principals.specs.Users.{Users, Caller, caller_of}
 use Rattle.namespace_rows.specs.declared.row.Row.{Row}
 use Rattle.required_rights.specs.declared.need.Need.{Need}
@@ -51,7 +52,7 @@ ask_at rows need row = record { need = need; row = row; above = owner_above row 
 abbrev pub asks_of : List Row → Demand → List Ask
 asks_of rows demand = map (ask_at rows demand.need) (components rows demand)
 
--- a superuser meets every need
+-- a superuser meets every need, where his rank is of use
 abbrev pub decided : Caller → Ask → Decided
 decided caller ask = if caller.is_superuser then record { by = by.Superuser; granted = true } else deciding ask.need ask.row ask.above caller.name caller.groups
 
@@ -62,8 +63,16 @@ denial_of caller ask = if caller.is_superuser then None else denial_at ask.need 
 abbrev pub denial_among : List Row → Caller → List Demand → Option Denial
 denial_among rows caller demands = first_answer (denial_of caller) (flat_map (asks_of rows) demands)
 
+-- who asks for an operation: to be a superuser is of no use for one that is for DataNodes alone
+abbrev pub ranked : Bool → Caller → Caller
+ranked true caller = record caller { is_superuser = false }
+ranked false caller = caller
+
+abbrev pub asking : Users → List ℕ → Op → Caller
+asking users caller op = ranked (is_for_nodes op) (caller_of users caller)
+
 abbrev pub decision : List Row → Users → List ℕ → Op → Option Denial
-decision rows users caller op = denial_among rows (caller_of users caller) (required_rights op)
+decision rows users caller op = denial_among rows (asking users caller op) (required_rights op)
 
 abbrev pub judged : Caller → Ask → Judged
 judged caller ask = let what = decided caller ask in record { path = ask.row.path; need = ask.need; by = what.by; granted = what.granted }
@@ -75,4 +84,4 @@ up_to_denied (need ∷ needs) = need ∷ (if need.granted then up_to_denied need
 
 -- the needs that are judged, in their order, up to the first that fails
 abbrev pub trail : List Row → Users → List ℕ → Op → List Judged
-trail rows users caller op = up_to_denied (map (judged (caller_of users caller)) (flat_map (asks_of rows) (required_rights op)))
+trail rows users caller op = up_to_denied (map (judged (asking users caller op)) (flat_map (asks_of rows) (required_rights op)))

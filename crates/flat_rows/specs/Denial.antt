@@ -2,6 +2,8 @@
 -- and for whom it was judged.
 -- (HDFS Permissions Guide, "Permission Checks" and "The Sticky Bit".)
 use Rattle.std.specs.Prelude.{◌≡◌, ℕ, Bool, false, ◌||◌, List, [], if◌then◌else◌, Option, Some, None}
+use Rattle.std.specs.Option.{is_some}
+use Rattle.hdfs_values.specs.NodeId.{node_of}
 use Rattle.hdfs_values.specs.Text.{same}
 use Rattle.hdfs_values.specs.Groups.{has_group}
 use Rattle.acl_entries.specs.JudgedEntry.{Chosen}
@@ -20,13 +22,14 @@ pub record Decided : Type 0 where
 abbrev pub by_judgement : Chosen → Decided
 by_judgement judged = record { by = by.Entry judged.entry judged.mask; granted = judged.granted }
 
--- for a caller who is no superuser; `above` is the owner of the directory that holds the component
+-- for a caller whose rank is of no use; `above` is the owner of the directory that holds the component
 abbrev pub deciding : Need → Row → List ℕ → List ℕ → List (List ℕ) → Decided
 deciding (need.Rights asked) row above caller groups = by_judgement (judgement row caller groups asked)
 deciding need.Sticky row above caller groups = record { by = by.Owners row.owner above; granted = same caller row.owner || same caller above }
 deciding need.Owner row above caller groups = record { by = by.Owner row.owner; granted = same caller row.owner }
 deciding (need.Member group) row above caller groups = record { by = by.Group group; granted = has_group groups group }
 deciding need.Superuser row above caller groups = record { by = by.Superuser; granted = false }
+deciding need.Node row above caller groups = record { by = by.Node; granted = is_some (node_of caller) }
 
 pub record Denial : Type 0 where
   pub need : Need

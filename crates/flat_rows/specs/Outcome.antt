@@ -128,6 +128,7 @@ first_refusal facts caller (op.SetReplication path replication) rows users = fir
 first_refusal facts caller (op.RollKey key) rows users = refused_roll facts.next_serial
 first_refusal facts caller op.Renew rows users = refused_where (not (has_open_file caller rows)) NoLease
 first_refusal facts caller op.Tick rows users = None
+first_refusal facts caller op.Heartbeat rows users = None
 
 -- what `stat` tells of a row; where there is none, NotFound came first
 abbrev pub status_of : Option Row → Reply
@@ -168,22 +169,13 @@ reply_of facts (op.List path) rows = reply.Names (listed path (row_at path rows)
 reply_of facts (op.Summary path) rows = summary_of (rows_under path rows)
 reply_of facts (op.Delete path recursive) rows = reply.Deleted (length (rows_under path rows))
 reply_of facts (op.GetAcl path) rows = acl_status_of (row_at path rows)
-reply_of facts (op.Mkdirs path mode) rows = reply.Empty
-reply_of facts (op.Rename from to) rows = reply.Empty
-reply_of facts (op.SetMode path mode) rows = reply.Empty
-reply_of facts (op.SetOwner path owner group) rows = reply.Empty
-reply_of facts (op.SetAcl path change) rows = reply.Empty
-reply_of facts (op.AddUser user groups) rows = reply.Empty
-reply_of facts (op.SetGroups user groups) rows = reply.Empty
-reply_of facts (op.Create path mode replication over) rows = reply.Empty
 reply_of facts (op.Append path) rows = appended_reply (holder_at (row_at path rows))
-reply_of facts (op.AddBlock path last) rows = reply.Empty  -- always refused, as yet
 reply_of facts (op.Complete path last) rows = reply.Closed (bytes_at (row_at path rows))
 reply_of facts (op.Open path) rows = reply.Opened (bytes_at (row_at path rows))
-reply_of facts (op.SetReplication path replication) rows = reply.Empty
 reply_of facts (op.RollKey key) rows = serial_reply facts.next_serial
-reply_of facts op.Renew rows = reply.Empty
 reply_of facts op.Tick rows = reply.Expired (record { closed = length (filter (is_expired facts.leases) rows); recovering = 0 })
+reply_of facts op.Heartbeat rows = reply.Heartbeat
+reply_of facts _ rows = reply.Empty
 
 -- What is made beneath the names that are still to be made: the last, behind which there is none, has the mode that was asked for,
 -- and is a file where one was.
@@ -249,44 +241,17 @@ rows_after facts (op.Rename from to) caller rows = moved from to rows
 rows_after facts (op.SetMode path mode) caller rows = with_mode_at path mode (row_at path rows) rows
 rows_after facts (op.SetOwner path owner group) caller rows = with_owner_at path owner group (row_at path rows) rows
 rows_after facts (op.SetAcl path change) caller rows = with_acl_at path change (row_at path rows) rows
-rows_after facts (op.GetAcl path) caller rows = rows
-rows_after facts (op.Stat path) caller rows = rows
-rows_after facts (op.List path) caller rows = rows
-rows_after facts (op.Summary path) caller rows = rows
-rows_after facts (op.AddUser user groups) caller rows = rows
-rows_after facts (op.SetGroups user groups) caller rows = rows
 rows_after facts (op.Create path mode replication over) caller rows = with_new path mode (Some (new_file replication caller)) caller (ancestor path rows) rows
 rows_after facts (op.Append path) caller rows = rewritten path (change.State (state_after_append caller (holder_at (row_at path rows)))) rows
-rows_after facts (op.AddBlock path last) caller rows = rows
 rows_after facts (op.Complete path last) caller rows = rewritten path (change.State Closed) rows
-rows_after facts (op.Open path) caller rows = rows
 rows_after facts (op.SetReplication path replication) caller rows = rewritten path (change.Replication replication) rows
-rows_after facts (op.RollKey key) caller rows = rows
-rows_after facts op.Renew caller rows = rows
 rows_after facts op.Tick caller rows = map (closed_where_expired facts.leases) rows
+rows_after facts _ caller rows = rows
 
 abbrev pub users_after : Op → Users → Users
 users_after (op.AddUser user groups) users = with_user users user groups
 users_after (op.SetGroups user groups) users = with_groups users user groups
-users_after (op.Mkdirs path mode) users = users
-users_after (op.Delete path recursive) users = users
-users_after (op.Rename from to) users = users
-users_after (op.SetMode path mode) users = users
-users_after (op.SetOwner path owner group) users = users
-users_after (op.SetAcl path change) users = users
-users_after (op.GetAcl path) users = users
-users_after (op.Stat path) users = users
-users_after (op.List path) users = users
-users_after (op.Summary path) users = users
-users_after (op.Create path mode replication over) users = users
-users_after (op.Append path) users = users
-users_after (op.AddBlock path last) users = users
-users_after (op.Complete path last) users = users
-users_after (op.Open path) users = users
-users_after (op.SetReplication path replication) users = users
-users_after (op.RollKey key) users = users
-users_after op.Renew users = users
-users_after op.Tick users = users
+users_after _ users = users
 
 abbrev pub refused_or_done : Facts → List Row → Users → List ℕ → Op → Option Refusal → Step
 refused_or_done facts rows users caller op None = record { verdict = Done (reply_of facts op rows); rows = rows_after facts op caller rows; users = users_after op users }

@@ -4,13 +4,25 @@ ghost use Rattle.flat_rows.specs.Decision as spec;
 
 use crate::ask::{Ask, asks_of};
 use crate::denial::{Denial, is_met};
-use hdfs_types::op::Op;
+use hdfs_types::op::{Op, is_for_nodes};
 use hdfs_values::who::Who;
 use namespace_rows::rows::Rows;
 use principals::caller::Caller;
 use principals::users::Users;
 use required_rights::demand::needs_of;
 use std::alloc::{AllocError, Global};
+
+/// Who asks for an operation: to be a superuser is of no use for one that is for DataNodes alone. Costs a look-up of the user, and
+/// takes no memory.
+pub fn asking<'a>(users: &'a Users, caller: &'a Who, op: &Op) -> Caller<'a>
+    ensures { result ≡ spec.asking users.now caller.now op.now }
+{
+    let asking = users.caller(caller);
+    if is_for_nodes(op) {
+        return Caller::new(asking.name(), asking.groups(), false);
+    }
+    asking
+}
 
 fn denial_of(alloc: Global, caller: &Caller, ask: &Ask) -> Result<Option<Denial>, AllocError>
     ensures { IfOk result (λ denial. denial ≡ spec.denial_of caller.now ask.now) }
@@ -41,7 +53,7 @@ fn first_denial(alloc: Global, caller: &Caller, asks: &[Ask]) -> Result<Option<D
 }
 
 /// The first need of the operation that fails for the caller, or none (HDFS Permissions Guide, "Permission Checks"). A
-/// superuser fails none. Scans the rows for each need: the plain program of the decision.
+/// superuser fails none, but that of a DataNode. Scans the rows for each need: the plain program of the decision.
 pub fn verdict(
     alloc: Global,
     rows: &Rows,
@@ -53,5 +65,5 @@ pub fn verdict(
 {
     let needs = needs_of(alloc, op)?;
     let asks = asks_of(alloc, rows.as_slice(), needs.as_slice())?;
-    first_denial(alloc, &users.caller(caller), &asks)
+    first_denial(alloc, &asking(users, caller, op), &asks)
 }

@@ -2,6 +2,7 @@ ghost use Rattle.std.specs.Prelude.{◌≡◌, false, Some, IfOk};
 ghost use Rattle.flat_rows.specs.Denial.{IsDenied, deciding, denial_at};
 
 use hdfs_values::groups::{Groups, has_group};
+use hdfs_values::node_id::node_of;
 use hdfs_values::path::Path;
 use hdfs_values::who::Who;
 use namespace_rows::row::Row;
@@ -57,6 +58,7 @@ pub fn is_met(need: &Need, row: &Row, above: &Who, caller: &Who, groups: &[Who])
         Need::Owner => *caller == row.owner,
         Need::Member(group) => has_group(groups, group),
         Need::Superuser => false,
+        Need::Node => node_of(caller).is_some(),
     }
 }
 
@@ -79,6 +81,7 @@ pub fn by_of(
         Need::Owner => Ok(By::Owner(row.owner.clone()?)),
         Need::Member(group) => Ok(By::Group(group.clone()?)),
         Need::Superuser => Ok(By::Superuser),
+        Need::Node => Ok(By::Node),
     }
 }
 

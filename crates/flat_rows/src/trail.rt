@@ -8,6 +8,7 @@ ghost use Rattle.flat_rows.specs.Decision as spec;
 ghost use Rattle.flat_rows.specs.Laws as law;
 
 use crate::ask::{Ask, asks_of};
+use crate::decision::asking;
 use crate::denial::{by_of, is_met};
 use hdfs_types::op::Op;
 use hdfs_values::path::Path;
@@ -107,7 +108,7 @@ pub fn trail(
 {
     let needs = needs_of(alloc, op)?;
     let asks = asks_of(alloc, rows.as_slice(), needs.as_slice())?;
-    judged_up_to_denied(alloc, &users.caller(caller), &asks)
+    judged_up_to_denied(alloc, &asking(users, caller, op), &asks)
 }
 
 /// A trail ends as the decision: its last need isn't met exactly where the decision is a denial. Then component, need and

@@ -46,7 +46,9 @@ pub fn apply(
         Verb::Update(update) => {
             apply_update(alloc, tree, users, &request.caller, &needs, &update)
         }
-        Verb::Write(_) | Verb::RollKey(_) | Verb::Renew | Verb::Tick => unreachable!(),
+        Verb::Write(_) | Verb::RollKey(_) | Verb::Renew | Verb::Tick | Verb::Heartbeat => {
+            unreachable!()
+        }
     }
 }
 

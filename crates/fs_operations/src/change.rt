@@ -288,7 +288,7 @@ fn add_user(
     ensures ok { (facts : Facts) → IfOk result (λ verdict. record { verdict = verdict; rows = tree.now; users = users.new } ≡ judged_step facts tree.now users.old (caller_of users.old caller.now) needs.now (Op.AddUser user.now groups.now)) }
     ensures err { OnErr result (users.new ≡ users.old) }
 {
-    if let Some(denial) = walk(alloc, tree, users, caller, needs)? {
+    if let Some(denial) = walk(alloc, tree, &users.caller(caller), needs)? {
         return Ok(Verdict::Denied(denial));
     }
     match users.add(user.clone()?, groups.clone()?) {
@@ -311,7 +311,7 @@ fn set_groups(
     ensures ok { (facts : Facts) → IfOk result (λ verdict. record { verdict = verdict; rows = tree.now; users = users.new } ≡ judged_step facts tree.now users.old (caller_of users.old caller.now) needs.now (Op.SetGroups user.now groups.now)) }
     ensures err { OnErr result (users.new ≡ users.old) }
 {
-    if let Some(denial) = walk(alloc, tree, users, caller, needs)? {
+    if let Some(denial) = walk(alloc, tree, &users.caller(caller), needs)? {
         return Ok(Verdict::Denied(denial));
     }
     match users.set_groups(user, groups.clone()?) {

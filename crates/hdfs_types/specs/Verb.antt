@@ -41,3 +41,4 @@ op_of (verb.Write write) = write_op write
 op_of (verb.RollKey key) = op.RollKey key
 op_of verb.Renew = op.Renew
 op_of verb.Tick = op.Tick
+op_of verb.Heartbeat = op.Heartbeat

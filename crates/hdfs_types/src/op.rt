@@ -60,6 +60,8 @@ pub enum Op {
     Renew,
     /// Closes the files of all clients whose leases are past the hard limit.
     Tick,
+    /// Tells that the DataNode lives whose principal the caller is.
+    Heartbeat,
 }
 
 fn clone_mkdirs(path: &Path, mode: Mode) -> Result<Op, AllocError>
@@ -199,6 +201,7 @@ impl Clone for Op {
             Op::RollKey(key) => Ok(Op::RollKey(*key)),
             Op::Renew => Ok(Op::Renew),
             Op::Tick => Ok(Op::Tick),
+            Op::Heartbeat => Ok(Op::Heartbeat),
         }
     }
 }
@@ -246,6 +249,14 @@ pub fn is_look(op: &Op) -> bool
         | Op::SetReplication(_, _)
         | Op::RollKey(_)
         | Op::Renew
-        | Op::Tick => false,
+        | Op::Tick
+        | Op::Heartbeat => false,
     }
+}
+
+/// Whether the operation is for DataNodes alone: the rank of a superuser is of no use for it. Takes no memory.
+pub fn is_for_nodes(op: &Op) -> bool
+    ensures { result ≡ spec.is_for_nodes op.now }
+{
+    matches!(op, Op::Heartbeat)
 }

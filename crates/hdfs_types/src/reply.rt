@@ -342,6 +342,8 @@ pub enum Reply {
     Expired(Expired),
     /// The serial number of the key under which tokens are issued from now on.
     Serial(Serial),
+    /// The DataNode's heartbeat is taken in.
+    Heartbeat,
 }
 
 impl Clone for Reply {
@@ -360,6 +362,7 @@ impl Clone for Reply {
             Reply::Opened(bytes) => Ok(Reply::Opened(*bytes)),
             Reply::Expired(expired) => Ok(Reply::Expired(*expired)),
             Reply::Serial(serial) => Ok(Reply::Serial(*serial)),
+            Reply::Heartbeat => Ok(Reply::Heartbeat),
         }
     }
 }

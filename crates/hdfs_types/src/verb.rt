@@ -54,6 +54,7 @@ pub enum Verb<'a> {
     RollKey(Key),
     Renew,
     Tick,
+    Heartbeat,
 }
 
 impl Op {
@@ -89,6 +90,7 @@ impl Op {
             Op::RollKey(key) => Verb::RollKey(*key),
             Op::Renew => Verb::Renew,
             Op::Tick => Verb::Tick,
+            Op::Heartbeat => Verb::Heartbeat,
         }
     }
 }

@@ -3,18 +3,20 @@ use Rattle.std.proofs.Common.{◌≡◌, ℕ, true, false, ◌&&◌, List, ◌�
 use Rattle.hdfs_values.specs.Text.{same}
 use Rattle.hdfs_types.specs.Request.{is_look}
 use Rattle.hdfs_types.specs.declared.op.Op.{Op}
-use Rattle.hdfs_types.specs.declared.op.Op.TheVariants.{Mkdirs, Stat, List as Lists, Summary, GetAcl, Delete, Rename, SetMode, SetOwner, SetAcl, AddUser, SetGroups, Create, Append, AddBlock, Complete, Open, SetReplication, RollKey, Renew, Tick}
+use Rattle.hdfs_types.specs.declared.op.Op.TheVariants.{Stat, List as Lists, Summary, GetAcl}
 use Rattle.hdfs_types.specs.declared.reply.Reply.{Reply}
 use Rattle.principals.specs.Users.{Users}
 use Rattle.namespace_rows.specs.declared.row.Row.{Row}
 use Rattle.flat_rows.specs.declared.verdict.Verdict.{Verdict}
 use Rattle.flat_rows.specs.declared.verdict.Verdict.TheVariants.{Done, Denied, Refused}
 use Rattle.block_tokens.specs.Ring.{Ring}
+use Rattle.block_map.specs.BlockFacts.{BlockFacts}
 use Rattle.flat_rows.specs.Facts.{Facts}
 use Rattle.history.specs.declared.entry.HistoryEntry.{HistoryEntry}
 use Rattle.history.specs.Config.{Opening, limits_of}
 use Rattle.history.specs.ClockAndLease.{renews, last_renewal, clock_of, lease_in}
 use Rattle.history.specs.Keys.{ring_by, ring_of}
+use Rattle.history.specs.Blocks.{blocks_by, blocks_of}
 use Rattle.history.specs.State.{users_by, users_of, facts_with, rows_by, rows_of}
 use Rattle.flat_rows.specs.Verdicts.{is_done}
 use Rattle.history.specs.Laws.{IsSame}
@@ -25,6 +27,7 @@ pub record Rests (op : Op) (verdict : Verdict) : Type 0 where
   pub rows : (facts : Facts) (caller : List ℕ) (rows : List Row) → rows_by facts op caller verdict rows ≡ rows
   pub renewals : renews op verdict ≡ false
   pub keys : (now : ℕ) (ring : Ring) → ring_by op verdict now ring ≡ ring
+  pub blocks : (caller : List ℕ) (now : ℕ) (blocks : BlockFacts) → blocks_by op caller verdict now blocks ≡ blocks
 
 pub same_where_rests : (opening : Opening) (entry : HistoryEntry) (earlier : List HistoryEntry) → Rests entry.request.op entry.verdict → IsSame opening entry earlier
 same_where_rests opening entry earlier rests =
@@ -33,39 +36,26 @@ same_where_rests opening entry earlier rests =
       rows = rests.rows (facts_with (limits_of opening.config) (clock_of (entry ∷ earlier)) (lease_in (last_renewal earlier) (rows_of opening earlier)) (ring_of opening earlier)) entry.request.caller (rows_of opening earlier);
       renewals = λ client. ap (λ b. cond (b && same entry.request.caller client) (Some (clock_of (entry ∷ earlier))) (last_renewal earlier client)) rests.renewals;
       keys = rests.keys (clock_of (entry ∷ earlier)) (ring_of opening earlier);
+      blocks = rests.blocks entry.request.caller (clock_of (entry ∷ earlier)) (blocks_of opening earlier);
     }
 
 pub not_done_rests : (op : Op) (verdict : Verdict) → is_done verdict ≡ false → Rests op verdict
 not_done_rests op (Done reply) h = cc
-not_done_rests op (Denied denial) h = record { users = λ users. refl; rows = λ facts caller rows. refl; renewals = refl; keys = λ now ring. refl }
-not_done_rests op (Refused refusal) h = record { users = λ users. refl; rows = λ facts caller rows. refl; renewals = refl; keys = λ now ring. refl }
+not_done_rests op (Denied denial) h = record { users = λ users. refl; rows = λ facts caller rows. refl; renewals = refl; keys = λ now ring. refl; blocks = λ caller now blocks. refl }
+not_done_rests op (Refused refusal) h = record { users = λ users. refl; rows = λ facts caller rows. refl; renewals = refl; keys = λ now ring. refl; blocks = λ caller now blocks. refl }
 
 -- a reply changes nothing, and what isn't done neither
 rests : (op : Op) → ((users : Users) (told : Reply) → users_by op (Done told) users ≡ users) → ((facts : Facts) (caller : List ℕ) (told : Reply) (rows : List Row) → rows_by facts op caller (Done told) rows ≡ rows)
-    → ((told : Reply) → renews op (Done told) ≡ false) → ((told : Reply) (now : ℕ) (ring : Ring) → ring_by op (Done told) now ring ≡ ring) → (verdict : Verdict) → Rests op verdict
-rests op users rows renewals keys (Done told) = record { users = λ some. users some told; rows = λ facts caller some. rows facts caller told some; renewals = renewals told; keys = keys told }
-rests op users rows renewals keys (Denied denial) = not_done_rests op (Denied denial) refl
-rests op users rows renewals keys (Refused refusal) = not_done_rests op (Refused refusal) refl
+    → ((told : Reply) → renews op (Done told) ≡ false) → ((told : Reply) (now : ℕ) (ring : Ring) → ring_by op (Done told) now ring ≡ ring)
+    → ((caller : List ℕ) (told : Reply) (now : ℕ) (blocks : BlockFacts) → blocks_by op caller (Done told) now blocks ≡ blocks) → (verdict : Verdict) → Rests op verdict
+rests op users rows renewals keys blocks (Done told) =
+    record { users = λ some. users some told; rows = λ facts caller some. rows facts caller told some; renewals = renewals told; keys = keys told; blocks = λ caller. blocks caller told }
+rests op users rows renewals keys blocks (Denied denial) = not_done_rests op (Denied denial) refl
+rests op users rows renewals keys blocks (Refused refusal) = not_done_rests op (Refused refusal) refl
 
 pub look_rests : (op : Op) (verdict : Verdict) → is_look op ≡ true → Rests op verdict
-look_rests (Mkdirs path mode) verdict h = cc
-look_rests (Stat path) verdict h = rests (Stat path) (λ users told. refl) (λ facts caller told rows. refl) (λ told. refl) (λ told now ring. refl) verdict
-look_rests (Lists path) verdict h = rests (Lists path) (λ users told. refl) (λ facts caller told rows. refl) (λ told. refl) (λ told now ring. refl) verdict
-look_rests (Summary path) verdict h = rests (Summary path) (λ users told. refl) (λ facts caller told rows. refl) (λ told. refl) (λ told now ring. refl) verdict
-look_rests (GetAcl path) verdict h = rests (GetAcl path) (λ users told. refl) (λ facts caller told rows. refl) (λ told. refl) (λ told now ring. refl) verdict
-look_rests (Delete path recursive) verdict h = cc
-look_rests (Rename from to) verdict h = cc
-look_rests (SetMode path mode) verdict h = cc
-look_rests (SetOwner path owner group) verdict h = cc
-look_rests (SetAcl path change) verdict h = cc
-look_rests (AddUser user groups) verdict h = cc
-look_rests (SetGroups user groups) verdict h = cc
-look_rests (Create path mode replication over) verdict h = cc
-look_rests (Append path) verdict h = cc
-look_rests (AddBlock path last) verdict h = cc
-look_rests (Complete path last) verdict h = cc
-look_rests (Open path) verdict h = cc
-look_rests (SetReplication path replication) verdict h = cc
-look_rests (RollKey key) verdict h = cc
-look_rests Renew verdict h = cc
-look_rests Tick verdict h = cc
+look_rests (Stat path) verdict h = rests (Stat path) (λ users told. refl) (λ facts caller told rows. refl) (λ told. refl) (λ told now ring. refl) (λ caller told now blocks. refl) verdict
+look_rests (Lists path) verdict h = rests (Lists path) (λ users told. refl) (λ facts caller told rows. refl) (λ told. refl) (λ told now ring. refl) (λ caller told now blocks. refl) verdict
+look_rests (Summary path) verdict h = rests (Summary path) (λ users told. refl) (λ facts caller told rows. refl) (λ told. refl) (λ told now ring. refl) (λ caller told now blocks. refl) verdict
+look_rests (GetAcl path) verdict h = rests (GetAcl path) (λ users told. refl) (λ facts caller told rows. refl) (λ told. refl) (λ told now ring. refl) (λ caller told now blocks. refl) verdict
+look_rests _ verdict h = cc

@@ -14,7 +14,8 @@ pub fn live_writers_stay()
     ensures named { law.LiveWritersAreNamed }
 {}
 
-/// What is denied or refused leaves users, namespace, renewals and keys as they are, and so does a request that only looks.
+/// What is denied or refused leaves users, namespace, renewals, keys, blocks and nodes as they are, and so does a request that only
+/// looks.
 pub fn nothing_changes()
     ensures not_done { law.WhatIsNotDoneChangesNothing }
     ensures looks { law.LooksChangeNothing }

@@ -44,6 +44,8 @@ static SAID: [(&str, &str); 45] = [
     ("0 ann setrep /a 01", "0 ann SetReplication /a 1"),
     ("4611686018427387904 - renew", "4611686018427387904 - Renew"),
     ("0 ann tick", "0 ann Tick"),
+    ("0 dn-1 heartbeat", "0 dn-1 Heartbeat"),
+    ("0 dn-1 heartbeat 1", "0 BadLine"),
     (
         "0 ann rollkey 00112233445566778899aAbBcCdDeEfF00112233",
         "0 ann RollKey 00112233445566778899aabbccddeeff00112233",

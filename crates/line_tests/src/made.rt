@@ -144,6 +144,7 @@ fn file_parts_of(alloc: Global, op: &Op) -> Result<String, AllocError> {
         Op::RollKey(key) => rolled(alloc, key),
         Op::Renew => String::from_str(alloc, "Renew"),
         Op::Tick => String::from_str(alloc, "Tick"),
+        Op::Heartbeat => String::from_str(alloc, "Heartbeat"),
         _ => String::from_str(alloc, "(other)"),
     }
 }

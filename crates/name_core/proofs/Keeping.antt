@@ -12,6 +12,7 @@ use Rattle.history.specs.declared.entry.Answer.{Answer}
 use Rattle.history.specs.Config.{Opening, limits_of}
 use Rattle.history.specs.ClockAndLease.{clock_of, last_renewal, renews, lease_in}
 use Rattle.history.specs.Keys.{ring_of, ring_by}
+use Rattle.history.specs.Blocks.{blocks_of, blocks_by}
 use Rattle.history.specs.State.{facts_with, rows_of, users_of, rows_by, users_by}
 use Rattle.history.specs.LegalHistory.{IsLegal, verdict_of}
 use Rattle.name_core.specs.declared.namenode.NameCore.TheInside.{Inside}
@@ -28,6 +29,7 @@ pub record Adds (a b : Inside) (e : HistoryEntry) : Type 0 where
   pub clock : b.clock ≡ max a.clock e.request.moment
   pub stepped : record { verdict = e.verdict; rows = b.system.tree; users = b.system.users } ≡ step (facts_in (last_renewal (entries_of a)) b.clock a.system) a.system.tree a.system.users e.request.caller e.request.op
   pub ring : b.system.ring ≡ ring_by e.request.op e.verdict b.clock a.system.ring
+  pub blocks : b.system.blocks ≡ blocks_by e.request.op e.request.caller e.verdict b.clock a.system.blocks
   pub exact : IsExact (renewed_where (renews e.request.op e.verdict) e.request.caller b.clock (last_renewal (entries_of a))) b.system.tree b.system.writers
   pub limits : b.system.writers.leases.limits ≡ a.system.writers.leases.limits
   pub latest : latest_moment b.system.writers.leases.renewals ≤ b.clock
@@ -74,6 +76,12 @@ ring_is a b e k h =
     ∙ (ap (λ n. ring_by e.request.op e.verdict n a.system.ring) (clock_more a b e k h)
     ∙ ap (λ r. ring_by e.request.op e.verdict (clock_of (e ∷ entries_of a)) r) k.ring)
 
+blocks_are : (a b : Inside) (e : HistoryEntry) → IsKept a → Adds a b e → b.system.blocks ≡ blocks_of (opening_of a) (e ∷ entries_of a)
+blocks_are a b e k h =
+    h.blocks
+    ∙ (ap (λ n. blocks_by e.request.op e.request.caller e.verdict n a.system.blocks) (clock_more a b e k h)
+    ∙ ap (λ s. blocks_by e.request.op e.request.caller e.verdict (clock_of (e ∷ entries_of a)) s) k.blocks)
+
 exact_more : (a b : Inside) (e : HistoryEntry) → IsKept a → Adds a b e → IsExact (last_renewal (e ∷ entries_of a)) b.system.tree b.system.writers
 exact_more a b e k h = subst (λ n. IsExact (renewed_where (renews e.request.op e.verdict) e.request.caller n (last_renewal (entries_of a))) b.system.tree b.system.writers) (clock_more a b e k h) h.exact
 
@@ -87,6 +95,7 @@ kept_more a b e k h =
       clock = clock_more a b e k h ∙ ap clock_of (sym more);
       tree = tree_is a b e k h ∙ (ap (λ s. rows_of s (e ∷ entries_of a)) (sym h.opening) ∙ ap (rows_of (opening_of b)) (sym more));
       ring = ring_is a b e k h ∙ (ap (λ s. ring_of s (e ∷ entries_of a)) (sym h.opening) ∙ ap (ring_of (opening_of b)) (sym more));
+      blocks = blocks_are a b e k h ∙ (ap (λ s. blocks_of s (e ∷ entries_of a)) (sym h.opening) ∙ ap (blocks_of (opening_of b)) (sym more));
       users = users_are a b e k h ∙ ap users_of (sym more);
       exact = subst (λ l. IsExact (last_renewal l) b.system.tree b.system.writers) (sym more) (exact_more a b e k h);
       limits = h.limits ∙ (k.limits ∙ ap (λ (o : Opening). limits_of o.config) (sym h.opening));
@@ -102,6 +111,7 @@ kept_undone a b k opening history clock undone =
       clock = clock ∙ (k.clock ∙ ap clock_of (sym same));
       tree = undone.tree ∙ (k.tree ∙ (ap (λ s. rows_of s (entries_of a)) (sym opening) ∙ ap (rows_of (opening_of b)) (sym same)));
       ring = undone.ring ∙ (k.ring ∙ (ap (λ s. ring_of s (entries_of a)) (sym opening) ∙ ap (ring_of (opening_of b)) (sym same)));
+      blocks = undone.blocks ∙ (k.blocks ∙ (ap (λ s. blocks_of s (entries_of a)) (sym opening) ∙ ap (blocks_of (opening_of b)) (sym same)));
       users = undone.users ∙ (k.users ∙ ap users_of (sym same));
       exact = subst (λ l. IsExact (last_renewal l) b.system.tree b.system.writers) (sym same)
           (subst (λ t. IsExact (last_renewal (entries_of a)) t b.system.writers) (sym undone.tree)

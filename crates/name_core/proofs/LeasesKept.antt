@@ -23,7 +23,9 @@ use Rattle.history.specs.ClockAndLease.{renews}
 use Rattle.hdfs_types.specs.declared.verb.Write.{Write}
 use Rattle.hdfs_types.specs.declared.verb.Write.TheVariants as write
 use Rattle.block_tokens.specs.Ring.{Ring}
+use Rattle.block_map.specs.BlockFacts.{BlockFacts}
 use Rattle.history.specs.Keys.{ring_by}
+use Rattle.history.specs.Blocks.{blocks_by}
 use Rattle.lease_manager.specs.declared.writers.Writers.{Writers}
 use Rattle.lease_manager.specs.Writers.{count_of}
 use Rattle.file_effects.specs.Effected.{IsExact, renewed_where}
@@ -52,6 +54,7 @@ renews_not (op.AddBlock path last) (Done told) h = cc
 renews_not (op.Complete path last) (Done told) h = cc
 renews_not op.Renew (Done told) h = cc
 renews_not op.Tick (Done told) h = cc
+renews_not op.Heartbeat (Done told) h = cc
 renews_not _ (Done told) h = refl
 
 -- none is a roll of the keys
@@ -67,6 +70,19 @@ keys_stay_written verb (Denied denial) now ring = refl
 keys_stay_written verb (Refused refusal) now ring = refl
 keys_stay_written (write.Append path) (Done told) now ring = refl
 keys_stay_written _ (Done told) now ring = refl
+
+-- none is a heartbeat
+pub blocks_stay : (what : Op) (caller : List ℕ) (verdict : Verdict) (now : ℕ) (blocks : BlockFacts) → keeps_leases what ≡ true → blocks_by what caller verdict now blocks ≡ blocks
+blocks_stay what caller (Denied denial) now blocks h = refl
+blocks_stay what caller (Refused refusal) now blocks h = refl
+blocks_stay op.Heartbeat caller (Done told) now blocks h = cc
+blocks_stay _ caller (Done told) now blocks h = refl
+
+pub blocks_stay_written : (verb : Write) (caller : List ℕ) (verdict : Verdict) (now : ℕ) (blocks : BlockFacts) → blocks_by (write_op verb) caller verdict now blocks ≡ blocks
+blocks_stay_written verb caller (Denied denial) now blocks = refl
+blocks_stay_written verb caller (Refused refusal) now blocks = refl
+blocks_stay_written (write.Append path) caller (Done told) now blocks = refl
+blocks_stay_written _ caller (Done told) now blocks = refl
 
 -- each client has as many files open, and the same lease
 pub exact_kept : (last : List ℕ → Option ℕ) (now : ℕ) (facts : Facts) (rows : List Row) (users : Users) (caller : List ℕ) (what : Op) (verdict : Verdict) (left : List Row) (writers : Writers)

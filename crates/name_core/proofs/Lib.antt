@@ -7,3 +7,4 @@ pub mod Rolling
 pub mod Deciding
 pub mod Looking
 pub mod Recording
+pub mod Beating

@@ -28,7 +28,9 @@ use Rattle.flat_rows.specs.Outcome.{Step, step, first_refusal, denied_or_outcome
 use Rattle.history.specs.ClockAndLease.{renews, lease_in}
 use Rattle.flat_rows.specs.Verdicts.{is_done}
 use Rattle.block_tokens.specs.Ring.{Ring}
+use Rattle.block_map.specs.BlockFacts.{BlockFacts}
 use Rattle.history.specs.Keys.{ring_by}
+use Rattle.history.specs.Blocks.{blocks_by}
 use Rattle.history.specs.State.{rows_by, users_by}
 use Rattle.history.proofs.OpenFiles.{any_counted}
 use Rattle.file_effects.proofs.Effects.{no_facts}
@@ -39,7 +41,7 @@ use Rattle.name_core.specs.Told.{may_change}
 use Rattle.file_effects.specs.Effected.{IsExact, IsEffected, renewed_where}
 use Rattle.name_core.specs.Performed.{IsPerformed, IsUndone, facts_in}
 use Rattle.name_core.proofs.Stepping.{stepped_rows, stepped_users}
-use Rattle.name_core.proofs.LeasesKept.{exact_kept, update_keeps, empty_reply, keys_stay, keys_stay_written}
+use Rattle.name_core.proofs.LeasesKept.{exact_kept, update_keeps, empty_reply, keys_stay, keys_stay_written, blocks_stay, blocks_stay_written}
 
 -- what holds of each is known together
 pub given_all : {T E L : Type 0} (result : Result T E) (P : L → T → Type 0) (Q : T → Type 0) → ((value : T) → ((l : L) → P l value) → Q value) → ((l : L) → IfOk result (P l)) → IfOk result Q
@@ -96,8 +98,13 @@ not_done_keys what (Done told) now ring h = cc
 not_done_keys what (Denied denial) now ring h = refl
 not_done_keys what (Refused refusal) now ring h = refl
 
+not_done_blocks : (what : Op) (caller : List ℕ) (verdict : Verdict) (now : ℕ) (blocks : BlockFacts) → is_done verdict ≡ false → blocks_by what caller verdict now blocks ≡ blocks
+not_done_blocks what caller (Done told) now blocks h = cc
+not_done_blocks what caller (Denied denial) now blocks h = refl
+not_done_blocks what caller (Refused refusal) now blocks h = refl
+
 pub undone_same : (system : Namesystem) → IsUndone system system
-undone_same system = record { tree = refl; users = refl; writers = record { leases = refl; files = λ client. refl }; ring = refl }
+undone_same system = record { tree = refl; users = refl; writers = record { leases = refl; files = λ client. refl }; ring = refl; blocks = refl }
 
 never : true ≡ false → ⊥
 never e = cc
@@ -111,21 +118,22 @@ changing old new verdict told is may none = absurd (never (sym may ∙ (sym (ap 
 abbrev pub Applied : Namesystem → List ℕ → Op → Verdict → Namesystem → Type 0
 Applied old caller what verdict new = (facts : Facts) → record { verdict = verdict; rows = new.tree; users = new.users } ≡ step facts old.tree old.users caller what
 
-pub performed_kept : (last : List ℕ → Option ℕ) (now : ℕ) (caller : List ℕ) (what : Op) (old new : Namesystem) (verdict : Verdict) → keeps_leases what ≡ true → IsNamespace old.tree → new.writers ≡ old.writers → new.ring ≡ old.ring
+pub performed_kept : (last : List ℕ → Option ℕ) (now : ℕ) (caller : List ℕ) (what : Op) (old new : Namesystem) (verdict : Verdict) → keeps_leases what ≡ true → IsNamespace old.tree → new.writers ≡ old.writers → new.ring ≡ old.ring → new.blocks ≡ old.blocks
     → Applied old caller what verdict new → (may_change verdict ≡ false → IsUndone old new) → IsExact last old.tree old.writers → IsPerformed last now caller what old verdict new
-performed_kept last now caller what old new verdict keeps namespace same_writers same_ring applied unchanged exact =
+performed_kept last now caller what old new verdict keeps namespace same_writers same_ring same_blocks applied unchanged exact =
     let facts = facts_in last now old in
     record {
       stepped = applied facts;
       ring = same_ring ∙ sym (keys_stay what verdict now old.ring keeps);
+      blocks = same_blocks ∙ sym (blocks_stay what caller verdict now old.blocks keeps);
       exact = subst (λ w. IsExact (renewed_where (renews what verdict) caller now last) new.tree w) (sym same_writers)
           (exact_kept last now facts old.tree old.users caller what verdict new.tree old.writers keeps namespace (ap (λ (s : Step). s.rows) (applied facts)) exact);
       unchanged = unchanged;
     }
 
 -- what isn't done is undone
-undone_update : (caller : List ℕ) (what : Op) (old new : Namesystem) (verdict : Verdict) → is_done verdict ≡ false → new.writers ≡ old.writers → new.ring ≡ old.ring → Applied old caller what verdict new → IsUndone old new
-undone_update caller what old new verdict none same_writers same_ring applied =
+undone_update : (caller : List ℕ) (what : Op) (old new : Namesystem) (verdict : Verdict) → is_done verdict ≡ false → new.writers ≡ old.writers → new.ring ≡ old.ring → new.blocks ≡ old.blocks → Applied old caller what verdict new → IsUndone old new
+undone_update caller what old new verdict none same_writers same_ring same_blocks applied =
     let is = applied no_facts in
     let after = step no_facts old.tree old.users caller what in
     let judged : verdict ≡ after.verdict = ap (λ (s : Step). s.verdict) is in
@@ -135,6 +143,7 @@ undone_update caller what old new verdict none same_writers same_ring applied =
       users = ap (λ (s : Step). s.users) is ∙ (stepped_users no_facts old.tree old.users caller what ∙ stays.1);
       writers = record { leases = ap (λ (w : Writers). w.leases) same_writers; files = λ client. ap (λ (w : Writers). count_of w.files client) same_writers };
       ring = same_ring;
+      blocks = same_blocks;
     }
 
 -- there is nothing to report of an update that is done
@@ -144,17 +153,17 @@ done_update caller update old new verdict done applied =
     let granted = done_free no_facts old.tree old.users caller (update_op update) (ap is_done (sym judged) ∙ done) in
     judged ∙ (granted.told ∙ ap (λ r. Done r) (empty_reply no_facts update old.tree))
 
-unchanged_update : (caller : List ℕ) (update : Update) (old new : Namesystem) (verdict : Verdict) → new.writers ≡ old.writers → new.ring ≡ old.ring → Applied old caller (update_op update) verdict new → may_change verdict ≡ false → IsUndone old new
-unchanged_update caller update old new verdict same_writers same_ring applied none = by (is_done verdict) refl
+unchanged_update : (caller : List ℕ) (update : Update) (old new : Namesystem) (verdict : Verdict) → new.writers ≡ old.writers → new.ring ≡ old.ring → new.blocks ≡ old.blocks → Applied old caller (update_op update) verdict new → may_change verdict ≡ false → IsUndone old new
+unchanged_update caller update old new verdict same_writers same_ring same_blocks applied none = by (is_done verdict) refl
   where
     by : (b : Bool) → is_done verdict ≡ b → IsUndone old new
     by true e = changing old new verdict (Done reply.Empty) (done_update caller update old new verdict e applied) refl none
-    by false e = undone_update caller (update_op update) old new verdict e same_writers same_ring applied
+    by false e = undone_update caller (update_op update) old new verdict e same_writers same_ring same_blocks applied
 
-pub performed_update : (last : List ℕ → Option ℕ) (now : ℕ) (caller : List ℕ) (update : Update) (old new : Namesystem) (verdict : Verdict) → IsNamespace old.tree → new.writers ≡ old.writers → new.ring ≡ old.ring
+pub performed_update : (last : List ℕ → Option ℕ) (now : ℕ) (caller : List ℕ) (update : Update) (old new : Namesystem) (verdict : Verdict) → IsNamespace old.tree → new.writers ≡ old.writers → new.ring ≡ old.ring → new.blocks ≡ old.blocks
     → Applied old caller (update_op update) verdict new → IsExact last old.tree old.writers → IsPerformed last now caller (update_op update) old verdict new
-performed_update last now caller update old new verdict namespace same_writers same_ring applied exact =
-    performed_kept last now caller (update_op update) old new verdict (update_keeps update) namespace same_writers same_ring applied (unchanged_update caller update old new verdict same_writers same_ring applied) exact
+performed_update last now caller update old new verdict namespace same_writers same_ring same_blocks applied exact =
+    performed_kept last now caller (update_op update) old new verdict (update_keeps update) namespace same_writers same_ring same_blocks applied (unchanged_update caller update old new verdict same_writers same_ring same_blocks applied) exact
 
 -- ---- renewals
 
@@ -172,6 +181,7 @@ refused_renewal last now caller old n counted none exact =
     record {
       stepped = sym (renewal_step (facts_in last now old) old.tree old.users caller false free);
       ring = refl;
+      blocks = refl;
       exact = exact;
       unchanged = λ h. undone_same old;
     }
@@ -180,10 +190,10 @@ some_counted : (n r : ℕ) → r ≡ n → r ≢ 0 → 0 < n
 some_counted n r is some = omega (arith, is, some)
 
 pub done_renewal : (last : List ℕ → Option ℕ) (now : ℕ) (caller : List ℕ) (old new : Namesystem) (n : ℕ) → n ≡ count_of old.writers.files caller → n ≢ 0
-    → new.tree ≡ old.tree → new.users ≡ old.users → new.ring ≡ old.ring → new.writers.files ≡ old.writers.files
+    → new.tree ≡ old.tree → new.users ≡ old.users → new.ring ≡ old.ring → new.blocks ≡ old.blocks → new.writers.files ≡ old.writers.files
     → ((last : List ℕ → Option ℕ) → 0 < count_of old.writers.files caller → IsLeased last old.writers → IsLeased (renewed_at caller now last) new.writers)
     → IsExact last old.tree old.writers → IsPerformed last now caller op.Renew old (Done reply.Empty) new
-done_renewal last now caller old new n counted some tree users ring files leased exact =
+done_renewal last now caller old new n counted some tree users ring blocks files leased exact =
     let positive : 0 < count_of old.writers.files caller = some_counted _ n counted some in
     let held : has_open_file caller old.tree ≡ true = has_counted last old.tree old.writers caller exact ∙ lt-ltb 0 (count_of old.writers.files caller) positive in
     record {
@@ -191,6 +201,7 @@ done_renewal last now caller old new n counted some tree users ring files leased
           step_of (record { verdict = Done reply.Empty; rows = old.tree; users = old.users }) (Done reply.Empty) new.tree new.users refl tree users
           ∙ sym (renewal_step (facts_in last now old) old.tree old.users caller true held);
       ring = ring;
+      blocks = blocks;
       exact =
           record {
             files = λ client. ap (λ f. count_of f client) files ∙ (exact.files client ∙ ap (λ t. length (open_files client t)) (sym tree));
@@ -224,6 +235,7 @@ performed_not_done last now caller what old verdict judged none exact =
     record {
       stepped = step_of done verdict old.tree old.users judged (sym (stepped_rows facts old.tree old.users caller what ∙ stays.0)) (sym (stepped_users facts old.tree old.users caller what ∙ stays.1));
       ring = sym (not_done_keys what verdict now old.ring none);
+      blocks = sym (not_done_blocks what caller verdict now old.blocks none);
       exact =
           record {
             files = exact.files;
@@ -235,8 +247,8 @@ performed_not_done last now caller what old verdict judged none exact =
 -- what is done leaves what its effect leaves
 pub performed_write : (last : List ℕ → Option ℕ) (now : ℕ) (caller : List ℕ) (verb : Write) (old new : Namesystem) (verdict : Verdict)
     → verdict ≡ (step (facts_in last now old) old.tree old.users caller (write_op verb)).verdict → is_done verdict ≡ true
-    → IsEffected (write_op verb) caller now old.tree old.writers new.tree new.writers → new.users ≡ old.users → new.ring ≡ old.ring → IsExact last old.tree old.writers → IsPerformed last now caller (write_op verb) old verdict new
-performed_write last now caller verb old new verdict judged done effected users ring exact =
+    → IsEffected (write_op verb) caller now old.tree old.writers new.tree new.writers → new.users ≡ old.users → new.ring ≡ old.ring → new.blocks ≡ old.blocks → IsExact last old.tree old.writers → IsPerformed last now caller (write_op verb) old verdict new
+performed_write last now caller verb old new verdict judged done effected users ring blocks exact =
     let facts = facts_in last now old in
     let after = step facts old.tree old.users caller (write_op verb) in
     let granted = done_free facts old.tree old.users caller (write_op verb) (ap is_done (sym judged) ∙ done) in
@@ -246,6 +258,7 @@ performed_write last now caller verb old new verdict judged done effected users 
           (effected.tree facts ∙ sym (stepped_rows facts old.tree old.users caller (write_op verb) ∙ ap (λ v. rows_by facts (write_op verb) caller v old.tree) granted.told))
           (users ∙ (sym (users_stay verb old.users) ∙ sym (stepped_users facts old.tree old.users caller (write_op verb) ∙ ap (λ v. users_by (write_op verb) v old.users) granted.told)));
       ring = ring ∙ sym (keys_stay_written verb verdict now old.ring);
+      blocks = blocks ∙ sym (blocks_stay_written verb caller verdict now old.blocks);
       exact = subst (λ v. IsExact (renewed_where (renews (write_op verb) v) caller now last) new.tree new.writers) (sym (judged ∙ granted.told)) (effected.exact facts last exact);
       unchanged = changing old new verdict (Done (reply_of facts (write_op verb) old.tree)) (judged ∙ granted.told) (change_reported facts verb old.tree);
     }

@@ -17,7 +17,7 @@ pub adds_of : (a b : Inside) (kept r : Request) (n pass index : ℕ) (verdict : 
     → Adds a b (record { place = n; pass = pass; index = index; request = kept; verdict = verdict })
 adds_of a b kept r n pass index verdict is opening history clock performed limits late place =
     subst (λ k. b.history.items ≡ a.history.items ++ record { place = n; pass = pass; index = index; request = k; verdict = verdict } ∷ [] → Adds a b (record { place = n; pass = pass; index = index; request = k; verdict = verdict })) (sym is)
-    (λ h. record { opening = opening; history = h; clock = clock; stepped = performed.stepped; ring = performed.ring; exact = performed.exact; limits = limits; latest = late; place = place }) history
+    (λ h. record { opening = opening; history = h; clock = clock; stepped = performed.stepped; ring = performed.ring; blocks = performed.blocks; exact = performed.exact; limits = limits; latest = late; place = place }) history
 
 -- one entry more
 pub appended : (a b : Inside) (r : Request) (n pass index : ℕ) (verdict : Verdict) → IsKept a → Adds a b (record { place = n; pass = pass; index = index; request = r; verdict = verdict }) → core_of b ≡ stepped (core_of a) pass index r

@@ -47,6 +47,7 @@ module _ (last : List ℕ → Option ℕ) (now : ℕ) (caller key : List ℕ) (o
       record {
         stepped = stepped_is (Some serial) next granted;
         ring = is;
+        blocks = refl;
         exact = exact;
         unchanged = changing old (with_ring old ring) (Done (reply.Serial serial)) (Done (reply.Serial serial)) refl refl;
       }
@@ -57,8 +58,9 @@ module _ (last : List ℕ → Option ℕ) (now : ℕ) (caller key : List ℕ) (o
       record {
         stepped = stepped_is None (sym none) granted;
         ring = is;
+        blocks = refl;
         exact = exact;
-        unchanged = λ h. record { tree = refl; users = refl; writers = record { leases = refl; files = λ client. refl }; ring = is };
+        unchanged = λ h. record { tree = refl; users = refl; writers = record { leases = refl; files = λ client. refl }; ring = is; blocks = refl };
       }
 
   pub denied_roll : (denial : denied.Denial) → decision old.tree old.users caller (op.RollKey key) ≡ Some denial → IsPerformed last now caller (op.RollKey key) old (Denied denial) old

@@ -20,6 +20,7 @@ use Rattle.flat_rows.specs.Outcome.{step, denied_or_outcome}
 use Rattle.inode_nodes.specs.Expired as tree
 use Rattle.history.specs.ClockAndLease.{renews, is_past_hard, state_at}
 use Rattle.history.specs.Keys.{ring_by}
+use Rattle.history.specs.Blocks.{blocks_by}
 use Rattle.name_core.specs.declared.namesystem.Namesystem.{Namesystem}
 use Rattle.file_effects.specs.Effected.{IsExact, renewed_where}
 use Rattle.name_core.specs.Performed.{IsPerformed, facts_in}
@@ -28,9 +29,9 @@ use Rattle.name_core.proofs.Performing.{step_of, lease_is, changing, performed_n
 
 pub performed_tick : (last : List ℕ → Option ℕ) (now : ℕ) (caller : List ℕ) (old new : Namesystem) (verdict : Verdict) (past : List (List ℕ)) (closed : ℕ) → decision old.tree old.users caller op.Tick ≡ None
     → past ≡ clients (renewals_past_hard old.writers.leases.limits now old.writers.leases.renewals) → IsDistinct same (clients old.writers.leases.renewals)
-    → new.tree ≡ map (closed_where_expired (tree.past_hard past)) old.tree → closed ≡ length (filter (is_expired (tree.past_hard past)) old.tree) → new.users ≡ old.users → new.ring ≡ old.ring → IsExact last new.tree new.writers
+    → new.tree ≡ map (closed_where_expired (tree.past_hard past)) old.tree → closed ≡ length (filter (is_expired (tree.past_hard past)) old.tree) → new.users ≡ old.users → new.ring ≡ old.ring → new.blocks ≡ old.blocks → IsExact last new.tree new.writers
     → verdict ≡ Done (reply.Expired (record { closed = closed; recovering = 0 })) → IsExact last old.tree old.writers → IsPerformed last now caller op.Tick old verdict new
-performed_tick last now caller old new verdict past closed granted past_is distinct left counted users ring left_exact is exact =
+performed_tick last now caller old new verdict past closed granted past_is distinct left counted users ring blocks left_exact is exact =
     let limits = old.writers.leases.limits in
     let facts = facts_in last now old in
     let agree : (client : List ℕ) → tree.is_among past client ≡ facts.leases.is_past_hard client =
@@ -44,6 +45,7 @@ performed_tick last now caller old new verdict past closed granted past_is disti
           (is ∙ ap (λ n. Done (reply.Expired (record { closed = n; recovering = 0 }))) number) (left ∙ same_closed (tree.past_hard past) facts.leases agree old.tree) users
           ∙ sym done;
       ring = ring ∙ sym (ap (λ v. ring_by op.Tick v now old.ring) is);
+      blocks = blocks ∙ sym (ap (λ v. blocks_by op.Tick caller v now old.blocks) is);
       exact = subst (λ b. IsExact (renewed_where b caller now last) new.tree new.writers) (sym (ap (renews op.Tick) is)) left_exact;
       unchanged = changing old new verdict (Done (reply.Expired (record { closed = closed; recovering = 0 }))) is refl;
     }

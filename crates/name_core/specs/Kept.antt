@@ -5,6 +5,7 @@ use Rattle.history.specs.declared.entry.HistoryEntry.{HistoryEntry}
 use Rattle.history.specs.Config.{Opening, limits_of}
 use Rattle.history.specs.ClockAndLease.{clock_of, last_renewal}
 use Rattle.history.specs.Keys.{ring_of}
+use Rattle.history.specs.Blocks.{blocks_of}
 use Rattle.history.specs.State.{rows_of, users_of}
 use Rattle.history.specs.LegalHistory.{IsLegal}
 use Rattle.name_core.specs.declared.namenode.NameCore.TheInside.{Inside}
@@ -26,6 +27,7 @@ pub record IsKept (core : Inside) : Type 0 where
   pub tree : core.system.tree ≡ rows_of (opening_of core) (entries_of core)
   pub users : core.system.users ≡ users_of (entries_of core)
   pub ring : core.system.ring ≡ ring_of (opening_of core) (entries_of core)
+  pub blocks : core.system.blocks ≡ blocks_of (opening_of core) (entries_of core)
   -- of each client how many files it has open, and its lease
   pub exact : IsExact (last_renewal (entries_of core)) core.system.tree core.system.writers
   pub limits : core.system.writers.leases.limits ≡ limits_of core.config

@@ -1,4 +1,4 @@
--- What a request leaves of the namespace, the users, the clients who have files open, and the keys.
+-- What a request leaves of the namespace, the users, the clients who have files open, the keys, and the blocks and their nodes.
 use Rattle.std.specs.Prelude.{◌≡◌, ℕ, false, List, Option}
 use Rattle.hdfs_types.specs.declared.op.Op.{Op}
 use Rattle.flat_rows.specs.declared.verdict.Verdict.{Verdict}
@@ -6,6 +6,7 @@ use Rattle.flat_rows.specs.Facts.{Facts}
 use Rattle.flat_rows.specs.Outcome.{step}
 use Rattle.history.specs.ClockAndLease.{renews, lease_in}
 use Rattle.history.specs.Keys.{ring_by}
+use Rattle.history.specs.Blocks.{blocks_by}
 use Rattle.history.specs.State.{facts_with}
 use Rattle.lease_manager.specs.Writers.{IsAlike}
 use Rattle.file_effects.specs.Effected.{IsExact, renewed_where}
@@ -22,10 +23,12 @@ pub record IsUndone (old new : Namesystem) : Type 0 where
   pub users : new.users ≡ old.users
   pub writers : IsAlike old.writers new.writers
   pub ring : new.ring ≡ old.ring
+  pub blocks : new.blocks ≡ old.blocks
 
 -- the verdict, and what is left, are those of the step
 pub record IsPerformed (last : List ℕ → Option ℕ) (now : ℕ) (caller : List ℕ) (op : Op) (old : Namesystem) (verdict : Verdict) (new : Namesystem) : Type 0 where
   pub stepped : record { verdict = verdict; rows = new.tree; users = new.users } ≡ step (facts_in last now old) old.tree old.users caller op
   pub ring : new.ring ≡ ring_by op verdict now old.ring
+  pub blocks : new.blocks ≡ blocks_by op caller verdict now old.blocks
   pub exact : IsExact (renewed_where (renews op verdict) caller now last) new.tree new.writers
   pub unchanged : may_change verdict ≡ false → IsUndone old new

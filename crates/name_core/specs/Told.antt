@@ -1,7 +1,7 @@
 -- The verdicts that may come with a change, and a verdict with a copy of it.
 use Rattle.std.specs.Prelude.{◌≡◌, Bool, true, false}
 use Rattle.hdfs_types.specs.declared.reply.Reply.{Reply}
-use Rattle.hdfs_types.specs.declared.reply.Reply.TheVariants.{Empty, Deleted, Released, Closed, Expired, Serial}
+use Rattle.hdfs_types.specs.declared.reply.Reply.TheVariants.{Empty, Deleted, Released, Closed, Expired, Serial, Heartbeat}
 use Rattle.flat_rows.specs.declared.verdict.Verdict.{Verdict}
 use Rattle.flat_rows.specs.declared.verdict.Verdict.TheVariants.{Done, Denied, Refused}
 use Rattle.name_core.specs.declared.told.Told.{Told}
@@ -14,9 +14,10 @@ reports_change Released = true
 reports_change (Closed bytes) = true
 reports_change (Expired files) = true
 reports_change (Serial serial) = true
+reports_change Heartbeat = true
 reports_change _ = false
 
--- the namespace, the users, leases or keys may have changed where this is the verdict
+-- the namespace, the users, leases, keys or what is known of nodes may have changed where this is the verdict
 abbrev pub may_change : Verdict → Bool
 may_change (Done reply) = reports_change reply
 may_change (Denied denial) = false

@@ -3,11 +3,13 @@ ghost use Rattle.std.specs.Option.{option_copied};
 ghost use Rattle.hdfs_types.specs.Request.{is_look};
 ghost use Rattle.hdfs_values.specs.Who.{IsWho};
 ghost use Rattle.history.specs.LegalHistory.{IsLegal};
+ghost use Rattle.history.specs.Blocks.{blocks_of};
 ghost use Rattle.history.specs.State.{rows_of, users_of};
 ghost use Rattle.name_core.specs.NameCore.{Steps, Looks, stepped};
 
 use crate::namesystem::{Namesystem, perform, perform_with_copy};
 use crate::told::Told;
+use block_map::blocks::Blocks;
 use block_tokens::ring::KeyRing;
 use fs_operations::apply::answer_look;
 use hdfs_types::key::Key;
@@ -109,8 +111,8 @@ fn record(
     }
 }
 
-/// A NameNode's core: what it opened with, and its history, which is legal. Its namespace, its users, its leases and its keys are what
-/// the history gives.
+/// A NameNode's core: what it opened with, and its history, which is legal. Its namespace, its users, its leases, its keys and what it
+/// knows of blocks and DataNodes are what the history gives.
 #[derive(Drop)]
 pub struct NameCore {
     config: Config,
@@ -150,7 +152,9 @@ impl NameCore {
         let users = Users::new(alloc, superuser, supergroup);
         let durations = config.durations();
         let writers = Writers::new(alloc, durations.soft_limit, durations.hard_limit);
-        let serial = Serial::new(config.first().serial);
+        let first = config.first();
+        let serial = Serial::new(first.serial);
+        let (dead, retry) = (durations.dead_limit, durations.retry_limit);
         Ok(NameCore {
             config,
             first_key: key,
@@ -159,6 +163,7 @@ impl NameCore {
                 users,
                 writers,
                 ring: KeyRing::new(alloc, serial, key, durations.token_lifetime),
+                blocks: Blocks::new(alloc, dead, retry, first.block, first.stamp),
             },
             open_paths: OpenPaths::new(alloc),
             clock: first_moment(),
@@ -202,6 +207,13 @@ impl NameCore {
         ensures { result.now ≡ users_of self.now.entries }
     {
         &self.system.users
+    }
+
+    /// What is known of blocks and DataNodes now. Takes no memory.
+    pub fn blocks(&self) -> &Blocks
+        ensures { result.now ≡ blocks_of self.now.opening self.now.entries }
+    {
+        &self.system.blocks
     }
 
     /// Answers a request that only looks, on what the history gives. It makes no entry, and the answer's place is the number of

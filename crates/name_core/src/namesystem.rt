@@ -17,6 +17,7 @@ ghost use Rattle.file_effects.specs.Effected.{IsExact, IsFree};
 ghost use Rattle.name_core.specs.Performed.{IsPerformed, IsUndone, facts_in};
 
 use crate::told::{Told, is_done, with_copy};
+use block_map::blocks::Blocks;
 use block_tokens::ring::{KeyRing, RollFault};
 use file_effects::effect::effect;
 use file_effects::expiry::expire;
@@ -29,6 +30,7 @@ use hdfs_types::op::Request;
 use hdfs_types::reply::{Counter, Expired, ObjectKind, Refusal, Reply};
 use hdfs_types::verb::{Read, Update, Verb, Write};
 use hdfs_values::moment::Moment;
+use hdfs_values::node_id::node_of;
 use hdfs_values::who::Who;
 use inode_tree::tree::Tree;
 use lease_manager::leases::LeaseState;
@@ -37,15 +39,17 @@ use lease_manager::writers::Writers;
 use principals::users::Users;
 use required_rights::demand::Needs;
 use std::alloc::{AllocError, Global};
-use write_rules::write::{Judged, judge, judge_rights};
+use write_rules::write::{Judged, judge, judge_node, judge_rights};
 
-/// The namespace, the users, the clients who have files open, and the keys under which tokens are issued.
+/// The namespace, the users, the clients who have files open, the keys under which tokens are issued, and the blocks with their
+/// nodes.
 #[derive(Drop)]
 pub struct Namesystem {
     pub tree: Tree,
     pub users: Users,
     pub writers: Writers,
     pub ring: KeyRing,
+    pub blocks: Blocks,
 }
 
 // ---- verbs that leave leases as they are
@@ -308,6 +312,31 @@ fn perform_roll(
     }
 }
 
+// ---- DataNodes
+
+/// A heartbeat: the DataNode whose principal the caller is lives. Costs a look-up of the node.
+fn perform_heartbeat(
+    alloc: Global,
+    system: &mut Namesystem,
+    caller: &Who,
+    needs: &Needs,
+    now: Moment,
+) -> Result<Verdict, AllocError>
+    requires { needs.now ≡ required_rights op.Heartbeat }
+    ensures ok { (last : List ℕ → Option ℕ) → IsExact last system.old.tree system.old.writers → IfOk result (λ verdict. IsPerformed last now caller.now op.Heartbeat system.old verdict system.new) }
+    ensures writers { system.new.writers ≡ system.old.writers }
+    ensures err { OnErr result (IsUndone system.old system.new) }
+{
+    if let Some(denial) = judge_node(alloc, &system.tree, &system.users, caller, needs)? {
+        return Ok(Verdict::Denied(denial));
+    }
+    let Some(node) = node_of(caller) else {
+        return Ok(Verdict::Done(Reply::Heartbeat));
+    };
+    system.blocks.heartbeat(node, now)?;
+    Ok(Verdict::Done(Reply::Heartbeat))
+}
+
 // ---- all
 
 /// Answers a request, and does it where no need fails and nothing refuses it.
@@ -337,6 +366,7 @@ pub fn perform(
         Verb::RollKey(key) => perform_roll(alloc, system, caller, &needs, key, now),
         Verb::Renew => perform_renewal(system, caller, now),
         Verb::Tick => perform_tick(alloc, system, open_paths, caller, &needs, now),
+        Verb::Heartbeat => perform_heartbeat(alloc, system, caller, &needs, now),
     }
 }
 

@@ -32,6 +32,7 @@ fn copy_of(verdict: &Verdict) -> Result<Verdict, AllocError>
         Verdict::Done(Reply::Closed(bytes)) => Ok(Verdict::Done(Reply::Closed(*bytes))),
         Verdict::Done(Reply::Expired(files)) => Ok(Verdict::Done(Reply::Expired(*files))),
         Verdict::Done(Reply::Serial(serial)) => Ok(Verdict::Done(Reply::Serial(*serial))),
+        Verdict::Done(Reply::Heartbeat) => Ok(Verdict::Done(Reply::Heartbeat)),
         _ => verdict.clone(),
     }
 }

@@ -16,6 +16,7 @@ use flat_rows::denial::Denial;
 use hdfs_types::reply::ObjectKind;
 use hdfs_values::groups::has_group;
 use hdfs_values::name::Name;
+use hdfs_values::node_id::node_of;
 use hdfs_values::who::Who;
 use inode_tree::tree::Tree;
 use namespace_rows::row::Row;
@@ -154,6 +155,7 @@ fn is_met(need: &Need, component: &Component, above: &Who, caller: &Caller) -> b
         Need::Owner => caller.name() == inode.owner(),
         Need::Member(group) => has_group(caller.groups(), group),
         Need::Superuser => false,
+        Need::Node => node_of(caller.name()).is_some(),
     }
 }
 

@@ -1,6 +1,5 @@
 ghost use Rattle.std.specs.Prelude.{◌≡◌, false, IfOk};
 ghost use Rattle.hdfs_values.specs.Path.{IsPath};
-ghost use Rattle.principals.specs.Users.{caller_of};
 ghost use Rattle.namespace_rows.specs.First.{first_answer};
 ghost use Rattle.flat_rows.specs.Decision as spec;
 ghost use Rattle.perm_walk.specs.Reached.{IsReach};
@@ -11,10 +10,8 @@ use crate::reach::Reach;
 use flat_rows::denial::Denial;
 use hdfs_values::name::Name;
 use hdfs_values::path::{Path, is_same};
-use hdfs_values::who::Who;
 use inode_tree::tree::Tree;
 use principals::caller::Caller;
-use principals::users::Users;
 use required_rights::demand::{Demand, Needs};
 use std::alloc::{AllocError, Global};
 
@@ -231,13 +228,11 @@ pub fn walk_along_both<'a>(
 pub fn walk(
     alloc: Global,
     tree: &Tree,
-    users: &Users,
-    caller: &Who,
+    caller: &Caller,
     needs: &Needs,
 ) -> Result<Option<Denial>, AllocError>
-    ensures { IfOk result (λ denial. denial ≡ spec.denial_among tree.now (caller_of users.now caller.now) needs.now) }
+    ensures { IfOk result (λ denial. denial ≡ spec.denial_among tree.now caller.now needs.now) }
 {
-    let caller = users.caller(caller);
     if caller.is_superuser() {
         return Ok(None);
     }
@@ -257,5 +252,5 @@ pub fn walk(
         path: second,
         reach: None,
     };
-    first_denial(alloc, tree, demands, &caller, &mut from, &mut to)
+    first_denial(alloc, tree, demands, caller, &mut from, &mut to)
 }

@@ -298,17 +298,8 @@ module _ (rows : List Row) (other : List (List ℕ)) where
     stays (op.Append path) row h apart there = rewritten_elsewhere path (change.State (state_after_append name (holder_at (row_at path rows)))) apart ∙ there
     stays (op.Complete path last) row h apart there = rewritten_elsewhere path (change.State Closed) apart ∙ there
     stays (op.SetReplication path replication) row h apart there = rewritten_elsewhere path (change.Replication replication) apart ∙ there
-    stays (op.Stat path) row h apart there = there
-    stays (op.List path) row h apart there = there
-    stays (op.Summary path) row h apart there = there
-    stays (op.GetAcl path) row h apart there = there
-    stays (op.AddUser user groups) row h apart there = there
-    stays (op.SetGroups user groups) row h apart there = there
-    stays (op.AddBlock path last) row h apart there = there
-    stays (op.Open path) row h apart there = there
-    stays (op.RollKey key) row h apart there = there
-    stays op.Renew row h apart there = there
     stays op.Tick row h apart there = cc
+    stays _ row h apart there = there
 
     pub appears_nowhere_else : (what : Op) → concerns what other ≡ false → is_above_named other what ≡ false → row_at other rows ≡ None → row_at other (rows_after facts what name rows) ≡ None
     appears_nowhere_else (op.Mkdirs path mode) apart not_above there = by (row_at path rows) refl
@@ -326,17 +317,8 @@ module _ (rows : List Row) (other : List (List ℕ)) where
     appears_nowhere_else (op.Append path) apart not_above there = rewritten_elsewhere path (change.State (state_after_append name (holder_at (row_at path rows)))) apart ∙ there
     appears_nowhere_else (op.Complete path last) apart not_above there = rewritten_elsewhere path (change.State Closed) apart ∙ there
     appears_nowhere_else (op.SetReplication path replication) apart not_above there = rewritten_elsewhere path (change.Replication replication) apart ∙ there
-    appears_nowhere_else (op.Stat path) apart not_above there = there
-    appears_nowhere_else (op.List path) apart not_above there = there
-    appears_nowhere_else (op.Summary path) apart not_above there = there
-    appears_nowhere_else (op.GetAcl path) apart not_above there = there
-    appears_nowhere_else (op.AddUser user groups) apart not_above there = there
-    appears_nowhere_else (op.SetGroups user groups) apart not_above there = there
-    appears_nowhere_else (op.AddBlock path last) apart not_above there = there
-    appears_nowhere_else (op.Open path) apart not_above there = there
-    appears_nowhere_else (op.RollKey key) apart not_above there = there
-    appears_nowhere_else op.Renew apart not_above there = there
     appears_nowhere_else op.Tick apart not_above there = cc
+    appears_nowhere_else _ apart not_above there = there
 
 -- ---- what is moved
 

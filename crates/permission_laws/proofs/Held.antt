@@ -1,7 +1,8 @@
 -- The rights that an attempt had that is done.
 use Rattle.std.proofs.Common.{◌≡◌, ℕ, Bool, true, false, ◌&&◌, ◌||◌, not, List, [], ◌∷◌, ◌++◌, Option, Some, None, map, refl, sym, ap, ◌∙◌, cond}
 use Rattle.std.specs.Prelude.{unwrap_or, filter}
-use Rattle.std.specs.Option.{option_map, option_to_list}
+use Rattle.std.specs.Option.{option_map, option_to_list, is_some}
+use Rattle.hdfs_values.specs.NodeId.{node_of}
 use Rattle.hdfs_values.specs.Text.{same}
 use Rattle.hdfs_values.proofs.Texts.{same_is}
 use Rattle.permission_specs.specs.Rights.{rights}
@@ -9,6 +10,7 @@ use Rattle.permission_specs.specs.declared.rights.Rights as bits
 use Rattle.hdfs_values.specs.Groups.{has_group}
 use Rattle.hdfs_values.specs.Path.{is_prefix}
 use Rattle.hdfs_values.specs.PathOrder.{same_path}
+use Rattle.hdfs_types.specs.Request.{is_for_nodes}
 use Rattle.hdfs_types.specs.declared.op.Op.{Op}
 use Rattle.hdfs_types.specs.declared.op.Op.TheVariants as op
 use Rattle.hdfs_types.specs.declared.file.FileState.{FileState}
@@ -26,10 +28,10 @@ use Rattle.namespace_rows.specs.Namespace.{IsNamespace, suits_parts, suits_kind,
 use Rattle.namespace_rows.specs.Rows.{is_directory, row_at, is_none, is_missing, has_file, has_directory, ancestor, directory_of, owner_above, is_some_where}
 use Rattle.namespace_rows.proofs.Namespaces.{namespace_tests}
 use Rattle.namespace_rows.proofs.Tests.{and, both}
-use Rattle.required_rights.specs.declared.need.Need.TheVariants.{Rights, Sticky, Owner, Member, Superuser}
-use Rattle.required_rights.specs.RequiredRights.{Demand, traversal, strict_traversal, sticky_bit, creation, write_above, removal, access, overwriting, over_demands, listing, sub_tree, ownership, giving_away, membership, owner_demands, group_demands, administration}
+use Rattle.required_rights.specs.declared.need.Need.TheVariants.{Rights, Sticky, Owner, Member, Superuser, Node}
+use Rattle.required_rights.specs.RequiredRights.{Demand, traversal, strict_traversal, sticky_bit, creation, write_above, removal, access, overwriting, over_demands, listing, sub_tree, ownership, giving_away, membership, owner_demands, group_demands, administration, node_principal}
 use Rattle.flat_rows.specs.Denial.{Denial}
-use Rattle.flat_rows.specs.Decision.{ask_at, asks_of, denial_of, denial_among, decision}
+use Rattle.flat_rows.specs.Decision.{ask_at, asks_of, denial_of, denial_among, decision, ranked}
 use Rattle.flat_rows.specs.FileOutcome.{directory_there, if_some_file, of_file, refused_by_state, refused_write, refused_commit, holder_at}
 use Rattle.flat_rows.specs.Facts.{Facts}
 use Rattle.flat_rows.specs.Outcome.{beneath_file, nothing_at, first_some, first_refusal}
@@ -196,6 +198,18 @@ module _ (rows : List Row) (users : Users) (name : List ℕ) where
   administration_held namespace (op.RollKey key) h t = administered namespace h
   administration_held namespace op.Tick h t = administered namespace h
   administration_held namespace _ h t = cc
+
+  -- ---- DataNodes
+
+  node_met : IsNamespace rows → denial_among rows (ranked true who) (node_principal ∷ []) ≡ None → is_some (node_of name) ≡ true
+  node_met namespace h =
+      let root = root_stands rows (namespace_tests rows namespace).rooted in
+      one_met (ranked true who) refl rows Node root.0
+      (ap (λ r. first_answer (denial_of (ranked true who)) (map (ask_at rows Node) (option_to_list r))) (sym root.1) ∙ (first_met (ranked true who) rows node_principal [] h).0)
+
+  pub node_held : IsNamespace rows → (what : Op) → decision rows users name what ≡ None → is_for_nodes what ≡ true → is_some (node_of name) ≡ true
+  node_held namespace op.Heartbeat h t = node_met namespace h
+  node_held namespace _ h t = cc
 
   -- ---- what is made, read and altered
 

@@ -5,6 +5,7 @@ use Rattle.std.specs.Option.{option_or}
 use Rattle.hdfs_values.specs.Text.{same}
 use Rattle.hdfs_values.proofs.Texts.{same_is}
 use Rattle.hdfs_values.specs.Groups.{has_group}
+use Rattle.hdfs_types.specs.Request.{is_for_nodes}
 use Rattle.hdfs_types.specs.declared.op.Op.{Op}
 use Rattle.hdfs_types.specs.declared.reply.Refusal.{Refusal}
 use Rattle.principals.specs.Users.{Users, Caller, caller_of, groups_of, is_super}
@@ -12,7 +13,7 @@ use Rattle.namespace_rows.specs.declared.row.Row.{Row}
 use Rattle.namespace_rows.specs.First.{first_answer}
 use Rattle.required_rights.specs.RequiredRights.{required_rights}
 use Rattle.flat_rows.specs.Denial.{denial_at}
-use Rattle.flat_rows.specs.Decision.{Ask, asks_of, denial_of}
+use Rattle.flat_rows.specs.Decision.{Ask, asks_of, denial_of, asking, ranked}
 use Rattle.flat_rows.specs.Facts.{Facts}
 use Rattle.flat_rows.specs.Outcome.{step, denied_or_outcome, refused_or_done, first_refusal}
 use Rattle.flat_rows.specs.Verdicts.{is_denied}
@@ -23,9 +24,9 @@ none_denied caller super (ask ∷ asks) =
     ap (λ s. option_or (cond s None (denial_at ask.need ask.row ask.above caller.name caller.groups)) (first_answer (denial_of caller) asks)) super ∙ none_denied caller super asks
 
 module _ (facts : Facts) (rows : List Row) (users : Users) (caller : List ℕ) (op : Op) where
-  pub never_denied : is_super users caller ≡ true → is_denied (step facts rows users caller op).verdict ≡ false
-  never_denied super =
-      ap (λ d. is_denied (denied_or_outcome facts rows users caller op d).verdict) (none_denied (caller_of users caller) super (flat_map (asks_of rows) (required_rights op)))
+  pub never_denied : is_super users caller ≡ true → is_for_nodes op ≡ false → is_denied (step facts rows users caller op).verdict ≡ false
+  never_denied super plain =
+      ap (λ d. is_denied (denied_or_outcome facts rows users caller op d).verdict) (none_denied (asking users caller op) (ap (λ b. (ranked b (caller_of users caller)).is_superuser) plain ∙ super) (flat_map (asks_of rows) (required_rights op)))
       ∙ by (first_refusal facts caller op rows users)
     where
       by : (o : Option Refusal) → is_denied (refused_or_done facts rows users caller op o).verdict ≡ false

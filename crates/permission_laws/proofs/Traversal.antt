@@ -18,11 +18,11 @@ use Rattle.namespace_rows.specs.Rows.{is_directory, row_at, if_directory, ancest
 use Rattle.namespace_rows.proofs.Namespaces.{namespace_tests, ascending_filter}
 use Rattle.namespace_rows.proofs.PathOrders.{same_path_is}
 use Rattle.namespace_rows.proofs.Tests.{both, and, and_false, or_left, or_right, all_filtered}
-use Rattle.required_rights.specs.declared.need.Need.TheVariants.{Rights}
+use Rattle.required_rights.specs.declared.need.Need.TheVariants.{Rights, Node}
 use Rattle.required_rights.specs.declared.demand.Role.TheVariants.{Ancestor, Parent, Final}
-use Rattle.required_rights.specs.RequiredRights.{Demand, traversal, strict_traversal, sticky_bit, creation, write_above, removal, access, overwriting, over_demands, listing, sub_tree, ownership, giving_away, membership, administration, owner_demands, group_demands, required_rights}
+use Rattle.required_rights.specs.RequiredRights.{Demand, traversal, strict_traversal, sticky_bit, creation, write_above, removal, access, overwriting, over_demands, listing, sub_tree, ownership, giving_away, membership, administration, node_principal, owner_demands, group_demands, required_rights}
 use Rattle.flat_rows.specs.Denial.{Denial}
-use Rattle.flat_rows.specs.Decision.{asks_of, denial_among, rows_in_role, holds}
+use Rattle.flat_rows.specs.Decision.{asks_of, denial_among, rows_in_role, holds, ranked, asking}
 use Rattle.flat_rows.proofs.NewDirectories.{starts_self, ancestor_above}
 use Rattle.permission_laws.specs.Attempt.{paths_of}
 use Rattle.permission_laws.proofs.Deciding.{path_of_row, of_standing, each_met}
@@ -36,6 +36,9 @@ or_false false h = h
 
 differ : true ≡ false → ⊥
 differ e = cc
+
+none_is_none : {X : Type 0} {x : X} → None ≡ Some x → ⊥
+none_is_none e = cc
 
 module _ (rows : List Row) (namespace : IsNamespace rows) (users : Users) (name : List ℕ) where
   abbrev who : Caller
@@ -194,11 +197,24 @@ module _ (rows : List Row) (namespace : IsNamespace rows) (users : Users) (name 
   administered : Reached (administration ∷ [])
   administered = after administration [] (near administration (λ directory at up. cc) (final_inside [])) (λ h. nothing)
 
+  -- nothing is above the root
+  rootless : (directory : Row) → is_beneath [] directory.path ≡ true → closed directory ≡ false
+  rootless directory up = cc
+
+  nodes_reached : (denial : Denial) → denial_among rows (ranked true who) (node_principal ∷ []) ≡ Some denial → Open denial.row.path
+  nodes_reached denial h directory at up = by (found_in (ranked true who) (asks_of rows node_principal)) refl (parted (ranked true who) (asks_of rows node_principal) [] denial h)
+    where
+      by : (o : Option Denial) → found_in (ranked true who) (asks_of rows node_principal) ≡ o → Parted (ranked true who) (asks_of rows node_principal) [] denial o → closed directory ≡ false
+      by None e parts = absurd (none_is_none (parts.behind_it refl))
+      by (Some other) e parts =
+          let front = denied_among (ranked true who) rows Node (λ r. is_prefix r.path []) (rows_in_role Final [] rows) denial (e ∙ ap (λ d. Some d) (parts.in_front other refl)) (final_inside []) in
+          rootless directory (above_front [] denial.row.path directory.path front up)
+
   overwritten : (path : List (List ℕ)) (over : Bool) → Open path → Reached (over_demands path over)
   overwritten path true free = after (overwriting path) [] (near (overwriting path) free (final_inside path)) (λ h. nothing)
   overwritten path false free = nothing
 
-  pub reached : (what : Op) → Reached (required_rights what)
+  pub reached : (what : Op) (denial : Denial) → denial_among rows (asking users name what) (required_rights what) ≡ Some denial → Open denial.row.path
   reached (op.Mkdirs path mode) = along path (creation path ∷ []) (λ free. after (creation path) [] (near (creation path) free (ancestor_inside path)) (λ h. nothing))
   reached (op.Stat path) = along path [] (λ free. nothing)
   reached (op.List path) = along path (listing path ∷ []) (λ free. after (listing path) [] (near (listing path) free (final_inside path)) (λ h. nothing))
@@ -231,13 +247,14 @@ module _ (rows : List Row) (namespace : IsNamespace rows) (users : Users) (name 
   reached (op.RollKey key) = administered
   reached op.Renew = nothing
   reached op.Tick = administered
+  reached op.Heartbeat = nodes_reached
 
   -- ---- turned back at a closed directory
 
   -- of an operation with these needs, that names these paths
-  pub record Turned (demands : List Demand) (paths : List (List (List ℕ))) (path : List (List ℕ)) (directory : Row) : Type 0 where
+  pub record Turned (caller : Caller) (demands : List Demand) (paths : List (List (List ℕ))) (path : List (List ℕ)) (directory : Row) : Type 0 where
     pub denial : Denial
-    pub decided : denial_among rows who demands ≡ Some denial
+    pub decided : denial_among rows caller demands ≡ Some denial
     pub stands_there : row_at denial.row.path rows ≡ Some denial.row
     pub shut : closed denial.row ≡ true
     pub above : list_any (λ named. is_beneath named denial.row.path) paths ≡ true
@@ -261,7 +278,7 @@ module _ (rows : List Row) (namespace : IsNamespace rows) (users : Users) (name 
       by false false e k = k
 
   module _ (directory : Row) (at : row_at directory.path rows ≡ Some directory) (is_shut : closed directory ≡ true) where
-    one_path : (top : List (List ℕ)) (demands : List Demand) (path : List (List ℕ)) → (same_path path top || false) ≡ true → is_beneath path directory.path ≡ true → Turned (traversal top ∷ demands) (top ∷ []) path directory
+    one_path : (top : List (List ℕ)) (demands : List Demand) (path : List (List ℕ)) → (same_path path top || false) ≡ true → is_beneath path directory.path ≡ true → Turned who (traversal top ∷ demands) (top ∷ []) path directory
     one_path top demands path n up = by (found_in who (asks_of rows (traversal top))) refl
       where
         is : path ≡ top
@@ -270,7 +287,7 @@ module _ (rows : List Row) (namespace : IsNamespace rows) (users : Users) (name 
         up_top : is_beneath top directory.path ≡ true
         up_top = ap (λ p. is_beneath p directory.path) (sym is) ∙ up
 
-        by : (o : Option Denial) → found_in who (asks_of rows (traversal top)) ≡ o → Turned (traversal top ∷ demands) (top ∷ []) path directory
+        by : (o : Option Denial) → found_in who (asks_of rows (traversal top)) ≡ o → Turned who (traversal top ∷ demands) (top ∷ []) path directory
         by None e = absurd (differ (sym is_shut ∙ open_path top e directory at up_top))
         by (Some denial) e =
             let shut = shut_at top denial e in
@@ -284,7 +301,7 @@ module _ (rows : List Row) (namespace : IsNamespace rows) (users : Users) (name 
             }
 
     two_paths : (from to : List (List ℕ)) (demands : List Demand) (path : List (List ℕ)) → (same_path path from || (same_path path to || false)) ≡ true → is_beneath path directory.path ≡ true
-        → Turned (traversal from ∷ traversal to ∷ demands) (from ∷ to ∷ []) path directory
+        → Turned who (traversal from ∷ traversal to ∷ demands) (from ∷ to ∷ []) path directory
     two_paths from to demands path n up = by_from (found_in who (asks_of rows (traversal from))) refl
       where
         -- at the other path, or at this one
@@ -308,7 +325,7 @@ module _ (rows : List Row) (namespace : IsNamespace rows) (users : Users) (name 
         closed_on false true e g k first second = differ (sym is_shut ∙ second directory at (ap (λ p. is_beneath p directory.path) (sym (same_path_is path to g)) ∙ up))
         closed_on false false e g k first second = cc
 
-        by_to : None_found (traversal from) → (o : Option Denial) → found_in who (asks_of rows (traversal to)) ≡ o → Turned (traversal from ∷ traversal to ∷ demands) (from ∷ to ∷ []) path directory
+        by_to : None_found (traversal from) → (o : Option Denial) → found_in who (asks_of rows (traversal to)) ≡ o → Turned who (traversal from ∷ traversal to ∷ demands) (from ∷ to ∷ []) path directory
         by_to e None g = absurd (closed_on (same_path path from) (same_path path to) refl refl n (open_path from e) (open_path to g))
         by_to e (Some denial) g =
             let shut = shut_at to denial g in
@@ -321,7 +338,7 @@ module _ (rows : List Row) (namespace : IsNamespace rows) (users : Users) (name 
               on_way = then_to (is_prefix denial.row.path directory.path) (not (same_path from path) && is_beneath from denial.row.path) (not (same_path to path) && is_beneath to denial.row.path) (away denial to shut (same_path to path) refl);
             }
 
-        by_from : (o : Option Denial) → found_in who (asks_of rows (traversal from)) ≡ o → Turned (traversal from ∷ traversal to ∷ demands) (from ∷ to ∷ []) path directory
+        by_from : (o : Option Denial) → found_in who (asks_of rows (traversal from)) ≡ o → Turned who (traversal from ∷ traversal to ∷ demands) (from ∷ to ∷ []) path directory
         by_from None e = by_to e (found_in who (asks_of rows (traversal to))) refl
         by_from (Some denial) e =
             let shut = shut_at from denial e in
@@ -335,12 +352,12 @@ module _ (rows : List Row) (namespace : IsNamespace rows) (users : Users) (name 
             }
 
     -- what asks of traversal also while permission checking is off asks the same here
-    strict : (top : List (List ℕ)) (demands : List Demand) (path : List (List ℕ)) → (same_path path top || false) ≡ true → is_beneath path directory.path ≡ true → Turned (strict_traversal top ∷ demands) (top ∷ []) path directory
+    strict : (top : List (List ℕ)) (demands : List Demand) (path : List (List ℕ)) → (same_path path top || false) ≡ true → is_beneath path directory.path ≡ true → Turned who (strict_traversal top ∷ demands) (top ∷ []) path directory
     strict top demands path n up =
         let same = one_path top demands path n up in
         record { denial = same.denial; decided = same.decided; stands_there = same.stands_there; shut = same.shut; above = same.above; on_way = same.on_way }
 
-    pub turned : (what : Op) (path : List (List ℕ)) → list_any (same_path path) (paths_of what) ≡ true → is_beneath path directory.path ≡ true → Turned (required_rights what) (paths_of what) path directory
+    pub turned : (what : Op) (path : List (List ℕ)) → list_any (same_path path) (paths_of what) ≡ true → is_beneath path directory.path ≡ true → Turned (asking users name what) (required_rights what) (paths_of what) path directory
     turned (op.Mkdirs top mode) path n up = one_path top (creation top ∷ []) path n up
     turned (op.Stat top) path n up = one_path top [] path n up
     turned (op.List top) path n up = one_path top (listing top ∷ []) path n up
@@ -351,14 +368,10 @@ module _ (rows : List Row) (namespace : IsNamespace rows) (users : Users) (name 
     turned (op.SetMode top mode) path n up = strict top (ownership top ∷ []) path n up
     turned (op.SetOwner top owner group) path n up = strict top (ownership top ∷ (owner_demands top owner ++ group_demands top group)) path n up
     turned (op.SetAcl top change) path n up = strict top (ownership top ∷ []) path n up
-    turned (op.AddUser user groups) path n up = cc
-    turned (op.SetGroups user groups) path n up = cc
     turned (op.Create top mode replication over) path n up = one_path top (write_above top ∷ over_demands top over) path n up
     turned (op.Append top) path n up = one_path top (access (rights 2) top ∷ []) path n up
     turned (op.AddBlock top last) path n up = one_path top [] path n up
     turned (op.Complete top last) path n up = one_path top [] path n up
     turned (op.Open top) path n up = one_path top (access (rights 4) top ∷ []) path n up
     turned (op.SetReplication top replication) path n up = one_path top (access (rights 2) top ∷ []) path n up
-    turned (op.RollKey key) path n up = cc
-    turned op.Renew path n up = cc
-    turned op.Tick path n up = cc
+    turned _ path n up = cc

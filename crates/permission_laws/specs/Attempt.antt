@@ -82,17 +82,13 @@ paths_of (op.Rename from to) = from ∷ to ∷ []
 paths_of (op.SetMode path mode) = path ∷ []
 paths_of (op.SetOwner path owner group) = path ∷ []
 paths_of (op.SetAcl path change) = path ∷ []
-paths_of (op.AddUser user groups) = []
-paths_of (op.SetGroups user groups) = []
 paths_of (op.Create path mode replication over) = path ∷ []
 paths_of (op.Append path) = path ∷ []
 paths_of (op.AddBlock path last) = path ∷ []
 paths_of (op.Complete path last) = path ∷ []
 paths_of (op.Open path) = path ∷ []
 paths_of (op.SetReplication path replication) = path ∷ []
-paths_of (op.RollKey key) = []
-paths_of op.Renew = []
-paths_of op.Tick = []
+paths_of _ = []
 
 abbrev pub is_named : List (List ℕ) → Op → Bool
 is_named path op = list_any (same_path path) (paths_of op)

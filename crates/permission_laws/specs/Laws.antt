@@ -3,9 +3,12 @@
 -- (HDFS Permissions Guide, "Overview", "Permission Checks", "The Sticky Bit" and "The Super-User"; HDFS Architecture, the
 -- single-writer model.)
 use Rattle.std.specs.Prelude.{◌≡◌, ◌≢◌, ℕ, Bool, true, false, ◌||◌, List, ◌++◌, Option, Some, None}
+use Rattle.std.specs.Option.{is_some}
+use Rattle.hdfs_values.specs.NodeId.{node_of}
 use Rattle.hdfs_values.specs.Text.{same}
 use Rattle.hdfs_values.specs.Groups.{has_group}
 use Rattle.hdfs_values.specs.Path.{is_prefix, is_beneath}
+use Rattle.hdfs_types.specs.Request.{is_for_nodes}
 use Rattle.hdfs_types.specs.declared.op.Op.TheVariants as op
 use Rattle.principals.specs.Users.{Users, groups_of, is_super}
 use Rattle.namespace_rows.specs.declared.row.Row.{Row}
@@ -19,8 +22,9 @@ use Rattle.permission_laws.specs.Attempt.{Attempt, Holds, IsLastAbove, ending, I
 
 -- ---- superusers
 
+-- but for what is for DataNodes alone
 abbrev pub SuperusersAreNeverDenied : Type 0
-SuperusersAreNeverDenied = (attempt : Attempt) → by_superuser attempt ≡ true → is_denied (ending attempt).verdict ≡ false
+SuperusersAreNeverDenied = (attempt : Attempt) → by_superuser attempt ≡ true → is_for_nodes attempt.op ≡ false → is_denied (ending attempt).verdict ≡ false
 
 -- the user that the namesystem opens with and the members of the supergroup are superusers
 abbrev pub SuperusersByNameOrGroup : Type 0
@@ -33,6 +37,10 @@ OthersAreNoSuperusers = (users : Users) (user : List ℕ) → user ≢ users.sup
 -- only superusers make users known, give them groups, make keys and have leases expire
 abbrev pub OthersDoNotAdminister : Type 0
 OthersDoNotAdminister = (attempt : Attempt) → IsNamespace attempt.rows → IsDone attempt → administers attempt.op ≡ true → by_superuser attempt ≡ true
+
+-- only DataNodes do what is for them, and no superuser in their place
+abbrev pub OthersAreNoNodes : Type 0
+OthersAreNoNodes = (attempt : Attempt) → IsNamespace attempt.rows → IsDone attempt → is_for_nodes attempt.op ≡ true → is_some (node_of attempt.caller) ≡ true
 
 -- users and their groups change by nothing else
 abbrev pub UsersStay : Type 0

@@ -2,12 +2,17 @@
 
 ghost use Rattle.permission_laws.specs.Laws as law;
 
-/// A superuser is never denied, and nobody else is one than the user that the NameNode runs as and the members of the supergroup (HDFS
+/// A superuser is never denied what isn't for DataNodes alone, and nobody else is one than the user that the NameNode runs as and the members of the supergroup (HDFS
 /// Permissions Guide, "The Super-User").
 pub fn superusers_are_never_denied()
     ensures never { law.SuperusersAreNeverDenied }
     ensures known { law.SuperusersByNameOrGroup }
     ensures others { law.OthersAreNoSuperusers }
+{}
+
+/// Only the principal of a DataNode does what is for DataNodes: a heartbeat (HDFS Architecture, "Data Replication").
+pub fn nodes_act_for_themselves()
+    ensures { law.OthersAreNoNodes }
 {}
 
 /// Only superusers make users known, give them groups, make keys and have leases expire; users and groups change by nothing else (HDFS Permissions

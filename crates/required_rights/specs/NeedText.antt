@@ -14,6 +14,7 @@ need_text need.Sticky = codes "sticky"
 need_text need.Owner = codes "owner"
 need_text (need.Member group) = codes "member:" ++ group
 need_text need.Superuser = codes "superuser"
+need_text need.Node = codes "node"
 
 abbrev pub mask_text : Option bits.Rights → List ℕ
 mask_text None = []
@@ -25,3 +26,4 @@ by_text (by.Owner owner) = codes "owner:" ++ owner
 by_text (by.Owners owner above) = codes "owner:" ++ (owner ++ (codes " dir:" ++ above))
 by_text (by.Group group) = codes "group:" ++ group
 by_text by.Superuser = codes "superuser"
+by_text by.Node = codes "node"

@@ -6,7 +6,7 @@ use Rattle.permission_specs.specs.declared.rights.Rights as bits
 use Rattle.hdfs_types.specs.declared.op.Op.{Op}
 use Rattle.hdfs_types.specs.declared.op.Op.TheVariants as op
 use Rattle.required_rights.specs.declared.need.Need.{Need}
-use Rattle.required_rights.specs.declared.need.Need.TheVariants.{Rights, Sticky, Owner, Member, Superuser}
+use Rattle.required_rights.specs.declared.need.Need.TheVariants.{Rights, Sticky, Owner, Member, Superuser, Node}
 use Rattle.required_rights.specs.declared.demand.Role.{Role}
 use Rattle.required_rights.specs.declared.demand.Role.TheVariants.{Traversed, Ancestor, Parent, Final, SubTree}
 use Rattle.required_rights.specs.declared.demand.Condition.{Condition}
@@ -90,6 +90,10 @@ membership path group = demand_on path Always (Member group) enforced.Always
 abbrev pub administration : Demand
 administration = demand_on [] Always Superuser enforced.Always
 
+-- to be the principal of a DataNode; what has no path stands at the root
+abbrev pub node_principal : Demand
+node_principal = demand_on [] Always Node enforced.Always
+
 -- what giving a path another owner and another group needs
 abbrev pub owner_demands : List (List ℕ) → Option (List ℕ) → List Demand
 owner_demands path None = []
@@ -122,3 +126,4 @@ required_rights (op.SetReplication path replication) = traversal path ∷ access
 required_rights (op.RollKey key) = administration ∷ []
 required_rights op.Renew = []
 required_rights op.Tick = administration ∷ []
+required_rights op.Heartbeat = node_principal ∷ []

@@ -234,6 +234,19 @@ impl<'a> Demand<'a> {
         }
     }
 
+    /// To be the principal of a DataNode, at the root.
+    pub fn node_principal() -> Demand<'a>
+        ensures { result ≡ spec.node_principal }
+    {
+        Demand {
+            role: Role::Final,
+            path: &[],
+            condition: Condition::Always,
+            need: Need::Node,
+            enforcement: Enforcement::Always,
+        }
+    }
+
     pub fn role(&self) -> Role
         ensures { result ≡ self.now.role }
     {
@@ -429,6 +442,13 @@ fn needs_of_administration<'a>(alloc: Global) -> Result<Vec<Demand<'a>>, AllocEr
     Ok(vec![in alloc; Demand::administration()]?)
 }
 
+/// What only a DataNode does.
+fn needs_of_node<'a>(alloc: Global) -> Result<Vec<Demand<'a>>, AllocError>
+    ensures { IfOk result (λ demands. demands.items ≡ spec.node_principal ∷ []) }
+{
+    Ok(vec![in alloc; Demand::node_principal()]?)
+}
+
 /// The one table of required rights. Each line is one call: a function in which the needs themselves are made takes far longer
 /// to prove.
 fn demands_of<'a>(alloc: Global, op: &'a Op) -> Result<Vec<Demand<'a>>, AllocError>
@@ -455,6 +475,7 @@ fn demands_of<'a>(alloc: Global, op: &'a Op) -> Result<Vec<Demand<'a>>, AllocErr
         Op::AddUser(_, _) => needs_of_administration(alloc),
         Op::SetGroups(_, _) => needs_of_administration(alloc),
         Op::RollKey(_) | Op::Tick => needs_of_administration(alloc),
+        Op::Heartbeat => needs_of_node(alloc),
     }
 }
 

@@ -18,6 +18,8 @@ pub enum Need {
     Member(Who),
     /// To be a superuser.
     Superuser,
+    /// To be the principal of a DataNode.
+    Node,
 }
 
 impl Clone for Need {
@@ -30,6 +32,7 @@ impl Clone for Need {
             Need::Owner => Ok(Need::Owner),
             Need::Member(group) => Ok(Need::Member(group.clone()?)),
             Need::Superuser => Ok(Need::Superuser),
+            Need::Node => Ok(Need::Node),
         }
     }
 }
@@ -47,6 +50,7 @@ impl fmt::Display for Need {
             Need::Owner => write!(f, "owner"),
             Need::Member(group) => write!(f, "member:{group}"),
             Need::Superuser => write!(f, "superuser"),
+            Need::Node => write!(f, "node"),
         }
     }
 }
@@ -64,6 +68,8 @@ pub enum By {
     Group(Who),
     /// Whether the caller is a superuser.
     Superuser,
+    /// Whether the caller is the principal of a DataNode.
+    Node,
 }
 
 impl Clone for By {
@@ -76,6 +82,7 @@ impl Clone for By {
             By::Owners(owner, above) => Ok(By::Owners(owner.clone()?, above.clone()?)),
             By::Group(group) => Ok(By::Group(group.clone()?)),
             By::Superuser => Ok(By::Superuser),
+            By::Node => Ok(By::Node),
         }
     }
 }
@@ -94,6 +101,7 @@ impl fmt::Display for By {
             By::Owners(owner, above) => write!(f, "owner:{owner} dir:{above}"),
             By::Group(group) => write!(f, "group:{group}"),
             By::Superuser => write!(f, "superuser"),
+            By::Node => write!(f, "node"),
         }
     }
 }

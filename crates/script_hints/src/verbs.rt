@@ -12,7 +12,7 @@ pub struct Verb {
 }
 
 /// The verbs of scripts.
-pub static VERBS: [Verb; 21] = [
+pub static VERBS: [Verb; 22] = [
     Verb {
         name: "mkdirs",
         words: "P MODE",
@@ -100,6 +100,11 @@ pub static VERBS: [Verb; 21] = [
     },
     Verb {
         name: "tick",
+        words: "",
+        counts: [0, 0],
+    },
+    Verb {
+        name: "heartbeat",
         words: "",
         counts: [0, 0],
     },

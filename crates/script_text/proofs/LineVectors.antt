@@ -113,6 +113,9 @@ renew = refl
 tick : said (codes "0 ann tick") ≡ anns op.Tick
 tick = refl
 
+heartbeat : said (codes "0 ann heartbeat") ≡ anns op.Heartbeat
+heartbeat = refl
+
 mode_before_replication : said (codes "0 ann create /a 999 77") ≡ Err BadMode
 mode_before_replication = refl
 

@@ -152,7 +152,8 @@ rollkey_of digits = do
 abbrev pub op_of_none : List ℕ → Option (Result Op IllFormed)
 op_of_none verb =
     if same verb (codes "renew") then Some (Ok op.Renew) else
-    if same verb (codes "tick") then Some (Ok op.Tick) else None
+    if same verb (codes "tick") then Some (Ok op.Tick) else
+    if same verb (codes "heartbeat") then Some (Ok op.Heartbeat) else None
 
 -- the operation that a verb and its one word say
 abbrev pub op_of_one : List ℕ → List ℕ → Option (Result Op IllFormed)

@@ -217,6 +217,8 @@ fn op_of_none(verb: &str) -> Option<Result<Op, ParseFault>>
         Some(Ok(Op::Renew))
     } else if is_word(verb, "tick") {
         Some(Ok(Op::Tick))
+    } else if is_word(verb, "heartbeat") {
+        Some(Ok(Op::Heartbeat))
     } else {
         None
     }

@@ -4,7 +4,7 @@ use Rattle.std.specs.Option.{option_or}
 use Rattle.hdfs_types.specs.declared.op.Op.{Op}
 use Rattle.hdfs_types.specs.declared.op.Op.TheVariants.{Append}
 use Rattle.hdfs_types.specs.declared.reply.Refusal.{Refusal}
-use Rattle.principals.specs.Users.{Users, Caller, caller_of}
+use Rattle.principals.specs.Users.{Users, Caller}
 use Rattle.namespace_rows.specs.declared.file_row.FileRow.{FileRow}
 use Rattle.namespace_rows.specs.declared.row.Row.{Row}
 use Rattle.namespace_rows.specs.Rows.{row_at}
@@ -12,7 +12,7 @@ use Rattle.namespace_rows.specs.Files.{holder_of, holder_of_file}
 use Rattle.flat_rows.specs.FileOutcome.{directory_there, of_file, if_some_file, refused_takeover, appended_reply, holder_at}
 use Rattle.flat_rows.specs.Facts.{Facts}
 use Rattle.required_rights.specs.RequiredRights.{Demand, required_rights}
-use Rattle.flat_rows.specs.Decision.{denial_among}
+use Rattle.flat_rows.specs.Decision.{asking, denial_among}
 use Rattle.flat_rows.specs.Outcome.{Step, step, first_some, beneath_file, nothing_at, refusals_of_file, first_refusal, reply_of, refused_or_done, denied_or_outcome}
 use Rattle.perm_walk.specs.Found.{file_at_row, IsFileThere}
 use Rattle.perm_walk.specs.JudgedStep.{judged_step}
@@ -59,6 +59,6 @@ append_verdict facts path rows users caller needs file there granted =
     ∙ ap (λ denied. (denied_or_outcome facts rows users caller.name (Append path) denied).verdict) (sym granted)
 
 -- the verdict on what is judged with its needs is that of the step
-pub as_judged : (facts : Facts) (rows : List Row) (users : Users) (caller : List ℕ) (asking : Caller) (needs : List Demand) (what taken : Op) → asking ≡ caller_of users caller → needs ≡ required_rights what → what ≡ taken
-    → (judged_step facts rows users asking needs taken).verdict ≡ (step facts rows users caller what).verdict
-as_judged facts rows users caller asking needs what taken who all is = ap (λ (s : Step). s.verdict) (as_step facts rows users caller asking needs what taken who all is)
+pub as_judged : (facts : Facts) (rows : List Row) (users : Users) (caller : List ℕ) (who : Caller) (needs : List Demand) (what taken : Op) → who ≡ asking users caller taken → needs ≡ required_rights what → what ≡ taken
+    → (judged_step facts rows users who needs taken).verdict ≡ (step facts rows users caller what).verdict
+as_judged facts rows users caller who needs what taken him all is = ap (λ (s : Step). s.verdict) (as_step facts rows users caller who needs what taken him all is)

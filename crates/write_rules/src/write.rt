@@ -1,4 +1,5 @@
 ghost use Rattle.std.specs.Prelude.{◌≡◌, ℕ, List, true, false, length, IfOk};
+ghost use Rattle.hdfs_types.specs.Request.{is_for_nodes};
 ghost use Rattle.std.specs.Option.{option_or};
 ghost use Rattle.principals.specs.Users.{Users};
 ghost use Rattle.namespace_rows.specs.declared.row.Row.{Row};
@@ -331,8 +332,8 @@ pub fn judge(
     }
 }
 
-/// Judges an operation by its needs alone, where nothing else refuses it, or what does isn't known here: the denial, or none. Costs a
-/// descent along the paths of the needs, and for a need of a sub-tree the directories there.
+/// Judges an operation for users by its needs alone, where nothing else refuses it, or what does isn't known here: the denial, or
+/// none. Costs a descent along the paths of the needs, and for a need of a sub-tree the directories there.
 ///
 /// # Errors
 /// Out of memory.
@@ -343,7 +344,25 @@ pub fn judge_rights(
     caller: &Who,
     needs: &Needs,
 ) -> Result<Option<Denial>, AllocError>
-    ensures { (op : Op) → needs.now ≡ required_rights op → IfOk result (λ denial. denial ≡ decision tree.now users.now caller.now op) }
+    ensures { (op : Op) → is_for_nodes op ≡ false → needs.now ≡ required_rights op → IfOk result (λ denial. denial ≡ decision tree.now users.now caller.now op) }
 {
-    walk(alloc, tree, users, caller, needs)
+    walk(alloc, tree, &users.caller(caller), needs)
+}
+
+/// Judges an operation for DataNodes by its needs alone, for which it is of no use to be a superuser: the denial, or none.
+///
+/// # Errors
+/// Out of memory.
+pub fn judge_node(
+    alloc: Global,
+    tree: &Tree,
+    users: &Users,
+    caller: &Who,
+    needs: &Needs,
+) -> Result<Option<Denial>, AllocError>
+    ensures { (op : Op) → is_for_nodes op ≡ true → needs.now ≡ required_rights op → IfOk result (λ denial. denial ≡ decision tree.now users.now caller.now op) }
+{
+    let user = users.caller(caller);
+    let asking = Caller::new(user.name(), user.groups(), false);
+    walk(alloc, tree, &asking, needs)
 }

@@ -40,6 +40,10 @@ pub returns-in-Renew-clause-ok : goal.returns-in-Renew-clause-ok
 returns-in-Renew-clause-ok c = λ last exact.
     subst (λ what. IfOk c.perform_renewal.result (λ verdict. IsPerformed last c.args.now c.args.request.now.caller what c.args.system.now verdict c.perform_renewal.new.system)) (sym (ap op_of c.in-Renew.is) ∙ c.verb.ensures) (c.perform_renewal.ensures.ok last exact)
 
+pub returns-in-Tick-clause-ok : goal.returns-in-Tick-clause-ok
+returns-in-Tick-clause-ok c = λ last exact.
+    subst (λ what. IfOk c.perform_tick.result (λ verdict. IsPerformed last c.args.now c.args.request.now.caller what c.args.system.now verdict c.perform_tick.new.system)) (sym (ap op_of c.in-Tick.is) ∙ c.verb.ensures) (c.perform_tick.ensures.ok last exact)
+
 pub returns-clause-ok : goal.returns-clause-ok
 returns-clause-ok c = λ last exact.
-    subst (λ what. IfOk c.perform_tick.result (λ verdict. IsPerformed last c.args.now c.args.request.now.caller what c.args.system.now verdict c.perform_tick.new.system)) (sym (ap op_of c.in-Tick.is) ∙ c.verb.ensures) (c.perform_tick.ensures.ok last exact)
+    subst (λ what. IfOk c.perform_heartbeat.result (λ verdict. IsPerformed last c.args.now c.args.request.now.caller what c.args.system.now verdict c.perform_heartbeat.new.system)) (sym (ap op_of c.in-Heartbeat.is) ∙ c.verb.ensures) (c.perform_heartbeat.ensures.ok last exact)

@@ -8,5 +8,5 @@ use Rattle.name_core.proofs.namesystem.perform_read.Goals as goal
 pub returns : goal.returns
 returns c = λ last now exact.
     given_all c.answer.result _ _
-    (λ verdict all. performed_kept last now c.args.caller.now (read_op c.args.read) c.args.system.now c.args.system.now verdict (read_keeps c.args.read) c.requires.namespace refl refl all (λ h. undone_same c.args.system.now) exact)
+    (λ verdict all. performed_kept last now c.args.caller.now (read_op c.args.read) c.args.system.now c.args.system.now verdict (read_keeps c.args.read) c.requires.namespace refl refl refl all (λ h. undone_same c.args.system.now) exact)
     c.answer.ensures

@@ -9,4 +9,4 @@ returns-then-count-eq0-clause-ok c = λ last exact.
 pub returns-clause-ok : goal.returns-clause-ok
 returns-clause-ok c = λ last exact.
     done_renewal last c.args.now c.args.caller.now c.args.system.now (record (c.args.system.now) { writers = c.renew.new.self }) c.count.result
-    c.count.ensures c.if-count-eq0.false refl refl refl c.in_ok-renew.ensures.files c.in_ok-renew.ensures.leased exact
+    c.count.ensures c.if-count-eq0.false refl refl refl refl c.in_ok-renew.ensures.files c.in_ok-renew.ensures.leased exact
