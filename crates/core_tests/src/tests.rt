@@ -1,6 +1,7 @@
 ghost use Rattle.std.specs.Prelude.{◌≡◌, ◌≤◌, IfOk, OnOk};
 ghost use Rattle.lease_manager.specs.Leases.{latest_moment};
 
+use block_map::blocks::Blocks;
 use block_tokens::ring::KeyRing;
 use flat_rows::verdict::Verdict;
 use hdfs_types::key::Key;
@@ -8,6 +9,7 @@ use hdfs_types::op::{Op, Request};
 use hdfs_types::reply::{Counter, Refusal, Reply};
 use hdfs_values::ids::Serial;
 use hdfs_values::moment::Moment;
+use hdfs_values::node_id::NodeId;
 use hdfs_values::path::Path;
 use hdfs_values::replication::Repl;
 use hdfs_values::who::Who;
@@ -182,6 +184,7 @@ fn system(alloc: Global) -> Result<Namesystem, Fail>
         users: Users::new(alloc, superuser, supergroup),
         writers: Writers::new(alloc, 60_000, 1_200_000),
         ring: KeyRing::new(alloc, Serial::new(1), Key::new([0; 20]), 36_000_000),
+        blocks: Blocks::new(alloc, 630_000, 60_000, 1, 1001),
     })
 }
 
@@ -295,5 +298,48 @@ fn the_greatest_serial_is_never_given(rt: HostRuntime) -> Result<(), Fail> {
     assert_eq!(rt; last, [Some(Serial::new(u32::MAX - 1)), None]);
     let spent = next_serials(rt.alloc(), u32::MAX - 1)?;
     assert_eq!(rt; spent, [None, None]);
+    Ok(())
+}
+
+// A heartbeat in the name of a caller.
+fn beating(alloc: Global, caller: &str) -> Result<Request, Fail> {
+    let moment = Moment::new(0).ok_or("a moment")?;
+    let caller = who(alloc, caller)?;
+    Ok(Request {
+        caller,
+        moment,
+        op: Op::Heartbeat,
+    })
+}
+
+// Has a core hear of each caller.
+fn hear_each(alloc: Global, core: &mut NameCore, callers: &[&str]) -> Result<(), Fail> {
+    for caller in callers {
+        core.append(0, 0, beating(alloc, caller)?)?;
+    }
+    Ok(())
+}
+
+// Whether DataNode 1 lives at a moment, for a core that heard of callers at moment 0.
+fn lives(alloc: Global, callers: &[&str], now: u64) -> Result<bool, Fail> {
+    let node = NodeId::new(1).ok_or("a node")?;
+    let now = Moment::new(now).ok_or("a moment")?;
+    let mut core = NameCore::open(alloc, Config::standard(), Key::new([1; 20]))?;
+    let heard = hear_each(alloc, &mut core, callers);
+    let lives = core.blocks().is_live(node, now);
+    drop(core);
+    heard?;
+    Ok(lives)
+}
+
+#[test]
+fn nodes_live_by_their_own_heartbeats(rt: HostRuntime) -> Result<(), Fail> {
+    let alloc = rt.alloc();
+    let found = [
+        lives(alloc, &["dn-1"], 630_000)?,
+        lives(alloc, &["dn-1"], 630_001)?,
+        lives(alloc, &["hdfs", "dn-2", "dn-01"], 0)?,
+    ];
+    assert_eq!(rt; found, [true, false, false]);
     Ok(())
 }

@@ -19,7 +19,7 @@ use hdfs_values::ids::Serial;
 use hdfs_values::moment::Moment;
 use hdfs_values::who::Who;
 use history::config::Config;
-use history::entry::{Answer, HistoryEntry};
+use history::entry::{Answer, HistoryEntry, copy_of};
 use inode_tree::tree::Tree;
 use lease_manager::open_paths::OpenPaths;
 use lease_manager::writers::Writers;
@@ -170,6 +170,31 @@ impl NameCore {
             history: Vec::new(alloc),
             alloc,
         })
+    }
+
+    /// The limits and the first numbers with which the core opened. Takes no memory.
+    pub fn config(&self) -> Config
+        ensures { result.now ≡ self.now.opening.config }
+    {
+        self.config
+    }
+
+    /// The bytes of the key under which tokens were issued first. Takes no memory.
+    pub fn first_key(&self) -> Key
+        ensures { result ≡ self.now.opening.key }
+    {
+        self.first_key
+    }
+
+    /// A copy of the entries, the oldest first. Costs the history.
+    ///
+    /// # Errors
+    /// Out of memory.
+    pub fn copy_history(&self) -> Result<Vec<HistoryEntry>, AllocError>
+        ensures entries { IfOk result (λ copy. reverse copy.items ≡ self.now.entries) }
+        ensures legal { IsLegal self.now.opening self.now.entries }
+    {
+        copy_of(self.alloc, self.history())
     }
 
     /// The number of entries. Takes no memory.

@@ -7,7 +7,7 @@ use Rattle.permission_specs.specs.declared.rights.Rights as bits
 use Rattle.principals.specs.Users.{Caller}
 use Rattle.namespace_rows.specs.declared.row.Row.{Row}
 use Rattle.required_rights.specs.declared.need.Need.{Need}
-use Rattle.required_rights.specs.declared.need.Need.TheVariants.{Rights, Sticky, Owner, Member, Superuser}
+use Rattle.required_rights.specs.declared.need.Need.TheVariants.{Rights, Sticky, Owner, Member, Superuser, Node}
 use Rattle.hdfs_values.specs.Path.{is_path, is_prefix}
 use Rattle.hdfs_values.specs.PathOrder.{same_path}
 use Rattle.namespace_rows.specs.First.{first, first_answer}
@@ -100,6 +100,8 @@ final_role (Member group) Final suits other = refl
 final_role (Member group) _ suits other = cc
 final_role Superuser Final suits other = refl
 final_role Superuser _ suits other = cc
+final_role Node Final suits other = refl
+final_role Node _ suits other = cc
 
 pub is_of_final : (demand : Demand) → IsDemand demand → ((asked : bits.Rights) → demand.need ≡ Rights asked → ⊥) → demand.role ≡ Final
 is_of_final demand is other = final_role demand.need demand.role (both (is_path demand.path) (suits_role demand.need demand.role) is).1 other
