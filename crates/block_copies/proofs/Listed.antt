@@ -1,5 +1,5 @@
 -- A node copies only blocks that it holds, so it suffices to go over these.
-use Rattle.std.proofs.Common.{◌≡◌, ℕ, ◌==◌, Bool, true, false, ◌&&◌, ◌||◌, List, [], ◌∷◌, filter, Option, Some, None, refl, sym, ap, ◌∙◌, cond, true≢false}
+use Rattle.std.proofs.Common.{◌≡◌, ℕ, suc, Bool, true, false, ◌&&◌, ◌||◌, List, [], ◌∷◌, filter, Option, Some, None, refl, sym, ap, ◌∙◌, cond, true≢false}
 use Rattle.std.proofs.lemmas.Bool.{eqb-true}
 use Rattle.std.proofs.lemmas.Map.Entries.{lookup_from_place}
 use Rattle.std.proofs.lemmas.Map.Keys.{IsDistinct-from_sorted}
@@ -7,6 +7,7 @@ use Rattle.std.specs.Cmp.{eq_by_cmp_equiv, nat_cmp_total}
 use Rattle.std.specs.List.{cons_option, find, filter_map, slice_get}
 use Rattle.std.specs.List.Sorted.{IsStrictlySortedBy}
 use Rattle.std.specs.Map.{keys_of}
+use Rattle.std.specs.Option.{option_map}
 use Rattle.std.specs.Ordering.{nat_cmp}
 use Rattle.block_records.specs.Numbers.{has_number, entry_at}
 use Rattle.block_records.specs.Verdicts.{holds_by}
@@ -18,22 +19,22 @@ use Rattle.block_copies.specs.declared.transfer.Transfer.{Transfer}
 
 found_passes : (p : ℕ → Bool) (numbers : List ℕ) (node : ℕ) → is_the node (find p numbers) ≡ true → p node ≡ true
 found_passes p [] node is = absurd (true≢false (sym is))
-found_passes p (n ∷ numbers) node is = by (p n) refl is
+found_passes p (n ∷ numbers) node is = by (p n) refl is (found_passes p numbers node)
   where
-    by : (b : Bool) → p n ≡ b → is_the node (cond b (Some n) (find p numbers)) ≡ true → p node ≡ true
-    by true here same = ap p (sym (eqb-true n node same)) ∙ here
-    by false here rest = found_passes p numbers node rest
+    by : (b : Bool) → p n ≡ b → is_the node (cond b (Some n) (find p numbers)) ≡ true → (is_the node (find p numbers) ≡ true → p node ≡ true) → p node ≡ true
+    by true here same rest = ap p (sym (eqb-true n node same)) ∙ here
+    by false here same rest = rest same
 
 -- of a block that it doesn't hold a node makes no copy
 nothing : (loads : ℕ → ℕ) (at : HandOut) (node block : ℕ) (own : BlockRecord) → holds_by node (Some own) ≡ false → transfer_of loads at node block own ≡ None
 nothing loads at node block own lacks = by (copies_from at.live node own) refl
   where
-    holding : (b : Bool) → (has_number node own.expected || b) ≡ false → b ≡ true → true ≡ false
-    holding true none is = grind (none, is)
-    holding false none is = sym is
+    holding : (expected reported : Bool) → (expected || reported) ≡ false → reported ≡ true → true ≡ false
+    holding true reported none is = none
+    holding false reported none is = sym is ∙ none
 
-    by : (b : Bool) → copies_from at.live node own ≡ b → cond (b && is_short at own) (transfer_of loads at node block own) None ≡ None
-    by true copies = absurd (true≢false (holding (reports own node) lacks (found_passes (reports own) at.live node copies)))
+    by : (b : Bool) → copies_from at.live node own ≡ b → cond (b && is_short at own) (option_map {U = Transfer} (λ target. record { block = block; stamp = own.stamp; target = target }) (target_of loads at.live own)) None ≡ None
+    by true copies = absurd (true≢false (holding (has_number node own.expected) (reports own node) lacks (found_passes (reports own) at.live node copies)))
     by false copies = refl
 
 listed_in : (table rest : List (ℕ × BlockRecord)) (at : HandOut) (node : ℕ) → ((i block : ℕ) (own : BlockRecord) → slice_get rest i ≡ Some (block, own) → entry_at block table ≡ Some own)

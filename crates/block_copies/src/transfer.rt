@@ -36,10 +36,7 @@ fn may_hand_out(at: &HandOut, last: Option<Moment>) -> bool
 {
     match last {
         Some(last) => {
-            at.moment
-                .milliseconds()
-                .saturating_sub(last.milliseconds())
-                > at.retry as u64
+            at.moment.milliseconds().saturating_sub(last.milliseconds()) > at.retry as u64
         }
         None => true,
     }

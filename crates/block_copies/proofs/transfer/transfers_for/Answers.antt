@@ -9,6 +9,6 @@ use Rattle.block_copies.proofs.transfer.transfers_for.Goals as goal
 pub returns : goal.returns
 returns c = subst
     (λ own. IfOk c.transfers_of.result (λ transfers. transfers.items ≡ own))
-    (ap (filter_map (λ block. transfer_by (load c.args.known.now.blocks) c.args.at.now c.args.node block (entry_at block c.args.known.now.blocks))) c.in_ok-blocks.ensures.blocks
+    (ap (filter_map (λ block. transfer_by (load c.args.known.now.blocks) c.args.at.now c.args.node block (entry_at block c.args.known.now.blocks))) (c.deref.ensures.value ∙ c.in_ok-blocks.ensures.blocks)
     ∙ listed c.args.known.now.blocks c.args.at.now c.args.node c.blocks_of.ensures.ascending)
     c.transfers_of.ensures
