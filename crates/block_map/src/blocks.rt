@@ -506,11 +506,7 @@ impl Blocks {
     ///
     /// # Errors
     /// Out of memory. Nothing has changed then.
-    pub fn take_transfers(
-        &mut self,
-        node: NodeId,
-        now: Moment,
-    ) -> Result<Vec<Transfer>, AllocError>
+    pub fn take_transfers(&mut self, node: NodeId, now: Moment) -> Result<Vec<Transfer>, AllocError>
         ensures transfers { IfOk result (λ transfers. transfers.items ≡ transfers_for self.old now node) }
         ensures ok { OnOk result (self.new ≡ effect.told_transfers self.old now (transfers_for self.old now node)) }
         ensures err { OnErr result (self.new ≡ self.old) }
