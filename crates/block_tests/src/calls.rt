@@ -42,26 +42,34 @@ pub fn tell_nodes(nodes: &[NodeId], text: &mut String) -> Result<(), Fail> {
     Ok(())
 }
 
-fn tell_refusal(refusal: BlockRefusal, text: &mut String) -> Result<(), Fail> {
+fn tell_stale(newest: Stamp, text: &mut String) -> Result<(), Fail> {
+    let newest = newest.get();
+    Ok(write!(text, "StaleStamp {newest} ")?)
+}
+
+fn name_of(refusal: &BlockRefusal) -> &'static str {
     match refusal {
-        BlockRefusal::NotFound => text.push_str("NotFound ")?,
-        BlockRefusal::NotOpen => text.push_str("NotOpen ")?,
-        BlockRefusal::NotYetReplicated => text.push_str("NotYetReplicated ")?,
-        BlockRefusal::TooFewNodes => text.push_str("TooFewNodes ")?,
-        BlockRefusal::StaleStamp(newest) => {
-            let newest = newest.get();
-            write!(text, "StaleStamp {newest} ")?;
-        }
-        BlockRefusal::Spent(Counter::BlockId) => text.push_str("Spent BlockId ")?,
-        BlockRefusal::Spent(Counter::Stamp) => text.push_str("Spent Stamp ")?,
+        BlockRefusal::NotFound => "NotFound ",
+        BlockRefusal::NotOpen => "NotOpen ",
+        BlockRefusal::NotYetReplicated => "NotYetReplicated ",
+        BlockRefusal::TooFewNodes => "TooFewNodes ",
+        BlockRefusal::StaleStamp(_) => "StaleStamp ",
+        BlockRefusal::Spent(Counter::BlockId) => "Spent BlockId ",
+        BlockRefusal::Spent(Counter::Stamp) => "Spent Stamp ",
     }
-    Ok(())
+}
+
+fn tell_refusal(refusal: &BlockRefusal, text: &mut String) -> Result<(), Fail> {
+    if let BlockRefusal::StaleStamp(newest) = refusal {
+        return tell_stale(*newest, text);
+    }
+    Ok(text.push_str(name_of(refusal))?)
 }
 
 /// Writes the refusal; out of memory fails the test.
 pub fn tell_fault(fault: BlockFault, text: &mut String) -> Result<(), Fail> {
     match fault {
-        BlockFault::Refused(refusal) => tell_refusal(refusal, text),
+        BlockFault::Refused(refusal) => tell_refusal(&refusal, text),
         BlockFault::OutOfMemory => Err("out of memory")?,
     }
 }
