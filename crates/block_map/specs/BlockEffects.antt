@@ -10,6 +10,7 @@ use Rattle.block_records.specs.declared.block_record.BlockRecord.{BlockRecord}
 use Rattle.block_records.specs.declared.report.ReportVerdict.{ReportVerdict}
 use Rattle.block_records.specs.declared.report.ReportVerdict.TheVariants.{Superseded, Invalid, Valid}
 use Rattle.block_records.specs.declared.mark.Mark.{Mark}
+use Rattle.block_copies.specs.declared.transfer.Transfer.{Transfer}
 use Rattle.block_tables.specs.Changes.{with_report, without_report, with_replication, with_length, with_recovered}
 use Rattle.recovery_queue.specs.Queue as queue
 use Rattle.heartbeats.specs.Live as nodes
@@ -104,6 +105,10 @@ recovered facts block length nodes = record facts {
 -- a node was told of the recoveries that it is to lead
 abbrev pub told_recoveries : BlockFacts → ℕ → BlockFacts
 told_recoveries facts node = record facts { queued = queue.told facts.queued node }
+
+-- a node was told now to make these copies
+abbrev pub told_transfers : BlockFacts → ℕ → List Transfer → BlockFacts
+told_transfers facts now transfers = record facts { known = known.told facts.known (map (λ transfer. transfer.block) transfers) now }
 
 -- ---- a node's report of a replica
 

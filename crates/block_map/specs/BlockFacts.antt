@@ -14,6 +14,8 @@ use Rattle.block_placement.specs.Placement.{targets}
 use Rattle.block_tables.specs.Kept.{load}
 use Rattle.recovery_queue.specs.Queue.{led_by}
 use Rattle.heartbeats.specs.Live.{Heartbeats, live_nodes, primary_of}
+use Rattle.block_copies.specs.Copies as copies
+use Rattle.block_copies.specs.declared.transfer.Transfer.{Transfer}
 use Rattle.known_blocks.specs.Known as known
 use Rattle.known_blocks.specs.Known.{Known, refused_new_stamp}
 use Rattle.block_map.specs.declared.recovery.Recovery.{Recovery}
@@ -77,6 +79,10 @@ recovery_by block found = option_map (λ (own : BlockRecord). record { block = b
 -- the recoveries that a node is to lead, by block
 abbrev pub recoveries_for : BlockFacts → ℕ → List Recovery
 recoveries_for facts node = filter_map (λ block. recovery_by block (block_of facts block)) (led_by node facts.queued)
+
+-- the copies that a node is to make now, by block
+abbrev pub transfers_for : BlockFacts → ℕ → ℕ → List Transfer
+transfers_for facts now node = copies.transfers_for facts.known.blocks (record { live = live_nodes facts.nodes now; moment = now; retry = facts.retry }) node
 
 -- ---- refusals
 

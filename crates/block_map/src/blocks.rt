@@ -3,13 +3,15 @@ ghost use Rattle.std.specs.List.{filter_map};
 ghost use Rattle.std.specs.Option.{option_map};
 ghost use Rattle.heartbeats.specs.Live.{is_live, live_nodes};
 ghost use Rattle.known_blocks.specs.Known.{refused_new_block};
-ghost use Rattle.block_map.specs.BlockFacts.{newest_stamp, committed_length, recovering_since, expected_nodes, chosen_targets, recovery_by, recoveries_for, refused_targets, refused_commit, refused_recovery, refused_recovered, IsFaultOf, block_of};
+ghost use Rattle.block_map.specs.BlockFacts.{newest_stamp, committed_length, recovering_since, expected_nodes, chosen_targets, recovery_by, recoveries_for, transfers_for, refused_targets, refused_commit, refused_recovery, refused_recovered, IsFaultOf, block_of};
 ghost use Rattle.block_map.specs.BlockEffects as effect;
+ghost use Rattle.block_copies.specs.declared.transfer.Transfer.{Transfer};
 ghost use Rattle.block_records.specs.Marks.{marks_for};
 ghost use Rattle.block_records.specs.Verdicts.{verdict_by};
 ghost use Rattle.block_records.specs.declared.block_record.BlockRecord.{BlockRecord};
 
 use crate::recovery::Recovery;
+use block_copies::transfer::{HandOut, Transfer};
 use block_records::fault::{BlockFault, BlockRefusal};
 use block_records::mark::{Mark, Marks};
 use block_records::node_set::NodeSet;
@@ -61,6 +63,16 @@ fn marks_of(
             block,
             stamp,
         })
+        .collect(alloc)
+}
+
+// The blocks of these copies.
+fn blocks_of(alloc: Global, transfers: &[Transfer]) -> Result<Vec<BlockId>, AllocError>
+    ensures { IfOk result (λ blocks. blocks.items ≡ map (λ (transfer : Transfer). transfer.block) transfers.now) }
+{
+    transfers
+        .iter()
+        .map(|transfer| transfer.block)
         .collect(alloc)
 }
 
@@ -469,6 +481,40 @@ impl Blocks {
         ensures err { OnErr result (self.new ≡ self.old) }
     {
         self.marks.take(self.alloc, node)
+    }
+
+    /// The copies that a node is to make, by block: of each committed block that fewer live nodes report than there are to be replicas,
+    /// where the node is the lowest live one that reports it and nobody was told to copy it within the retry limit. It goes to the live node
+    /// with the fewest blocks, ties to the lowest id, of those that don't report it. Costs a look-up for each node that ever sent a
+    /// heartbeat, the live nodes for each block that the node is to hold or reported, and a sort of them for each copy.
+    ///
+    /// # Errors
+    /// Out of memory.
+    pub fn under_replicated(&self, node: NodeId, now: Moment) -> Result<Vec<Transfer>, AllocError>
+        ensures { IfOk result (λ transfers. transfers.items ≡ transfers_for self.now now node) }
+    {
+        let at = HandOut {
+            live: self.live_nodes(now)?,
+            moment: now,
+            retry: self.retry,
+        };
+        block_copies::transfer::transfers_for(self.alloc, &self.known, &at, node)
+    }
+
+    /// The copies that a node is to make, of which it is told now: none of these blocks is copied again within the retry limit. Costs as
+    /// `under_replicated`, and a look-up for each copy.
+    ///
+    /// # Errors
+    /// Out of memory. Nothing has changed then.
+    pub fn take_transfers(&mut self, node: NodeId, now: Moment) -> Result<Vec<Transfer>, AllocError>
+        ensures transfers { IfOk result (λ transfers. transfers.items ≡ transfers_for self.old now node) }
+        ensures ok { OnOk result (self.new ≡ effect.told_transfers self.old now (transfers_for self.old now node)) }
+        ensures err { OnErr result (self.new ≡ self.old) }
+    {
+        let transfers = self.under_replicated(node, now)?;
+        let blocks = blocks_of(self.alloc, &transfers)?;
+        self.known.hand_out(&blocks, now);
+        Ok(transfers)
     }
 
     /// Notes a node's heartbeat. Costs a look-up.

@@ -1,5 +1,6 @@
 ghost use Rattle.std.specs.Prelude.{◌≡◌, ◌<◌, ℕ, [], Some, None, map, filter, length, if◌then◌else◌, option_copied, IfSome, IfOk, OnOk, OnErr};
 ghost use Rattle.std.specs.BTreeMap.{insert_entry};
+ghost use Rattle.std.specs.List.Sorted.{IsStrictlySortedBy};
 ghost use Rattle.std.specs.Map.{remove_entry, keys_of};
 ghost use Rattle.std.specs.Ordering.{nat_cmp};
 ghost use Rattle.block_records.specs.Numbers.{is_number, entry_at};
@@ -304,7 +305,8 @@ impl BlockTable {
     /// # Errors
     /// Out of memory.
     pub fn blocks_of(&self, alloc: Global, node: NodeId) -> Result<Vec<BlockId>, AllocError>
-        ensures { IfOk result (λ blocks. blocks.items ≡ blocks_of self.now node) }
+        ensures blocks { IfOk result (λ blocks. blocks.items ≡ blocks_of self.now node) }
+        ensures ascending { IsStrictlySortedBy nat_cmp (keys_of self.now) }
     {
         // its contract tells that the keys ascend
         let _count = self.records.len();

@@ -1,5 +1,7 @@
 ghost use Rattle.std.specs.Prelude.{◌≡◌, ◌<◌, [], None, Some, option_copied, OnOk, OnErr, IfOk, IfErr, IfSome};
+ghost use Rattle.std.specs.List.Sorted.{IsStrictlySortedBy};
 ghost use Rattle.std.specs.Map.{keys_of};
+ghost use Rattle.std.specs.Ordering.{nat_cmp};
 ghost use Rattle.block_records.specs.Marks.{with_marks};
 ghost use Rattle.block_records.specs.Reports.{others_of};
 ghost use Rattle.block_placement.specs.Placement.{targets};
@@ -68,7 +70,8 @@ impl KnownBlocks {
     /// # Errors
     /// Out of memory.
     pub fn blocks_of(&self, node: NodeId) -> Result<Vec<BlockId>, AllocError>
-        ensures { IfOk result (λ blocks. blocks.items ≡ blocks_of self.now.blocks node) }
+        ensures blocks { IfOk result (λ blocks. blocks.items ≡ blocks_of self.now.blocks node) }
+        ensures ascending { IsStrictlySortedBy nat_cmp (keys_of self.now.blocks) }
     {
         self.table.blocks_of(self.alloc, node)
     }
