@@ -174,7 +174,7 @@ impl NameCore {
 
     /// The limits and the first numbers with which the core opened. Takes no memory.
     pub fn config(&self) -> Config
-        ensures { result.now ≡ self.now.opening.config }
+        ensures { result ≡ self.now.opening.config }
     {
         self.config
     }
