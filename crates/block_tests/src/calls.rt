@@ -2,7 +2,9 @@
 
 use block_copies::transfer::Transfer;
 use block_map::blocks::Blocks;
+use block_map::recovery::Recovery;
 use block_records::fault::{BlockFault, BlockRefusal, Counter};
+use block_records::mark::Mark;
 use block_records::node_set::NodeSet;
 use hdfs_values::ids::{BlockId, Stamp};
 use hdfs_values::moment::Moment;
@@ -88,20 +90,30 @@ fn set_replication(blocks: &mut Blocks, block: u64, replication: u8) -> Result<(
     Ok(())
 }
 
+fn tell_new(blocks: &Blocks, block: BlockId, stamp: Stamp, text: &mut String) -> Result<(), Fail> {
+    let (id, number) = (block.get(), stamp.get());
+    write!(text, "{id}:{number}:")?;
+    tell_nodes(blocks.expected(block), text)?;
+    Ok(text.push(' ')?)
+}
+
+fn add_to(
+    blocks: &mut Blocks,
+    targets: NodeSet,
+    replication: Repl,
+    text: &mut String,
+) -> Result<(), Fail> {
+    match blocks.add(targets, replication) {
+        Ok((block, stamp)) => tell_new(blocks, block, stamp, text),
+        Err(fault) => tell_fault(fault, text),
+    }
+}
+
 // Makes a new block, and writes its id, its stamp and its targets.
 fn add(blocks: &mut Blocks, replication: u8, now: u64, text: &mut String) -> Result<(), Fail> {
     let replication = Repl::new(replication).ok_or("a replication")?;
-    let targets = match blocks.choose_targets(replication, moment(now)?) {
-        Ok(targets) => targets,
-        Err(fault) => return tell_fault(fault, text),
-    };
-    match blocks.add(targets, replication) {
-        Ok((block, stamp)) => {
-            let (id, number) = (block.get(), stamp.get());
-            write!(text, "{id}:{number}:")?;
-            tell_nodes(blocks.expected(block), text)?;
-            Ok(text.push(' ')?)
-        }
+    match blocks.choose_targets(replication, moment(now)?) {
+        Ok(targets) => add_to(blocks, targets, replication, text),
         Err(fault) => tell_fault(fault, text),
     }
 }
@@ -142,33 +154,52 @@ fn commit_recovery(
     )
 }
 
-// Takes the recoveries that a node is to lead, and writes block, stamp and nodes of each, and a stop.
-fn take_recoveries(blocks: &mut Blocks, id: u32, text: &mut String) -> Result<(), Fail> {
-    for recovery in &blocks.take_recoveries(node(id)?)? {
-        let (block, stamp) = (recovery.block.get(), recovery.stamp.get());
-        write!(text, "{block}:{stamp}:")?;
-        tell_nodes(recovery.nodes.as_slice(), text)?;
-        text.push(' ')?;
+fn tell_recovery(recovery: &Recovery, text: &mut String) -> Result<(), Fail> {
+    let (block, stamp) = (recovery.block.get(), recovery.stamp.get());
+    write!(text, "{block}:{stamp}:")?;
+    tell_nodes(recovery.nodes.as_slice(), text)?;
+    Ok(text.push(' ')?)
+}
+
+// Writes block, stamp and nodes of each recovery, and a stop.
+fn tell_recoveries(recoveries: &[Recovery], text: &mut String) -> Result<(), Fail> {
+    for recovery in recoveries {
+        tell_recovery(recovery, text)?;
     }
     Ok(text.push_str(". ")?)
 }
 
-// Writes the blocks whose recovery is to be begun anew, and a stop.
-fn tell_due(blocks: &Blocks, now: u64, text: &mut String) -> Result<(), Fail> {
-    for block in &blocks.due_recoveries(moment(now)?)? {
+fn take_recoveries(blocks: &mut Blocks, id: u32, text: &mut String) -> Result<(), Fail> {
+    let recoveries = blocks.take_recoveries(node(id)?)?;
+    tell_recoveries(&recoveries, text)
+}
+
+// Writes ids, and a stop.
+fn tell_blocks(blocks: &[BlockId], text: &mut String) -> Result<(), Fail> {
+    for block in blocks {
         let id = block.get();
         write!(text, "{id} ")?;
     }
     Ok(text.push_str(". ")?)
 }
 
-// Takes the replicas that a node is to remove, and writes block and stamp of each, and a stop.
-fn take_marks(blocks: &mut Blocks, id: u32, text: &mut String) -> Result<(), Fail> {
-    for mark in &blocks.take_marks(node(id)?)? {
+fn tell_due(blocks: &Blocks, now: u64, text: &mut String) -> Result<(), Fail> {
+    let due = blocks.due_recoveries(moment(now)?)?;
+    tell_blocks(&due, text)
+}
+
+// Writes block and stamp of each replica that is to be removed, and a stop.
+fn tell_marks(marks: &[Mark], text: &mut String) -> Result<(), Fail> {
+    for mark in marks {
         let (block, stamp) = (mark.block.get(), mark.stamp.get());
         write!(text, "{block}:{stamp} ")?;
     }
     Ok(text.push_str(". ")?)
+}
+
+fn take_marks(blocks: &mut Blocks, id: u32, text: &mut String) -> Result<(), Fail> {
+    let marks = blocks.take_marks(node(id)?)?;
+    tell_marks(&marks, text)
 }
 
 // Writes block, stamp and target of each copy, and a stop.
