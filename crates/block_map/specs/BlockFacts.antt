@@ -80,6 +80,10 @@ recovery_by block found = option_map (λ (own : BlockRecord). record { block = b
 abbrev pub recoveries_for : BlockFacts → ℕ → List Recovery
 recoveries_for facts node = filter_map (λ block. recovery_by block (block_of facts block)) (led_by node facts.queued)
 
+-- the blocks whose recovery is to be begun anew
+abbrev pub due_recoveries : BlockFacts → ℕ → List ℕ
+due_recoveries facts now = known.due_recoveries facts.known facts.retry now
+
 -- the copies that a node is to make now, by block
 abbrev pub transfers_for : BlockFacts → ℕ → ℕ → List Transfer
 transfers_for facts now node = copies.transfers_for facts.known.blocks (record { live = live_nodes facts.nodes now; moment = now; retry = facts.retry }) node

@@ -3,7 +3,7 @@ ghost use Rattle.std.specs.List.{filter_map};
 ghost use Rattle.std.specs.Option.{option_map};
 ghost use Rattle.heartbeats.specs.Live.{is_live, live_nodes};
 ghost use Rattle.known_blocks.specs.Known.{refused_new_block};
-ghost use Rattle.block_map.specs.BlockFacts.{newest_stamp, committed_length, recovering_since, expected_nodes, chosen_targets, recovery_by, recoveries_for, transfers_for, refused_targets, refused_commit, refused_recovery, refused_recovered, IsFaultOf, block_of};
+ghost use Rattle.block_map.specs.BlockFacts.{newest_stamp, committed_length, recovering_since, expected_nodes, chosen_targets, recovery_by, recoveries_for, transfers_for, due_recoveries, refused_targets, refused_commit, refused_recovery, refused_recovered, IsFaultOf, block_of};
 ghost use Rattle.block_map.specs.BlockEffects as effect;
 ghost use Rattle.block_copies.specs.declared.transfer.Transfer.{Transfer};
 ghost use Rattle.block_records.specs.Marks.{marks_for};
@@ -338,8 +338,21 @@ impl Blocks {
             return Err(BlockFault::Refused(BlockRefusal::TooFewNodes));
         };
         let reporting = own.reports.nodes(self.alloc)?;
-        self.queue.put(block, primary)?;
-        Ok(self.known.begin_recovery(block, now, &reporting))
+        Ok(
+            self.known
+                .begin_recovery(block, now, &reporting, &mut self.queue, primary)?,
+        )
+    }
+
+    /// The blocks whose recovery began more than the retry limit ago, by their ids: it is to be begun anew. Costs a look-up for each
+    /// recovery that runs.
+    ///
+    /// # Errors
+    /// Out of memory.
+    pub fn due_recoveries(&self, now: Moment) -> Result<Vec<BlockId>, AllocError>
+        ensures { IfOk result (λ blocks. blocks.items ≡ due_recoveries self.now now) }
+    {
+        self.known.due_recoveries(self.retry, now)
     }
 
     /// Ends the recovery of a block that runs under its newest stamp: the length is committed, these nodes are to hold the block and

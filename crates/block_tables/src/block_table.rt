@@ -75,6 +75,14 @@ impl BlockTable {
         }
     }
 
+    /// How many blocks are known. Takes no memory.
+    pub fn len(&self) -> usize
+        ensures count { result ≡ length self.now }
+        ensures ascending { IsStrictlySortedBy nat_cmp (keys_of self.now) }
+    {
+        self.records.len()
+    }
+
     /// What is known of a block. Costs a look-up, and takes no memory.
     pub fn get(&self, block: BlockId) -> Option<&BlockRecord>
         ensures { option_copied result ≡ entry_at block self.now }
@@ -315,7 +323,8 @@ impl BlockTable {
 
     /// Makes a block known no more. Costs a look-up for each node that was to hold it or reported it, and takes no memory.
     pub fn remove(&mut self, block: BlockId)
-        ensures { self.new ≡ remove_entry (is_number block) self.old }
+        ensures left { self.new ≡ remove_entry (is_number block) self.old }
+        ensures others { (other : ℕ) → entry_at other self.new ≡ (if is_number block other then None else entry_at other self.old) }
     {
         let Some(own) = self.records.remove(&block) else {
             return;

@@ -1,8 +1,10 @@
-// Calls of the map of blocks, each of which writes what it answered.
+// Calls of the map of blocks, and what is written of their answers.
 
 use block_copies::transfer::Transfer;
 use block_map::blocks::Blocks;
+use block_map::recovery::Recovery;
 use block_records::fault::{BlockFault, BlockRefusal, Counter};
+use block_records::mark::Mark;
 use block_records::node_set::NodeSet;
 use hdfs_values::ids::{BlockId, Stamp};
 use hdfs_values::moment::Moment;
@@ -13,28 +15,25 @@ use std::fmt::Write;
 use std::test::Fail;
 
 // in milliseconds
-pub const DEAD: u32 = 630_000;
+const DEAD: u32 = 630_000;
 
-pub const RETRY: u32 = 60_000;
+const RETRY: u32 = 60_000;
 
-pub fn node(id: u32) -> Result<NodeId, Fail> {
+fn node(id: u32) -> Result<NodeId, Fail> {
     Ok(NodeId::new(id).ok_or("a node")?)
 }
 
-pub fn moment(milliseconds: u64) -> Result<Moment, Fail> {
+fn moment(milliseconds: u64) -> Result<Moment, Fail> {
     Ok(Moment::new(milliseconds).ok_or("a moment")?)
 }
 
-fn set_of(alloc: Global, ids: &[u32]) -> Result<NodeSet, Fail> {
-    let mut nodes = Vec::new(alloc);
-    for id in ids {
-        nodes.push(node(*id)?)?;
-    }
+fn set_of(alloc: Global, id: u32) -> Result<NodeSet, Fail> {
+    let nodes = vec![in alloc; node(id)?]?;
     Ok(NodeSet::from_ascending(nodes).ok_or("ascending nodes")?)
 }
 
-/// Writes ids with a comma behind each.
-pub fn tell_nodes(nodes: &[NodeId], text: &mut String) -> Result<(), Fail> {
+// Writes ids with a comma behind each.
+fn tell_nodes(nodes: &[NodeId], text: &mut String) -> Result<(), Fail> {
     for node in nodes {
         let id = node.get();
         write!(text, "{id},")?;
@@ -66,8 +65,8 @@ fn tell_refusal(refusal: &BlockRefusal, text: &mut String) -> Result<(), Fail> {
     Ok(text.push_str(name_of(refusal))?)
 }
 
-/// Writes the refusal; out of memory fails the test.
-pub fn tell_fault(fault: BlockFault, text: &mut String) -> Result<(), Fail> {
+// Writes the refusal; out of memory fails the test.
+fn tell_fault(fault: BlockFault, text: &mut String) -> Result<(), Fail> {
     match fault {
         BlockFault::Refused(refusal) => tell_refusal(&refusal, text),
         BlockFault::OutOfMemory => Err("out of memory")?,
@@ -81,52 +80,54 @@ fn tell_done(done: Result<(), BlockFault>, text: &mut String) -> Result<(), Fail
     }
 }
 
-/// Each of these nodes sends a heartbeat.
-pub fn beat(blocks: &mut Blocks, ids: &[u32], now: u64) -> Result<(), Fail> {
-    for id in ids {
-        blocks.heartbeat(node(*id)?, moment(now)?)?;
-    }
+fn beat(blocks: &mut Blocks, id: u32, now: u64) -> Result<(), Fail> {
+    Ok(blocks.heartbeat(node(id)?, moment(now)?)?)
+}
+
+fn set_replication(blocks: &mut Blocks, block: u64, replication: u8) -> Result<(), Fail> {
+    let replication = Repl::new(replication).ok_or("a replication")?;
+    blocks.set_replication(BlockId::new(block), replication);
     Ok(())
 }
 
-/// Makes a new block, and writes its id, its stamp and its targets.
-pub fn add(blocks: &mut Blocks, replication: u8, now: u64, text: &mut String) -> Result<(), Fail> {
-    let replication = Repl::new(replication).ok_or("a replication")?;
-    let targets = match blocks.choose_targets(replication, moment(now)?) {
-        Ok(targets) => targets,
-        Err(fault) => return tell_fault(fault, text),
-    };
+fn tell_new(blocks: &Blocks, block: BlockId, stamp: Stamp, text: &mut String) -> Result<(), Fail> {
+    let (id, number) = (block.get(), stamp.get());
+    write!(text, "{id}:{number}:")?;
+    tell_nodes(blocks.expected(block), text)?;
+    Ok(text.push(' ')?)
+}
+
+fn add_to(
+    blocks: &mut Blocks,
+    targets: NodeSet,
+    replication: Repl,
+    text: &mut String,
+) -> Result<(), Fail> {
     match blocks.add(targets, replication) {
-        Ok((block, stamp)) => {
-            let (id, number) = (block.get(), stamp.get());
-            write!(text, "{id}:{number}:")?;
-            tell_nodes(blocks.expected(block), text)?;
-            Ok(text.push(' ')?)
-        }
+        Ok((block, stamp)) => tell_new(blocks, block, stamp, text),
         Err(fault) => tell_fault(fault, text),
     }
 }
 
-/// Each of these nodes reports a replica.
-pub fn report(
-    blocks: &mut Blocks,
-    ids: &[u32],
-    block: u64,
-    stamp: u64,
-    length: u64,
-) -> Result<(), Fail> {
-    for id in ids {
-        blocks.report(node(*id)?, BlockId::new(block), Stamp::new(stamp), length)?;
+// Makes a new block, and writes its id, its stamp and its targets.
+fn add(blocks: &mut Blocks, replication: u8, now: u64, text: &mut String) -> Result<(), Fail> {
+    let replication = Repl::new(replication).ok_or("a replication")?;
+    match blocks.choose_targets(replication, moment(now)?) {
+        Ok(targets) => add_to(blocks, targets, replication, text),
+        Err(fault) => tell_fault(fault, text),
     }
-    Ok(())
 }
 
-pub fn commit(blocks: &mut Blocks, block: u64, length: u64, text: &mut String) -> Result<(), Fail> {
+fn report(blocks: &mut Blocks, id: u32, block: u64, stamp: u64, length: u64) -> Result<(), Fail> {
+    Ok(blocks.report(node(id)?, BlockId::new(block), Stamp::new(stamp), length)?)
+}
+
+fn commit(blocks: &mut Blocks, block: u64, length: u64, text: &mut String) -> Result<(), Fail> {
     tell_done(blocks.commit(BlockId::new(block), length), text)
 }
 
-/// Begins a recovery, and writes its stamp.
-pub fn begin(blocks: &mut Blocks, block: u64, now: u64, text: &mut String) -> Result<(), Fail> {
+// Begins a recovery, and writes its stamp.
+fn begin(blocks: &mut Blocks, block: u64, now: u64, text: &mut String) -> Result<(), Fail> {
     match blocks.begin_recovery(BlockId::new(block), moment(now)?) {
         Ok(stamp) => {
             let number = stamp.get();
@@ -136,45 +137,73 @@ pub fn begin(blocks: &mut Blocks, block: u64, now: u64, text: &mut String) -> Re
     }
 }
 
-/// Ends a recovery in which these nodes took part.
-pub fn commit_recovery(
+// Ends a recovery in which this node took part.
+fn commit_recovery(
     alloc: Global,
     blocks: &mut Blocks,
     block: u64,
     stamp: u64,
     length: u64,
-    ids: &[u32],
+    id: u32,
     text: &mut String,
 ) -> Result<(), Fail> {
-    let nodes = set_of(alloc, ids)?;
+    let nodes = set_of(alloc, id)?;
     tell_done(
         blocks.commit_recovery(BlockId::new(block), Stamp::new(stamp), length, nodes),
         text,
     )
 }
 
-/// Takes the recoveries that a node is to lead, and writes block, stamp and nodes of each, and a stop.
-pub fn take_recoveries(blocks: &mut Blocks, id: u32, text: &mut String) -> Result<(), Fail> {
-    for recovery in &blocks.take_recoveries(node(id)?)? {
-        let (block, stamp) = (recovery.block.get(), recovery.stamp.get());
-        write!(text, "{block}:{stamp}:")?;
-        tell_nodes(recovery.nodes.as_slice(), text)?;
-        text.push(' ')?;
+fn tell_recovery(recovery: &Recovery, text: &mut String) -> Result<(), Fail> {
+    let (block, stamp) = (recovery.block.get(), recovery.stamp.get());
+    write!(text, "{block}:{stamp}:")?;
+    tell_nodes(recovery.nodes.as_slice(), text)?;
+    Ok(text.push(' ')?)
+}
+
+// Writes block, stamp and nodes of each recovery, and a stop.
+fn tell_recoveries(recoveries: &[Recovery], text: &mut String) -> Result<(), Fail> {
+    for recovery in recoveries {
+        tell_recovery(recovery, text)?;
     }
     Ok(text.push_str(". ")?)
 }
 
-/// Takes the replicas that a node is to remove, and writes block and stamp of each, and a stop.
-pub fn take_marks(blocks: &mut Blocks, id: u32, text: &mut String) -> Result<(), Fail> {
-    for mark in &blocks.take_marks(node(id)?)? {
+fn take_recoveries(blocks: &mut Blocks, id: u32, text: &mut String) -> Result<(), Fail> {
+    let recoveries = blocks.take_recoveries(node(id)?)?;
+    tell_recoveries(&recoveries, text)
+}
+
+// Writes ids, and a stop.
+fn tell_blocks(blocks: &[BlockId], text: &mut String) -> Result<(), Fail> {
+    for block in blocks {
+        let id = block.get();
+        write!(text, "{id} ")?;
+    }
+    Ok(text.push_str(". ")?)
+}
+
+fn tell_due(blocks: &Blocks, now: u64, text: &mut String) -> Result<(), Fail> {
+    let due = blocks.due_recoveries(moment(now)?)?;
+    tell_blocks(&due, text)
+}
+
+// Writes block and stamp of each replica that is to be removed, and a stop.
+fn tell_marks(marks: &[Mark], text: &mut String) -> Result<(), Fail> {
+    for mark in marks {
         let (block, stamp) = (mark.block.get(), mark.stamp.get());
         write!(text, "{block}:{stamp} ")?;
     }
     Ok(text.push_str(". ")?)
 }
 
-/// Writes block, stamp and target of each copy, and a stop.
-pub fn tell_transfers(transfers: &[Transfer], text: &mut String) -> Result<(), Fail> {
+fn take_marks(blocks: &mut Blocks, id: u32, text: &mut String) -> Result<(), Fail> {
+    let marks = blocks.take_marks(node(id)?)?;
+    tell_marks(&marks, text)
+}
+
+// Writes block, stamp and target of each copy, and a stop.
+fn tell_transfers(transfers: &[Transfer], text: &mut String) -> Result<(), Fail> {
     for transfer in transfers {
         let (block, stamp) = (transfer.block.get(), transfer.stamp.get());
         let target = transfer.target.get();
@@ -183,13 +212,103 @@ pub fn tell_transfers(transfers: &[Transfer], text: &mut String) -> Result<(), F
     Ok(text.push_str(". ")?)
 }
 
-/// Takes the copies that a node is to make.
-pub fn take_transfers(
-    blocks: &mut Blocks,
-    id: u32,
-    now: u64,
-    text: &mut String,
-) -> Result<(), Fail> {
+// Takes the copies that a node is to make.
+fn take_transfers(blocks: &mut Blocks, id: u32, now: u64, text: &mut String) -> Result<(), Fail> {
     let transfers = blocks.take_transfers(node(id)?, moment(now)?)?;
     tell_transfers(&transfers, text)
+}
+
+fn under_replicated(blocks: &Blocks, id: u32, now: u64, text: &mut String) -> Result<(), Fail> {
+    let transfers = blocks.under_replicated(node(id)?, moment(now)?)?;
+    tell_transfers(&transfers, text)
+}
+
+/// A call of the map of blocks: nodes, blocks, stamps, lengths and moments as numbers.
+#[derive(Clone, Copy)]
+pub enum Call {
+    /// A node's heartbeat at a moment.
+    Beat(u32, u64),
+    /// A new block with so many replicas, at a moment.
+    Add(u8, u64),
+    /// A block is to have so many replicas.
+    Replicate(u64, u8),
+    /// A node reports a block, at a stamp, with a length.
+    Report(u32, u64, u64, u64),
+    /// A block's length.
+    Commit(u64, u64),
+    Remove(u64),
+    /// The recovery of a block, at a moment.
+    Begin(u64, u64),
+    /// A block's recovery under a stamp ends with a length, and a node took part.
+    End(u64, u64, u64, u32),
+    /// Which recoveries are due at a moment.
+    Due(u64),
+    /// What a node is told of recoveries.
+    Lead(u32),
+    /// What a node is told of replicas to be removed.
+    Invalid(u32),
+    /// What a node is to copy at a moment, and is told of.
+    Copy(u32, u64),
+    /// What a node is to copy at a moment.
+    Short(u32, u64),
+}
+
+// Calls that ask for what is due and for what nodes are told.
+fn ask(blocks: &mut Blocks, call: Call, text: &mut String) -> Result<(), Fail> {
+    match call {
+        Call::Due(now) => tell_due(blocks, now, text),
+        Call::Lead(id) => take_recoveries(blocks, id, text),
+        Call::Invalid(id) => take_marks(blocks, id, text),
+        Call::Copy(id, now) => take_transfers(blocks, id, now, text),
+        Call::Short(id, now) => under_replicated(blocks, id, now, text),
+        _ => Ok(()),
+    }
+}
+
+fn call_once(
+    alloc: Global,
+    blocks: &mut Blocks,
+    call: Call,
+    text: &mut String,
+) -> Result<(), Fail> {
+    match call {
+        Call::Beat(id, now) => beat(blocks, id, now),
+        Call::Add(replication, now) => add(blocks, replication, now, text),
+        Call::Replicate(block, replication) => set_replication(blocks, block, replication),
+        Call::Report(id, block, stamp, length) => report(blocks, id, block, stamp, length),
+        Call::Commit(block, length) => commit(blocks, block, length, text),
+        Call::Remove(block) => Ok(blocks.remove(BlockId::new(block))?),
+        Call::Begin(block, now) => begin(blocks, block, now, text),
+        Call::End(block, stamp, length, id) => {
+            commit_recovery(alloc, blocks, block, stamp, length, id, text)
+        }
+        _ => ask(blocks, call, text),
+    }
+}
+
+fn perform(
+    alloc: Global,
+    blocks: &mut Blocks,
+    calls: &[Call],
+    text: &mut String,
+) -> Result<(), Fail> {
+    for call in calls {
+        call_once(alloc, blocks, *call, text)?;
+    }
+    Ok(())
+}
+
+/// What the calls answered, where blocks and stamps are given from these numbers on.
+pub fn told(
+    alloc: Global,
+    first_block: u64,
+    first_stamp: u64,
+    calls: &[Call],
+) -> Result<String, Fail> {
+    let mut blocks = Blocks::new(alloc, DEAD, RETRY, first_block, first_stamp);
+    let mut text = String::new(alloc);
+    let done = perform(alloc, &mut blocks, calls, &mut text);
+    drop(blocks);
+    done?;
+    Ok(text)
 }

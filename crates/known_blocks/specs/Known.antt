@@ -1,8 +1,8 @@
 -- The blocks that are known, and the numbers that are given next: what can be asked, and what can happen to them.
 -- (HDFS Architecture, "Data Replication"; no number is given twice, and the greatest of its type never.)
-use Rattle.std.specs.Prelude.{ℕ, ◌==◌, ◌+◌, Bool, List, [], if◌then◌else◌, Option, Some, None}
+use Rattle.std.specs.Prelude.{ℕ, ◌==◌, ◌+◌, ◌-◌, Bool, false, nat_lt, List, [], filter, if◌then◌else◌, Option, Some, None}
 use Rattle.std.specs.BTreeMap.{insert_entry}
-use Rattle.std.specs.Map.{remove_entry}
+use Rattle.std.specs.Map.{remove_entry, keys_of}
 use Rattle.std.specs.Ordering.{nat_cmp}
 use Rattle.block_records.specs.Numbers.{is_number, entry_at}
 use Rattle.block_records.specs.declared.block_record.BlockRecord.{BlockRecord}
@@ -20,6 +20,21 @@ pub record Known : Type 0 where
 
 abbrev pub block_of : Known → ℕ → Option BlockRecord
 block_of known block = entry_at block known.blocks
+
+-- ---- recoveries that run
+
+-- the recovery of a block began longer ago than the retry limit, in milliseconds
+abbrev pub is_due : ℕ → ℕ → Option ℕ → Bool
+is_due retry now None = false
+is_due retry now (Some since) = nat_lt retry (now - since)
+
+abbrev pub is_due_by : ℕ → ℕ → Option BlockRecord → Bool
+is_due_by retry now None = false
+is_due_by retry now (Some own) = is_due retry now own.recovering
+
+-- the blocks whose recovery did, by their numbers
+abbrev pub due_recoveries : Known → ℕ → ℕ → List ℕ
+due_recoveries known retry now = keys_of (filter (λ entry. is_due retry now entry.1.recovering) known.blocks)
 
 -- ---- refusals
 

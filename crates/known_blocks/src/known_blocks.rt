@@ -1,4 +1,4 @@
-ghost use Rattle.std.specs.Prelude.{◌≡◌, ◌<◌, [], None, Some, option_copied, OnOk, OnErr, IfOk, IfErr, IfSome};
+ghost use Rattle.std.specs.Prelude.{◌≡◌, ◌<◌, [], None, Some, filter, option_copied, OnOk, OnErr, IfOk, IfErr, IfSome};
 ghost use Rattle.std.specs.List.Sorted.{IsStrictlySortedBy};
 ghost use Rattle.std.specs.Map.{keys_of};
 ghost use Rattle.std.specs.Ordering.{nat_cmp};
@@ -7,8 +7,10 @@ ghost use Rattle.block_records.specs.Reports.{others_of};
 ghost use Rattle.block_placement.specs.Placement.{targets};
 ghost use Rattle.block_tables.specs.Changes.{with_report, without_report, with_replication, with_length, with_recovered};
 ghost use Rattle.block_tables.specs.Kept.{blocks_of, load};
+ghost use Rattle.recovery_queue.specs.Queue.{put};
 ghost use Rattle.known_blocks.specs.Known as spec;
 
+use block_index::node_blocks::BlockSet;
 use block_records::block_record::BlockRecord;
 use block_records::fault::{BlockRefusal, Counter};
 use block_records::mark::{Mark, Marks};
@@ -19,6 +21,7 @@ use hdfs_values::ids::{BlockId, Stamp};
 use hdfs_values::moment::Moment;
 use hdfs_values::node_id::NodeId;
 use hdfs_values::replication::Repl;
+use recovery_queue::queue::RecoveryQueue;
 use std::alloc::{AllocError, Global};
 use std::marker::Model;
 
@@ -29,18 +32,20 @@ pub struct KnownBlocks {
     next_block: u64,
     next_stamp: u64,
     table: BlockTable,
+    // the blocks that are being recovered; one stands here too whose recovery could not begin for want of memory
+    running: BlockSet,
     alloc: Global,
 }
 
 impl Model for KnownBlocks {
     ghost use Rattle.known_blocks.specs.Known.{Known};
-    ghost use Rattle.known_blocks.specs.Kept.{AreBelow};
+    ghost use Rattle.known_blocks.specs.Kept.{AreBelow, AreListed};
 
     ghost Value = { Known };
 
     ghost view = { λ known. record { next_block = known.next_block; next_stamp = known.next_stamp; blocks = known.table } };
 
-    ghost invariant = { λ known. AreBelow known.table known.next_block };
+    ghost invariant = { λ known. AreBelow known.table known.next_block × AreListed known.table known.running };
 }
 
 impl KnownBlocks {
@@ -52,6 +57,7 @@ impl KnownBlocks {
             next_block: first_block,
             next_stamp: first_stamp,
             table: BlockTable::new(alloc),
+            running: BlockSet::new(alloc),
             alloc,
         }
     }
@@ -86,6 +92,51 @@ impl KnownBlocks {
         ensures { IfOk result (λ chosen. chosen ≡ targets (load self.now.blocks) count nodes.now) }
     {
         self.table.targets(self.alloc, nodes, count)
+    }
+
+    // Whether the recovery of a block began longer ago than this limit.
+    fn is_due(&self, block: BlockId, retry: u32, now: Moment) -> bool
+        ensures { result ≡ spec.is_due_by retry now (spec.block_of self.now block) }
+    {
+        let Some(own) = self.table.get(block) else {
+            return false;
+        };
+        match own.recovering {
+            Some(since) => {
+                now.milliseconds().saturating_sub(since.milliseconds()) > retry as u64
+            }
+            None => false,
+        }
+    }
+
+    // Those of these blocks whose recovery began longer ago than this limit.
+    fn due_among(
+        &self,
+        blocks: &[BlockId],
+        retry: u32,
+        now: Moment,
+    ) -> Result<Vec<BlockId>, AllocError>
+        ensures { IfOk result (λ due. due.items ≡ filter (λ block. spec.is_due_by retry now (spec.block_of self.now block)) blocks.now) }
+    {
+        blocks
+            .iter()
+            .copied()
+            .filter(|block| self.is_due(*block, retry, now))
+            .collect(self.alloc)
+    }
+
+    /// The blocks whose recovery began longer ago than this limit, in milliseconds, by their ids. Costs a look-up for each recovery that
+    /// runs.
+    ///
+    /// # Errors
+    /// Out of memory.
+    pub fn due_recoveries(&self, retry: u32, now: Moment) -> Result<Vec<BlockId>, AllocError>
+        ensures { IfOk result (λ blocks. blocks.items ≡ spec.due_recoveries self.now retry now) }
+    {
+        // its contract tells that the ids ascend
+        let _count = self.table.len();
+        let running = self.running.to_vec(self.alloc)?;
+        self.due_among(&running, retry, now)
     }
 
     /// Whether there is a stamp left. Takes no memory.
@@ -155,13 +206,16 @@ impl KnownBlocks {
         ensures { self.new ≡ spec.removed self.old block }
     {
         self.table.remove(block);
+        self.running.remove(block);
     }
 
     /// Makes blocks known no more. Costs as `remove` for each of them.
     pub fn remove_all(&mut self, blocks: &[BlockId])
         ensures { self.new ≡ spec.all_removed self.old blocks.now }
     {
-        self.table.remove_all(blocks);
+        for block in blocks {
+            self.remove(*block);
+        }
     }
 
     // ---- what is known of one block
@@ -201,18 +255,32 @@ impl KnownBlocks {
         self.table.commit(block, bytes, others);
     }
 
-    /// Begins a recovery of a block under the next stamp, which is answered and which nobody has reported. The nodes that reported the
-    /// block are handed in. Costs a look-up for each of them, and takes no memory.
-    pub fn begin_recovery(&mut self, block: BlockId, now: Moment, reporting: &[NodeId]) -> Stamp
+    /// Begins a recovery of a block under the next stamp, which is answered and which nobody has reported, and has it wait for its
+    /// primary in the queue. The nodes that reported the block are handed in. Costs a look-up for each of them.
+    ///
+    /// # Errors
+    /// Out of memory. Nothing has changed then.
+    pub fn begin_recovery(
+        &mut self,
+        block: BlockId,
+        now: Moment,
+        reporting: &[NodeId],
+        queue: &mut RecoveryQueue,
+        primary: NodeId,
+    ) -> Result<Stamp, AllocError>
         requires stamp { spec.refused_new_stamp self.old ≡ None }
         requires reporting { IfSome (spec.block_of self.old block) (λ own. reporting.now ≡ keys_of own.reports) }
-        ensures given { result ≡ self.old.next_stamp }
-        ensures begun { self.new ≡ spec.begun self.old block now }
+        ensures given { IfOk result (λ stamp. stamp ≡ self.old.next_stamp) }
+        ensures begun { OnOk result (self.new ≡ spec.begun self.old block now) }
+        ensures queued { OnOk result (queue.new ≡ put queue.old block primary) }
+        ensures err { OnErr result ((self.new ≡ self.old) × (queue.new ≡ queue.old)) }
     {
+        self.running.insert(block)?;
+        queue.put(block, primary)?;
         let newest = Stamp::new(self.next_stamp);
         self.table.begin_recovery(block, newest, now, reporting);
         self.next_stamp += 1;
-        newest
+        Ok(newest)
     }
 
     /// Ends the recovery of a block with this length, in which these nodes took part: they are to hold it, and report it, as do those
@@ -234,7 +302,9 @@ impl KnownBlocks {
         ensures err { OnErr result ((self.new ≡ self.old) × (marks.new ≡ marks.old)) }
     {
         self.table
-            .end_recovery(self.alloc, block, bytes, nodes, marks, more)
+            .end_recovery(self.alloc, block, bytes, nodes, marks, more)?;
+        self.running.remove(block);
+        Ok(())
     }
 
     /// Notes that nodes are told now to copy these blocks. Costs a look-up for each, and takes no memory.

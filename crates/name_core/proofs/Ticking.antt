@@ -76,7 +76,7 @@ performed_idle last now caller old verdict past granted past_is distinct none is
     performed_tick last now caller old old verdict past 0 granted past_is distinct
     (sym (ap (λ p. map (closed_where_expired (tree.past_hard p)) old.tree) none ∙ none_closed old.tree))
     (sym (ap (λ p. length (filter (is_expired (tree.past_hard p)) old.tree)) none ∙ ap length (none_expired old.tree)))
-    refl refl exact is exact
+    refl refl refl exact is exact
 
 pub no_items : (n : ℕ) (items : List (List ℕ)) → eqb n 0 ≡ true → n ≡ length items → items ≡ []
 no_items n [] h k = refl

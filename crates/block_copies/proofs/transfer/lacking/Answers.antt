@@ -1,4 +1,4 @@
-use Rattle.std.proofs.Common.{◌≡◌, ◌∙◌, not, sym, subst, filter, List, ℕ, rules}
+use Rattle.std.proofs.Common.{◌≡◌, not, sym, subst, filter, List, ℕ, rules}
 use Rattle.std.specs.List.Sorted.{IsStrictlyIncreasing}
 use Rattle.block_records.proofs.Ascending.{filtered_increasing}
 use Rattle.block_copies.specs.Copies.{reports}
