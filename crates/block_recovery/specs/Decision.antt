@@ -8,26 +8,30 @@ use Rattle.block_recovery.specs.declared.decision.Decision.{Decision}
 
 -- Answers are by node: each node that has answered stands once, whatever the order of the answers was.
 
--- the least length of the replicas that were answered; none where there is no answer
-abbrev pub least_of : List (ℕ × Answer) → Option ℕ
-least_of answers = reduce min (map (λ (own : Answer). own.length) (values_of answers))
+-- the least length of some replicas; none where there is none of them
+abbrev pub least_of : List Answer → Option ℕ
+least_of answers = reduce min (map (λ own. own.length) answers)
 
-abbrev pub finalized_of : List (ℕ × Answer) → List (ℕ × Answer)
-finalized_of answers = filter (λ own. own.1.finalized) answers
+abbrev pub finalized_of : List Answer → List Answer
+finalized_of answers = filter (λ own. own.finalized) answers
 
 abbrev pub all_nodes : List (ℕ × Answer) → List ℕ
 all_nodes answers = keys_of answers
 
--- the nodes whose replica is finalized, or is written and holds at least that many bytes
-abbrev pub holding : ℕ → List (ℕ × Answer) → List ℕ
-holding length answers = keys_of (filter (λ own. own.1.finalized || nat_le length own.1.length) answers)
+-- a replica that is finalized, or is written and holds at least that many bytes
+abbrev pub suits : ℕ → Answer → Bool
+suits length own = own.finalized || nat_le length own.length
 
--- where there is a least finalized length, it is the length, and these nodes take part; else it is the least of all, and all take part
+abbrev pub suiting : ℕ → List (ℕ × Answer) → List ℕ
+suiting length answers = keys_of (filter (λ own. suits length own.1) answers)
+
+-- Where there is a least finalized length, it is the length, and the nodes take part whose replica suits it. Else the length is the least
+-- of all, and all take part that have answered.
 abbrev pub decision_by : List (ℕ × Answer) → Option ℕ → Option ℕ → Option Decision
-decision_by answers (Some length) least = Some (record { length = length; nodes = holding length answers })
+decision_by answers (Some length) least = Some (record { length = length; nodes = suiting length answers })
 decision_by answers None (Some length) = Some (record { length = length; nodes = all_nodes answers })
 decision_by answers None None = None
 
 -- what the answers decide; nothing where there is none
 abbrev pub decision_of : List (ℕ × Answer) → Option Decision
-decision_of answers = decision_by answers (least_of (finalized_of answers)) (least_of answers)
+decision_of answers = decision_by answers (least_of (finalized_of (values_of answers))) (least_of (values_of answers))

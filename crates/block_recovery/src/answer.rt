@@ -1,8 +1,9 @@
 ghost use Rattle.std.specs.Prelude.{◌≡◌, [], is_some, IfOk, OnOk, OnErr};
+ghost use Rattle.std.specs.Map.{values_of};
 ghost use Rattle.std.specs.BTreeMap.{insert_entry};
 ghost use Rattle.std.specs.Ordering.{nat_cmp};
 ghost use Rattle.block_records.specs.Numbers.{entry_at};
-ghost use Rattle.block_recovery.specs.Decision.{least_of, finalized_of, holding, all_nodes, decision_of};
+ghost use Rattle.block_recovery.specs.Decision.{least_of, finalized_of, suits, suiting, all_nodes, decision_of};
 
 use crate::decision::Decision;
 use block_records::node_set::NodeSet;
@@ -12,12 +13,21 @@ use std::collections::BTreeMap;
 use std::marker::Model;
 
 /// What a node answers of its replica of a block that is to be recovered.
-#[derive(Clone, Copy, PartialEq, Eq)]
+#[derive(Clone, Copy)]
 pub struct Answer {
     /// How many bytes the replica holds.
     pub length: u64,
     /// Whether the replica is finalized; else it is still written.
     pub finalized: bool,
+}
+
+impl Answer {
+    // Whether the replica is finalized, or holds at least that many bytes.
+    fn suits(&self, length: u64) -> bool
+        ensures { result ≡ suits length self.now }
+    {
+        self.finalized || length <= self.length
+    }
 }
 
 /// The nodes that have answered, by their ids, each with its answer.
@@ -66,14 +76,14 @@ impl Answers {
 
     // The least length that was answered; `None` where no node has answered.
     fn least(&self) -> Option<u64>
-        ensures { result ≡ least_of self.now }
+        ensures { result ≡ least_of (values_of self.now) }
     {
         self.by_node.values().map(|answer| answer.length).min()
     }
 
     // The least length of a finalized replica; `None` where there is none.
     fn least_finalized(&self) -> Option<u64>
-        ensures { result ≡ least_of (finalized_of self.now) }
+        ensures { result ≡ least_of (finalized_of (values_of self.now)) }
     {
         self.by_node
             .values()
@@ -82,18 +92,23 @@ impl Answers {
             .min()
     }
 
-    // The nodes whose replica is finalized, or holds at least that many bytes.
-    fn holding(&self, alloc: Global, length: u64) -> Result<NodeSet, AllocError>
-        ensures { IfOk result (λ nodes. nodes ≡ holding length self.now) }
+    // The nodes whose replica suits the length.
+    fn suiting(&self, alloc: Global, length: u64) -> Result<Vec<NodeId>, AllocError>
+        ensures { IfOk result (λ nodes. nodes.items ≡ suiting length self.now) }
+    {
+        self.by_node
+            .iter()
+            .filter(|(_, answer)| answer.suits(length))
+            .map(|(node, _)| *node)
+            .collect(alloc)
+    }
+
+    fn suiting_set(&self, alloc: Global, length: u64) -> Result<NodeSet, AllocError>
+        ensures { IfOk result (λ nodes. nodes ≡ suiting length self.now) }
     {
         // its contract tells that the keys ascend
         let _count = self.by_node.len();
-        let nodes = self
-            .by_node
-            .iter()
-            .filter(|(_, answer)| answer.finalized || length <= answer.length)
-            .map(|(node, _)| *node)
-            .collect(alloc)?;
+        let nodes = self.suiting(alloc, length)?;
         Ok(NodeSet::of_ascending(nodes))
     }
 
@@ -115,7 +130,7 @@ impl Answers {
         ensures { IfOk result (λ decision. decision ≡ decision_of self.now) }
     {
         if let Some(length) = self.least_finalized() {
-            let nodes = self.holding(alloc, length)?;
+            let nodes = self.suiting_set(alloc, length)?;
             return Ok(Some(Decision { length, nodes }));
         }
         let Some(length) = self.least() else {

@@ -46,8 +46,12 @@ impl BlockPlans {
     pub(crate) fn newest(&self) -> Option<Stamp>
         ensures { result ≡ spec.newest self.now }
     {
-        let (stamp, _) = self.plans.last_key_value()?;
-        Some(*stamp)
+        // its contract tells that the keys ascend
+        let _count = self.plans.len();
+        match self.plans.last_key_value() {
+            Some((stamp, _)) => Some(*stamp),
+            None => None,
+        }
     }
 
     pub(crate) fn get(&self, stamp: Stamp) -> Option<&Plan>

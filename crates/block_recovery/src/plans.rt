@@ -146,12 +146,7 @@ impl Plans {
     /// # Errors
     /// `Doubled` where that was noted, then `Stranger` where there is no such plan, it isn't decided, or the node takes no part; or out of
     /// memory. Nothing has changed then.
-    pub fn updated(
-        &mut self,
-        block: BlockId,
-        stamp: Stamp,
-        node: NodeId,
-    ) -> Result<(), PlanFault>
+    pub fn updated(&mut self, block: BlockId, stamp: Stamp, node: NodeId) -> Result<(), PlanFault>
         ensures allowed { OnOk result (spec.refused_updated node (plan_at block stamp self.old) ≡ None) }
         ensures ok { OnOk result (self.new ≡ changed (spec.with_updated node) block stamp self.old) }
         ensures fault { IfErr result (IsFaultOf (spec.refused_updated node (plan_at block stamp self.old))) }

@@ -112,11 +112,7 @@ fn told_fault(alloc: Global, fault: PlanFault) -> Result<String, AllocError> {
     }
 }
 
-fn told_begin(
-    alloc: Global,
-    plans: &mut Plans,
-    recover: &Recover,
-) -> Result<String, AllocError> {
+fn told_begin(alloc: Global, plans: &mut Plans, recover: &Recover) -> Result<String, AllocError> {
     match plans.begin(recover) {
         Ok(nodes) => {
             let nodes = told_nodes(alloc, &nodes)?;
@@ -183,12 +179,7 @@ fn told_updated(
     told_noted(alloc, noted)
 }
 
-fn told(
-    alloc: Global,
-    plans: &mut Plans,
-    of: Recovery,
-    call: Call,
-) -> Result<String, AllocError> {
+fn told(alloc: Global, plans: &mut Plans, of: Recovery, call: Call) -> Result<String, AllocError> {
     let (block, stamp) = (BlockId::new(of.block), Stamp::new(of.stamp));
     match call {
         Call::Begin => told_begin(alloc, plans, &recover(alloc, of)?),
