@@ -1,5 +1,5 @@
 -- What a look-up finds behind a change of a table by numbers.
-use Rattle.std.proofs.Common.{◌≡◌, ℕ, Bool, true, false, ◌||◌, List, [], ◌∷◌, Option, Some, None, refl, sym, ap, ◌∙◌, cond}
+use Rattle.std.proofs.Common.{◌≡◌, ℕ, Bool, true, false, ◌||◌, List, [], ◌∷◌, Option, Some, None, unwrap_or, refl, sym, ap, ◌∙◌, cond}
 use Rattle.std.proofs.lemmas.Map.{lookup-set_value}
 use Rattle.std.proofs.lemmas.Map.Keys.{sorted_head, sorted_tail}
 use Rattle.std.specs.BTreeMap.{insert_entry}
@@ -16,6 +16,7 @@ use Rattle.block_records.specs.Numbers.{is_number, entry_at}
 use Rattle.block_records.proofs.Ascending.{AreAbove, above_lower}
 use Rattle.block_records.proofs.Numbers.{number_is}
 use Rattle.block_recovery.specs.Plans.{altered, altered_by}
+use Rattle.block_recovery.proofs.Tables.{itself}
 
 greater_equal : {A : Type 0} → Greater ≡ Equal → A
 greater_equal e = cc
@@ -116,3 +117,47 @@ has_inserted k q (x ∷ xs) = by (nat_cmp k x) refl (has_inserted k q xs)
     by Less is rest = refl
     by Equal is rest = twice (is_number q x) (list_any (is_number q) xs) ∙ ap (λ n. is_number q n || (is_number q x || list_any (is_number q) xs)) (sym (number_is k x (ap is_eq is)))
     by Greater is rest = ap (λ b. is_number q x || b) rest ∙ over (is_number q x) (is_number q k) (list_any (is_number q) xs)
+
+-- ---- two tables that find the same
+
+none_some : {X : Type 0} {A : Type 0} (x : X) → None ≡ Some x → A
+none_some x e = cc
+
+at_itself : {X : Type 0} (e : ℕ × X) (es : List (ℕ × X)) → entry_at e.0 (e ∷ es) ≡ Some e.1
+at_itself e es = ap (λ b. cond b (Some e.1) (entry_at e.0 es)) (itself e.0)
+
+none_below : {X : Type 0} (low : ℕ) (table : List (ℕ × X)) → AreAbove low (keys_of table) → entry_at low table ≡ None
+none_below low [] above = refl
+none_below low (e ∷ es) above = ap (λ o. cond (is_eq o) (Some e.1) (entry_at low es)) above.0 ∙ none_below low es above.1
+
+-- the first of one table isn't below the first of the other
+not_first : {X : Type 0} {A : Type 0} (x y : ℕ × X) (xs ys : List (ℕ × X)) → AreAbove y.0 (keys_of ys) → nat_cmp x.0 y.0 ≡ Less → entry_at x.0 (x ∷ xs) ≡ entry_at x.0 (y ∷ ys) → A
+not_first x y xs ys above less same =
+    none_some x.1 (sym (none_below x.0 (y ∷ ys) (less, above_lower x.0 y.0 (keys_of ys) less above)) ∙ (sym same ∙ at_itself x xs))
+
+pub same_table : {X : Type 0} (xs ys : List (ℕ × X)) → IsStrictlySortedBy nat_cmp (keys_of xs) → IsStrictlySortedBy nat_cmp (keys_of ys) → ((q : ℕ) → entry_at q xs ≡ entry_at q ys) → xs ≡ ys
+same_table [] [] up down same = refl
+same_table [] (y ∷ ys) up down same = none_some y.1 (same y.0 ∙ at_itself y ys)
+same_table (x ∷ xs) [] up down same = none_some x.1 (sym (same x.0) ∙ at_itself x xs)
+same_table {X} (x ∷ xs) (y ∷ ys) up down same = by (nat_cmp x.0 y.0) refl (same_table xs ys (sorted_tail nat_cmp x.0 (keys_of xs) up) (sorted_tail nat_cmp y.0 (keys_of ys) down))
+  where
+    tails : x.0 ≡ y.0 → (q : ℕ) → entry_at q xs ≡ entry_at q ys
+    tails e q = one (is_number q x.0) refl (same q)
+      where
+        one : (b : Bool) → is_number q x.0 ≡ b → cond b (Some x.1) (entry_at q xs) ≡ entry_at q (y ∷ ys) → entry_at q xs ≡ entry_at q ys
+        one true at is =
+            let first : q ≡ x.0 = number_is q x.0 at in
+            ap (λ n. entry_at n xs) first
+            ∙ (none_below x.0 xs (sorted_head nat_cmp x.0 (keys_of xs) up)
+            ∙ (sym (none_below y.0 ys (sorted_head nat_cmp y.0 (keys_of ys) down)) ∙ ap (λ n. entry_at n ys) (sym (first ∙ e))))
+        one false at is = is ∙ ap (λ b. cond b (Some y.1) (entry_at q ys)) (ap (is_number q) (sym e) ∙ at)
+
+    level_values : x.0 ≡ y.0 → x.1 ≡ y.1
+    level_values e = ap (λ o. unwrap_or o x.1) (sym (at_itself x xs) ∙ (same x.0 ∙ (ap (λ n. entry_at n (y ∷ ys)) e ∙ at_itself y ys)))
+
+    by : (o : Ordering) → nat_cmp x.0 y.0 ≡ o → (((q : ℕ) → entry_at q xs ≡ entry_at q ys) → xs ≡ ys) → (x ∷ xs) ≡ (y ∷ ys)
+    by Less less rest = not_first x y xs ys (sorted_head nat_cmp y.0 (keys_of ys) down) less (same x.0)
+    by Equal is rest =
+        let e : x.0 ≡ y.0 = number_is x.0 y.0 (ap is_eq is) in
+        ap (λ (n : ℕ). (n, x.1) ∷ xs) e ∙ (ap (λ (v : X). (y.0, v) ∷ xs) (level_values e) ∙ ap (λ l. y ∷ l) (rest (tails e)))
+    by Greater greater rest = not_first y x ys xs (sorted_head nat_cmp x.0 (keys_of xs) up) (flipped x.0 y.0 greater) (sym (same y.0))

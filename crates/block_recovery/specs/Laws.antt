@@ -35,6 +35,10 @@ abbrev pub FinalizedTakePart : Type 0
 FinalizedTakePart = (answers : List (ℕ × Answer)) (decision : Decision) (node : ℕ) (own : Answer) → AreByNode answers → decision_of answers ≡ Some decision
     → entry_at node answers ≡ Some own → own.finalized ≡ true → has_number node decision.nodes ≡ true
 
+-- the decision hangs on what each node has answered, and not on the order in which the answers came
+abbrev pub OrderIsFree : Type 0
+OrderIsFree = (answers others : List (ℕ × Answer)) → AreByNode answers → AreByNode others → ((node : ℕ) → entry_at node answers ≡ entry_at node others) → decision_of answers ≡ decision_of others
+
 -- ---- one call
 
 -- a call that may change the plans; a commit changes none

@@ -46,8 +46,8 @@ impl Model for Answers {
 }
 
 impl Answers {
-    /// No node has answered. Takes no memory.
-    pub fn new(alloc: Global) -> Answers
+    // No node has answered.
+    pub(crate) fn new(alloc: Global) -> Answers
         ensures { result ≡ [] }
     {
         Answers {
@@ -55,18 +55,15 @@ impl Answers {
         }
     }
 
-    /// Whether a node has answered. Costs a look-up, and takes no memory.
-    pub fn contains(&self, node: NodeId) -> bool
+    // Whether a node has answered.
+    pub(crate) fn contains(&self, node: NodeId) -> bool
         ensures { result ≡ is_some (entry_at node self.now) }
     {
         self.by_node.contains_key(&node)
     }
 
-    /// Notes a node's answer. Costs a look-up.
-    ///
-    /// # Errors
-    /// Out of memory. Nothing has changed then.
-    pub fn insert(&mut self, node: NodeId, answer: Answer) -> Result<(), AllocError>
+    // Notes a node's answer.
+    pub(crate) fn insert(&mut self, node: NodeId, answer: Answer) -> Result<(), AllocError>
         ensures ok { OnOk result (self.new ≡ insert_entry nat_cmp self.old node answer) }
         ensures err { OnErr result (self.new ≡ self.old) }
     {
@@ -103,6 +100,7 @@ impl Answers {
             .collect(alloc)
     }
 
+    // The same nodes as a set.
     fn suiting_set(&self, alloc: Global, length: u64) -> Result<NodeSet, AllocError>
         ensures { IfOk result (λ nodes. nodes ≡ suiting length self.now) }
     {
@@ -122,11 +120,8 @@ impl Answers {
         Ok(NodeSet::of_ascending(nodes))
     }
 
-    /// What these answers decide; `None` where no node has answered. Costs the answers.
-    ///
-    /// # Errors
-    /// Out of memory.
-    pub fn decision(&self, alloc: Global) -> Result<Option<Decision>, AllocError>
+    // What these answers decide; `None` where no node has answered.
+    pub(crate) fn decision(&self, alloc: Global) -> Result<Option<Decision>, AllocError>
         ensures { IfOk result (λ decision. decision ≡ decision_of self.now) }
     {
         if let Some(length) = self.least_finalized() {

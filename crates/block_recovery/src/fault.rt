@@ -2,7 +2,7 @@ ghost use Rattle.std.specs.Prelude.{◌≡◌};
 ghost use Rattle.block_recovery.specs.declared.fault.PlanFault.TheVariants.{OutOfMemory};
 
 use hdfs_values::ids::Stamp;
-use std::alloc::{AllocError, AllocFailed};
+use std::alloc::AllocError;
 
 /// Why a plan doesn't do what it is asked to do.
 #[derive(Clone, Copy, PartialEq, Eq)]
@@ -28,14 +28,6 @@ impl From<AllocError> for PlanFault {
     ghost from_gives = { λ _ fault. fault ≡ OutOfMemory };
 
     fn from(_error: AllocError) -> PlanFault {
-        PlanFault::OutOfMemory
-    }
-}
-
-impl<T: Drop> From<AllocFailed<T>> for PlanFault {
-    ghost from_gives = { λ _ fault. fault ≡ OutOfMemory };
-
-    fn from(_error: AllocFailed<T>) -> PlanFault {
         PlanFault::OutOfMemory
     }
 }

@@ -10,6 +10,11 @@ pub fn decisions_keep_shared_bytes()
     ensures finalized { law.FinalizedTakePart }
 {}
 
+/// What is decided hangs on what each node has answered, and not on the order in which the answers came.
+pub fn decisions_ignore_the_order()
+    ensures { law.OrderIsFree }
+{}
+
 /// Whatever call comes, a plan stays: its nodes, its token, its answers, its decision once it is made, and the nodes that were noted.
 /// A second plan of that block with that stamp isn't begun.
 pub fn plans_stay()

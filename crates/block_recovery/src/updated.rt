@@ -25,8 +25,8 @@ impl Model for UpdatedNodes {
 }
 
 impl UpdatedNodes {
-    /// No node. Takes no memory.
-    pub fn new(alloc: Global) -> UpdatedNodes
+    // No node.
+    pub(crate) fn new(alloc: Global) -> UpdatedNodes
         ensures { result ≡ [] }
     {
         UpdatedNodes {
@@ -34,25 +34,22 @@ impl UpdatedNodes {
         }
     }
 
-    /// Whether there is none. Takes no memory.
-    pub fn is_empty(&self) -> bool
+    // Whether there is none.
+    pub(crate) fn is_empty(&self) -> bool
         ensures { IsTrue result ↔ (self.now ≡ []) }
     {
         self.nodes.is_empty()
     }
 
-    /// Whether a node is among them. Costs a look-up, and takes no memory.
-    pub fn contains(&self, node: NodeId) -> bool
+    // Whether a node is among them.
+    pub(crate) fn contains(&self, node: NodeId) -> bool
         ensures { result ≡ list_any (is_number node) self.now }
     {
         self.nodes.contains(&node)
     }
 
-    /// Adds a node. Costs a look-up.
-    ///
-    /// # Errors
-    /// Out of memory. Nothing has changed then.
-    pub fn insert(&mut self, node: NodeId) -> Result<(), AllocError>
+    // Adds a node.
+    pub(crate) fn insert(&mut self, node: NodeId) -> Result<(), AllocError>
         ensures ok { OnOk result (self.new ≡ insert_key nat_cmp self.old node) }
         ensures err { OnErr result (self.new ≡ self.old) }
     {
@@ -60,11 +57,8 @@ impl UpdatedNodes {
         Ok(())
     }
 
-    /// These nodes by their ids. Costs them.
-    ///
-    /// # Errors
-    /// Out of memory.
-    pub fn nodes(&self, alloc: Global) -> Result<NodeSet, AllocError>
+    // These nodes by their ids.
+    pub(crate) fn nodes(&self, alloc: Global) -> Result<NodeSet, AllocError>
         ensures { IfOk result (λ nodes. nodes ≡ self.now) }
     {
         // its contract tells that the keys ascend
