@@ -1,5 +1,6 @@
 -- To which length the replicas of a block are cut by a recovery, and which DataNodes take part.
--- (HDFS-265, "Block recovery": the replicas are brought to one length that each of them holds, and a finalized replica keeps its own.)
+-- (HDFS-265, "Block recovery": the replicas that take part are brought to one length that each of them holds, and where some are finalized,
+-- these decide it. HDFS weighs the stamps of the replicas too; here they play no part.)
 use Rattle.std.specs.Prelude.{ℕ, min, Bool, ◌||◌, nat_le, List, map, filter, Option, Some, None}
 use Rattle.std.specs.List.{reduce}
 use Rattle.std.specs.Map.{keys_of, values_of}

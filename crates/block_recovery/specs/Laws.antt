@@ -6,7 +6,7 @@ use Rattle.std.specs.Map.{keys_of}
 use Rattle.std.specs.Ordering.{nat_cmp}
 use Rattle.block_records.specs.Numbers.{is_number, has_number, entry_at}
 use Rattle.block_recovery.specs.Decision.{decision_of}
-use Rattle.block_recovery.specs.Plans.{plan_at, changed, refused_begin, begun, refused_reply, with_answer, refused_decide, with_decision, refused_updated, with_updated, takes_part}
+use Rattle.block_recovery.specs.Plans.{PlanTable, plan_at, changed, refused_begin, begun, refused_reply, with_answer, refused_decide, with_decision, refused_updated, with_updated, takes_part}
 use Rattle.block_recovery.specs.declared.answer.Answer.{Answer}
 use Rattle.block_recovery.specs.declared.decision.Decision.{Decision}
 use Rattle.block_recovery.specs.declared.fault.PlanRefusal.{PlanRefusal}
@@ -48,14 +48,14 @@ pub data Call : Type 0 where
   Decide : (block stamp : ℕ) → Call
   Updated : (block stamp node : ℕ) → Call
 
-abbrev pub refusal : Call → List (ℕ × List (ℕ × Plan)) → Option PlanRefusal
+abbrev pub refusal : Call → PlanTable → Option PlanRefusal
 refusal (Begin recover) plans = refused_begin recover plans
 refusal (Reply block stamp node answer) plans = refused_reply node (plan_at block stamp plans)
 refusal (Decide block stamp) plans = refused_decide (plan_at block stamp plans)
 refusal (Updated block stamp node) plans = refused_updated node (plan_at block stamp plans)
 
 -- what the call leaves where nothing refuses it
-abbrev pub after : Call → List (ℕ × List (ℕ × Plan)) → List (ℕ × List (ℕ × Plan))
+abbrev pub after : Call → PlanTable → PlanTable
 after (Begin recover) plans = begun recover plans
 after (Reply block stamp node answer) plans = changed (with_answer node answer) block stamp plans
 after (Decide block stamp) plans = changed with_decision block stamp plans
@@ -73,12 +73,12 @@ pub record Extends (plan later : Plan) : Type 0 where
   pub updated : (node : ℕ) → list_any (is_number node) plan.updated ≡ true → list_any (is_number node) later.updated ≡ true
 
 abbrev pub PlansStay : Type 0
-PlansStay = (call : Call) (plans : List (ℕ × List (ℕ × Plan))) (block stamp : ℕ) (plan : Plan) → refusal call plans ≡ None → plan_at block stamp plans ≡ Some plan
+PlansStay = (call : Call) (plans : PlanTable) (block stamp : ℕ) (plan : Plan) → refusal call plans ≡ None → plan_at block stamp plans ≡ Some plan
     → (later : Plan) × (plan_at block stamp (after call plans) ≡ Some later) × Extends plan later
 
 -- where a plan of the block with that stamp was begun, no other is: it is refused, and told a stamp that isn't lower
 abbrev pub PlansBeginOnce : Type 0
-PlansBeginOnce = (recover : Recover) (plans : List (ℕ × List (ℕ × Plan))) (plan : Plan) → plan_at recover.block recover.stamp plans ≡ Some plan
+PlansBeginOnce = (recover : Recover) (plans : PlanTable) (plan : Plan) → plan_at recover.block recover.stamp plans ≡ Some plan
     → (stamp : ℕ) × (refused_begin recover plans ≡ Some (AlreadyBegun stamp)) × (recover.stamp ≤ stamp)
 
 -- ---- plans are right
@@ -90,9 +90,9 @@ pub record IsRight (plan : Plan) : Type 0 where
   pub decided : (decision : Decision) → plan.decision ≡ Some decision → decision_of plan.answers ≡ Some decision
   pub noted : (node : ℕ) → list_any (is_number node) plan.updated ≡ true → takes_part node plan.decision ≡ true
 
-abbrev pub AreRight : List (ℕ × List (ℕ × Plan)) → Type 0
+abbrev pub AreRight : PlanTable → Type 0
 AreRight plans = (block stamp : ℕ) (plan : Plan) → plan_at block stamp plans ≡ Some plan → IsRight plan
 
 -- no plan is there at first, and each call leaves plans that are right
 abbrev pub PlansAreRight : Type 0
-PlansAreRight = AreRight [] × ((call : Call) (plans : List (ℕ × List (ℕ × Plan))) → refusal call plans ≡ None → AreRight plans → AreRight (after call plans))
+PlansAreRight = AreRight [] × ((call : Call) (plans : PlanTable) → refusal call plans ≡ None → AreRight plans → AreRight (after call plans))

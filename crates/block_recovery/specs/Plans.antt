@@ -24,19 +24,23 @@ abbrev pub IsFaultOf : Option PlanRefusal → PlanFault → Type 0
 IsFaultOf refusal (Refused own) = refusal ≡ Some own
 IsFaultOf refusal OutOfMemory = Unit {0}
 
--- ---- all plans: of each block those that were begun, by their stamps
+-- ---- all plans
 
-abbrev pub plans_of : ℕ → List (ℕ × List (ℕ × Plan)) → List (ℕ × Plan)
+-- of each block the plans that were begun, by their stamps
+abbrev pub PlanTable : Type 0
+PlanTable = List (ℕ × List (ℕ × Plan))
+
+abbrev pub plans_of : ℕ → PlanTable → List (ℕ × Plan)
 plans_of block plans = unwrap_or (entry_at block plans) []
 
-abbrev pub plan_at : ℕ → ℕ → List (ℕ × List (ℕ × Plan)) → Option Plan
+abbrev pub plan_at : ℕ → ℕ → PlanTable → Option Plan
 plan_at block stamp plans = entry_at stamp (plans_of block plans)
 
 -- the greatest stamp of some plans
 abbrev pub newest : List (ℕ × Plan) → Option ℕ
 newest plans = reduce max (keys_of plans)
 
-abbrev pub with_plan : ℕ → ℕ → Plan → List (ℕ × List (ℕ × Plan)) → List (ℕ × List (ℕ × Plan))
+abbrev pub with_plan : ℕ → ℕ → Plan → PlanTable → PlanTable
 with_plan block stamp plan plans = insert_entry nat_cmp plans block (insert_entry nat_cmp (plans_of block plans) stamp plan)
 
 -- a table with a change of what it has at a number, if anything
@@ -48,7 +52,7 @@ abbrev pub altered : {X : Type 0} → (X → X) → ℕ → List (ℕ × X) → 
 altered change number table = altered_by change number (entry_at number table) table
 
 -- one plan is changed, and no other
-abbrev pub changed : (Plan → Plan) → ℕ → ℕ → List (ℕ × List (ℕ × Plan)) → List (ℕ × List (ℕ × Plan))
+abbrev pub changed : (Plan → Plan) → ℕ → ℕ → PlanTable → PlanTable
 changed change block stamp plans = altered (altered change stamp) block plans
 
 -- ---- begin
@@ -58,14 +62,14 @@ abbrev pub refused_after : ℕ → Option ℕ → Option PlanRefusal
 refused_after stamp None = None
 refused_after stamp (Some begun) = if nat_le stamp begun then Some (AlreadyBegun begun) else None
 
-abbrev pub refused_begin : Recover → List (ℕ × List (ℕ × Plan)) → Option PlanRefusal
+abbrev pub refused_begin : Recover → PlanTable → Option PlanRefusal
 refused_begin recover plans = refused_after recover.stamp (newest (plans_of recover.block plans))
 
 -- nobody has answered yet
 abbrev pub new_plan : Recover → Plan
 new_plan recover = record { nodes = recover.nodes; token = recover.token; answers = []; decision = None; updated = [] }
 
-abbrev pub begun : Recover → List (ℕ × List (ℕ × Plan)) → List (ℕ × List (ℕ × Plan))
+abbrev pub begun : Recover → PlanTable → PlanTable
 begun recover plans = with_plan recover.block recover.stamp (new_plan recover) plans
 
 -- ---- reply
