@@ -1,0 +1,4 @@
+pub mod Tables
+pub mod Lookups
+pub mod Deciding
+pub mod Steps

@@ -1,0 +1,3 @@
+pub mod Decision
+pub mod Plans
+pub mod Laws

@@ -1,0 +1,177 @@
+ghost use Rattle.std.specs.Prelude.{◌≡◌, [], IfOk, IfErr, OnOk, OnErr, Some, None, option_copied, option_and_then};
+ghost use Rattle.block_recovery.specs.Plans as spec;
+ghost use Rattle.block_recovery.specs.Plans.{IsFaultOf, changed, plan_at};
+
+use crate::answer::Answer;
+use crate::block_plans::BlockPlans;
+use crate::decision::{Commit, Decision};
+use crate::fault::{PlanFault, PlanRefusal};
+use crate::plan::Plan;
+use crate::recover::Recover;
+use block_records::node_set::NodeSet;
+use hdfs_values::ids::{BlockId, Stamp};
+use hdfs_values::node_id::NodeId;
+use std::alloc::{AllocError, Global};
+use std::collections::BTreeMap;
+use std::marker::Model;
+
+/// The plans that a DataNode has begun to recover blocks, one for each block and stamp, kept for good (HDFS-265, "Block recovery").
+///
+/// A plan is begun, hears the answers of the nodes that it asked, is decided once, hears which nodes have cut their replicas, and is
+/// committed, as often as is asked. No call looks at a clock or at a token.
+#[derive(Drop)]
+pub struct Plans {
+    by_block: BTreeMap<BlockId, BlockPlans>,
+    alloc: Global,
+}
+
+impl Model for Plans {
+    ghost use Rattle.std.specs.Prelude.{List, ℕ};
+    ghost use Rattle.block_recovery.specs.declared.plan.Plan.{Plan};
+
+    ghost Value = { List (ℕ × List (ℕ × Plan)) };
+
+    ghost view = { λ plans. plans.by_block.entries };
+}
+
+// Where there is no such plan, no plan waits for anything.
+const STRANGER: PlanFault = PlanFault::Refused(PlanRefusal::Stranger);
+
+impl Plans {
+    /// No plan was begun. Takes no memory.
+    pub fn new(alloc: Global) -> Plans
+        ensures { result ≡ [] }
+    {
+        Plans {
+            by_block: BTreeMap::new(alloc),
+            alloc,
+        }
+    }
+
+    /// The plan of a block with a stamp. Costs a look-up, and takes no memory.
+    pub fn get(&self, block: BlockId, stamp: Stamp) -> Option<&Plan>
+        ensures { option_copied result ≡ plan_at block stamp self.now }
+    {
+        self.by_block.get(&block)?.get(stamp)
+    }
+
+    // The greatest stamp with which a plan of a block was begun.
+    fn newest(&self, block: BlockId) -> Option<Stamp>
+        ensures { result ≡ spec.newest (spec.plans_of block self.now) }
+    {
+        self.by_block.get(&block)?.newest()
+    }
+
+    // Puts a plan in.
+    fn insert(&mut self, block: BlockId, stamp: Stamp, plan: Plan) -> Result<(), AllocError>
+        ensures ok { OnOk result (self.new ≡ spec.with_plan block stamp plan self.old) }
+        ensures err { OnErr result (self.new ≡ self.old) }
+    {
+        if let Some(own) = self.by_block.get_mut(&block) {
+            return own.insert(stamp, plan);
+        }
+        let mut own = BlockPlans::new(self.alloc);
+        own.insert(stamp, plan)?;
+        self.by_block.insert(block, own)?;
+        Ok(())
+    }
+
+    /// Begins a plan, and answers the nodes that are to be asked for their replicas, by their ids. Costs a look-up, and the nodes.
+    ///
+    /// # Errors
+    /// `AlreadyBegun` with the greatest stamp of the block's plans, where that is this stamp or a greater one; or out of memory. Nothing
+    /// has changed then.
+    pub fn begin(&mut self, recover: &Recover) -> Result<NodeSet, PlanFault>
+        ensures allowed { OnOk result (spec.refused_begin recover.now self.old ≡ None) }
+        ensures asked { IfOk result (λ nodes. nodes ≡ recover.now.nodes) }
+        ensures ok { OnOk result (self.new ≡ spec.begun recover.now self.old) }
+        ensures fault { IfErr result (IsFaultOf (spec.refused_begin recover.now self.old)) }
+        ensures err { OnErr result (self.new ≡ self.old) }
+    {
+        if let Some(begun) = self.newest(recover.block) {
+            if recover.stamp <= begun {
+                return Err(PlanFault::Refused(PlanRefusal::AlreadyBegun(begun)));
+            }
+        }
+        let asked = recover.nodes.clone()?;
+        let plan = Plan::new(self.alloc, recover)?;
+        self.insert(recover.block, recover.stamp, plan)?;
+        Ok(asked)
+    }
+
+    /// Notes what a node answers of its replica. Costs a look-up, and the nodes of the plan.
+    ///
+    /// # Errors
+    /// `Doubled` where the node has answered, also behind the decision; then `Stranger` where there is no such plan, it is decided, or
+    /// the node wasn't asked; or out of memory. Nothing has changed then.
+    pub fn reply(
+        &mut self,
+        block: BlockId,
+        stamp: Stamp,
+        node: NodeId,
+        answer: Answer,
+    ) -> Result<(), PlanFault>
+        ensures allowed { OnOk result (spec.refused_reply node (plan_at block stamp self.old) ≡ None) }
+        ensures ok { OnOk result (self.new ≡ changed (spec.with_answer node answer) block stamp self.old) }
+        ensures fault { IfErr result (IsFaultOf (spec.refused_reply node (plan_at block stamp self.old))) }
+        ensures err { OnErr result (self.new ≡ self.old) }
+    {
+        let Some(own) = self.by_block.get_mut(&block) else {
+            return Err(STRANGER);
+        };
+        own.reply(stamp, node, answer)
+    }
+
+    /// Decides by the answers that have come to which length the replicas are cut, and which nodes take part, by their ids. Costs a
+    /// look-up, and the answers.
+    ///
+    /// # Errors
+    /// `Stranger` where there is no such plan or it is decided, then `NoReplicaAnswered` where no node has answered; or out of memory.
+    /// Nothing has changed then.
+    pub fn decide(&mut self, block: BlockId, stamp: Stamp) -> Result<Decision, PlanFault>
+        ensures allowed { OnOk result (spec.refused_decide (plan_at block stamp self.old) ≡ None) }
+        ensures told { IfOk result (λ decision. option_and_then spec.decision_for (plan_at block stamp self.old) ≡ Some decision) }
+        ensures ok { OnOk result (self.new ≡ changed spec.with_decision block stamp self.old) }
+        ensures fault { IfErr result (IsFaultOf (spec.refused_decide (plan_at block stamp self.old))) }
+        ensures err { OnErr result (self.new ≡ self.old) }
+    {
+        let Some(own) = self.by_block.get_mut(&block) else {
+            return Err(STRANGER);
+        };
+        own.decide(self.alloc, stamp)
+    }
+
+    /// Notes that a node has cut its replica to the length that was decided. Costs a look-up, and the nodes that take part.
+    ///
+    /// # Errors
+    /// `Doubled` where that was noted, then `Stranger` where there is no such plan, it isn't decided, or the node takes no part; or out of
+    /// memory. Nothing has changed then.
+    pub fn updated(&mut self, block: BlockId, stamp: Stamp, node: NodeId) -> Result<(), PlanFault>
+        ensures allowed { OnOk result (spec.refused_updated node (plan_at block stamp self.old) ≡ None) }
+        ensures ok { OnOk result (self.new ≡ changed (spec.with_updated node) block stamp self.old) }
+        ensures fault { IfErr result (IsFaultOf (spec.refused_updated node (plan_at block stamp self.old))) }
+        ensures err { OnErr result (self.new ≡ self.old) }
+    {
+        let Some(own) = self.by_block.get_mut(&block) else {
+            return Err(STRANGER);
+        };
+        own.update(stamp, node)
+    }
+
+    /// The length that was decided, with the nodes that have cut their replicas to it up to now, by their ids. It may be asked again, and
+    /// changes nothing. Costs a look-up, and these nodes.
+    ///
+    /// # Errors
+    /// `Stranger` where there is no such plan or it isn't decided, then `NoReplicaAnswered` where no node has cut its replica; or out of
+    /// memory.
+    pub fn commit(&self, block: BlockId, stamp: Stamp) -> Result<Commit, PlanFault>
+        ensures allowed { OnOk result (spec.refused_commit (plan_at block stamp self.now) ≡ None) }
+        ensures told { IfOk result (λ commit. option_and_then spec.commit_of (plan_at block stamp self.now) ≡ Some commit) }
+        ensures fault { IfErr result (IsFaultOf (spec.refused_commit (plan_at block stamp self.now))) }
+    {
+        match self.get(block, stamp) {
+            Some(plan) => plan.commit(self.alloc),
+            None => Err(STRANGER),
+        }
+    }
+}

@@ -1,0 +1,5 @@
+//! Tests of the plans by which blocks are recovered.
+#![tactic(auto)]
+
+#[cfg(test)]
+mod plans;
