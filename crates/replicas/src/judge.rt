@@ -55,11 +55,11 @@ pub(crate) fn judge_packet(
     if !replica.is_writing() || replica.stamp < promised {
         return Err(ReplicaRefusal::NotWritable);
     }
-    let length = replica.bytes.len();
+    let (length, count) = (replica.bytes.len(), bytes.len());
     if offset != length {
         return Err(ReplicaRefusal::OffsetGap(length));
     }
-    if bytes.len() > PACKET_LIMIT || exceed(limit, length, bytes.len()) {
+    if count > PACKET_LIMIT || exceed(limit, length, count) {
         return Err(ReplicaRefusal::OutOfRange);
     }
     Ok(())
@@ -122,7 +122,7 @@ pub(crate) fn judge_init(
     if replica.is_none() {
         return Err(ReplicaRefusal::NoReplica);
     }
-    if stamp <= promised {
+    if promised >= stamp {
         return Err(ReplicaRefusal::StampDiffers(promised));
     }
     Ok(())
@@ -139,7 +139,7 @@ pub(crate) fn judge_update(
     let Some(replica) = replica else {
         return Err(ReplicaRefusal::NoReplica);
     };
-    if stamp != promised {
+    if promised != stamp {
         return Err(ReplicaRefusal::StampDiffers(promised));
     }
     if replica.stamp == stamp {
