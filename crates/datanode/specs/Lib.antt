@@ -1,0 +1,3 @@
+pub mod Asking
+pub mod Sending
+pub mod NodeStep

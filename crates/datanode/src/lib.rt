@@ -1,0 +1,7 @@
+//! A DataNode: it lets callers at its replicas for block access tokens, and notes down whom.
+#![tactic(auto)]
+
+pub mod answered;
+mod asking;
+pub mod datanode;
+mod sending;
