@@ -1,3 +1,1 @@
-pub mod Asking
-pub mod Sending
 pub mod NodeStep

@@ -20,8 +20,8 @@ use Rattle.node_calls.specs.declared.refusal.ReplicaRefusal.{ReplicaRefusal}
 use Rattle.node_calls.specs.declared.reply.NodeReply.{NodeReply}
 use Rattle.node_calls.specs.declared.reply.NodeReply.TheVariants as reply
 use Rattle.replicas.specs.ReplicaStep.{Blocks, held_at, replica_refusal, removal_refusal, blocks_after, without}
-use Rattle.datanode.specs.Asking.{asked_by, mode_of, record_of}
-use Rattle.datanode.specs.Sending.{call_reply, call_sends}
+use Rattle.node_replies.specs.Asking.{asked_by, mode_of, record_of}
+use Rattle.node_replies.specs.Sending.{call_reply, call_sends}
 use Rattle.datanode.specs.declared.answered.Answered.{Answered}
 
 pub record Node : Type 0 where
@@ -62,13 +62,12 @@ call_refusal node clock presented asked =
     token_or_replica (token_test node.keys (access_of clock presented asked) presented.token)
     (replica_refusal node.limit asked presented.stamp (held_at presented.block node.blocks))
 
--- the replicas are changed by a call, and this is noted down of it
-abbrev pub noted : Node → AccessRecord → TokenCall → ℕ → ℕ → Node
-noted node entry asked stamp block = record node { blocks = blocks_after asked stamp block node.blocks; log = node.log ++ entry ∷ [] }
-
--- what a call does that isn't refused
+-- what a call does that isn't refused: it changes replicas, and is noted down
 abbrev pub served : Node → ℕ → Presented → TokenCall → Node
-served node clock presented asked = noted node (record_of node.id clock presented asked (held_at presented.block node.blocks)) asked presented.stamp presented.block
+served node clock presented asked = record node {
+  blocks = blocks_after asked presented.stamp presented.block node.blocks;
+  log = node.log ++ record_of node.id clock presented asked (held_at presented.block node.blocks) ∷ [];
+}
 
 abbrev pub told : Node → Presented → TokenCall → Answered
 told node presented asked = record {

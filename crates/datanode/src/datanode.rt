@@ -1,15 +1,12 @@
-ghost use Rattle.std.specs.Prelude.{◌≡◌, ◌++◌, [], ◌∷◌, Some, None, length, IfOk, OnOk, OnErr, option_copied};
+ghost use Rattle.std.specs.Prelude.{◌≡◌, [], IfOk, OnOk, OnErr, option_copied};
 ghost use Rattle.hdfs_values.specs.NodeId.{node_principal};
-ghost use Rattle.block_tokens.specs.TokenTest as tokens;
 ghost use Rattle.node_calls.specs.declared.call.NodeCall.TheVariants as asked;
 ghost use Rattle.node_calls.specs.declared.call.TokenCall.TheVariants as made;
-ghost use Rattle.node_calls.specs.declared.reply.NodeReply.TheVariants as reply;
 ghost use Rattle.replicas.specs.ReplicaStep.{held_at};
-ghost use Rattle.datanode.specs.Asking.{record_of};
+ghost use Rattle.node_replies.specs.Asking.{record_of};
 ghost use Rattle.datanode.specs.NodeStep as spec;
 
 use crate::answered::Answered;
-use crate::{asking, sending};
 use block_tokens::cache::KeyCache;
 use block_tokens::key::KeyList;
 use hdfs_values::ids::{BlockId, Stamp};
@@ -24,6 +21,7 @@ use node_calls::node_list::NodeList;
 use node_calls::presented::{Presented, PresentedToken};
 use node_calls::refusal::NodeRefusal;
 use node_calls::reply::NodeReply;
+use node_replies::{asking, sending};
 use replicas::replica::Replica;
 use replicas::replicas::Replicas;
 use std::alloc::{AllocError, Global};
@@ -86,15 +84,6 @@ fn first_moment() -> Moment
     moment
 }
 
-fn refused(alloc: Global, refusal: NodeRefusal) -> Answered
-    ensures { result ≡ spec.refused refusal }
-{
-    Answered {
-        result: Err(refusal),
-        messages: Messages::new(alloc),
-    }
-}
-
 impl DataNode {
     /// No replica, no key, nothing noted down, and the clock at 0. A replica has at most so many bytes.
     ///
@@ -154,6 +143,18 @@ impl DataNode {
         self.keys.drop_expired(clock);
     }
 
+    // A refusal: the clock moves on all the same.
+    fn refuse(&mut self, moment: Moment, refusal: NodeRefusal) -> Answered
+        ensures after { self.new ≡ spec.moved_on moment self.old }
+        ensures answer { result ≡ spec.refused refusal }
+    {
+        self.move_on(moment);
+        Answered {
+            result: Err(refusal),
+            messages: Messages::new(self.alloc),
+        }
+    }
+
     // What a call that presents a token is refused for.
     fn judge(
         &self,
@@ -204,40 +205,30 @@ impl DataNode {
     // Does what a call that isn't refused does, and notes it down.
     fn note(
         &mut self,
-        entry: AccessRecord,
+        clock: Moment,
+        presented: &Presented,
         call: &TokenCall,
-        stamp: Stamp,
-        block: BlockId,
     ) -> Result<(), AllocError>
-        ensures ok { OnOk result (self.new ≡ spec.noted self.old entry call.now stamp block) }
+        ensures ok { OnOk result (self.new ≡ spec.served self.old clock presented.now call.now) }
         ensures err { OnErr result (self.new ≡ self.old) }
     {
+        let entry = self.record(clock, presented, call)?;
         self.log.push(entry)?;
-        let applied = self.replicas.apply(call, stamp, block);
+        let applied = self.replicas.apply(call, presented.stamp, presented.block);
         if applied.is_err() {
             self.log.take_back();
         }
         applied
     }
 
-    // A call that isn't refused.
-    fn accept(
-        &mut self,
-        clock: Moment,
-        presented: &Presented,
-        call: &TokenCall,
-    ) -> Result<Answered, AllocError>
-        ensures ok { OnOk result (self.new ≡ spec.served self.old clock presented.now call.now) }
-        ensures answer { IfOk result (λ answered. answered ≡ spec.told self.old presented.now call.now) }
-        ensures err { OnErr result (self.new ≡ self.old) }
+    // What is answered to a call that isn't refused.
+    fn answer(&self, presented: &Presented, call: &TokenCall) -> Result<Answered, AllocError>
+        ensures { IfOk result (λ answered. answered ≡ spec.told self.now presented.now call.now) }
     {
-        let block = presented.block;
-        let entry = self.record(clock, presented, call)?;
-        let answer = sending::reply_to(call, &self.replicas, block)?;
         let messages = sending::sends(self.alloc, self.id, presented, call, &self.replicas)?;
-        self.note(entry, call, presented.stamp, block)?;
+        let told = sending::reply_to(call, &self.replicas, presented.block)?;
         Ok(Answered {
-            result: Ok(answer),
+            result: Ok(told),
             messages,
         })
     }
@@ -255,23 +246,28 @@ impl DataNode {
         ensures err { OnErr result (self.new ≡ self.old) }
     {
         if let Err(refusal) = self.judge(clock, presented, call) {
-            self.move_on(clock);
-            return Ok(refused(self.alloc, refusal));
+            return Ok(self.refuse(clock, refusal));
         }
-        let answered = self.accept(clock, presented, call)?;
+        let answered = self.answer(presented, call)?;
+        self.note(clock, presented, call)?;
         self.move_on(clock);
         Ok(answered)
     }
 
-    // What is presented, in the node's own name.
-    fn own(&self, presented: &Presented) -> Result<Presented, AllocError>
-        ensures { IfOk result (λ own. own ≡ record (presented.now) { caller = node_principal self.now.id }) }
+    // A token, presented in the node's own name.
+    fn own(
+        &self,
+        block: BlockId,
+        stamp: Stamp,
+        token: &PresentedToken,
+    ) -> Result<Presented, AllocError>
+        ensures { IfOk result (λ own. own ≡ record { caller = node_principal self.now.id; block = block; stamp = stamp; token = token.now }) }
     {
         Ok(Presented {
             caller: self.principal.clone()?,
-            block: presented.block,
-            stamp: presented.stamp,
-            token: presented.token.clone()?,
+            block,
+            stamp,
+            token: token.clone()?,
         })
     }
 
@@ -289,7 +285,7 @@ impl DataNode {
     {
         let clock = self.clock.later(now);
         if asking::sends_copy(call) {
-            let own = self.own(presented)?;
+            let own = self.own(presented.block, presented.stamp, &presented.token)?;
             return self.serve(clock, &own, call);
         }
         self.serve(clock, presented, call)
@@ -429,25 +425,22 @@ impl DataNode {
     ///
     /// # Errors
     /// Out of memory. Nothing has changed then.
+    #[tactic(auto, unfolding(crate::specs::NodeStep::node_after, crate::specs::NodeStep::node_answer))]
     pub fn send_copy(
         &mut self,
         now: Moment,
         block: BlockId,
         stamp: Stamp,
-        token: PresentedToken,
+        token: &PresentedToken,
         to: NodeId,
     ) -> Result<Answered, AllocError>
-        ensures ok { OnOk result (self.new ≡ spec.node_after self.old now (spec.copying self.old.id block stamp token to)) }
-        ensures answer { IfOk result (λ answered. answered ≡ spec.node_answer self.old now (spec.copying self.old.id block stamp token to)) }
+        ensures ok { OnOk result (self.new ≡ spec.node_after self.old now (spec.copying self.old.id block stamp token.now to)) }
+        ensures answer { IfOk result (λ answered. answered ≡ spec.node_answer self.old now (spec.copying self.old.id block stamp token.now to)) }
         ensures err { OnErr result (self.new ≡ self.old) }
     {
-        let presented = Presented {
-            caller: self.principal.clone()?,
-            block,
-            stamp,
-            token,
-        };
-        self.present(now, &presented, &TokenCall::SendCopy(to))
+        let clock = self.clock.later(now);
+        let own = self.own(block, stamp, token)?;
+        self.serve(clock, &own, &TokenCall::SendCopy(to))
     }
 
     /// Removes a replica whose stamp isn't above this one; what was promised stays. Refused as `NoReplica`, `StampDiffers`. Costs a
@@ -458,12 +451,11 @@ impl DataNode {
         ensures answer { result ≡ spec.node_answer self.old now (asked.Invalidate block stamp) }
     {
         let clock = self.clock.later(now);
-        let judged = self.replicas.judge_removal(stamp, block);
-        self.move_on(clock);
-        if let Err(refusal) = judged {
-            return refused(self.alloc, NodeRefusal::Replica(refusal));
+        if let Err(refusal) = self.replicas.judge_removal(stamp, block) {
+            return self.refuse(clock, NodeRefusal::Replica(refusal));
         }
         self.replicas.remove(block);
+        self.move_on(clock);
         Answered {
             result: Ok(NodeReply::Removed),
             messages: Messages::new(self.alloc),
@@ -482,7 +474,8 @@ impl DataNode {
     {
         let clock = self.clock.later(now);
         self.keys.merge(update)?;
-        self.move_on(clock);
+        self.clock = clock;
+        self.keys.drop_expired(self.clock);
         Ok(Answered {
             result: Ok(NodeReply::Keys(self.keys.len() as u64)),
             messages: Messages::new(self.alloc),

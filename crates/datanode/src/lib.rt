@@ -2,6 +2,4 @@
 #![tactic(auto)]
 
 pub mod answered;
-mod asking;
 pub mod datanode;
-mod sending;

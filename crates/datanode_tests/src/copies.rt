@@ -90,14 +90,14 @@ fn sends(alloc: Global, ring: &KeyRing, one: &mut DataNode, other: &mut DataNode
     let own = token(alloc, ring, 0, "dn-1", 1, Modes::READ | Modes::WRITE)?;
     let strangers = token(alloc, ring, 0, "alice", 1, Modes::READ)?;
     let (block, stamp, to) = (BlockId::new(1), Stamp::new(1001), NodeId::new(3)?);
-    let early = one.send_copy(now, block, stamp, own.clone().ok()?, to);
+    let early = one.send_copy(now, block, stamp, &own, to);
     let open = is_refused(early, NodeRefusal::Replica(ReplicaRefusal::NoReplica));
     let ended = reply(one.finalize(now, &alice, 2, nobody(alloc))).is_some();
     let anothers = is_refused(
-        one.send_copy(now, block, stamp, strangers, to),
+        one.send_copy(now, block, stamp, &strangers, to),
         NodeRefusal::Token(TokenRefusal::WrongUser),
     );
-    let copy = message(one.send_copy(now, block, stamp, own, to))?;
+    let copy = message(one.send_copy(now, block, stamp, &own, to))?;
     Some(open && ended && anothers && is_for(&copy, 3) && delivered(other, &copy)?)
 }
 

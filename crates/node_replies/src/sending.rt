@@ -6,7 +6,7 @@ ghost use Rattle.node_calls.specs.declared.call.PlanCall.TheVariants as plan;
 ghost use Rattle.node_calls.specs.declared.message.Message.TheVariants as message;
 ghost use Rattle.node_calls.specs.declared.reply.NodeReply.TheVariants as reply;
 ghost use Rattle.replicas.specs.ReplicaStep.{own, held_at};
-ghost use Rattle.datanode.specs.Sending as spec;
+ghost use Rattle.node_replies.specs.Sending as spec;
 
 use hdfs_values::ids::{BlockId, Stamp};
 use hdfs_values::node_id::{NodeId, node_of};
@@ -61,8 +61,11 @@ fn facts(replicas: &Replicas, block: BlockId) -> NodeReply
     NodeReply::Replica(stamp, replicas.length(block), state_of(replicas, block))
 }
 
-// What is answered to a call that isn't refused.
-pub(crate) fn reply_to(
+/// What is answered to a call that isn't refused, by what is held before it. Costs the bytes that are read.
+///
+/// # Errors
+/// Out of memory.
+pub fn reply_to(
     call: &TokenCall,
     replicas: &Replicas,
     block: BlockId,
@@ -126,8 +129,8 @@ fn forward_packet(
 {
     match next.as_slice() {
         [] => Ok(Messages::new(alloc)),
-        [first, rest @ ..] => {
-            let rest = NodeList::copied(alloc, rest)?;
+        [first, others @ ..] => {
+            let rest = NodeList::copied(alloc, others)?;
             let call = TokenCall::Packet(offset, bytes.clone()?, rest);
             pass_on(alloc, presented, *first, call)
         }
@@ -203,8 +206,12 @@ fn copy_to(
     pass_on(alloc, presented, to, call)
 }
 
-// The messages that come with the answer to a call that isn't refused.
-pub(crate) fn sends(
+/// The messages that come with the answer to a call that isn't refused, by what is held before it. Costs the bytes that are passed on or
+/// copied.
+///
+/// # Errors
+/// Out of memory.
+pub fn sends(
     alloc: Global,
     node: NodeId,
     presented: &Presented,

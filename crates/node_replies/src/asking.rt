@@ -1,13 +1,14 @@
 ghost use Rattle.std.specs.Prelude.{◌≡◌};
 ghost use Rattle.replicas.specs.ReplicaStep.{held_at};
-ghost use Rattle.datanode.specs.Asking as spec;
+ghost use Rattle.node_replies.specs.Asking as spec;
 
 use hdfs_values::ids::BlockId;
 use node_calls::call::TokenCall;
 use permission_specs::modes::Modes;
 use replicas::replicas::Replicas;
 
-pub(crate) fn sends_copy(call: &TokenCall) -> bool
+/// Whether the call is one that a node makes in its own name: to send a copy. Takes no memory.
+pub fn sends_copy(call: &TokenCall) -> bool
     ensures { result ≡ spec.sends_copy call.now }
 {
     match call {
@@ -22,8 +23,8 @@ pub(crate) fn sends_copy(call: &TokenCall) -> bool
     }
 }
 
-// To read or to write.
-pub(crate) fn mode_of(call: &TokenCall) -> Modes
+/// Which access a call needs: to read or to write (HADOOP-4359). Takes no memory.
+pub fn mode_of(call: &TokenCall) -> Modes
     ensures { result ≡ spec.mode_of call.now }
 {
     match call {
@@ -38,8 +39,8 @@ pub(crate) fn mode_of(call: &TokenCall) -> Modes
     }
 }
 
-// The offset that is noted down.
-pub(crate) fn recorded_offset(call: &TokenCall) -> u64
+/// The offset that is noted down of a call: where a packet or a read begins, else 0. Takes no memory.
+pub fn recorded_offset(call: &TokenCall) -> u64
     ensures { result ≡ spec.recorded_offset call.now }
 {
     match call {
@@ -54,8 +55,9 @@ pub(crate) fn recorded_offset(call: &TokenCall) -> u64
     }
 }
 
-// The length that is noted down.
-pub(crate) fn recorded_length(call: &TokenCall, replicas: &Replicas, block: BlockId) -> u64
+/// The length that is noted down of a call, in bytes: that of a packet or a read, 0 of what begins, else that of the replica behind it.
+/// Costs a look-up, and takes no memory.
+pub fn recorded_length(call: &TokenCall, replicas: &Replicas, block: BlockId) -> u64
     ensures { result ≡ spec.recorded_length call.now (held_at block replicas.now) }
 {
     match call {
