@@ -15,7 +15,7 @@ use Rattle.datanode_laws.specs.Laws.{length_of, recovered_length}
 use Rattle.datanode_laws.proofs.Steps.{Follows, same, removes, change, called}
 
 -- a token that is taken leaves the judgement to the replica
-replica_passes : (token : Option TokenRefusal) (replica : Option ReplicaRefusal) → token_or_replica token replica ≡ None → replica ≡ None
+pub replica_passes : (token : Option TokenRefusal) (replica : Option ReplicaRefusal) → token_or_replica token replica ≡ None → replica ≡ None
 replica_passes (Some refusal) replica e = cc
 replica_passes None None e = refl
 replica_passes None (Some refusal) e = cc

@@ -41,14 +41,14 @@ same recovered held = record { promise = omega arith; below = λ h. h; kept = λ
 
 -- ---- refusals that don't apply
 
-never : (refusal : ReplicaRefusal) → Some refusal ≡ None → ⊥
+pub never : (refusal : ReplicaRefusal) → Some refusal ≡ None → ⊥
 never refusal e = cc
 
 pub passed : (test : Bool) (refusal : ReplicaRefusal) (later : Option ReplicaRefusal) → refused_where test refusal later ≡ None → (test ≡ false) × (later ≡ None)
 passed true refusal later e = absurd (never refusal e)
 passed false refusal later e = (refl, e)
 
-not_so : (test : Bool) → not test ≡ false → test ≡ true
+pub not_so : (test : Bool) → not test ≡ false → test ≡ true
 not_so true e = refl
 not_so false e = cc
 
