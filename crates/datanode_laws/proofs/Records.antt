@@ -1,5 +1,5 @@
 -- What is refused, and what is noted down.
-use Rattle.std.proofs.Common.{◌≡◌, ℕ, ◌<◌, ◌==◌, Bool, true, false, ◌||◌, not, nat_lt, List, [], ◌∷◌, ◌++◌, length, Option, Some, None, Result, Ok, Err, refl, sym, cond, subst, slice_index, ◌+◌}
+use Rattle.std.proofs.Common.{◌≡◌, ℕ, ◌<◌, ◌==◌, Bool, true, false, ◌||◌, not, nat_lt, List, [], ◌∷◌, ◌++◌, length, Option, Some, None, Ok, Err, refl, cond, slice_index, ◌+◌}
 use Rattle.std.proofs.lemmas.Bool.{eqb-true}
 use Rattle.std.specs.List.{AllByRecursion}
 use Rattle.block_tokens.specs.KeyList.{usable_keys, merged_keys}
@@ -18,11 +18,10 @@ use Rattle.node_calls.specs.declared.refusal.ReplicaRefusal.TheVariants.{NoRepli
 use Rattle.node_calls.specs.declared.reply.NodeReply.{NodeReply}
 use Rattle.node_calls.specs.declared.reply.NodeReply.TheVariants as reply
 use Rattle.hdfs_values.specs.NodeId.{node_principal}
-use Rattle.node_replies.specs.Asking.{asked_by, sends_copy, record_of, mode_of}
+use Rattle.node_replies.specs.Asking.{asked_by, sends_copy, record_of}
 use Rattle.node_replies.specs.Sending.{call_reply}
 use Rattle.replicas.specs.ReplicaState.{is_writing}
 use Rattle.replicas.specs.ReplicaStep.{held_at, refused_where, replica_refusal, removal_refusal, packet_limit}
-use Rattle.replicas.specs.declared.held.Held.{Held}
 use Rattle.replicas.specs.declared.replica.Replica.{Replica}
 use Rattle.datanode.specs.NodeStep.{Node, node_after, node_answer, presented_after, presented_answer, presented_by, told_by, removed_by, removal_told, clock_with, call_refusal, token_or_replica, access_of}
 use Rattle.datanode_laws.specs.Laws.{IsCovered, IsPresented}

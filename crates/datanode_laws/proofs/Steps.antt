@@ -1,9 +1,8 @@
 -- What one call leaves of one block.
-use Rattle.std.proofs.Common.{◌≡◌, ℕ, ◌≤◌, ◌<◌, ◌==◌, Bool, true, false, ◌||◌, not, nat_le, nat_lt, List, [], ◌∷◌, ◌++◌, length, take, Option, Some, None, unwrap_or, refl, sym, ap, ◌∙◌, cond, subst, inl, inr, arith}
+use Rattle.std.proofs.Common.{◌≡◌, ℕ, ◌≤◌, ◌==◌, Bool, true, false, not, nat_le, nat_lt, List, [], ◌∷◌, length, Option, Some, None, unwrap_or, refl, sym, cond, subst, inl, inr, arith}
 use Rattle.std.proofs.lemmas.Bool.{leb-false, ltb-false, eqb-true}
 use Rattle.std.proofs.lemmas.List.{append-nil}
 use Rattle.std.specs.BTreeMap.{insert_entry}
-use Rattle.std.specs.Bool.{⊤}
 use Rattle.std.specs.Map.{set_value}
 use Rattle.std.specs.Ordering.{is_eq, nat_cmp, match_ordering}
 use Rattle.std.specs.declared.cmp.Ordering.{Ordering}
@@ -16,7 +15,7 @@ use Rattle.node_calls.specs.declared.call.TokenCall.{TokenCall}
 use Rattle.node_calls.specs.declared.call.TokenCall.TheVariants as call
 use Rattle.node_calls.specs.declared.refusal.ReplicaRefusal.{ReplicaRefusal}
 use Rattle.node_calls.specs.declared.refusal.ReplicaRefusal.TheVariants.{NoReplica, StampDiffers, OutOfRange, NotWritable, ReplicaExists}
-use Rattle.replicas.specs.ReplicaStep.{Blocks, nothing, held_at, refused_where, replica_refusal, removal_refusal, placed, appended, finalized, promising, updated, removed, changed, changed_by, blocks_after, without}
+use Rattle.replicas.specs.ReplicaStep.{Blocks, nothing, held_at, refused_where, replica_refusal, placed, appended, finalized, promising, updated, removed, changed, changed_by, blocks_after}
 use Rattle.replicas.specs.declared.held.Held.{Held}
 use Rattle.replicas.specs.declared.replica.Replica.{Replica}
 use Rattle.datanode_laws.specs.Laws.{IsBelow, KeepsBytes, AreKept, length_of}

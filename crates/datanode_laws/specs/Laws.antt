@@ -14,7 +14,6 @@ use Rattle.node_calls.specs.declared.presented.Presented.{Presented}
 use Rattle.node_calls.specs.declared.refusal.NodeRefusal.{NodeRefusal}
 use Rattle.node_calls.specs.declared.reply.NodeReply.{NodeReply}
 use Rattle.replicas.specs.ReplicaStep.{held_at}
-use Rattle.replicas.specs.declared.held.Held.{Held}
 use Rattle.replicas.specs.declared.replica.Replica.{Replica}
 use Rattle.datanode.specs.NodeStep.{Node, node_after, node_answer}
 
