@@ -1,0 +1,500 @@
+ghost use Rattle.std.specs.Prelude.{◌≡◌, [], IfOk, OnOk, OnErr, option_copied};
+ghost use Rattle.hdfs_values.specs.NodeId.{node_principal};
+ghost use Rattle.node_calls.specs.declared.call.NodeCall.TheVariants as asked;
+ghost use Rattle.node_calls.specs.declared.call.TokenCall.TheVariants as made;
+ghost use Rattle.replicas.specs.ReplicaStep.{held_at};
+ghost use Rattle.node_replies.specs.Asking.{record_of};
+ghost use Rattle.datanode.specs.NodeStep as spec;
+
+use crate::answered::Answered;
+use block_tokens::cache::KeyCache;
+use block_tokens::key::KeyList;
+use hdfs_values::ids::{BlockId, Stamp};
+use hdfs_values::moment::Moment;
+use hdfs_values::node_id::NodeId;
+use hdfs_values::who::Who;
+use node_calls::access_log::{AccessLog, AccessRecord};
+use node_calls::block_bytes::BlockBytes;
+use node_calls::call::{NodeCall, TokenCall};
+use node_calls::message::Messages;
+use node_calls::node_list::NodeList;
+use node_calls::presented::{Presented, PresentedToken};
+use node_calls::refusal::NodeRefusal;
+use node_calls::reply::NodeReply;
+use node_replies::{asking, sending};
+use replicas::replica::Replica;
+use replicas::replicas::Replicas;
+use std::alloc::{AllocError, Global};
+use std::marker::Model;
+
+/// A DataNode: its replicas, the keys that the NameNode sent it, and whom it let at them (HDFS Architecture, "NameNode and DataNodes";
+/// HADOOP-4359).
+#[derive(Drop)]
+pub struct DataNode {
+    id: NodeId,
+    // in whose name it sends copies
+    principal: Who,
+    // the most bytes of a replica
+    limit: u64,
+    // the greatest moment of its calls
+    clock: Moment,
+    keys: KeyCache,
+    replicas: Replicas,
+    log: AccessLog,
+    alloc: Global,
+}
+
+impl Model for DataNode {
+    ghost use Rattle.std.specs.Prelude.{◌≡◌};
+    ghost use Rattle.hdfs_values.specs.NodeId.{node_principal};
+    ghost use Rattle.datanode.specs.NodeStep.{Node};
+
+    ghost Value = { Node };
+
+    ghost view = { λ node. record {
+      id = node.id;
+      limit = node.limit;
+      clock = node.clock;
+      keys = node.keys;
+      blocks = node.replicas;
+      log = node.log;
+    } };
+
+    ghost invariant = { λ node. node.principal ≡ node_principal node.id };
+}
+
+// The name of a node.
+fn principal_of(alloc: Global, node: NodeId) -> Result<Who, AllocError>
+    ensures { IfOk result (λ who. who ≡ node_principal node) }
+{
+    let text = format!(in alloc; "dn-{}", node.get())?;
+    // it is a name, so that only memory can lack
+    match Who::parse(alloc, text.as_str()) {
+        Ok(who) => Ok(who),
+        Err(_) => Err(AllocError),
+    }
+}
+
+fn first_moment() -> Moment
+    ensures { result ≡ 0 }
+{
+    let Some(moment) = Moment::new(0) else {
+        unreachable!();
+    };
+    moment
+}
+
+impl DataNode {
+    /// No replica, no key, nothing noted down, and the clock at 0. A replica has at most so many bytes.
+    ///
+    /// # Errors
+    /// Out of memory.
+    pub fn new(alloc: Global, id: NodeId, limit: u64) -> Result<DataNode, AllocError>
+        ensures { IfOk result (λ node. node ≡ record { id = id; limit = limit; clock = 0; keys = []; blocks = []; log = [] }) }
+    {
+        Ok(DataNode {
+            id,
+            principal: principal_of(alloc, id)?,
+            limit,
+            clock: first_moment(),
+            keys: KeyCache::new(alloc),
+            replicas: Replicas::new(alloc),
+            log: AccessLog::new(alloc),
+            alloc,
+        })
+    }
+
+    /// The node's id.
+    pub fn id(&self) -> NodeId
+        ensures { result ≡ self.now.id }
+    {
+        self.id
+    }
+
+    /// The replica of a block. Costs a look-up, and takes no memory.
+    pub fn replica(&self, block: BlockId) -> Option<&Replica>
+        ensures { option_copied result ≡ (held_at block self.now.blocks).replica }
+    {
+        self.replicas.replica(block)
+    }
+
+    /// The greatest stamp of a block that was ever held or promised; 0 before any. Costs a look-up, and takes no memory.
+    pub fn stamp_floor(&self, block: BlockId) -> Stamp
+        ensures { result ≡ (held_at block self.now.blocks).promised }
+    {
+        self.replicas.stamp_floor(block)
+    }
+
+    /// A copy of what was noted down so far. Costs the records.
+    ///
+    /// # Errors
+    /// Out of memory.
+    pub fn log(&self) -> Result<AccessLog, AllocError>
+        ensures { IfOk result (λ log. log ≡ self.now.log) }
+    {
+        self.log.clone()
+    }
+
+    // Moves the clock on, and drops the keys that have expired by then.
+    fn move_on(&mut self, clock: Moment)
+        ensures { self.new ≡ spec.moved_on clock self.old }
+    {
+        self.clock = clock;
+        self.keys.drop_expired(clock);
+    }
+
+    // A refusal: the clock moves on all the same.
+    fn refuse(&mut self, moment: Moment, refusal: NodeRefusal) -> Answered
+        ensures after { self.new ≡ spec.moved_on moment self.old }
+        ensures answer { result ≡ spec.refused refusal }
+    {
+        self.move_on(moment);
+        Answered {
+            result: Err(refusal),
+            messages: Messages::new(self.alloc),
+        }
+    }
+
+    // What a call that presents a token is refused for.
+    fn judge(
+        &self,
+        clock: Moment,
+        presented: &Presented,
+        call: &TokenCall,
+    ) -> Result<(), NodeRefusal>
+        ensures { spec.Answers result (spec.call_refusal self.now clock presented.now call.now) }
+    {
+        let mode = asking::mode_of(call);
+        let token = presented.token.as_bytes();
+        if let Err(refusal) = self
+            .keys
+            .check(clock, &presented.caller, presented.block, mode, token)
+        {
+            return Err(NodeRefusal::Token(refusal));
+        }
+        let judged = self
+            .replicas
+            .judge(self.limit, call, presented.stamp, presented.block);
+        match judged {
+            Ok(()) => Ok(()),
+            Err(refusal) => Err(NodeRefusal::Replica(refusal)),
+        }
+    }
+
+    // What is noted down of a call.
+    fn record(
+        &self,
+        clock: Moment,
+        presented: &Presented,
+        call: &TokenCall,
+    ) -> Result<AccessRecord, AllocError>
+        ensures { IfOk result (λ entry. entry ≡ record_of self.now.id clock presented.now call.now (held_at presented.now.block self.now.blocks)) }
+    {
+        Ok(AccessRecord {
+            node: self.id,
+            moment: clock,
+            caller: presented.caller.clone()?,
+            block: presented.block,
+            mode: asking::mode_of(call),
+            offset: asking::recorded_offset(call),
+            length: asking::recorded_length(call, &self.replicas, presented.block),
+            token: presented.token.clone()?,
+        })
+    }
+
+    // Does what a call that isn't refused does, and notes it down.
+    fn note(
+        &mut self,
+        clock: Moment,
+        presented: &Presented,
+        call: &TokenCall,
+    ) -> Result<(), AllocError>
+        ensures ok { OnOk result (self.new ≡ spec.served self.old clock presented.now call.now) }
+        ensures err { OnErr result (self.new ≡ self.old) }
+    {
+        let entry = self.record(clock, presented, call)?;
+        self.log.push(entry)?;
+        let applied = self.replicas.apply(call, presented.stamp, presented.block);
+        if applied.is_err() {
+            self.log.take_back();
+        }
+        applied
+    }
+
+    // What is answered to a call that isn't refused.
+    fn answer(&self, presented: &Presented, call: &TokenCall) -> Result<Answered, AllocError>
+        ensures { IfOk result (λ answered. answered ≡ spec.told self.now presented.now call.now) }
+    {
+        let messages = sending::sends(self.alloc, self.id, presented, call, &self.replicas)?;
+        let told = sending::reply_to(call, &self.replicas, presented.block)?;
+        Ok(Answered {
+            result: Ok(told),
+            messages,
+        })
+    }
+
+    // A call that presents a token, in the name of who presents it.
+    #[tactic(auto, unfolding(crate::specs::NodeStep::presented_after, crate::specs::NodeStep::presented_answer))]
+    fn serve(
+        &mut self,
+        clock: Moment,
+        presented: &Presented,
+        call: &TokenCall,
+    ) -> Result<Answered, AllocError>
+        ensures ok { OnOk result (self.new ≡ spec.presented_after self.old clock presented.now call.now) }
+        ensures answer { IfOk result (λ answered. answered ≡ spec.presented_answer self.old clock presented.now call.now) }
+        ensures err { OnErr result (self.new ≡ self.old) }
+    {
+        if let Err(refusal) = self.judge(clock, presented, call) {
+            return Ok(self.refuse(clock, refusal));
+        }
+        let answered = self.answer(presented, call)?;
+        self.note(clock, presented, call)?;
+        self.move_on(clock);
+        Ok(answered)
+    }
+
+    // A token, presented in the node's own name.
+    fn own(
+        &self,
+        block: BlockId,
+        stamp: Stamp,
+        token: &PresentedToken,
+    ) -> Result<Presented, AllocError>
+        ensures { IfOk result (λ own. own ≡ record { caller = node_principal self.now.id; block = block; stamp = stamp; token = token.now }) }
+    {
+        Ok(Presented {
+            caller: self.principal.clone()?,
+            block,
+            stamp,
+            token: token.clone()?,
+        })
+    }
+
+    // A call that presents a token.
+    #[tactic(auto, unfolding(crate::specs::NodeStep::node_after, crate::specs::NodeStep::node_answer))]
+    fn present(
+        &mut self,
+        now: Moment,
+        presented: &Presented,
+        call: &TokenCall,
+    ) -> Result<Answered, AllocError>
+        ensures ok { OnOk result (self.new ≡ spec.node_after self.old now (asked.Presenting presented.now call.now)) }
+        ensures answer { IfOk result (λ answered. answered ≡ spec.node_answer self.old now (asked.Presenting presented.now call.now)) }
+        ensures err { OnErr result (self.new ≡ self.old) }
+    {
+        let clock = self.clock.later(now);
+        if asking::sends_copy(call) {
+            let own = self.own(presented.block, presented.stamp, &presented.token)?;
+            return self.serve(clock, &own, call);
+        }
+        self.serve(clock, presented, call)
+    }
+
+    /// Begins a replica at a stamp above all that were held or promised; these nodes come next in the pipeline. Refused as
+    /// `ReplicaExists`, `StampDiffers`.
+    ///
+    /// # Errors
+    /// Out of memory. Nothing has changed then.
+    pub fn begin_write(
+        &mut self,
+        now: Moment,
+        presented: &Presented,
+        next: NodeList,
+    ) -> Result<Answered, AllocError>
+        ensures ok { OnOk result (self.new ≡ spec.node_after self.old now (asked.Presenting presented.now (made.Begin next))) }
+        ensures answer { IfOk result (λ answered. answered ≡ spec.node_answer self.old now (asked.Presenting presented.now (made.Begin next))) }
+        ensures err { OnErr result (self.new ≡ self.old) }
+    {
+        self.present(now, presented, &TokenCall::Begin(next))
+    }
+
+    /// Writes bytes behind those of a replica, which are so many as the offset says; these nodes come next in the pipeline. Refused as
+    /// `NoReplica`, `StampDiffers`, `NotWritable`, `OffsetGap`, `OutOfRange`. Costs the bytes.
+    ///
+    /// # Errors
+    /// Out of memory. Nothing has changed then.
+    pub fn packet(
+        &mut self,
+        now: Moment,
+        presented: &Presented,
+        offset: u64,
+        bytes: BlockBytes,
+        next: NodeList,
+    ) -> Result<Answered, AllocError>
+        ensures ok { OnOk result (self.new ≡ spec.node_after self.old now (asked.Presenting presented.now (made.Packet offset bytes next))) }
+        ensures answer { IfOk result (λ answered. answered ≡ spec.node_answer self.old now (asked.Presenting presented.now (made.Packet offset bytes next))) }
+        ensures err { OnErr result (self.new ≡ self.old) }
+    {
+        self.present(now, presented, &TokenCall::Packet(offset, bytes, next))
+    }
+
+    /// Ends the writing of a replica, which has this length; these nodes come next in the pipeline. Refused as `NoReplica`,
+    /// `StampDiffers`, `NotWritable`, `OffsetGap`.
+    ///
+    /// # Errors
+    /// Out of memory. Nothing has changed then.
+    pub fn finalize(
+        &mut self,
+        now: Moment,
+        presented: &Presented,
+        length: u64,
+        next: NodeList,
+    ) -> Result<Answered, AllocError>
+        ensures ok { OnOk result (self.new ≡ spec.node_after self.old now (asked.Presenting presented.now (made.Finalize length next))) }
+        ensures answer { IfOk result (λ answered. answered ≡ spec.node_answer self.old now (asked.Presenting presented.now (made.Finalize length next))) }
+        ensures err { OnErr result (self.new ≡ self.old) }
+    {
+        self.present(now, presented, &TokenCall::Finalize(length, next))
+    }
+
+    /// Reads from an offset of a finalized replica so many bytes. Refused as `NoReplica`, `StampDiffers`, `OutOfRange`. Costs the
+    /// bytes.
+    ///
+    /// # Errors
+    /// Out of memory. Nothing has changed then.
+    pub fn read(
+        &mut self,
+        now: Moment,
+        presented: &Presented,
+        offset: u64,
+        length: u64,
+    ) -> Result<Answered, AllocError>
+        ensures ok { OnOk result (self.new ≡ spec.node_after self.old now (asked.Presenting presented.now (made.Read offset length))) }
+        ensures answer { IfOk result (λ answered. answered ≡ spec.node_answer self.old now (asked.Presenting presented.now (made.Read offset length))) }
+        ensures err { OnErr result (self.new ≡ self.old) }
+    {
+        self.present(now, presented, &TokenCall::Read(offset, length))
+    }
+
+    /// Begins the recovery of a replica: nothing is written at another stamp from now on. The DataNode in whose name this is asked
+    /// leads it, and is told of the replica. Refused as `NoReplica`, `StampDiffers`.
+    ///
+    /// # Errors
+    /// Out of memory. Nothing has changed then.
+    pub fn init_recovery(
+        &mut self,
+        now: Moment,
+        presented: &Presented,
+    ) -> Result<Answered, AllocError>
+        ensures ok { OnOk result (self.new ≡ spec.node_after self.old now (asked.Presenting presented.now (made.InitRecovery))) }
+        ensures answer { IfOk result (λ answered. answered ≡ spec.node_answer self.old now (asked.Presenting presented.now (made.InitRecovery))) }
+        ensures err { OnErr result (self.new ≡ self.old) }
+    {
+        self.present(now, presented, &TokenCall::InitRecovery)
+    }
+
+    /// Ends the recovery of a replica: it has this length, and is finalized. The DataNode in whose name this is asked is told. Refused
+    /// as `NoReplica`, `StampDiffers`, `NotWritable`, `OutOfRange`.
+    ///
+    /// # Errors
+    /// Out of memory. Nothing has changed then.
+    pub fn update_replica(
+        &mut self,
+        now: Moment,
+        presented: &Presented,
+        length: u64,
+    ) -> Result<Answered, AllocError>
+        ensures ok { OnOk result (self.new ≡ spec.node_after self.old now (asked.Presenting presented.now (made.UpdateReplica length))) }
+        ensures answer { IfOk result (λ answered. answered ≡ spec.node_answer self.old now (asked.Presenting presented.now (made.UpdateReplica length))) }
+        ensures err { OnErr result (self.new ≡ self.old) }
+    {
+        self.present(now, presented, &TokenCall::UpdateReplica(length))
+    }
+
+    /// Takes a whole replica, at a stamp not below those that were held or promised. Refused as `ReplicaExists`, `StampDiffers`,
+    /// `OutOfRange`. Costs the bytes.
+    ///
+    /// # Errors
+    /// Out of memory. Nothing has changed then.
+    pub fn take_copy(
+        &mut self,
+        now: Moment,
+        presented: &Presented,
+        bytes: BlockBytes,
+    ) -> Result<Answered, AllocError>
+        ensures ok { OnOk result (self.new ≡ spec.node_after self.old now (asked.Presenting presented.now (made.TakeCopy bytes))) }
+        ensures answer { IfOk result (λ answered. answered ≡ spec.node_answer self.old now (asked.Presenting presented.now (made.TakeCopy bytes))) }
+        ensures err { OnErr result (self.new ≡ self.old) }
+    {
+        self.present(now, presented, &TokenCall::TakeCopy(bytes))
+    }
+
+    /// Sends a copy of a finalized replica to another node, in this node's own name. Refused as `NoReplica`, `StampDiffers`. Costs the
+    /// bytes.
+    ///
+    /// # Errors
+    /// Out of memory. Nothing has changed then.
+    #[tactic(auto, unfolding(crate::specs::NodeStep::node_after, crate::specs::NodeStep::node_answer))]
+    pub fn send_copy(
+        &mut self,
+        now: Moment,
+        block: BlockId,
+        stamp: Stamp,
+        token: &PresentedToken,
+        to: NodeId,
+    ) -> Result<Answered, AllocError>
+        ensures ok { OnOk result (self.new ≡ spec.node_after self.old now (spec.copying self.old.id block stamp token.now to)) }
+        ensures answer { IfOk result (λ answered. answered ≡ spec.node_answer self.old now (spec.copying self.old.id block stamp token.now to)) }
+        ensures err { OnErr result (self.new ≡ self.old) }
+    {
+        let clock = self.clock.later(now);
+        let own = self.own(block, stamp, token)?;
+        self.serve(clock, &own, &TokenCall::SendCopy(to))
+    }
+
+    /// Removes a replica whose stamp isn't above this one; what was promised stays. Refused as `NoReplica`, `StampDiffers`. Costs a
+    /// look-up, and takes no memory.
+    #[tactic(auto, unfolding(crate::specs::NodeStep::node_after, crate::specs::NodeStep::node_answer))]
+    pub fn invalidate(&mut self, now: Moment, block: BlockId, stamp: Stamp) -> Answered
+        ensures after { self.new ≡ spec.node_after self.old now (asked.Invalidate block stamp) }
+        ensures answer { result ≡ spec.node_answer self.old now (asked.Invalidate block stamp) }
+    {
+        let clock = self.clock.later(now);
+        if let Err(refusal) = self.replicas.judge_removal(stamp, block) {
+            return self.refuse(clock, NodeRefusal::Replica(refusal));
+        }
+        self.replicas.remove(block);
+        self.move_on(clock);
+        Answered {
+            result: Ok(NodeReply::Removed),
+            messages: Messages::new(self.alloc),
+        }
+    }
+
+    /// Takes in the keys of an update, and then drops those that have expired. Costs the keys.
+    ///
+    /// # Errors
+    /// Out of memory. Nothing has changed then.
+    #[tactic(auto, unfolding(crate::specs::NodeStep::node_after, crate::specs::NodeStep::node_answer))]
+    pub fn keys(&mut self, now: Moment, update: &KeyList) -> Result<Answered, AllocError>
+        ensures ok { OnOk result (self.new ≡ spec.node_after self.old now (asked.Keys update.now)) }
+        ensures answer { IfOk result (λ answered. answered ≡ spec.node_answer self.old now (asked.Keys update.now)) }
+        ensures err { OnErr result (self.new ≡ self.old) }
+    {
+        let clock = self.clock.later(now);
+        self.keys.merge(update)?;
+        self.clock = clock;
+        self.keys.drop_expired(self.clock);
+        Ok(Answered {
+            result: Ok(NodeReply::Keys(self.keys.len() as u64)),
+            messages: Messages::new(self.alloc),
+        })
+    }
+
+    /// Any call.
+    ///
+    /// # Errors
+    /// Out of memory. Nothing has changed then.
+    pub fn call(&mut self, now: Moment, call: &NodeCall) -> Result<Answered, AllocError>
+        ensures ok { OnOk result (self.new ≡ spec.node_after self.old now call.now) }
+        ensures answer { IfOk result (λ answered. answered ≡ spec.node_answer self.old now call.now) }
+        ensures err { OnErr result (self.new ≡ self.old) }
+    {
+        match call {
+            NodeCall::Presenting(presented, call) => self.present(now, presented, call),
+            NodeCall::Invalidate(block, stamp) => Ok(self.invalidate(now, *block, *stamp)),
+            NodeCall::Keys(update) => self.keys(now, update),
+        }
+    }
+}

@@ -1,0 +1,5 @@
+//! A DataNode: it lets callers at its replicas for block access tokens, and notes down whom.
+#![tactic(auto)]
+
+pub mod answered;
+pub mod datanode;

@@ -1,0 +1,8 @@
+use Rattle.datanode_laws.proofs.Records.{fenced, unchanged}
+use Rattle.datanode_laws.proofs.laws.old_writers_are_fenced.Goals as goal
+
+pub returns-clause-fenced : goal.returns-clause-fenced
+returns-clause-fenced c = fenced
+
+pub returns-clause-refused : goal.returns-clause-refused
+returns-clause-refused c = unchanged

@@ -1,0 +1,4 @@
+//! What stays at a DataNode whatever it is asked, and what its log tells.
+#![tactic(auto)]
+
+pub mod laws;

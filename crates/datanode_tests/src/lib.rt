@@ -1,0 +1,11 @@
+//! Tests of a DataNode: tokens over time, copies, block recovery, and what is noted down.
+#![tactic(auto)]
+
+#[cfg(test)]
+mod asking;
+#[cfg(test)]
+mod copies;
+#[cfg(test)]
+mod recovery;
+#[cfg(test)]
+mod tokens;

@@ -1,0 +1,98 @@
+ghost use Rattle.std.specs.Prelude.{◌≡◌, ◌++◌, length, replicate, IfOk, OnOk, OnErr};
+
+use std::alloc::{AllocError, Global};
+use std::marker::Model;
+
+/// Bytes of a block, as a packet of a write pipeline carries them (HDFS Architecture, "Replication Pipelining").
+///
+/// One byte many times takes no memory, so that a packet can be refused for its length before anything of that length is made.
+#[derive(Drop)]
+pub struct BlockBytes {
+    listed: Vec<u8>,
+    // behind those that are listed
+    byte: u8,
+    times: u64,
+}
+
+impl Model for BlockBytes {
+    ghost use Rattle.std.specs.Prelude.{List, ℕ, ◌+◌, ◌<◌, ◌^◌, ◌++◌, length, replicate};
+
+    ghost Value = { List ℕ };
+
+    ghost view = { λ bytes. bytes.listed.items ++ replicate bytes.times bytes.byte };
+
+    ghost invariant = { λ bytes. length bytes.listed.items + bytes.times < 2 ^ 64 };
+}
+
+impl BlockBytes {
+    /// These bytes. Takes no memory.
+    pub fn new(bytes: Vec<u8>) -> BlockBytes
+        ensures { result ≡ bytes.items }
+    {
+        // its contract bounds the length
+        let _length = bytes.len();
+        BlockBytes {
+            listed: bytes,
+            byte: 0,
+            times: 0,
+        }
+    }
+
+    /// One byte so many times. Takes no memory.
+    pub fn repeated(alloc: Global, byte: u8, times: u64) -> BlockBytes
+        ensures { result ≡ replicate times byte }
+    {
+        BlockBytes {
+            listed: Vec::new(alloc),
+            byte,
+            times,
+        }
+    }
+
+    /// How many bytes these are. Takes no memory.
+    pub fn len(&self) -> u64
+        ensures { result ≡ length self.now }
+    {
+        self.listed.len() as u64 + self.times
+    }
+
+    /// Puts these bytes behind others. Costs them.
+    ///
+    /// # Errors
+    /// Out of memory. Nothing has changed then.
+    pub fn append_to(&self, others: &mut Vec<u8>) -> Result<(), AllocError>
+        ensures ok { OnOk result (others.new.items ≡ others.old.items ++ self.now) }
+        ensures err { OnErr result (others.new.items ≡ others.old.items) }
+    {
+        let before = others.len();
+        others.extend_from_slice(&self.listed)?;
+        let grown = append_repeated(others, self.byte, self.times);
+        if grown.is_err() {
+            others.truncate(before);
+        }
+        grown
+    }
+}
+
+// Puts one byte so many times behind others.
+fn append_repeated(others: &mut Vec<u8>, byte: u8, times: u64) -> Result<(), AllocError>
+    ensures ok { OnOk result (others.new.items ≡ others.old.items ++ replicate times byte) }
+    ensures err { OnErr result (others.new.items ≡ others.old.items) }
+{
+    let Some(length) = others.len().checked_add(times as usize) else {
+        return Err(AllocError);
+    };
+    others.resize(length, byte)
+}
+
+impl Clone for BlockBytes {
+    ghost is_clone = { λ bytes copy. copy ≡ bytes };
+
+    fn clone(&self) -> Result<BlockBytes, AllocError> {
+        Ok(BlockBytes {
+            listed: self.listed.clone()?,
+            byte: self.byte,
+            times: self.times,
+        })
+    }
+}

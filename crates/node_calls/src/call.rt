@@ -1,0 +1,60 @@
+use crate::block_bytes::BlockBytes;
+use crate::node_list::NodeList;
+use crate::presented::{Presented, PresentedToken};
+use block_records::node_set::NodeSet;
+use block_tokens::key::KeyList;
+use hdfs_values::ids::{BlockId, Stamp};
+use hdfs_values::node_id::NodeId;
+
+/// How far a replica is: being written, or finalized (HDFS-265, replica states).
+#[derive(Clone, Copy, PartialEq, Eq)]
+pub enum ReplicaState {
+    Writing,
+    Finalized,
+}
+
+/// What is asked of a replica by who presents a token.
+#[derive(Drop)]
+pub enum TokenCall {
+    /// Begins a replica; these nodes come next in the pipeline.
+    Begin(NodeList),
+    /// Writes these bytes at an offset; these nodes come next in the pipeline.
+    Packet(u64, BlockBytes, NodeList),
+    /// Ends the writing at a length; these nodes come next in the pipeline.
+    Finalize(u64, NodeList),
+    /// Reads from an offset so many bytes.
+    Read(u64, u64),
+    /// Begins the recovery of the block: nothing is written at an older stamp from now on.
+    InitRecovery,
+    /// Ends the recovery of the block at a length.
+    UpdateReplica(u64),
+    /// Sends a copy of the replica to a node. The node that is asked does so in its own name, whoever asks.
+    SendCopy(NodeId),
+    /// Takes the bytes of a whole replica.
+    TakeCopy(BlockBytes),
+}
+
+/// A call of a DataNode.
+#[derive(Drop)]
+pub enum NodeCall {
+    Presenting(Presented, TokenCall),
+    /// Removes the replica, if its stamp isn't newer than this.
+    Invalidate(BlockId, Stamp),
+    /// Brings keys under which tokens are issued.
+    Keys(KeyList),
+}
+
+/// A call of the DataNode that leads the recovery of a block (HDFS-265, block recovery).
+#[derive(Drop)]
+pub enum PlanCall {
+    /// Leads the recovery of a block at a stamp among these nodes, with this token.
+    Recover(BlockId, Stamp, NodeSet, PresentedToken),
+    /// A node's replica as the recovery found it.
+    Reply(NodeId, BlockId, Stamp, ReplicaState, u64),
+    /// Decides on the length.
+    Decide(BlockId, Stamp),
+    /// A node's replica has the length.
+    Updated(NodeId, BlockId, Stamp),
+    /// Tells the NameNode.
+    Commit(BlockId, Stamp),
+}

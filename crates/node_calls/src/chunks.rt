@@ -1,0 +1,39 @@
+ghost use Rattle.std.specs.Prelude.{◌≡◌, length, IfOk};
+
+use bytes::Bytes;
+use std::alloc::{AllocError, Global};
+use std::marker::Model;
+
+/// The bytes that were read of a replica, in pieces that stand one behind another.
+#[derive(Drop)]
+pub struct Chunks {
+    pieces: Vec<Bytes>,
+}
+
+impl Model for Chunks {
+    ghost use Rattle.std.specs.Prelude.{List, ℕ};
+    ghost use Rattle.std.specs.List.{flat_map};
+
+    ghost Value = { List ℕ };
+
+    ghost view = { λ chunks. flat_map (λ piece. piece) chunks.pieces.items };
+}
+
+impl Chunks {
+    /// One piece, a copy of these bytes. Costs them.
+    ///
+    /// # Errors
+    /// Out of memory.
+    pub fn copied(alloc: Global, bytes: &[u8]) -> Result<Chunks, AllocError>
+        ensures { IfOk result (λ chunks. chunks ≡ bytes.now) }
+    {
+        let mut pieces = Vec::with_capacity(alloc, 1)?;
+        pieces.push(Bytes::copy_from_slice(alloc, bytes)?)?;
+        Ok(Chunks { pieces })
+    }
+
+    /// The pieces in their order.
+    pub fn pieces(&self) -> &[Bytes] {
+        &self.pieces
+    }
+}

@@ -1,0 +1,85 @@
+ghost use Rattle.std.specs.Prelude.{◌≡◌, ◌++◌, [], ◌∷◌, OnOk, OnErr, IfOk};
+
+use crate::call::{NodeCall, PlanCall};
+use block_records::node_set::NodeSet;
+use hdfs_values::ids::{BlockId, Stamp};
+use hdfs_values::node_id::NodeId;
+use std::alloc::{AllocError, Global};
+use std::marker::Model;
+
+/// What NameNode and DataNodes send one another.
+#[derive(Drop)]
+pub enum Message {
+    /// A call of a DataNode.
+    Node(NodeId, NodeCall),
+    /// A call of the DataNode that leads a recovery.
+    Plan(NodeId, PlanCall),
+    /// A node tells the NameNode that it holds a finalized replica of a block, with its stamp and its length.
+    Reported(NodeId, BlockId, Stamp, u64),
+    /// A node tells the NameNode the length of a recovered block, with its stamp, and the nodes that hold it.
+    CommitRecovery(NodeId, BlockId, Stamp, u64, NodeSet),
+}
+
+/// Messages in the order in which they are sent.
+#[derive(Drop)]
+pub struct Messages {
+    list: Vec<Message>,
+}
+
+impl Model for Messages {
+    ghost use Rattle.std.specs.Prelude.{List};
+    ghost use Rattle.node_calls.specs.declared.message.Message.{Message};
+
+    ghost Value = { List Message };
+
+    ghost view = { λ messages. messages.list.items };
+}
+
+impl Messages {
+    /// No message. Takes no memory.
+    pub fn new(alloc: Global) -> Messages
+        ensures { result ≡ [] }
+    {
+        Messages {
+            list: Vec::new(alloc),
+        }
+    }
+
+    /// One message.
+    ///
+    /// # Errors
+    /// Out of memory.
+    pub fn one(alloc: Global, message: Message) -> Result<Messages, AllocError>
+        ensures { IfOk result (λ messages. messages ≡ message ∷ []) }
+    {
+        let mut list = Vec::new(alloc);
+        list.push(message)?;
+        Ok(Messages { list })
+    }
+
+    /// Sends a message behind the others.
+    ///
+    /// # Errors
+    /// Out of memory. Nothing has changed then.
+    pub fn push(&mut self, message: Message) -> Result<(), AllocError>
+        ensures ok { OnOk result (self.new ≡ self.old ++ message ∷ []) }
+        ensures err { OnErr result (self.new ≡ self.old) }
+    {
+        self.list.push(message)?;
+        Ok(())
+    }
+
+    /// The messages in their order. Takes no memory.
+    pub fn as_slice(&self) -> &[Message]
+        ensures { result.now ≡ self.now }
+    {
+        &self.list
+    }
+
+    /// The messages in their order. Takes no memory.
+    pub fn into_vec(self) -> Vec<Message>
+        ensures { result.items ≡ self }
+    {
+        self.list
+    }
+}

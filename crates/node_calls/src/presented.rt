@@ -1,0 +1,73 @@
+ghost use Rattle.std.specs.Prelude.{◌≡◌, IfOk};
+
+use hdfs_values::ids::{BlockId, Stamp};
+use hdfs_values::who::Who;
+use std::alloc::{AllocError, Global};
+use std::marker::Model;
+
+/// The bytes that a caller presents as a block access token (HADOOP-4359). They may be anything.
+#[derive(Drop)]
+pub struct PresentedToken {
+    bytes: Vec<u8>,
+}
+
+impl Model for PresentedToken {
+    ghost use Rattle.std.specs.Prelude.{List, ℕ};
+
+    ghost Value = { List ℕ };
+
+    ghost view = { λ token. token.bytes.items };
+}
+
+impl PresentedToken {
+    /// A copy of these bytes. Costs them.
+    ///
+    /// # Errors
+    /// Out of memory.
+    pub fn copied(alloc: Global, bytes: &[u8]) -> Result<PresentedToken, AllocError>
+        ensures { IfOk result (λ token. token ≡ bytes.now) }
+    {
+        Ok(PresentedToken {
+            bytes: Vec::from_slice(alloc, bytes)?,
+        })
+    }
+
+    /// The bytes. Takes no memory.
+    pub fn as_bytes(&self) -> &[u8]
+        ensures { result.now ≡ self.now }
+    {
+        &self.bytes
+    }
+}
+
+impl Clone for PresentedToken {
+    ghost is_clone = { λ token copy. copy ≡ token };
+
+    fn clone(&self) -> Result<PresentedToken, AllocError> {
+        Ok(PresentedToken {
+            bytes: self.bytes.clone()?,
+        })
+    }
+}
+
+/// Who asks for something of a block at a generation stamp, and the token that he presents for it.
+#[derive(Drop)]
+pub struct Presented {
+    pub caller: Who,
+    pub block: BlockId,
+    pub stamp: Stamp,
+    pub token: PresentedToken,
+}
+
+impl Clone for Presented {
+    ghost is_clone = { λ presented copy. copy ≡ presented };
+
+    fn clone(&self) -> Result<Presented, AllocError> {
+        Ok(Presented {
+            caller: self.caller.clone()?,
+            block: self.block,
+            stamp: self.stamp,
+            token: self.token.clone()?,
+        })
+    }
+}

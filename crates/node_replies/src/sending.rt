@@ -1,0 +1,243 @@
+ghost use Rattle.std.specs.Prelude.{◌≡◌, ◌+◌, [], ◌∷◌, ◌++◌, length, take, drop, IfOk};
+ghost use Rattle.hdfs_values.specs.NodeId.{node_of};
+ghost use Rattle.node_calls.specs.declared.call.NodeCall.TheVariants.{Presenting};
+ghost use Rattle.node_calls.specs.declared.call.TokenCall.TheVariants as made;
+ghost use Rattle.node_calls.specs.declared.call.PlanCall.TheVariants as plan;
+ghost use Rattle.node_calls.specs.declared.message.Message.TheVariants as message;
+ghost use Rattle.node_calls.specs.declared.reply.NodeReply.TheVariants as reply;
+ghost use Rattle.replicas.specs.ReplicaStep.{own, held_at};
+ghost use Rattle.node_replies.specs.Sending as spec;
+
+use hdfs_values::ids::{BlockId, Stamp};
+use hdfs_values::node_id::{NodeId, node_of};
+use node_calls::block_bytes::BlockBytes;
+use node_calls::call::{NodeCall, PlanCall, ReplicaState, TokenCall};
+use node_calls::message::{Message, Messages};
+use node_calls::node_list::NodeList;
+use node_calls::presented::Presented;
+use node_calls::reply::NodeReply;
+use replicas::replicas::Replicas;
+use std::alloc::{AllocError, Global};
+
+// ---- replies
+
+// The length behind a packet. A replica is never so long that it isn't a number.
+fn taken(offset: u64, count: u64) -> Result<NodeReply, AllocError>
+    ensures { IfOk result (λ answer. answer ≡ reply.Taken (offset + count)) }
+{
+    match offset.checked_add(count) {
+        Some(length) => Ok(NodeReply::Taken(length)),
+        None => Err(AllocError),
+    }
+}
+
+fn read(
+    replicas: &Replicas,
+    offset: u64,
+    count: u64,
+    block: BlockId,
+) -> Result<NodeReply, AllocError>
+    ensures { IfOk result (λ answer. answer ≡ reply.Read (take count (drop offset (own (held_at block replicas.now)).bytes))) }
+{
+    Ok(NodeReply::Read(replicas.read(offset, count, block)?))
+}
+
+fn state_of(replicas: &Replicas, block: BlockId) -> ReplicaState
+    ensures { result ≡ (own (held_at block replicas.now)).state }
+{
+    match replicas.replica(block) {
+        Some(replica) => replica.state,
+        None => ReplicaState::Writing,
+    }
+}
+
+fn facts(replicas: &Replicas, block: BlockId) -> NodeReply
+    ensures { result ≡ reply.Replica (own (held_at block replicas.now)).stamp (length (own (held_at block replicas.now)).bytes) (own (held_at block replicas.now)).state }
+{
+    let stamp = match replicas.replica(block) {
+        Some(replica) => replica.stamp,
+        None => Stamp::new(0),
+    };
+    NodeReply::Replica(stamp, replicas.length(block), state_of(replicas, block))
+}
+
+/// What is answered to a call that isn't refused, by what is held before it. Costs the bytes that are read.
+///
+/// # Errors
+/// Out of memory.
+pub fn reply_to(
+    call: &TokenCall,
+    replicas: &Replicas,
+    block: BlockId,
+) -> Result<NodeReply, AllocError>
+    ensures { IfOk result (λ answer. answer ≡ spec.call_reply call.now (held_at block replicas.now)) }
+{
+    match call {
+        TokenCall::Begin(_) => Ok(NodeReply::Begun),
+        TokenCall::Packet(offset, bytes, _) => taken(*offset, bytes.len()),
+        TokenCall::Finalize(count, _) => Ok(NodeReply::Finalized(*count)),
+        TokenCall::Read(offset, count) => read(replicas, *offset, *count, block),
+        TokenCall::InitRecovery => Ok(facts(replicas, block)),
+        TokenCall::UpdateReplica(count) => Ok(NodeReply::Updated(*count)),
+        TokenCall::SendCopy(_) => Ok(NodeReply::Copied(replicas.length(block))),
+        TokenCall::TakeCopy(bytes) => Ok(NodeReply::Stored(bytes.len())),
+    }
+}
+
+// ---- messages
+
+// One call of a node, by who asks.
+fn pass_on(
+    alloc: Global,
+    presented: &Presented,
+    to: NodeId,
+    call: TokenCall,
+) -> Result<Messages, AllocError>
+    ensures { IfOk result (λ sent. sent ≡ message.Node to (Presenting presented.now call) ∷ []) }
+{
+    let presented = presented.clone()?;
+    Messages::one(
+        alloc,
+        Message::Node(to, NodeCall::Presenting(presented, call)),
+    )
+}
+
+fn forward_begin(
+    alloc: Global,
+    presented: &Presented,
+    next: &NodeList,
+) -> Result<Messages, AllocError>
+    ensures { IfOk result (λ sent. sent ≡ spec.forward presented.now made.Begin next.now) }
+{
+    match next.as_slice() {
+        [] => Ok(Messages::new(alloc)),
+        [first, rest @ ..] => {
+            let call = TokenCall::Begin(NodeList::copied(alloc, rest)?);
+            pass_on(alloc, presented, *first, call)
+        }
+    }
+}
+
+fn forward_packet(
+    alloc: Global,
+    presented: &Presented,
+    offset: u64,
+    bytes: &BlockBytes,
+    next: &NodeList,
+) -> Result<Messages, AllocError>
+    ensures { IfOk result (λ sent. sent ≡ spec.forward presented.now (made.Packet offset bytes.now) next.now) }
+{
+    match next.as_slice() {
+        [] => Ok(Messages::new(alloc)),
+        [first, others @ ..] => {
+            let rest = NodeList::copied(alloc, others)?;
+            let call = TokenCall::Packet(offset, bytes.clone()?, rest);
+            pass_on(alloc, presented, *first, call)
+        }
+    }
+}
+
+fn forward_finalize(
+    alloc: Global,
+    presented: &Presented,
+    count: u64,
+    next: &NodeList,
+) -> Result<Messages, AllocError>
+    ensures { IfOk result (λ sent. sent ≡ spec.forward presented.now (made.Finalize count) next.now) }
+{
+    match next.as_slice() {
+        [] => Ok(Messages::new(alloc)),
+        [first, rest @ ..] => {
+            let call = TokenCall::Finalize(count, NodeList::copied(alloc, rest)?);
+            pass_on(alloc, presented, *first, call)
+        }
+    }
+}
+
+// Tells the NameNode, behind other messages, of a replica that is finalized.
+fn reported(
+    mut sent: Messages,
+    node: NodeId,
+    presented: &Presented,
+    count: u64,
+) -> Result<Messages, AllocError>
+    ensures { IfOk result (λ all. all ≡ sent ++ spec.report node presented.now count) }
+{
+    sent.push(Message::Reported(node, presented.block, presented.stamp, count))?;
+    Ok(sent)
+}
+
+fn tell_replica(
+    alloc: Global,
+    node: NodeId,
+    presented: &Presented,
+    replicas: &Replicas,
+) -> Result<Messages, AllocError>
+    ensures { IfOk result (λ sent. sent ≡ spec.call_sends node presented.now made.InitRecovery (held_at presented.now.block replicas.now)) }
+{
+    let Some(primary) = node_of(&presented.caller) else {
+        return Ok(Messages::new(alloc));
+    };
+    let (block, stamp) = (presented.block, presented.stamp);
+    let state = state_of(replicas, block);
+    let told = PlanCall::Reply(node, block, stamp, state, replicas.length(block));
+    Messages::one(alloc, Message::Plan(primary, told))
+}
+
+fn tell_updated(alloc: Global, node: NodeId, presented: &Presented) -> Result<Messages, AllocError>
+    ensures { IfOk result (λ sent. sent ≡ spec.to_primary (node_of presented.now.caller) (λ primary. message.Plan primary (plan.Updated node presented.now.block presented.now.stamp))) }
+{
+    let Some(primary) = node_of(&presented.caller) else {
+        return Ok(Messages::new(alloc));
+    };
+    let told = PlanCall::Updated(node, presented.block, presented.stamp);
+    Messages::one(alloc, Message::Plan(primary, told))
+}
+
+fn copy_to(
+    alloc: Global,
+    presented: &Presented,
+    to: NodeId,
+    replicas: &Replicas,
+) -> Result<Messages, AllocError>
+    ensures { IfOk result (λ sent. sent ≡ message.Node to (Presenting presented.now (made.TakeCopy (own (held_at presented.now.block replicas.now)).bytes)) ∷ []) }
+{
+    let call = TokenCall::TakeCopy(replicas.copied(presented.block)?);
+    pass_on(alloc, presented, to, call)
+}
+
+/// The messages that come with the answer to a call that isn't refused, by what is held before it. Costs the bytes that are passed on or
+/// copied.
+///
+/// # Errors
+/// Out of memory.
+pub fn sends(
+    alloc: Global,
+    node: NodeId,
+    presented: &Presented,
+    call: &TokenCall,
+    replicas: &Replicas,
+) -> Result<Messages, AllocError>
+    ensures { IfOk result (λ sent. sent ≡ spec.call_sends node presented.now call.now (held_at presented.now.block replicas.now)) }
+{
+    match call {
+        TokenCall::Begin(next) => forward_begin(alloc, presented, next),
+        TokenCall::Packet(offset, bytes, next) => {
+            forward_packet(alloc, presented, *offset, bytes, next)
+        }
+        TokenCall::Finalize(count, next) => {
+            let sent = forward_finalize(alloc, presented, *count, next)?;
+            reported(sent, node, presented, *count)
+        }
+        TokenCall::Read(_, _) => Ok(Messages::new(alloc)),
+        TokenCall::InitRecovery => tell_replica(alloc, node, presented, replicas),
+        TokenCall::UpdateReplica(count) => {
+            let sent = tell_updated(alloc, node, presented)?;
+            reported(sent, node, presented, *count)
+        }
+        TokenCall::SendCopy(to) => copy_to(alloc, presented, *to, replicas),
+        TokenCall::TakeCopy(bytes) => {
+            reported(Messages::new(alloc), node, presented, bytes.len())
+        }
+    }
+}

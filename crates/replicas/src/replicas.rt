@@ -1,0 +1,274 @@
+ghost use Rattle.std.specs.Prelude.{◌≡◌, [], take, drop, length, option_copied, IfOk, OnOk, OnErr};
+ghost use Rattle.std.specs.BTreeMap.{insert_entry};
+ghost use Rattle.std.specs.Ordering.{nat_cmp};
+ghost use Rattle.node_calls.specs.declared.call.ReplicaState.TheVariants.{Writing, Finalized};
+ghost use Rattle.replicas.specs.ReplicaStep.{Answers, replica_refusal, removal_refusal, held_at, own, placed, changed, appended, finalized, promising, updated, without, blocks_after};
+
+use crate::held::Held;
+use crate::judge;
+use crate::replica::{Replica, ReplicaBytes};
+use hdfs_values::ids::{BlockId, Stamp};
+use node_calls::block_bytes::BlockBytes;
+use node_calls::call::{ReplicaState, TokenCall};
+use node_calls::chunks::Chunks;
+use node_calls::refusal::ReplicaRefusal;
+use std::alloc::{AllocError, Global};
+use std::collections::BTreeMap;
+use std::marker::Model;
+
+/// The replicas of one DataNode, by the ids of their blocks, and the greatest generation stamp that it ever held or promised of each.
+#[derive(Drop)]
+pub struct Replicas {
+    blocks: BTreeMap<BlockId, Held>,
+    alloc: Global,
+}
+
+impl Model for Replicas {
+    ghost use Rattle.replicas.specs.ReplicaStep.{Blocks};
+
+    ghost Value = { Blocks };
+
+    ghost view = { λ replicas. replicas.blocks.entries };
+}
+
+impl Replicas {
+    /// No replica, and nothing is promised. Takes no memory.
+    pub fn new(alloc: Global) -> Replicas
+        ensures { result ≡ [] }
+    {
+        Replicas {
+            blocks: BTreeMap::new(alloc),
+            alloc,
+        }
+    }
+
+    /// The replica of a block. Costs a look-up, and takes no memory.
+    pub fn replica(&self, block: BlockId) -> Option<&Replica>
+        ensures { option_copied result ≡ (held_at block self.now).replica }
+    {
+        match self.blocks.get(&block) {
+            Some(held) => held.replica.as_ref(),
+            None => None,
+        }
+    }
+
+    /// The greatest stamp that was ever held or promised of a block; 0 before any. Costs a look-up, and takes no memory.
+    pub fn stamp_floor(&self, block: BlockId) -> Stamp
+        ensures { result ≡ (held_at block self.now).promised }
+    {
+        match self.blocks.get(&block) {
+            Some(held) => held.promised,
+            None => Stamp::new(0),
+        }
+    }
+
+    /// How many bytes the replica of a block has; 0 where there is none. Costs a look-up, and takes no memory.
+    pub fn length(&self, block: BlockId) -> u64
+        ensures { result ≡ length (own (held_at block self.now)).bytes }
+    {
+        match self.replica(block) {
+            Some(replica) => replica.bytes.len(),
+            None => 0,
+        }
+    }
+
+    /// From an offset of a block's replica so many bytes; those that aren't there are left out. Costs a look-up, and the bytes.
+    ///
+    /// # Errors
+    /// Out of memory.
+    pub fn read(&self, offset: u64, count: u64, block: BlockId) -> Result<Chunks, AllocError>
+        ensures { IfOk result (λ chunks. chunks ≡ take count (drop offset (own (held_at block self.now)).bytes)) }
+    {
+        match self.replica(block) {
+            Some(replica) => replica.bytes.read(self.alloc, offset, count),
+            None => Chunks::copied(self.alloc, &[]),
+        }
+    }
+
+    /// A copy of all bytes of a block's replica; none where there is none. Costs a look-up, and the bytes.
+    ///
+    /// # Errors
+    /// Out of memory.
+    pub fn copied(&self, block: BlockId) -> Result<BlockBytes, AllocError>
+        ensures { IfOk result (λ bytes. bytes ≡ (own (held_at block self.now)).bytes) }
+    {
+        match self.replica(block) {
+            Some(replica) => replica.bytes.copied(),
+            None => Ok(BlockBytes::new(Vec::new(self.alloc))),
+        }
+    }
+
+    /// What a call at a stamp is refused for, where a replica holds at most so many bytes. Costs two look-ups, and takes no memory.
+    ///
+    /// # Errors
+    /// The first refusal that applies.
+    pub fn judge(
+        &self,
+        limit: u64,
+        call: &TokenCall,
+        stamp: Stamp,
+        block: BlockId,
+    ) -> Result<(), ReplicaRefusal>
+        ensures { Answers result (replica_refusal limit call.now stamp (held_at block self.now)) }
+    {
+        let replica = self.replica(block);
+        let promised = self.stamp_floor(block);
+        match call {
+            TokenCall::Begin(_) => judge::judge_begin(replica, promised, stamp),
+            TokenCall::Packet(offset, bytes, _) => {
+                judge::judge_packet(limit, replica, promised, stamp, *offset, bytes)
+            }
+            TokenCall::Finalize(count, _) => {
+                judge::judge_finalize(replica, promised, stamp, *count)
+            }
+            TokenCall::Read(offset, count) => judge::judge_read(replica, stamp, *offset, *count),
+            TokenCall::InitRecovery => judge::judge_init(replica, promised, stamp),
+            TokenCall::UpdateReplica(count) => {
+                judge::judge_update(replica, promised, stamp, *count)
+            }
+            TokenCall::SendCopy(_) => judge::judge_copy(replica, stamp),
+            TokenCall::TakeCopy(bytes) => {
+                judge::judge_take(limit, replica, promised, stamp, bytes)
+            }
+        }
+    }
+
+    /// What a removal is refused for. Costs a look-up, and takes no memory.
+    ///
+    /// # Errors
+    /// The first refusal that applies.
+    pub fn judge_removal(&self, stamp: Stamp, block: BlockId) -> Result<(), ReplicaRefusal>
+        ensures { Answers result (removal_refusal stamp (held_at block self.now).replica) }
+    {
+        judge::judge_removal(self.replica(block), stamp)
+    }
+
+    // Puts a new replica in its place.
+    fn place(
+        &mut self,
+        stamp: Stamp,
+        state: ReplicaState,
+        bytes: ReplicaBytes,
+        block: BlockId,
+    ) -> Result<(), AllocError>
+        ensures ok { OnOk result (self.new ≡ insert_entry nat_cmp self.old block (placed stamp state bytes)) }
+        ensures err { OnErr result (self.new ≡ self.old) }
+    {
+        let held = Held {
+            replica: Some(Replica {
+                stamp,
+                state,
+                bytes,
+            }),
+            promised: stamp,
+        };
+        self.blocks.insert(block, held)?;
+        Ok(())
+    }
+
+    /// Begins a replica. Costs a look-up.
+    ///
+    /// # Errors
+    /// Out of memory. Nothing has changed then.
+    pub fn begin(&mut self, stamp: Stamp, block: BlockId) -> Result<(), AllocError>
+        ensures ok { OnOk result (self.new ≡ insert_entry nat_cmp self.old block (placed stamp Writing [])) }
+        ensures err { OnErr result (self.new ≡ self.old) }
+    {
+        let bytes = ReplicaBytes::new(self.alloc);
+        self.place(stamp, ReplicaState::Writing, bytes, block)
+    }
+
+    /// Puts a whole replica in its place. Costs a look-up, and the bytes.
+    ///
+    /// # Errors
+    /// Out of memory. Nothing has changed then.
+    pub fn store(
+        &mut self,
+        bytes: &BlockBytes,
+        stamp: Stamp,
+        block: BlockId,
+    ) -> Result<(), AllocError>
+        ensures ok { OnOk result (self.new ≡ insert_entry nat_cmp self.old block (placed stamp Finalized bytes.now)) }
+        ensures err { OnErr result (self.new ≡ self.old) }
+    {
+        let bytes = ReplicaBytes::of(self.alloc, bytes)?;
+        self.place(stamp, ReplicaState::Finalized, bytes, block)
+    }
+
+    /// Puts bytes behind those of a block's replica, if there is one. Costs a look-up, and the bytes, amortized.
+    ///
+    /// # Errors
+    /// Out of memory. Nothing has changed then.
+    pub fn append(&mut self, bytes: &BlockBytes, block: BlockId) -> Result<(), AllocError>
+        ensures ok { OnOk result (self.new ≡ changed (appended bytes.now) block self.old) }
+        ensures err { OnErr result (self.new ≡ self.old) }
+    {
+        if let Some(held) = self.blocks.get_mut(&block) {
+            held.append(bytes)?;
+        }
+        Ok(())
+    }
+
+    /// Ends the writing of a block's replica, if there is one. Costs a look-up, and takes no memory.
+    pub fn finalize(&mut self, block: BlockId)
+        ensures { self.new ≡ changed finalized block self.old }
+    {
+        if let Some(held) = self.blocks.get_mut(&block) {
+            held.finalize();
+        }
+    }
+
+    /// Promises a stamp of a block of which there ever was a replica. Costs a look-up, and takes no memory.
+    pub fn promise(&mut self, stamp: Stamp, block: BlockId)
+        ensures { self.new ≡ changed (promising stamp) block self.old }
+    {
+        if let Some(held) = self.blocks.get_mut(&block) {
+            held.promise(stamp);
+        }
+    }
+
+    /// Gives a block's replica, if there is one, a stamp and at most so many of its bytes, and ends its writing. Costs a look-up, and takes
+    /// no memory.
+    pub fn update(&mut self, count: u64, stamp: Stamp, block: BlockId)
+        ensures { self.new ≡ changed (updated stamp count) block self.old }
+    {
+        if let Some(held) = self.blocks.get_mut(&block) {
+            held.update(stamp, count);
+        }
+    }
+
+    /// Removes a block's replica, if there is one; the stamp that was promised stays. Costs a look-up, and takes no memory.
+    pub fn remove(&mut self, block: BlockId)
+        ensures { self.new ≡ without block self.old }
+    {
+        if let Some(held) = self.blocks.get_mut(&block) {
+            held.remove();
+        }
+    }
+
+    /// Does what a call that isn't refused does to the replicas. Costs a look-up, and the bytes that come.
+    ///
+    /// # Errors
+    /// Out of memory. Nothing has changed then.
+    pub fn apply(
+        &mut self,
+        call: &TokenCall,
+        stamp: Stamp,
+        block: BlockId,
+    ) -> Result<(), AllocError>
+        ensures ok { OnOk result (self.new ≡ blocks_after call.now stamp block self.old) }
+        ensures err { OnErr result (self.new ≡ self.old) }
+    {
+        match call {
+            TokenCall::Begin(_) => return self.begin(stamp, block),
+            TokenCall::Packet(_, bytes, _) => return self.append(bytes, block),
+            TokenCall::Finalize(_, _) => self.finalize(block),
+            TokenCall::Read(_, _) => return Ok(()),
+            TokenCall::SendCopy(_) => return Ok(()),
+            TokenCall::InitRecovery => self.promise(stamp, block),
+            TokenCall::UpdateReplica(count) => self.update(*count, stamp, block),
+            TokenCall::TakeCopy(bytes) => return self.store(bytes, stamp, block),
+        }
+        Ok(())
+    }
+}
