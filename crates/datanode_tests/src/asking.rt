@@ -1,4 +1,5 @@
 use block_tokens::key::Key;
+use block_tokens::refusal::TokenRefusal;
 use block_tokens::ring::KeyRing;
 use datanode::answered::Answered;
 use datanode::datanode::DataNode;
@@ -6,20 +7,19 @@ use hdfs_values::ids::{BlockId, Serial, Stamp};
 use hdfs_values::moment::Moment;
 use hdfs_values::node_id::NodeId;
 use hdfs_values::who::Who;
-use node_calls::block_bytes::BlockBytes;
 use node_calls::message::Message;
 use node_calls::node_list::NodeList;
 use node_calls::presented::{Presented, PresentedToken};
-use node_calls::refusal::NodeRefusal;
+use node_calls::refusal::{NodeRefusal, ReplicaRefusal};
 use node_calls::reply::NodeReply;
 use permission_specs::modes::Modes;
 use std::alloc::{AllocError, Global};
 
 // What the tests ask of a node, and whether it answers what the rules say. Nothing is said of what these functions return, so that each
-// test is a short proof.
+// test is a short proof; and each owns little, so that it is a cheap one.
 
 /// The most bytes of a replica.
-pub const LIMIT: u64 = 134_217_728;
+const LIMIT: u64 = 134_217_728;
 
 /// The keys of a NameNode whose tokens live for ten hours.
 pub fn ring(alloc: Global) -> KeyRing {
@@ -34,26 +34,58 @@ pub fn nobody(alloc: Global) -> NodeList {
     NodeList::new(Vec::new(alloc))
 }
 
-pub fn bytes(alloc: Global, text: &[u8]) -> Option<BlockBytes> {
-    Some(BlockBytes::new(Vec::from_slice(alloc, text).ok()?))
+/// The moment, or the latest.
+pub fn at(milliseconds: u64) -> Moment {
+    match Moment::new(milliseconds) {
+        Some(moment) => moment,
+        None => at_once(),
+    }
 }
 
-/// The token that a user gets at a moment for a block.
+fn at_once() -> Moment {
+    let Some(moment) = Moment::new(0) else {
+        unreachable!();
+    };
+    moment
+}
+
+fn granted(
+    alloc: Global,
+    ring: &KeyRing,
+    now: u64,
+    user: &Who,
+    modes: Modes,
+) -> Option<PresentedToken> {
+    let grant = ring
+        .issue(alloc, at(now), user, BlockId::new(1), modes)
+        .ok()?;
+    PresentedToken::copied(alloc, grant.token.as_bytes()).ok()
+}
+
+/// The token that a user gets at a moment for block 1.
 pub fn token(
     alloc: Global,
     ring: &KeyRing,
     now: u64,
     user: &str,
-    block: u64,
     modes: Modes,
 ) -> Option<PresentedToken> {
-    let user = who(alloc, user)?;
-    let grant = ring.issue(alloc, Moment::new(now)?, &user, BlockId::new(block), modes);
-    PresentedToken::copied(alloc, grant.ok()?.token.as_bytes()).ok()
+    match Who::parse(alloc, user) {
+        Ok(user) => granted(alloc, ring, now, &user, modes),
+        Err(_) => None,
+    }
 }
 
-pub fn who(alloc: Global, name: &str) -> Option<Who> {
-    Who::parse(alloc, name).ok()
+fn presented(user: Who, block: u64, stamp: u64, token: &PresentedToken) -> Option<Presented> {
+    match token.clone() {
+        Ok(token) => Some(Presented {
+            caller: user,
+            block: BlockId::new(block),
+            stamp: Stamp::new(stamp),
+            token,
+        }),
+        Err(_) => None,
+    }
 }
 
 /// A user presents a token for a block at a stamp.
@@ -64,64 +96,89 @@ pub fn presents(
     stamp: u64,
     token: &PresentedToken,
 ) -> Option<Presented> {
-    Some(Presented {
-        caller: who(alloc, user)?,
-        block: BlockId::new(block),
-        stamp: Stamp::new(stamp),
-        token: token.clone().ok()?,
-    })
-}
-
-/// Whether a node takes in the keys of now, and then holds so many.
-pub fn learns(node: &mut DataNode, alloc: Global, ring: &KeyRing, now: u64, count: u64) -> bool {
-    match keys_at(node, alloc, ring, now) {
-        Some(NodeReply::Keys(own)) => own == count,
-        _ => false,
+    match Who::parse(alloc, user) {
+        Ok(user) => presented(user, block, stamp, token),
+        Err(_) => None,
     }
 }
 
-fn keys_at(node: &mut DataNode, alloc: Global, ring: &KeyRing, now: u64) -> Option<NodeReply> {
-    let now = Moment::new(now)?;
-    let update = ring.update(alloc, now).ok()?;
-    node.keys(now, &update).ok()?.result.ok()
-}
-
-/// Whether a call was refused for this, and sent nothing.
-pub fn is_refused(answer: Result<Answered, AllocError>, refusal: NodeRefusal) -> bool {
-    match answer {
-        Ok(answered) => {
-            let silent = answered.messages.as_slice().is_empty();
-            match answered.result {
-                Err(own) => silent && own == refusal,
-                Ok(_) => false,
-            }
-        }
+/// Whether a node takes in the keys of a moment, and then holds so many.
+pub fn learns(node: &mut DataNode, alloc: Global, ring: &KeyRing, now: u64, count: u64) -> bool {
+    match ring.update(alloc, at(now)) {
+        Ok(update) => is_keys(node.keys(at(now), &update), count),
         Err(_) => false,
     }
 }
 
-/// The reply to a call that wasn't refused, and how many messages it sent.
-pub fn reply(answer: Result<Answered, AllocError>) -> Option<(NodeReply, usize)> {
-    let answered = answer.ok()?;
-    let sent = answered.messages.as_slice().len();
-    Some((answered.result.ok()?, sent))
+fn is_keys(answer: Result<Answered, AllocError>, count: u64) -> bool {
+    match told(&answer) {
+        Some(NodeReply::Keys(own)) => *own == count,
+        _ => false,
+    }
+}
+
+/// The reply to a call that wasn't refused.
+pub fn told(answer: &Result<Answered, AllocError>) -> Option<&NodeReply> {
+    match answer {
+        Ok(answered) => match &answered.result {
+            Ok(reply) => Some(reply),
+            Err(_) => None,
+        },
+        Err(_) => None,
+    }
+}
+
+/// How many messages a call sent.
+pub fn sent(answer: &Result<Answered, AllocError>) -> usize {
+    match answer {
+        Ok(answered) => answered.messages.as_slice().len(),
+        Err(_) => 0,
+    }
 }
 
 /// The only message that a call sent.
-pub fn message(answer: Result<Answered, AllocError>) -> Option<Message> {
-    let mut messages = answer.ok()?.messages.into_vec();
-    let message = messages.pop()?;
-    if messages.is_empty() {
-        Some(message)
-    } else {
-        None
+pub fn message(answer: &Result<Answered, AllocError>) -> Option<&Message> {
+    match answer {
+        Ok(answered) => match answered.messages.as_slice() {
+            [message] => Some(message),
+            _ => None,
+        },
+        Err(_) => None,
     }
+}
+
+pub fn is_done(answer: Result<Answered, AllocError>) -> bool {
+    told(&answer).is_some()
+}
+
+fn refusal(answer: &Result<Answered, AllocError>) -> Option<NodeRefusal> {
+    match answer {
+        Ok(answered) => match &answered.result {
+            Ok(_) => None,
+            Err(own) => Some(*own),
+        },
+        Err(_) => None,
+    }
+}
+
+/// Whether a call was refused for its token, and sent nothing.
+pub fn is_barred(answer: Result<Answered, AllocError>, own: TokenRefusal) -> bool {
+    sent(&answer) == 0 && refusal(&answer) == Some(NodeRefusal::Token(own))
+}
+
+/// Whether a call was refused for the replica, and sent nothing.
+pub fn is_refused(answer: Result<Answered, AllocError>, own: ReplicaRefusal) -> bool {
+    sent(&answer) == 0 && refusal(&answer) == Some(NodeRefusal::Replica(own))
 }
 
 /// Whether these bytes were read, and nothing was sent.
 pub fn is_read(answer: Result<Answered, AllocError>, bytes: &[u8]) -> bool {
-    match reply(answer) {
-        Some((NodeReply::Read(chunks), 0)) => match chunks.pieces() {
+    sent(&answer) == 0 && are_read(told(&answer), bytes)
+}
+
+fn are_read(reply: Option<&NodeReply>, bytes: &[u8]) -> bool {
+    match reply {
+        Some(NodeReply::Read(chunks)) => match chunks.pieces() {
             [piece] => piece.as_slice() == bytes,
             _ => false,
         },

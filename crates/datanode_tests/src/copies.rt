@@ -1,139 +1,171 @@
 use crate::asking::{
-    bytes, is_read, is_refused, learns, message, nobody, node, presents, reply, ring, token,
+    at, is_barred, is_done, is_read, is_refused, learns, message, nobody, node, presents, ring,
+    token,
 };
 use block_tokens::refusal::TokenRefusal;
 use block_tokens::ring::KeyRing;
 use datanode::datanode::DataNode;
 use hdfs_values::ids::{BlockId, Stamp};
-use hdfs_values::moment::Moment;
 use hdfs_values::node_id::NodeId;
+use node_calls::block_bytes::BlockBytes;
 use node_calls::call::NodeCall;
 use node_calls::message::Message;
 use node_calls::node_list::NodeList;
-use node_calls::presented::PresentedToken;
-use node_calls::refusal::{NodeRefusal, ReplicaRefusal};
-use node_calls::reply::NodeReply;
+use node_calls::presented::{Presented, PresentedToken};
+use node_calls::refusal::ReplicaRefusal;
 use permission_specs::modes::Modes;
 use std::alloc::Global;
 
-fn is_for(message: &Message, node: u32) -> bool {
-    match message {
-        Message::Node(own, _) => own.get() == node,
-        _ => false,
-    }
+fn block() -> BlockId {
+    BlockId::new(1)
 }
 
-// What a message that is a call of a node does there: whether it is let through.
-fn delivered(node: &mut DataNode, message: &Message) -> Option<bool> {
+fn stamp() -> Stamp {
+    Stamp::new(1001)
+}
+
+// The call of a node that a message carries to it, in the name of whom.
+fn call_of<'a>(message: Option<&'a Message>, node: u32, caller: &str) -> Option<&'a NodeCall> {
     match message {
-        Message::Node(_, call) => Some(node.call(Moment::new(0)?, call).ok()?.result.is_ok()),
+        Some(Message::Node(to, call)) if to.get() == node && is_asked(call, caller) => Some(call),
         _ => None,
     }
 }
 
-fn two(alloc: Global, first: u32, second: u32) -> Option<NodeList> {
-    let mut nodes = Vec::new(alloc);
-    nodes.push(NodeId::new(first)?).ok()?;
-    nodes.push(NodeId::new(second)?).ok()?;
-    Some(NodeList::new(nodes))
-}
-
-// Alice writes on node 1, and each call is passed on to node 2, with node 3 behind it.
-fn pipeline(
-    alloc: Global,
-    ring: &KeyRing,
-    one: &mut DataNode,
-    other: &mut DataNode,
-) -> Option<bool> {
-    let now = Moment::new(0)?;
-    let alice = presents(
-        alloc,
-        "alice",
-        1,
-        1001,
-        &token(alloc, ring, 0, "alice", 1, Modes::WRITE)?,
-    )?;
-    let begun = message(one.begin_write(now, &alice, two(alloc, 2, 3)?))?;
-    let packet = message(one.packet(now, &alice, 0, bytes(alloc, b"hi")?, two(alloc, 2, 3)?))?;
-    let next = match &begun {
-        Message::Node(to, NodeCall::Presenting(presented, _)) => to.get() == 2
-            && presented.caller.as_str() == "alice",
+fn is_asked(call: &NodeCall, caller: &str) -> bool {
+    match call {
+        NodeCall::Presenting(presented, _) => presented.caller.as_str() == caller,
         _ => false,
-    };
-    let passed = match other.call(
-        now,
-        match &packet {
-            Message::Node(_, call) => call,
-            _ => return None,
-        },
-    ) {
-        Ok(answered) => answered.result.is_err(),
-        Err(_) => false,
-    };
-    Some(
-        next && passed
-            && delivered(other, &begun)?
-            && delivered(other, &packet)?
-            && is_for(&packet, 2),
-    )
+    }
 }
 
-fn sends(alloc: Global, ring: &KeyRing, one: &mut DataNode, other: &mut DataNode) -> Option<bool> {
-    let now = Moment::new(0)?;
-    let alice = presents(
-        alloc,
-        "alice",
-        1,
-        1001,
-        &token(alloc, ring, 0, "alice", 1, Modes::WRITE)?,
-    )?;
-    let own = token(alloc, ring, 0, "dn-1", 1, Modes::READ | Modes::WRITE)?;
-    let strangers = token(alloc, ring, 0, "alice", 1, Modes::READ)?;
-    let (block, stamp, to) = (BlockId::new(1), Stamp::new(1001), NodeId::new(3)?);
-    let early = one.send_copy(now, block, stamp, &own, to);
-    let open = is_refused(early, NodeRefusal::Replica(ReplicaRefusal::NoReplica));
-    let ended = reply(one.finalize(now, &alice, 2, nobody(alloc))).is_some();
-    let anothers = is_refused(
-        one.send_copy(now, block, stamp, &strangers, to),
-        NodeRefusal::Token(TokenRefusal::WrongUser),
-    );
-    let copy = message(one.send_copy(now, block, stamp, &own, to))?;
-    Some(open && ended && anothers && is_for(&copy, 3) && delivered(other, &copy)?)
+// What a message does at the node to which it is sent.
+fn delivered(node: &mut DataNode, call: Option<&NodeCall>) -> bool {
+    match call {
+        Some(call) => is_done(node.call(at(0), call)),
+        None => false,
+    }
 }
 
-fn run(alloc: Global) -> Option<bool> {
+fn two(alloc: Global, first: u32, second: u32) -> NodeList {
+    let mut nodes = Vec::new(alloc);
+    for id in [first, second] {
+        if let Some(node) = NodeId::new(id) {
+            let _ = nodes.push(node);
+        }
+    }
+    NodeList::new(nodes)
+}
+
+// Each of alice's calls of node 1 is passed on to node 2, in her name.
+fn begins(one: &mut DataNode, second: &mut DataNode, alloc: Global, alice: &Presented) -> bool {
+    let answer = one.begin_write(at(0), alice, two(alloc, 2, 3));
+    delivered(second, call_of(message(&answer), 2, "alice"))
+}
+
+fn takes(one: &mut DataNode, second: &mut DataNode, alloc: Global, alice: &Presented) -> bool {
+    let bytes = BlockBytes::repeated(alloc, b'a', 2);
+    let answer = one.packet(at(0), alice, 0, bytes, two(alloc, 2, 3));
+    delivered(second, call_of(message(&answer), 2, "alice"))
+}
+
+fn finalizes(one: &mut DataNode, alloc: Global, alice: &Presented) -> bool {
+    is_done(one.finalize(at(0), alice, 2, nobody(alloc)))
+}
+
+// A node sends copies of finalized replicas in its own name, for a token of its own.
+fn sends_to(one: &mut DataNode, third: &mut DataNode, own: &PresentedToken, to: NodeId) -> bool {
+    let answer = one.send_copy(at(0), block(), stamp(), own, to);
+    delivered(third, call_of(message(&answer), 3, "dn-1"))
+}
+
+fn is_early(one: &mut DataNode, own: &PresentedToken, to: NodeId) -> bool {
+    let answer = one.send_copy(at(0), block(), stamp(), own, to);
+    is_refused(answer, ReplicaRefusal::NoReplica)
+}
+
+fn is_anothers(one: &mut DataNode, token: &PresentedToken, to: NodeId) -> bool {
+    let answer = one.send_copy(at(0), block(), stamp(), token, to);
+    is_barred(answer, TokenRefusal::WrongUser)
+}
+
+// Who presents what.
+#[derive(Drop)]
+struct Tokens {
+    own: PresentedToken,
+    strangers: PresentedToken,
+    alice: Presented,
+    bob: Presented,
+    to: NodeId,
+}
+
+fn all_tokens(alloc: Global, ring: &KeyRing) -> Option<Tokens> {
+    let to = NodeId::new(3)?;
+    let writing = token(alloc, ring, 0, "alice", Modes::WRITE)?;
+    let reading = token(alloc, ring, 0, "bob", Modes::READ)?;
+    let strangers = token(alloc, ring, 0, "alice", Modes::READ)?;
+    let own = token(alloc, ring, 0, "dn-1", Modes::READ | Modes::WRITE)?;
+    let alice = presents(alloc, "alice", 1, 1001, &writing)?;
+    let bob = presents(alloc, "bob", 1, 1001, &reading)?;
+    Some(Tokens {
+        own,
+        strangers,
+        alice,
+        bob,
+        to,
+    })
+}
+
+// A copy is read like what was written, until it is removed; what was promised stays.
+fn removes(third: &mut DataNode, bob: &Presented) -> bool {
+    is_read(third.read(at(0), bob, 0, 2), b"aa")
+        && third.invalidate(at(0), block(), stamp()).result.is_ok()
+        && is_refused(third.read(at(0), bob, 0, 2), ReplicaRefusal::NoReplica)
+        && third.stamp_floor(block()) == stamp()
+        && third.replica(block()).is_none()
+}
+
+#[derive(Drop)]
+struct Nodes {
+    one: DataNode,
+    second: DataNode,
+    third: DataNode,
+}
+
+fn three_nodes(alloc: Global) -> Option<Nodes> {
+    let one = node(alloc, 1)?;
+    let second = node(alloc, 2)?;
+    let third = node(alloc, 3)?;
+    Some(Nodes { one, second, third })
+}
+
+fn all_learn(nodes: &mut Nodes, alloc: Global, ring: &KeyRing) -> bool {
+    learns(&mut nodes.one, alloc, ring, 0, 1)
+        && learns(&mut nodes.second, alloc, ring, 0, 1)
+        && learns(&mut nodes.third, alloc, ring, 0, 1)
+}
+
+fn copies(nodes: &mut Nodes, alloc: Global, tokens: &Tokens) -> bool {
+    begins(&mut nodes.one, &mut nodes.second, alloc, &tokens.alice)
+        && takes(&mut nodes.one, &mut nodes.second, alloc, &tokens.alice)
+        && is_early(&mut nodes.one, &tokens.own, tokens.to)
+        && finalizes(&mut nodes.one, alloc, &tokens.alice)
+        && is_anothers(&mut nodes.one, &tokens.strangers, tokens.to)
+        && sends_to(&mut nodes.one, &mut nodes.third, &tokens.own, tokens.to)
+        && removes(&mut nodes.third, &tokens.bob)
+}
+
+fn run(alloc: Global) -> bool {
     let ring = ring(alloc);
-    let now = Moment::new(0)?;
-    let mut one = node(alloc, 1)?;
-    let mut second = node(alloc, 2)?;
-    let mut third = node(alloc, 3)?;
-    let learned = learns(&mut one, alloc, &ring, 0, 1)
-        && learns(&mut second, alloc, &ring, 0, 1)
-        && learns(&mut third, alloc, &ring, 0, 1);
-    let written = pipeline(alloc, &ring, &mut one, &mut second)?;
-    let sent = sends(alloc, &ring, &mut one, &mut third)?;
-    let bob = presents(
-        alloc,
-        "bob",
-        1,
-        1001,
-        &token(alloc, &ring, 0, "bob", 1, Modes::READ)?,
-    )?;
-    let read = is_read(third.read(now, &bob, 0, 2), b"hi");
-    let removed = third
-        .invalidate(now, BlockId::new(1), Stamp::new(1001))
-        .result
-        .is_ok();
-    let gone = is_refused(
-        third.read(now, &bob, 0, 2),
-        NodeRefusal::Replica(ReplicaRefusal::NoReplica),
-    );
-    let kept = third.stamp_floor(BlockId::new(1)) == Stamp::new(1001)
-        && third.replica(BlockId::new(1)).is_none();
-    Some(learned && written && sent && read && removed && gone && kept)
+    match (three_nodes(alloc), all_tokens(alloc, &ring)) {
+        (Some(mut nodes), Some(tokens)) => {
+            all_learn(&mut nodes, alloc, &ring) && copies(&mut nodes, alloc, &tokens)
+        }
+        _ => false,
+    }
 }
 
 #[test]
 fn copies_and_removals(rt: HostRuntime) {
-    assert!(rt; run(rt.alloc()) == Some(true));
+    assert!(rt; run(rt.alloc()));
 }

@@ -1,97 +1,118 @@
 use crate::asking::{
-    bytes, is_read, is_refused, learns, nobody, node, presents, reply, ring, token,
+    at, is_barred, is_read, is_refused, learns, message, nobody, node, presents, ring, token, told,
 };
 use block_tokens::key::Key;
 use block_tokens::refusal::TokenRefusal;
 use block_tokens::ring::KeyRing;
 use datanode::datanode::DataNode;
-use hdfs_values::moment::Moment;
-use node_calls::access_log::AccessRecord;
+use node_calls::access_log::{AccessLog, AccessRecord};
+use node_calls::block_bytes::BlockBytes;
 use node_calls::message::Message;
-use node_calls::presented::PresentedToken;
-use node_calls::refusal::{NodeRefusal, ReplicaRefusal};
+use node_calls::presented::Presented;
+use node_calls::refusal::ReplicaRefusal;
 use node_calls::reply::NodeReply;
 use permission_specs::modes::Modes;
 use std::alloc::Global;
 
-// Node 1 learns the key, and alice writes the two bytes `hi` of block 1 at stamp 1001.
-fn written(alloc: Global, ring: &KeyRing, node: &mut DataNode) -> Option<bool> {
-    let now = Moment::new(0)?;
-    let alice = presents(
-        alloc,
-        "alice",
-        1,
-        1001,
-        &token(alloc, ring, 0, "alice", 1, Modes::WRITE)?,
-    )?;
-    let learned = learns(node, alloc, ring, 0, 1);
-    let begun = reply(node.begin_write(now, &alice, nobody(alloc)))?;
-    let taken = reply(node.packet(now, &alice, 0, bytes(alloc, b"hi")?, nobody(alloc)))?;
-    let finalized = node.finalize(now, &alice, 2, nobody(alloc)).ok()?;
-    let reported = match finalized.messages.as_slice() {
-        [Message::Reported(own, block, stamp, length)] => {
+// Alice writes two bytes, `aa`, of block 1 at stamp 1001.
+fn begins(node: &mut DataNode, alloc: Global, alice: &Presented) -> bool {
+    let answer = node.begin_write(at(0), alice, nobody(alloc));
+    match told(&answer) {
+        Some(NodeReply::Begun) => true,
+        _ => false,
+    }
+}
+
+fn takes(node: &mut DataNode, alloc: Global, alice: &Presented) -> bool {
+    let bytes = BlockBytes::repeated(alloc, b'a', 2);
+    let answer = node.packet(at(0), alice, 0, bytes, nobody(alloc));
+    match told(&answer) {
+        Some(NodeReply::Taken(length)) => *length == 2,
+        _ => false,
+    }
+}
+
+fn is_report(message: Option<&Message>) -> bool {
+    match message {
+        Some(Message::Reported(own, block, stamp, length)) => {
             own.get() == 1 && block.get() == 1 && stamp.get() == 1001 && *length == 2
         }
         _ => false,
-    };
-    let ended = match finalized.result {
-        Ok(NodeReply::Finalized(length)) => length == 2,
-        _ => false,
-    };
-    let answered = match (begun, taken) {
-        ((NodeReply::Begun, 0), (NodeReply::Taken(length), 0)) => length == 2,
-        _ => false,
-    };
-    Some(learned && answered && reported && ended)
+    }
 }
 
-// Who may not read with bob's token, and what of: the user, the block, the mode and the range, in this order.
-fn others(alloc: Global, node: &mut DataNode, bobs: &PresentedToken) -> Option<bool> {
-    let now = Moment::new(101)?;
-    let carl = presents(alloc, "carl", 2, 1001, bobs)?;
-    let second = presents(alloc, "bob", 2, 1001, bobs)?;
-    let bob = presents(alloc, "bob", 1, 1001, bobs)?;
-    let packet = node.packet(now, &bob, 2, bytes(alloc, b"hi")?, nobody(alloc));
-    Some(
-        is_refused(
-            node.read(now, &carl, 0, 2),
-            NodeRefusal::Token(TokenRefusal::WrongUser),
-        ) && is_refused(
-            node.read(now, &second, 0, 2),
-            NodeRefusal::Token(TokenRefusal::WrongBlock),
-        ) && is_refused(packet, NodeRefusal::Token(TokenRefusal::WrongMode))
-            && is_refused(
-                node.read(now, &bob, 1, 2),
-                NodeRefusal::Replica(ReplicaRefusal::OutOfRange),
-            )
-            && is_read(node.read(now, &bob, 1, 1), b"i"),
+fn finalizes(node: &mut DataNode, alloc: Global, alice: &Presented) -> bool {
+    let answer = node.finalize(at(0), alice, 2, nobody(alloc));
+    match told(&answer) {
+        Some(NodeReply::Finalized(length)) => *length == 2 && is_report(message(&answer)),
+        _ => false,
+    }
+}
+
+fn writes(node: &mut DataNode, alloc: Global, ring: &KeyRing) -> bool {
+    let Some(token) = token(alloc, ring, 0, "alice", Modes::WRITE) else {
+        return false;
+    };
+    match presents(alloc, "alice", 1, 1001, &token) {
+        Some(alice) => {
+            begins(node, alloc, &alice)
+                && takes(node, alloc, &alice)
+                && finalizes(node, alloc, &alice)
+        }
+        None => false,
+    }
+}
+
+// Who presents bob's token: carl for another block, bob for another block, and bob.
+#[derive(Drop)]
+struct Readers {
+    carl: Presented,
+    other: Presented,
+    bob: Presented,
+}
+
+fn who_reads(alloc: Global, ring: &KeyRing) -> Option<Readers> {
+    let token = token(alloc, ring, 100, "bob", Modes::READ)?;
+    let carl = presents(alloc, "carl", 2, 1001, &token)?;
+    let other = presents(alloc, "bob", 2, 1001, &token)?;
+    let bob = presents(alloc, "bob", 1, 1001, &token)?;
+    Some(Readers { carl, other, bob })
+}
+
+// Bob's token is no token to write.
+fn writes_nothing(node: &mut DataNode, alloc: Global, bob: &Presented) -> bool {
+    let bytes = BlockBytes::repeated(alloc, b'a', 2);
+    is_barred(
+        node.packet(at(101), bob, 2, bytes, nobody(alloc)),
+        TokenRefusal::WrongMode,
     )
 }
 
-// The token serves until its expiry, and is unknown once its key has expired.
-fn over_time(alloc: Global, node: &mut DataNode, bobs: &PresentedToken) -> Option<bool> {
-    let bob = presents(alloc, "bob", 1, 1001, bobs)?;
-    let (last, expiry, dropped) = (
-        Moment::new(36_000_099)?,
-        Moment::new(36_000_100)?,
-        Moment::new(36_000_200)?,
-    );
-    Some(
-        is_read(node.read(last, &bob, 0, 2), b"hi")
-            && is_refused(
-                node.read(expiry, &bob, 0, 2),
-                NodeRefusal::Token(TokenRefusal::Expired),
-            )
-            // the clock that a refused call moved on stays
-            && is_refused(
-                node.read(last, &bob, 0, 2),
-                NodeRefusal::Token(TokenRefusal::Expired),
-            )
-            && is_refused(
-                node.read(dropped, &bob, 0, 2),
-                NodeRefusal::Token(TokenRefusal::UnknownKey),
-            ),
-    )
+// The user, the block, the mode and the range are judged in this order.
+fn others(node: &mut DataNode, alloc: Global, readers: &Readers) -> bool {
+    is_barred(
+        node.read(at(101), &readers.carl, 0, 2),
+        TokenRefusal::WrongUser,
+    ) && is_barred(
+        node.read(at(101), &readers.other, 0, 2),
+        TokenRefusal::WrongBlock,
+    ) && writes_nothing(node, alloc, &readers.bob)
+        && is_refused(
+            node.read(at(101), &readers.bob, 1, 2),
+            ReplicaRefusal::OutOfRange,
+        )
+        && is_read(node.read(at(101), &readers.bob, 1, 1), b"a")
+}
+
+// The token serves until its expiry, and is unknown once its key has expired. The clock that a refused call moved on stays.
+fn over_time(node: &mut DataNode, bob: &Presented) -> bool {
+    is_read(node.read(at(36_000_099), bob, 0, 2), b"aa")
+        && is_barred(node.read(at(36_000_100), bob, 0, 2), TokenRefusal::Expired)
+        && is_barred(node.read(at(36_000_099), bob, 0, 2), TokenRefusal::Expired)
+        && is_barred(
+            node.read(at(36_000_200), bob, 0, 2),
+            TokenRefusal::UnknownKey,
+        )
 }
 
 fn is_record(
@@ -104,7 +125,7 @@ fn is_record(
 ) -> bool {
     record.node.get() == 1
         && record.caller.as_str() == caller
-        && record.moment.milliseconds() == moment
+        && record.moment == at(moment)
         && record.block.get() == 1
         && record.mode == mode
         && record.offset == offset
@@ -112,10 +133,7 @@ fn is_record(
 }
 
 // Accepted calls alone are noted down, in their order.
-fn noted(node: &DataNode) -> bool {
-    let Ok(log) = node.log() else {
-        return false;
-    };
+fn are_noted(log: &AccessLog) -> bool {
     match log.as_slice() {
         [begun, packet, finalized, first, last] => {
             is_record(begun, "alice", 0, Modes::WRITE, 0, 0)
@@ -128,19 +146,43 @@ fn noted(node: &DataNode) -> bool {
     }
 }
 
-fn run(alloc: Global) -> Option<bool> {
+fn noted(node: &DataNode) -> bool {
+    match node.log() {
+        Ok(log) => are_noted(&log),
+        Err(_) => false,
+    }
+}
+
+fn rolled(ring: &mut KeyRing) -> bool {
+    ring.roll(Key::new([0x16; 20]), at(200)).is_ok()
+}
+
+fn serves(node: &mut DataNode, alloc: Global, ring: &mut KeyRing) -> bool {
+    match who_reads(alloc, ring) {
+        Some(readers) => {
+            others(node, alloc, &readers)
+                && rolled(ring)
+                && learns(node, alloc, ring, 200, 2)
+                && over_time(node, &readers.bob)
+        }
+        None => false,
+    }
+}
+
+fn run(alloc: Global) -> bool {
     let mut ring = ring(alloc);
-    let mut node = node(alloc, 1)?;
-    let written = written(alloc, &ring, &mut node)?;
-    let bobs = token(alloc, &ring, 100, "bob", 1, Modes::READ)?;
-    let others = others(alloc, &mut node, &bobs)?;
-    let rolled = ring.roll(Key::new([0x16; 20]), Moment::new(200)?).is_ok();
-    let learned = learns(&mut node, alloc, &ring, 200, 2);
-    let served = over_time(alloc, &mut node, &bobs)?;
-    Some(written && others && rolled && learned && served && noted(&node))
+    match node(alloc, 1) {
+        Some(mut node) => {
+            learns(&mut node, alloc, &ring, 0, 1)
+                && writes(&mut node, alloc, &ring)
+                && serves(&mut node, alloc, &mut ring)
+                && noted(&node)
+        }
+        None => false,
+    }
 }
 
 #[test]
 fn tokens_over_time(rt: HostRuntime) {
-    assert!(rt; run(rt.alloc()) == Some(true));
+    assert!(rt; run(rt.alloc()));
 }

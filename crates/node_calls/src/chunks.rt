@@ -1,4 +1,5 @@
-ghost use Rattle.std.specs.Prelude.{◌≡◌, length, IfOk};
+ghost use Rattle.std.specs.Prelude.{◌≡◌, IfOk};
+ghost use Rattle.std.specs.List.{flat_map};
 
 use bytes::Bytes;
 use std::alloc::{AllocError, Global};
@@ -32,8 +33,10 @@ impl Chunks {
         Ok(Chunks { pieces })
     }
 
-    /// The pieces in their order.
-    pub fn pieces(&self) -> &[Bytes] {
+    /// The pieces in their order. Takes no memory.
+    pub fn pieces(&self) -> &[Bytes]
+        ensures { flat_map (λ piece. piece) result.now ≡ self.now }
+    {
         &self.pieces
     }
 }

@@ -32,15 +32,15 @@ fn copy(alloc: Global, byte: u8, times: u64) -> TokenCall {
 }
 
 // Whether a call is let through, and done.
-fn done(replicas: &mut Replicas, stamp: u64, call: &TokenCall) -> bool {
+fn done(replicas: &mut Replicas, stamp: u64, call: TokenCall) -> bool {
     let stamp = Stamp::new(stamp);
-    replicas.judge(LIMIT, call, stamp, block()).is_ok()
-        && replicas.apply(call, stamp, block()).is_ok()
+    replicas.judge(LIMIT, &call, stamp, block()).is_ok()
+        && replicas.apply(&call, stamp, block()).is_ok()
 }
 
 // Whether a call is refused for this.
-fn refused(replicas: &Replicas, stamp: u64, call: &TokenCall, refusal: ReplicaRefusal) -> bool {
-    match replicas.judge(LIMIT, call, Stamp::new(stamp), block()) {
+fn refused(replicas: &Replicas, stamp: u64, call: TokenCall, refusal: ReplicaRefusal) -> bool {
+    match replicas.judge(LIMIT, &call, Stamp::new(stamp), block()) {
         Ok(()) => false,
         Err(own) => own == refusal,
     }
@@ -63,10 +63,10 @@ fn reads(replicas: &Replicas, offset: u64, count: u64, bytes: &[u8]) -> bool {
 
 // A finalized replica at 1001: three times `a`, then twice `b`.
 fn finalized(alloc: Global, replicas: &mut Replicas) -> bool {
-    done(replicas, 1001, &begin(alloc))
-        && done(replicas, 1001, &packet(alloc, 0, b'a', 3))
-        && done(replicas, 1001, &packet(alloc, 3, b'b', 2))
-        && done(replicas, 1001, &finalize(alloc, 5))
+    done(replicas, 1001, begin(alloc))
+        && done(replicas, 1001, packet(alloc, 0, b'a', 3))
+        && done(replicas, 1001, packet(alloc, 3, b'b', 2))
+        && done(replicas, 1001, finalize(alloc, 5))
 }
 
 fn nothing_is_there(alloc: Global) -> bool {
@@ -74,32 +74,32 @@ fn nothing_is_there(alloc: Global) -> bool {
     refused(
         &replicas,
         1001,
-        &packet(alloc, 0, b'a', 1),
+        packet(alloc, 0, b'a', 1),
         ReplicaRefusal::NoReplica,
     ) && refused(
         &replicas,
         1001,
-        &finalize(alloc, 0),
+        finalize(alloc, 0),
         ReplicaRefusal::NoReplica,
     ) && refused(
         &replicas,
         1001,
-        &TokenCall::Read(0, 0),
+        TokenCall::Read(0, 0),
         ReplicaRefusal::NoReplica,
     ) && refused(
         &replicas,
         1001,
-        &TokenCall::InitRecovery,
+        TokenCall::InitRecovery,
         ReplicaRefusal::NoReplica,
     ) && refused(
         &replicas,
         1001,
-        &TokenCall::UpdateReplica(0),
+        TokenCall::UpdateReplica(0),
         ReplicaRefusal::NoReplica,
     ) && refused(
         &replicas,
         0,
-        &begin(alloc),
+        begin(alloc),
         ReplicaRefusal::StampDiffers(Stamp::new(0)),
     ) && replicas.judge_removal(Stamp::new(1001), block()).is_err()
         && floor_is(&replicas, 0)
@@ -113,61 +113,56 @@ fn no_replica(rt: HostRuntime) {
 // The offset is judged before the length of a packet, and an empty packet is taken.
 fn packets_are_judged(alloc: Global) -> bool {
     let mut replicas = Replicas::new(alloc);
-    done(&mut replicas, 5000, &begin(alloc))
+    done(&mut replicas, 5000, begin(alloc))
         && refused(
             &replicas,
             5000,
-            &packet(alloc, 1, b'a', 65_537),
+            packet(alloc, 1, b'a', 65_537),
             ReplicaRefusal::OffsetGap(0),
         )
         && refused(
             &replicas,
             5000,
-            &packet(alloc, 0, b'a', 65_537),
+            packet(alloc, 0, b'a', 65_537),
             ReplicaRefusal::OutOfRange,
         )
         && refused(
             &replicas,
             5000,
-            &packet(alloc, 0, b'a', u64::MAX),
+            packet(alloc, 0, b'a', u64::MAX),
             ReplicaRefusal::OutOfRange,
         )
-        && done(&mut replicas, 5000, &packet(alloc, 0, b'a', 0))
+        && done(&mut replicas, 5000, packet(alloc, 0, b'a', 0))
         && replicas.length(block()) == 0
         && refused(
             &replicas,
             5001,
-            &packet(alloc, 1, b'a', 1),
+            packet(alloc, 1, b'a', 1),
             ReplicaRefusal::StampDiffers(Stamp::new(5000)),
         )
         && refused(
             &replicas,
             4999,
-            &packet(alloc, 1, b'a', 1),
+            packet(alloc, 1, b'a', 1),
             ReplicaRefusal::StampDiffers(Stamp::new(5000)),
         )
         && refused(
             &replicas,
             5000,
-            &finalize(alloc, 1),
+            finalize(alloc, 1),
             ReplicaRefusal::OffsetGap(0),
         )
         && refused(
             &replicas,
             5000,
-            &TokenCall::Read(0, 0),
+            TokenCall::Read(0, 0),
             ReplicaRefusal::NoReplica,
         )
-        && refused(
-            &replicas,
-            6000,
-            &begin(alloc),
-            ReplicaRefusal::ReplicaExists,
-        )
+        && refused(&replicas, 6000, begin(alloc), ReplicaRefusal::ReplicaExists)
         && refused(
             &replicas,
             1,
-            &copy(alloc, b'a', 1),
+            copy(alloc, b'a', 1),
             ReplicaRefusal::ReplicaExists,
         )
 }
@@ -186,37 +181,37 @@ fn slices_are_read(alloc: Global) -> bool {
         && !refused(
             &replicas,
             1001,
-            &TokenCall::Read(5, 0),
+            TokenCall::Read(5, 0),
             ReplicaRefusal::OutOfRange,
         )
         && refused(
             &replicas,
             1001,
-            &TokenCall::Read(0, 6),
+            TokenCall::Read(0, 6),
             ReplicaRefusal::OutOfRange,
         )
         && refused(
             &replicas,
             1001,
-            &TokenCall::Read(1, u64::MAX),
+            TokenCall::Read(1, u64::MAX),
             ReplicaRefusal::OutOfRange,
         )
         && refused(
             &replicas,
             1002,
-            &TokenCall::Read(0, 6),
+            TokenCall::Read(0, 6),
             ReplicaRefusal::StampDiffers(Stamp::new(1001)),
         )
         && refused(
             &replicas,
             1001,
-            &packet(alloc, 9, b'a', 1),
+            packet(alloc, 9, b'a', 1),
             ReplicaRefusal::NotWritable,
         )
         && refused(
             &replicas,
             1001,
-            &finalize(alloc, 9),
+            finalize(alloc, 9),
             ReplicaRefusal::NotWritable,
         )
 }
@@ -239,22 +234,22 @@ fn promises_stay(alloc: Global) -> bool {
         && refused(
             &replicas,
             1001,
-            &begin(alloc),
+            begin(alloc),
             ReplicaRefusal::StampDiffers(Stamp::new(1001)),
         )
         && refused(
             &replicas,
             1000,
-            &copy(alloc, b'c', 1),
+            copy(alloc, b'c', 1),
             ReplicaRefusal::StampDiffers(Stamp::new(1001)),
         )
         && refused(
             &replicas,
             1001,
-            &copy(alloc, b'c', LIMIT + 1),
+            copy(alloc, b'c', LIMIT + 1),
             ReplicaRefusal::OutOfRange,
         )
-        && done(&mut replicas, 1001, &copy(alloc, b'c', 2))
+        && done(&mut replicas, 1001, copy(alloc, b'c', 2))
         && reads(&replicas, 0, 2, b"cc")
         && floor_is(&replicas, 1001)
 }
@@ -267,52 +262,52 @@ fn removals(rt: HostRuntime) {
 // Once a recovery begins, the writer at the older stamp is refused, and so is who writes at the new one.
 fn recoveries_fence(alloc: Global) -> bool {
     let mut replicas = Replicas::new(alloc);
-    done(&mut replicas, 1001, &begin(alloc))
-        && done(&mut replicas, 1001, &packet(alloc, 0, b'a', 5))
+    done(&mut replicas, 1001, begin(alloc))
+        && done(&mut replicas, 1001, packet(alloc, 0, b'a', 5))
         && refused(
             &replicas,
             1001,
-            &TokenCall::InitRecovery,
+            TokenCall::InitRecovery,
             ReplicaRefusal::StampDiffers(Stamp::new(1001)),
         )
-        && done(&mut replicas, 1002, &TokenCall::InitRecovery)
+        && done(&mut replicas, 1002, TokenCall::InitRecovery)
         && floor_is(&replicas, 1002)
         && refused(
             &replicas,
             1001,
-            &packet(alloc, 5, b'a', 1),
+            packet(alloc, 5, b'a', 1),
             ReplicaRefusal::StampDiffers(Stamp::new(1002)),
         )
         && refused(
             &replicas,
             1002,
-            &packet(alloc, 5, b'a', 1),
+            packet(alloc, 5, b'a', 1),
             ReplicaRefusal::NotWritable,
         )
         && refused(
             &replicas,
             1003,
-            &TokenCall::UpdateReplica(9),
+            TokenCall::UpdateReplica(9),
             ReplicaRefusal::StampDiffers(Stamp::new(1002)),
         )
         && refused(
             &replicas,
             1002,
-            &TokenCall::UpdateReplica(6),
+            TokenCall::UpdateReplica(6),
             ReplicaRefusal::OutOfRange,
         )
-        && done(&mut replicas, 1002, &TokenCall::UpdateReplica(3))
+        && done(&mut replicas, 1002, TokenCall::UpdateReplica(3))
         && refused(
             &replicas,
             1002,
-            &TokenCall::UpdateReplica(9),
+            TokenCall::UpdateReplica(9),
             ReplicaRefusal::NotWritable,
         )
         && reads(&replicas, 0, 9, b"aaa")
         && refused(
             &replicas,
             1001,
-            &TokenCall::Read(0, 1),
+            TokenCall::Read(0, 1),
             ReplicaRefusal::StampDiffers(Stamp::new(1002)),
         )
 }
