@@ -1,3 +1,6 @@
+ghost use Rattle.std.specs.Prelude.{IsTrue};
+ghost use Rattle.permission_specs.specs.Modes.{is_modes};
+
 use block_tokens::key::Key;
 use block_tokens::refusal::TokenRefusal;
 use block_tokens::ring::KeyRing;
@@ -55,7 +58,9 @@ fn granted(
     now: u64,
     user: &Who,
     modes: Modes,
-) -> Option<PresentedToken> {
+) -> Option<PresentedToken>
+    requires { IsTrue (is_modes modes.0) }
+{
     let grant = ring
         .issue(alloc, at(now), user, BlockId::new(1), modes)
         .ok()?;
@@ -69,7 +74,9 @@ pub fn token(
     now: u64,
     user: &str,
     modes: Modes,
-) -> Option<PresentedToken> {
+) -> Option<PresentedToken>
+    requires { IsTrue (is_modes modes.0) }
+{
     match Who::parse(alloc, user) {
         Ok(user) => granted(alloc, ring, now, &user, modes),
         Err(_) => None,

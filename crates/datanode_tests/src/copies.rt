@@ -99,12 +99,20 @@ struct Tokens {
     to: NodeId,
 }
 
+// To read and to write: the node that is sent the copy takes it for the same token.
+fn own_token(alloc: Global, ring: &KeyRing) -> Option<PresentedToken> {
+    match Modes::of_bits(3) {
+        Some(both) => token(alloc, ring, 0, "dn-1", both),
+        None => None,
+    }
+}
+
 fn all_tokens(alloc: Global, ring: &KeyRing) -> Option<Tokens> {
     let to = NodeId::new(3)?;
     let writing = token(alloc, ring, 0, "alice", Modes::WRITE)?;
     let reading = token(alloc, ring, 0, "bob", Modes::READ)?;
     let strangers = token(alloc, ring, 0, "alice", Modes::READ)?;
-    let own = token(alloc, ring, 0, "dn-1", Modes::READ | Modes::WRITE)?;
+    let own = own_token(alloc, ring)?;
     let alice = presents(alloc, "alice", 1, 1001, &writing)?;
     let bob = presents(alloc, "bob", 1, 1001, &reading)?;
     Some(Tokens {
