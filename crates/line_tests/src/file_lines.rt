@@ -29,7 +29,7 @@ fn verbs_of_files_count_their_words(rt: HostRuntime) -> Result<(), Fail> {
 }
 
 /// Requests, and words that are ill-formed, alone and before another.
-static SAID: [(&str, &str); 45] = [
+static SAID: [(&str, &str); 47] = [
     ("7 ann create /a 1644 3", "7 ann Create /a 1644 3 false"),
     ("0 ann create /a 0 016 over", "0 ann Create /a 0000 16 true"),
     ("0 ann append /a", "0 ann Append /a"),
