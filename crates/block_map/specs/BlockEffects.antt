@@ -4,7 +4,7 @@ use Rattle.std.specs.List.{flat_map}
 use Rattle.std.specs.Map.{keys_of}
 use Rattle.block_records.specs.Numbers.{has_number}
 use Rattle.block_records.specs.Reports.{others_of}
-use Rattle.block_records.specs.Marks.{with_mark, with_marks, marks_but}
+use Rattle.block_records.specs.Marks.{with_mark, with_marks, marks_for, marks_but}
 use Rattle.block_records.specs.Verdicts.{verdict_by}
 use Rattle.block_records.specs.declared.block_record.BlockRecord.{BlockRecord}
 use Rattle.block_records.specs.declared.report.ReportVerdict.{ReportVerdict}
@@ -16,7 +16,8 @@ use Rattle.recovery_queue.specs.Queue as queue
 use Rattle.heartbeats.specs.Live as nodes
 use Rattle.known_blocks.specs.Known as known
 use Rattle.known_blocks.specs.Known.{Known, altered}
-use Rattle.block_map.specs.BlockFacts.{BlockFacts, block_of, newest_stamp, leader}
+use Rattle.block_map.specs.BlockFacts.{BlockFacts, block_of, newest_stamp, leader, recoveries_for, transfers_for}
+use Rattle.node_orders.specs.Orders.{Instructions}
 
 -- ---- marks
 
@@ -134,3 +135,17 @@ reported_by Valid facts node block stamp length = held facts node block length
 
 abbrev pub reported : BlockFacts → ℕ → ℕ → ℕ → ℕ → BlockFacts
 reported facts node block stamp length = reported_by (verdict_by (block_of facts block) stamp length) facts node block stamp length
+
+-- ---- a heartbeat
+
+-- what a node is told at its heartbeat: that is noted first, so that the node is live
+abbrev pub instructions_for : BlockFacts → ℕ → ℕ → Instructions
+instructions_for facts now node = record {
+  recoveries = recoveries_for (beaten facts node now) node;
+  removals = marks_for node (beaten facts node now).marks;
+  copies = transfers_for (beaten facts node now) now node;
+}
+
+-- a node's heartbeat is noted, and it is told all that
+abbrev pub handed_out : BlockFacts → ℕ → ℕ → BlockFacts
+handed_out facts node now = told_transfers (told_marks (told_recoveries (beaten facts node now) node) node) now (transfers_for (beaten facts node now) now node)

@@ -18,7 +18,7 @@ use Rattle.block_copies.specs.Copies as copies
 use Rattle.block_copies.specs.declared.transfer.Transfer.{Transfer}
 use Rattle.known_blocks.specs.Known as known
 use Rattle.known_blocks.specs.Known.{Known, refused_new_stamp}
-use Rattle.block_map.specs.declared.recovery.Recovery.{Recovery}
+use Rattle.node_orders.specs.declared.recovery.Recovery.{Recovery}
 
 pub record BlockFacts : Type 0 where
   -- in milliseconds: a recovery or a copy is asked for again behind this time

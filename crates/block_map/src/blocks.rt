@@ -10,6 +10,7 @@ ghost use Rattle.block_records.specs.Marks.{marks_for};
 ghost use Rattle.block_records.specs.Verdicts.{verdict_by};
 ghost use Rattle.block_records.specs.declared.block_record.BlockRecord.{BlockRecord};
 
+use crate::instructions::Instructions;
 use crate::recovery::Recovery;
 use block_copies::transfer::{HandOut, Transfer};
 use block_records::fault::{BlockFault, BlockRefusal};
@@ -528,6 +529,27 @@ impl Blocks {
         let blocks = blocks_of(self.alloc, &transfers)?;
         self.known.hand_out(&blocks, now);
         Ok(transfers)
+    }
+
+    /// What a node is told at its heartbeat now.
+    pub fn instructions(&self, _node: NodeId, _now: Moment) -> Result<Instructions, AllocError>
+        ensures { IfOk result (λ told. told ≡ effect.instructions_for self.now _now _node) }
+    {
+        Err(AllocError)
+    }
+
+    /// Notes a node's heartbeat and that it is told this.
+    pub fn hand_out(
+        &mut self,
+        _node: NodeId,
+        _now: Moment,
+        told: &Instructions,
+    ) -> Result<(), AllocError>
+        requires { told.now ≡ effect.instructions_for self.old _now _node }
+        ensures ok { OnOk result (self.new ≡ effect.handed_out self.old _node _now) }
+        ensures err { OnErr result (self.new ≡ self.old) }
+    {
+        Err(AllocError)
     }
 
     /// Notes a node's heartbeat. Costs a look-up.

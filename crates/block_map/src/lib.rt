@@ -4,4 +4,5 @@
 #![tactic(auto)]
 
 pub mod blocks;
+pub mod instructions;
 pub mod recovery;

@@ -6,11 +6,8 @@ use Rattle.std.specs.List.Sorted.{IsStrictlySortedBy}
 use Rattle.std.specs.Map.{keys_of, lookup}
 use Rattle.std.specs.Option.{option_or}
 use Rattle.std.specs.Ordering.{nat_cmp}
-use Rattle.block_tokens.specs.declared.key.HeldKey.{HeldKey}
-
--- each key with its serial before it
-abbrev pub KeyList : Type 0
-KeyList = List (ℕ × HeldKey)
+use Rattle.hdfs_types.specs.declared.key_list.HeldKey.{HeldKey}
+pub use Rattle.hdfs_types.specs.KeyList.{KeyList, expires_after}
 
 -- serials ascend
 abbrev pub AreKeys : KeyList → Type 0
@@ -19,11 +16,6 @@ AreKeys keys = IsStrictlySortedBy nat_cmp (keys_of keys)
 -- the key with a serial
 abbrev pub key_with : ℕ → KeyList → Option HeldKey
 key_with serial keys = lookup (is_at (nat_cmp serial)) keys
-
--- no known expiry has come
-abbrev pub expires_after : ℕ → Option ℕ → Bool
-expires_after now None = true
-expires_after now (Some expiry) = nat_lt now expiry
 
 abbrev pub usable_keys : ℕ → KeyList → KeyList
 usable_keys now keys = filter (λ entry. expires_after now entry.1.expiry) keys

@@ -4,6 +4,7 @@ ghost use Rattle.block_tokens.specs.TokenText.{Body, TokenText, coded_bytes, tok
 ghost use Rattle.block_tokens.specs.Reading.{parts_of};
 
 use crate::reading;
+pub use hdfs_types::token_bytes::TokenBytes;
 use hdfs_values::ids::{BlockId, Serial};
 use permission_specs::modes::Modes;
 use std::alloc::{AllocError, Global};
@@ -41,44 +42,6 @@ impl<'a> Model for Body<'a> {
     } };
 
     ghost invariant = { λ body. IsTrue (is_modes body.modes.0) × IsWho body.user.now };
-}
-
-/// The bytes of a token's text.
-#[derive(Drop)]
-pub struct TokenBytes {
-    bytes: Vec<u8>,
-}
-
-impl Model for TokenBytes {
-    ghost use Rattle.std.specs.Prelude.{List, ℕ};
-
-    ghost Value = { List ℕ };
-
-    ghost view = { λ token. token.bytes.items };
-}
-
-impl TokenBytes {
-    pub(crate) fn new(bytes: Vec<u8>) -> TokenBytes
-        ensures { result ≡ bytes.items }
-    {
-        TokenBytes { bytes }
-    }
-
-    pub fn as_bytes(&self) -> &[u8]
-        ensures { result.now ≡ self.now }
-    {
-        self.bytes.as_slice()
-    }
-}
-
-impl Clone for TokenBytes {
-    ghost is_clone = { λ token copy. copy ≡ token };
-
-    fn clone(&self) -> Result<TokenBytes, AllocError> {
-        Ok(TokenBytes {
-            bytes: self.bytes.clone()?,
-        })
-    }
 }
 
 fn modes_byte(modes: Modes) -> u8

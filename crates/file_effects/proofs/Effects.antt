@@ -32,10 +32,6 @@ use Rattle.lease_manager.specs.declared.writers.Writers.{Writers}
 use Rattle.lease_manager.specs.Writers.{count_of}
 use Rattle.file_effects.specs.Effected.{IsFree}
 
--- no lease is live, and none past the hard limit; and no key can be made
-pub no_facts : Facts
-no_facts = record { leases = record { is_live = λ client. false; is_past_hard = λ client. false }; next_serial = None }
-
 some_none : {X : Type 0} (x : X) → Some x ≡ None → ⊥
 some_none x e = cc
 

@@ -37,4 +37,4 @@ IsFree op caller rows users = (facts : Facts) × (first_refusal facts caller op 
 -- what an operation leaves that nothing refuses
 pub record IsEffected (op : Op) (caller : List ℕ) (now : ℕ) (rows : List Row) (writers : Writers) (rows_left : List Row) (writers_left : Writers) : Type 0 where
   pub tree : (facts : Facts) → rows_left ≡ rows_after facts op caller rows
-  pub exact : (facts : Facts) (last : List ℕ → Option ℕ) → IsExact last rows writers → IsExact (renewed_where (renews op (Done (reply_of facts op rows))) caller now last) rows_left writers_left
+  pub exact : (facts : Facts) (last : List ℕ → Option ℕ) → IsExact last rows writers → IsExact (renewed_where (renews op (Done (reply_of facts caller op rows))) caller now last) rows_left writers_left

@@ -7,3 +7,4 @@ pub mod Making
 pub mod Keeping
 pub mod Endings
 pub mod Firsts
+pub mod AnyFacts

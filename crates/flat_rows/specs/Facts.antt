@@ -1,8 +1,19 @@
--- What an outcome asks beside the namespace and the users: how leases stand, and the serial that the next key would have.
-use Rattle.std.specs.Prelude.{ℕ, Option}
+-- What an outcome asks beside the namespace and the users: the moment, how leases stand, what is known of blocks and DataNodes, and the
+-- keys under which tokens are issued.
+use Rattle.std.specs.Prelude.{ℕ, List, Option}
+use Rattle.permission_specs.specs.declared.modes.Modes.{Modes}
+use Rattle.hdfs_types.specs.KeyList.{KeyList}
+use Rattle.block_map.specs.BlockFacts.{BlockFacts}
 use Rattle.flat_rows.specs.FileOutcome.{LeaseFacts}
 
 pub record Facts : Type 0 where
+  -- in milliseconds
+  pub now : ℕ
   pub leases : LeaseFacts
-  -- none where all serials are given away
+  pub blocks : BlockFacts
+  -- the keys that serve now
+  pub keys : KeyList
+  -- the serial of the next key; none where all serials are given away
   pub next_serial : Option ℕ
+  -- the bytes of the token that a user is granted now for some modes of a block
+  pub token : List ℕ → ℕ → Modes → List ℕ

@@ -7,4 +7,5 @@ pub mod Changes
 pub mod Verdicts
 pub mod FileOutcome
 pub mod Facts
+pub mod NodeOutcome
 pub mod Outcome

@@ -1,11 +1,12 @@
 -- What an operation that no need forbids answers, and the rows and users that it leaves: the first refusal of its list that
--- applies, else done. What it asks of leases and keys is handed in; which leases it renews, and which keys there are, are questions over
+-- applies, else done. What it asks of leases, blocks and keys is handed in; which leases it renews, and which keys there are, are questions over
 -- a history of answers.
 -- (HDFS Architecture, "The File System Namespace"; HDFS Permissions Guide, "Overview".)
 use Rattle.std.specs.Prelude.{ℕ, ◌+◌, Bool, true, false, ◌&&◌, ◌||◌, not, List, [], ◌∷◌, ◌++◌, map, filter, length, drop, if◌then◌else◌, Option, Some, None, unwrap_or, Result, Ok, Err}
 use Rattle.std.specs.Option.{option_map}
 use Rattle.std.specs.Result.{result_err}
 use Rattle.permission_specs.specs.Mode.{for_missing_parent}
+use Rattle.hdfs_values.specs.NodeId.{node_of}
 use Rattle.hdfs_values.specs.Path.{is_prefix}
 use Rattle.hdfs_types.specs.declared.op.Op.{Op}
 use Rattle.hdfs_types.specs.declared.op.Op.TheVariants as op
@@ -35,6 +36,7 @@ use Rattle.flat_rows.specs.Changes.{rows_under, child_names, last_name, without,
 use Rattle.namespace_rows.specs.Files.{new_file, has_open_file}
 use Rattle.flat_rows.specs.FileOutcome.{directory_there, file_there, of_file, refused_takeover, refused_write, refused_commit, detail_of_row, bytes_of, bytes_at, appended_reply, holder_at, state_after_append, is_expired, closed_where_expired}
 use Rattle.flat_rows.specs.Facts.{Facts}
+use Rattle.flat_rows.specs.NodeOutcome.{heartbeat_reply}
 use Rattle.flat_rows.specs.Denial as denied
 use Rattle.flat_rows.specs.Decision.{decision}
 
@@ -129,6 +131,7 @@ first_refusal facts caller (op.RollKey key) rows users = refused_roll facts.next
 first_refusal facts caller op.Renew rows users = refused_where (not (has_open_file caller rows)) NoLease
 first_refusal facts caller op.Tick rows users = None
 first_refusal facts caller op.Heartbeat rows users = None
+first_refusal facts caller (op.Reported replica) rows users = None
 
 -- what `stat` tells of a row; where there is none, NotFound came first
 abbrev pub status_of : Option Row → Reply
@@ -163,19 +166,19 @@ abbrev pub serial_reply : Option ℕ → Reply
 serial_reply None = reply.Empty
 serial_reply (Some serial) = reply.Serial serial
 
-abbrev pub reply_of : Facts → Op → List Row → Reply
-reply_of facts (op.Stat path) rows = status_of (row_at path rows)
-reply_of facts (op.List path) rows = reply.Names (listed path (row_at path rows) rows)
-reply_of facts (op.Summary path) rows = summary_of (rows_under path rows)
-reply_of facts (op.Delete path recursive) rows = reply.Deleted (length (rows_under path rows))
-reply_of facts (op.GetAcl path) rows = acl_status_of (row_at path rows)
-reply_of facts (op.Append path) rows = appended_reply (holder_at (row_at path rows))
-reply_of facts (op.Complete path last) rows = reply.Closed (bytes_at (row_at path rows))
-reply_of facts (op.Open path) rows = reply.Opened (bytes_at (row_at path rows))
-reply_of facts (op.RollKey key) rows = serial_reply facts.next_serial
-reply_of facts op.Tick rows = reply.Expired (record { closed = length (filter (is_expired facts.leases) rows); recovering = 0 })
-reply_of facts op.Heartbeat rows = reply.Heartbeat
-reply_of facts _ rows = reply.Empty
+abbrev pub reply_of : Facts → List ℕ → Op → List Row → Reply
+reply_of facts caller (op.Stat path) rows = status_of (row_at path rows)
+reply_of facts caller (op.List path) rows = reply.Names (listed path (row_at path rows) rows)
+reply_of facts caller (op.Summary path) rows = summary_of (rows_under path rows)
+reply_of facts caller (op.Delete path recursive) rows = reply.Deleted (length (rows_under path rows))
+reply_of facts caller (op.GetAcl path) rows = acl_status_of (row_at path rows)
+reply_of facts caller (op.Append path) rows = appended_reply (holder_at (row_at path rows))
+reply_of facts caller (op.Complete path last) rows = reply.Closed (bytes_at (row_at path rows))
+reply_of facts caller (op.Open path) rows = reply.Opened (bytes_at (row_at path rows))
+reply_of facts caller (op.RollKey key) rows = serial_reply facts.next_serial
+reply_of facts caller op.Tick rows = reply.Expired (record { closed = length (filter (is_expired facts.leases) rows); recovering = 0 })
+reply_of facts caller op.Heartbeat rows = heartbeat_reply facts caller (node_of caller)
+reply_of facts caller _ rows = reply.Empty
 
 -- What is made beneath the names that are still to be made: the last, behind which there is none, has the mode that was asked for,
 -- and is a file where one was.
@@ -254,7 +257,7 @@ users_after (op.SetGroups user groups) users = with_groups users user groups
 users_after _ users = users
 
 abbrev pub refused_or_done : Facts → List Row → Users → List ℕ → Op → Option Refusal → Step
-refused_or_done facts rows users caller op None = record { verdict = Done (reply_of facts op rows); rows = rows_after facts op caller rows; users = users_after op users }
+refused_or_done facts rows users caller op None = record { verdict = Done (reply_of facts caller op rows); rows = rows_after facts op caller rows; users = users_after op users }
 refused_or_done facts rows users caller op (Some refusal) = record { verdict = Refused refusal; rows = rows; users = users }
 
 -- a refusal leaves rows and users as they are

@@ -1,3 +1,5 @@
+pub mod KeyList
+pub mod Commands
 pub mod Request
 pub mod File
 pub mod Reply

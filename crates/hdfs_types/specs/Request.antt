@@ -1,7 +1,7 @@
 -- Requests to the NameNode.
 use Rattle.std.specs.Prelude.{Bool, true, false}
 use Rattle.hdfs_types.specs.declared.op.Op.{Op}
-use Rattle.hdfs_types.specs.declared.op.Op.TheVariants.{Stat, List, Summary, GetAcl, Delete, Create, Append, AddBlock, Complete, RollKey, Renew, Tick, Heartbeat}
+use Rattle.hdfs_types.specs.declared.op.Op.TheVariants.{Stat, List, Summary, GetAcl, Delete, Create, Append, AddBlock, Complete, RollKey, Renew, Tick, Heartbeat, Reported}
 
 -- an operation that changes nothing and grants nothing
 abbrev pub is_look : Op → Bool
@@ -14,10 +14,11 @@ is_look _ = false
 -- an operation for DataNodes alone
 abbrev pub is_for_nodes : Op → Bool
 is_for_nodes Heartbeat = true
+is_for_nodes (Reported replica) = true
 is_for_nodes _ = false
 
 -- an operation that neither asks who has which file open to write nor changes it, and that leaves the keys and what is known of
--- DataNodes
+-- blocks and DataNodes
 abbrev pub keeps_leases : Op → Bool
 keeps_leases (Create path mode replication over) = false
 keeps_leases (Append path) = false
@@ -28,4 +29,5 @@ keeps_leases (RollKey key) = false
 keeps_leases Renew = false
 keeps_leases Tick = false
 keeps_leases Heartbeat = false
+keeps_leases (Reported replica) = false
 keeps_leases _ = true

@@ -42,3 +42,4 @@ op_of (verb.RollKey key) = op.RollKey key
 op_of verb.Renew = op.Renew
 op_of verb.Tick = op.Tick
 op_of verb.Heartbeat = op.Heartbeat
+op_of (verb.Reported replica) = op.Reported replica

@@ -2,11 +2,15 @@
 //! moments, requests and replies. Each text that is read has one grammar with the text that is printed.
 #![tactic(auto)]
 
+pub mod commands;
 pub mod file;
 pub mod given_name;
 pub mod key;
+pub mod key_list;
 pub mod op;
+pub mod replica;
 pub mod reply;
+pub mod token_bytes;
 pub mod verb;
 
 pub use hdfs_values::{fault, groups, ids, moment, name, node_id, number, path, replication, who};

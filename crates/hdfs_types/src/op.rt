@@ -5,6 +5,7 @@ ghost use Rattle.hdfs_types.specs.declared.op.Op.TheVariants as made;
 use crate::file::LastBlock;
 use crate::given_name::GivenName;
 use crate::key::Key;
+use crate::replica::ReportedReplica;
 use hdfs_values::groups::Groups;
 use hdfs_values::moment::Moment;
 use hdfs_values::path::Path;
@@ -62,6 +63,8 @@ pub enum Op {
     Tick,
     /// Tells that the DataNode lives whose principal the caller is.
     Heartbeat,
+    /// Tells that the DataNode whose principal the caller is holds this replica.
+    Reported(ReportedReplica),
 }
 
 fn clone_mkdirs(path: &Path, mode: Mode) -> Result<Op, AllocError>
@@ -202,6 +205,7 @@ impl Clone for Op {
             Op::Renew => Ok(Op::Renew),
             Op::Tick => Ok(Op::Tick),
             Op::Heartbeat => Ok(Op::Heartbeat),
+            Op::Reported(replica) => Ok(Op::Reported(*replica)),
         }
     }
 }
@@ -250,7 +254,8 @@ pub fn is_look(op: &Op) -> bool
         | Op::RollKey(_)
         | Op::Renew
         | Op::Tick
-        | Op::Heartbeat => false,
+        | Op::Heartbeat
+        | Op::Reported(_) => false,
     }
 }
 
@@ -258,5 +263,5 @@ pub fn is_look(op: &Op) -> bool
 pub fn is_for_nodes(op: &Op) -> bool
     ensures { result ≡ spec.is_for_nodes op.now }
 {
-    matches!(op, Op::Heartbeat)
+    matches!(op, Op::Heartbeat | Op::Reported(_))
 }

@@ -1,6 +1,7 @@
 ghost use Rattle.std.specs.Prelude.{◌≡◌, Some, IfOk};
 ghost use Rattle.std.specs.String.{string_bytes};
 
+use crate::commands::Commands;
 use crate::file::FileDetail;
 use hdfs_values::fault::AclFault;
 use hdfs_values::ids::Serial;
@@ -342,8 +343,8 @@ pub enum Reply {
     Expired(Expired),
     /// The serial number of the key under which tokens are issued from now on.
     Serial(Serial),
-    /// The DataNode's heartbeat is taken in.
-    Heartbeat,
+    /// What the DataNode whose heartbeat is taken in is told.
+    Commands(Commands),
 }
 
 impl Clone for Reply {
@@ -362,7 +363,7 @@ impl Clone for Reply {
             Reply::Opened(bytes) => Ok(Reply::Opened(*bytes)),
             Reply::Expired(expired) => Ok(Reply::Expired(*expired)),
             Reply::Serial(serial) => Ok(Reply::Serial(*serial)),
-            Reply::Heartbeat => Ok(Reply::Heartbeat),
+            Reply::Commands(commands) => Ok(Reply::Commands(commands.clone()?)),
         }
     }
 }

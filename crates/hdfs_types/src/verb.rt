@@ -5,6 +5,7 @@ use crate::file::LastBlock;
 use crate::given_name::GivenName;
 use crate::key::Key;
 use crate::op::Op;
+use crate::replica::ReportedReplica;
 use hdfs_values::groups::Groups;
 use hdfs_values::path::Path;
 use hdfs_values::replication::Repl;
@@ -55,6 +56,7 @@ pub enum Verb<'a> {
     Renew,
     Tick,
     Heartbeat,
+    Reported(ReportedReplica),
 }
 
 impl Op {
@@ -91,6 +93,7 @@ impl Op {
             Op::Renew => Verb::Renew,
             Op::Tick => Verb::Tick,
             Op::Heartbeat => Verb::Heartbeat,
+            Op::Reported(replica) => Verb::Reported(*replica),
         }
     }
 }

@@ -3,9 +3,10 @@
 use Rattle.std.specs.Prelude.{ℕ, List, [], ◌∷◌, Option, Some, None}
 use Rattle.hdfs_values.specs.NodeId.{node_of}
 use Rattle.hdfs_types.specs.declared.op.Op.{Op}
-use Rattle.hdfs_types.specs.declared.op.Op.TheVariants.{Heartbeat}
+use Rattle.hdfs_types.specs.declared.op.Op.TheVariants.{Heartbeat, Reported}
+use Rattle.hdfs_types.specs.declared.replica.ReportedReplica.{ReportedReplica}
 use Rattle.block_map.specs.BlockFacts.{BlockFacts}
-use Rattle.block_map.specs.BlockEffects.{beaten}
+use Rattle.block_map.specs.BlockEffects.{handed_out, reported}
 use Rattle.flat_rows.specs.declared.verdict.Verdict.{Verdict}
 use Rattle.flat_rows.specs.declared.verdict.Verdict.TheVariants.{Done, Denied, Refused}
 use Rattle.history.specs.declared.entry.HistoryEntry.{HistoryEntry}
@@ -22,14 +23,20 @@ first_blocks opening = record {
   queued = [];
 }
 
--- the node whose principal sent a heartbeat was heard of
+-- the node whose principal sent a heartbeat was heard of, and told what waited for it
 abbrev pub heard_of : Option ℕ → ℕ → BlockFacts → BlockFacts
 heard_of None now blocks = blocks
-heard_of (Some node) now blocks = beaten blocks node now
+heard_of (Some node) now blocks = handed_out blocks node now
+
+-- the node whose principal reported a replica holds it, or is to remove it
+abbrev pub reported_of : Option ℕ → ReportedReplica → BlockFacts → BlockFacts
+reported_of None replica blocks = blocks
+reported_of (Some node) replica blocks = reported blocks node replica.block replica.stamp replica.length
 
 -- what an operation that is done leaves of blocks and nodes
 abbrev pub blocks_after : Op → List ℕ → ℕ → BlockFacts → BlockFacts
 blocks_after Heartbeat caller now blocks = heard_of (node_of caller) now blocks
+blocks_after (Reported replica) caller now blocks = reported_of (node_of caller) replica blocks
 blocks_after _ caller now blocks = blocks
 
 abbrev pub blocks_by : Op → List ℕ → Verdict → ℕ → BlockFacts → BlockFacts

@@ -19,6 +19,7 @@ use Rattle.history.specs.Config.{Opening}
 use Rattle.history.specs.ClockAndLease.{last_renewal}
 use Rattle.history.specs.Keys.{ring_of}
 use Rattle.history.specs.Blocks.{blocks_of}
+use Rattle.history.specs.Grants.{ledger_of}
 use Rattle.history.specs.State.{users_of, rows_of, facts_of}
 use Rattle.history.specs.LegalHistory.{now_at, verdict_of}
 
@@ -53,13 +54,14 @@ LiveWritersAreNamed = (opening : Opening) (earlier : List HistoryEntry) (request
 
 -- ---- entries that change nothing but the clock
 
--- users, namespace, renewals, keys, blocks and nodes are as before the last entry
+-- users, namespace, renewals, keys, blocks and nodes, and grants are as before the last entry
 pub record IsSame (opening : Opening) (entry : HistoryEntry) (earlier : List HistoryEntry) : Type 0 where
   pub users : users_of (entry ∷ earlier) ≡ users_of earlier
   pub rows : rows_of opening (entry ∷ earlier) ≡ rows_of opening earlier
   pub renewals : (client : List ℕ) → last_renewal (entry ∷ earlier) client ≡ last_renewal earlier client
   pub keys : ring_of opening (entry ∷ earlier) ≡ ring_of opening earlier
   pub blocks : blocks_of opening (entry ∷ earlier) ≡ blocks_of opening earlier
+  pub grants : ledger_of opening (entry ∷ earlier) ≡ ledger_of opening earlier
 
 abbrev pub WhatIsNotDoneChangesNothing : Type 0
 WhatIsNotDoneChangesNothing = (opening : Opening) (entry : HistoryEntry) (earlier : List HistoryEntry) → is_done entry.verdict ≡ false → IsSame opening entry earlier

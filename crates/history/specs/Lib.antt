@@ -3,6 +3,7 @@ pub mod Kept
 pub mod ClockAndLease
 pub mod Keys
 pub mod Blocks
+pub mod Grants
 pub mod State
 pub mod LegalHistory
 pub mod Laws

@@ -7,13 +7,15 @@ use Rattle.flat_rows.specs.declared.verdict.Verdict.{Verdict}
 use Rattle.flat_rows.specs.declared.verdict.Verdict.TheVariants.{Done, Denied, Refused}
 use Rattle.namespace_rows.specs.Opening.{root_row}
 use Rattle.namespace_rows.specs.Files.{has_open_file}
-use Rattle.block_tokens.specs.Ring.{Ring, next_serial}
+use Rattle.block_tokens.specs.Ring.{Ring, next_serial, update_of, grant_of}
+use Rattle.block_map.specs.BlockFacts.{BlockFacts}
 use Rattle.flat_rows.specs.Facts.{Facts}
 use Rattle.flat_rows.specs.Outcome.{rows_after, users_after}
 use Rattle.history.specs.declared.entry.HistoryEntry.{HistoryEntry}
 use Rattle.history.specs.Config.{Opening, limits_of}
 use Rattle.history.specs.ClockAndLease.{clock_of, last_renewal, lease_in, facts_at}
 use Rattle.history.specs.Keys.{ring_of}
+use Rattle.history.specs.Blocks.{blocks_of}
 use Rattle.lease_manager.specs.Leases.{Limits}
 
 -- ---- users
@@ -36,9 +38,16 @@ users_of (entry ∷ earlier) = users_by entry.request.op entry.verdict (users_of
 
 -- ---- the namespace
 
--- what an outcome asks of leases, each given by its last renewal, and of the keys
-abbrev pub facts_with : Limits → ℕ → (List ℕ → Option ℕ) → Ring → Facts
-facts_with limits now lease ring = record { leases = facts_at limits now lease; next_serial = next_serial ring.serial }
+-- what an outcome asks at a moment: of leases, each given by its last renewal, of the keys, and of blocks and nodes
+abbrev pub facts_with : Limits → ℕ → (List ℕ → Option ℕ) → Ring → BlockFacts → Facts
+facts_with limits now lease ring blocks = record {
+  now = now;
+  leases = facts_at limits now lease;
+  blocks = blocks;
+  keys = update_of ring now;
+  next_serial = next_serial ring.serial;
+  token = λ user block granted. (grant_of ring now user block granted).token;
+}
 
 abbrev pub rows_by : Facts → Op → List ℕ → Verdict → List Row → List Row
 rows_by facts op caller (Done told) rows = rows_after facts op caller rows
@@ -48,7 +57,7 @@ rows_by facts op caller (Refused refusal) rows = rows
 abbrev pub rows_of : Opening → List HistoryEntry → List Row
 rows_of opening [] = root_row superuser supergroup ∷ []
 rows_of opening (entry ∷ earlier) =
-    rows_by (facts_with (limits_of opening.config) (clock_of (entry ∷ earlier)) (lease_in (last_renewal earlier) (rows_of opening earlier)) (ring_of opening earlier)) entry.request.op entry.request.caller entry.verdict (rows_of opening earlier)
+    rows_by (facts_with (limits_of opening.config) (clock_of (entry ∷ earlier)) (lease_in (last_renewal earlier) (rows_of opening earlier)) (ring_of opening earlier) (blocks_of opening earlier)) entry.request.op entry.request.caller entry.verdict (rows_of opening earlier)
 
 -- ---- leases
 
@@ -59,6 +68,6 @@ has_lease opening entries client = has_open_file client (rows_of opening entries
 abbrev pub lease_of : Opening → List HistoryEntry → List ℕ → Option ℕ
 lease_of opening entries client = lease_in (last_renewal entries) (rows_of opening entries) client
 
--- how leases and keys stand at a moment
+-- how leases, keys, blocks and nodes stand at a moment
 abbrev pub facts_of : Opening → List HistoryEntry → ℕ → Facts
-facts_of opening entries now = facts_with (limits_of opening.config) now (lease_of opening entries) (ring_of opening entries)
+facts_of opening entries now = facts_with (limits_of opening.config) now (lease_of opening entries) (ring_of opening entries) (blocks_of opening entries)

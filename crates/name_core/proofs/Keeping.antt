@@ -13,6 +13,7 @@ use Rattle.history.specs.Config.{Opening, limits_of}
 use Rattle.history.specs.ClockAndLease.{clock_of, last_renewal, renews, lease_in}
 use Rattle.history.specs.Keys.{ring_of, ring_by}
 use Rattle.history.specs.Blocks.{blocks_of, blocks_by}
+use Rattle.history.specs.Grants.{rows_granted, ledger_of}
 use Rattle.history.specs.State.{facts_with, rows_of, users_of, rows_by, users_by}
 use Rattle.history.specs.LegalHistory.{IsLegal, verdict_of}
 use Rattle.name_core.specs.declared.namenode.NameCore.TheInside.{Inside}
@@ -30,6 +31,7 @@ pub record Adds (a b : Inside) (e : HistoryEntry) : Type 0 where
   pub stepped : record { verdict = e.verdict; rows = b.system.tree; users = b.system.users } ≡ step (facts_in (last_renewal (entries_of a)) b.clock a.system) a.system.tree a.system.users e.request.caller e.request.op
   pub ring : b.system.ring ≡ ring_by e.request.op e.verdict b.clock a.system.ring
   pub blocks : b.system.blocks ≡ blocks_by e.request.op e.request.caller e.verdict b.clock a.system.blocks
+  pub ledger : b.ledger.rows ≡ a.ledger.rows ++ rows_granted e.place a.system.ring b.clock e.request.caller e.request.op e.verdict
   pub exact : IsExact (renewed_where (renews e.request.op e.verdict) e.request.caller b.clock (last_renewal (entries_of a))) b.system.tree b.system.writers
   pub limits : b.system.writers.leases.limits ≡ a.system.writers.leases.limits
   pub latest : latest_moment b.system.writers.leases.renewals ≤ b.clock
@@ -42,7 +44,7 @@ clock_more : (a b : Inside) (e : HistoryEntry) → IsKept a → Adds a b e → b
 clock_more a b e k h = h.clock ∙ ap (λ n. max n e.request.moment) k.clock
 
 abbrev facts_now : Inside → HistoryEntry → Facts
-facts_now a e = facts_with (limits_of a.config) (clock_of (e ∷ entries_of a)) (lease_in (last_renewal (entries_of a)) (rows_of (opening_of a) (entries_of a))) (ring_of (opening_of a) (entries_of a))
+facts_now a e = facts_with (limits_of a.config) (clock_of (e ∷ entries_of a)) (lease_in (last_renewal (entries_of a)) (rows_of (opening_of a) (entries_of a))) (ring_of (opening_of a) (entries_of a)) (blocks_of (opening_of a) (entries_of a))
 
 abbrev step_now : Inside → HistoryEntry → Step
 step_now a e = step (facts_now a e) (rows_of (opening_of a) (entries_of a)) (users_of (entries_of a)) e.request.caller e.request.op
@@ -52,7 +54,7 @@ step_is : (a b : Inside) (e : HistoryEntry) → IsKept a → Adds a b e → reco
 step_is a b e k h =
     h.stepped
     ∙ same_step (facts_in (last_renewal (entries_of a)) b.clock a.system) (facts_now a e) a.system.tree (rows_of (opening_of a) (entries_of a)) a.system.users (users_of (entries_of a)) e.request.caller e.request.op
-    (same_facts a.system.writers.leases.limits (limits_of a.config) b.clock (clock_of (e ∷ entries_of a)) (last_renewal (entries_of a)) a.system.tree (rows_of (opening_of a) (entries_of a)) a.system.ring (ring_of (opening_of a) (entries_of a)) k.limits (clock_more a b e k h) k.tree k.ring)
+    (same_facts a.system.writers.leases.limits (limits_of a.config) b.clock (clock_of (e ∷ entries_of a)) (last_renewal (entries_of a)) a.system.tree (rows_of (opening_of a) (entries_of a)) a.system.ring (ring_of (opening_of a) (entries_of a)) a.system.blocks (blocks_of (opening_of a) (entries_of a)) k.limits (clock_more a b e k h) k.tree k.ring k.blocks)
     k.tree k.users
 
 pub verdict_is : (a b : Inside) (e : HistoryEntry) → IsKept a → Adds a b e → e.verdict ≡ verdict_of (opening_of a) (entries_of a) e.request
@@ -82,6 +84,13 @@ blocks_are a b e k h =
     ∙ (ap (λ n. blocks_by e.request.op e.request.caller e.verdict n a.system.blocks) (clock_more a b e k h)
     ∙ ap (λ s. blocks_by e.request.op e.request.caller e.verdict (clock_of (e ∷ entries_of a)) s) k.blocks)
 
+ledger_is : (a b : Inside) (e : HistoryEntry) → IsKept a → Adds a b e → b.ledger.rows ≡ ledger_of (opening_of a) (e ∷ entries_of a)
+ledger_is a b e k h =
+    h.ledger
+    ∙ (ap (λ rows. rows ++ rows_granted e.place a.system.ring b.clock e.request.caller e.request.op e.verdict) k.ledger
+    ∙ (ap (λ r. ledger_of (opening_of a) (entries_of a) ++ rows_granted e.place r b.clock e.request.caller e.request.op e.verdict) k.ring
+    ∙ ap (λ n. ledger_of (opening_of a) (entries_of a) ++ rows_granted e.place (ring_of (opening_of a) (entries_of a)) n e.request.caller e.request.op e.verdict) (clock_more a b e k h)))
+
 exact_more : (a b : Inside) (e : HistoryEntry) → IsKept a → Adds a b e → IsExact (last_renewal (e ∷ entries_of a)) b.system.tree b.system.writers
 exact_more a b e k h = subst (λ n. IsExact (renewed_where (renews e.request.op e.verdict) e.request.caller n (last_renewal (entries_of a))) b.system.tree b.system.writers) (clock_more a b e k h) h.exact
 
@@ -97,13 +106,14 @@ kept_more a b e k h =
       ring = ring_is a b e k h ∙ (ap (λ s. ring_of s (e ∷ entries_of a)) (sym h.opening) ∙ ap (ring_of (opening_of b)) (sym more));
       blocks = blocks_are a b e k h ∙ (ap (λ s. blocks_of s (e ∷ entries_of a)) (sym h.opening) ∙ ap (blocks_of (opening_of b)) (sym more));
       users = users_are a b e k h ∙ ap users_of (sym more);
+      ledger = ledger_is a b e k h ∙ (ap (λ s. ledger_of s (e ∷ entries_of a)) (sym h.opening) ∙ ap (ledger_of (opening_of b)) (sym more));
       exact = subst (λ l. IsExact (last_renewal l) b.system.tree b.system.writers) (sym more) (exact_more a b e k h);
       limits = h.limits ∙ (k.limits ∙ ap (λ (o : Opening). limits_of o.config) (sym h.opening));
       latest = h.latest;
     }
 
-pub kept_undone : (a b : Inside) → IsKept a → opening_of b ≡ opening_of a → b.history.items ≡ a.history.items → b.clock ≡ a.clock → IsUndone a.system b.system → IsKept b
-kept_undone a b k opening history clock undone =
+pub kept_undone : (a b : Inside) → IsKept a → opening_of b ≡ opening_of a → b.history.items ≡ a.history.items → b.clock ≡ a.clock → b.ledger.rows ≡ a.ledger.rows → IsUndone a.system b.system → IsKept b
+kept_undone a b k opening history clock ledger undone =
     let same : entries_of b ≡ entries_of a = ap reverse history in
     let leases = undone.writers.leases in
     record {
@@ -113,6 +123,7 @@ kept_undone a b k opening history clock undone =
       ring = undone.ring ∙ (k.ring ∙ (ap (λ s. ring_of s (entries_of a)) (sym opening) ∙ ap (ring_of (opening_of b)) (sym same)));
       blocks = undone.blocks ∙ (k.blocks ∙ (ap (λ s. blocks_of s (entries_of a)) (sym opening) ∙ ap (blocks_of (opening_of b)) (sym same)));
       users = undone.users ∙ (k.users ∙ ap users_of (sym same));
+      ledger = ledger ∙ (k.ledger ∙ (ap (λ s. ledger_of s (entries_of a)) (sym opening) ∙ ap (ledger_of (opening_of b)) (sym same)));
       exact = subst (λ l. IsExact (last_renewal l) b.system.tree b.system.writers) (sym same)
           (subst (λ t. IsExact (last_renewal (entries_of a)) t b.system.writers) (sym undone.tree)
           (record {

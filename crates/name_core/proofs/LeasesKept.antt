@@ -39,9 +39,9 @@ update_keeps (update.Mkdirs path mode) = refl
 update_keeps _ = refl
 
 -- there is nothing to report of an update
-pub empty_reply : (facts : Facts) (verb : Update) (rows : List Row) → reply_of facts (update_op verb) rows ≡ Empty
-empty_reply facts (update.Mkdirs path mode) rows = refl
-empty_reply facts _ rows = refl
+pub empty_reply : (facts : Facts) (caller : List ℕ) (verb : Update) (rows : List Row) → reply_of facts caller (update_op verb) rows ≡ Empty
+empty_reply facts caller (update.Mkdirs path mode) rows = refl
+empty_reply facts caller _ rows = refl
 
 -- none renews a lease
 pub renews_not : (what : Op) (verdict : Verdict) → keeps_leases what ≡ true → renews what verdict ≡ false
@@ -55,6 +55,7 @@ renews_not (op.Complete path last) (Done told) h = cc
 renews_not op.Renew (Done told) h = cc
 renews_not op.Tick (Done told) h = cc
 renews_not op.Heartbeat (Done told) h = cc
+renews_not (op.Reported replica) (Done told) h = cc
 renews_not _ (Done told) h = refl
 
 -- none is a roll of the keys
@@ -71,11 +72,12 @@ keys_stay_written verb (Refused refusal) now ring = refl
 keys_stay_written (write.Append path) (Done told) now ring = refl
 keys_stay_written _ (Done told) now ring = refl
 
--- none is a heartbeat
+-- none is a DataNode's
 pub blocks_stay : (what : Op) (caller : List ℕ) (verdict : Verdict) (now : ℕ) (blocks : BlockFacts) → keeps_leases what ≡ true → blocks_by what caller verdict now blocks ≡ blocks
 blocks_stay what caller (Denied denial) now blocks h = refl
 blocks_stay what caller (Refused refusal) now blocks h = refl
 blocks_stay op.Heartbeat caller (Done told) now blocks h = cc
+blocks_stay (op.Reported replica) caller (Done told) now blocks h = cc
 blocks_stay _ caller (Done told) now blocks h = refl
 
 pub blocks_stay_written : (verb : Write) (caller : List ℕ) (verdict : Verdict) (now : ℕ) (blocks : BlockFacts) → blocks_by (write_op verb) caller verdict now blocks ≡ blocks

@@ -8,3 +8,4 @@ pub mod Deciding
 pub mod Looking
 pub mod Recording
 pub mod Beating
+pub mod Granting

@@ -33,7 +33,7 @@ use Rattle.history.specs.Keys.{ring_by}
 use Rattle.history.specs.Blocks.{blocks_by}
 use Rattle.history.specs.State.{rows_by, users_by}
 use Rattle.history.proofs.OpenFiles.{any_counted}
-use Rattle.file_effects.proofs.Effects.{no_facts}
+use Rattle.flat_rows.proofs.AnyFacts.{no_facts}
 use Rattle.name_core.specs.declared.namesystem.Namesystem.{Namesystem}
 use Rattle.lease_manager.specs.declared.writers.Writers.{Writers}
 use Rattle.lease_manager.specs.Writers.{count_of, moment_of, IsLeased, renewed_at}
@@ -70,7 +70,7 @@ lease_is last rows writers client exact = ap (λ b. cond b (last client) None) (
 module _ (facts : Facts) (rows : List Row) (users : Users) (caller : List ℕ) (what : Op) where
   pub record IsGranted : Type 0 where
     pub free : first_refusal facts caller what rows users ≡ None
-    pub told : (step facts rows users caller what).verdict ≡ Done (reply_of facts what rows)
+    pub told : (step facts rows users caller what).verdict ≡ Done (reply_of facts caller what rows)
 
   -- what is done is free of refusals
   pub done_free : is_done (step facts rows users caller what).verdict ≡ true → IsGranted
@@ -151,7 +151,7 @@ done_update : (caller : List ℕ) (update : Update) (old new : Namesystem) (verd
 done_update caller update old new verdict done applied =
     let judged : verdict ≡ (step no_facts old.tree old.users caller (update_op update)).verdict = ap (λ (s : Step). s.verdict) (applied no_facts) in
     let granted = done_free no_facts old.tree old.users caller (update_op update) (ap is_done (sym judged) ∙ done) in
-    judged ∙ (granted.told ∙ ap (λ r. Done r) (empty_reply no_facts update old.tree))
+    judged ∙ (granted.told ∙ ap (λ r. Done r) (empty_reply no_facts caller update old.tree))
 
 unchanged_update : (caller : List ℕ) (update : Update) (old new : Namesystem) (verdict : Verdict) → new.writers ≡ old.writers → new.ring ≡ old.ring → new.blocks ≡ old.blocks → Applied old caller (update_op update) verdict new → may_change verdict ≡ false → IsUndone old new
 unchanged_update caller update old new verdict same_writers same_ring same_blocks applied none = by (is_done verdict) refl
@@ -217,13 +217,13 @@ users_stay (write.Append path) users = refl
 users_stay _ users = refl
 
 -- what is reported of one that is done takes no memory
-change_reported : (facts : Facts) (verb : Write) (rows : List Row) → may_change (Done (reply_of facts (write_op verb) rows)) ≡ true
-change_reported facts (write.Append path) rows = by (holder_at (row_at path.now rows))
+change_reported : (facts : Facts) (caller : List ℕ) (verb : Write) (rows : List Row) → may_change (Done (reply_of facts caller (write_op verb) rows)) ≡ true
+change_reported facts caller (write.Append path) rows = by (holder_at (row_at path.now rows))
   where
     by : (holder : Option (List ℕ)) → may_change (Done (appended_reply holder)) ≡ true
     by None = refl
     by (Some holder) = refl
-change_reported facts _ rows = refl
+change_reported facts caller _ rows = refl
 
 -- what isn't done changes nothing
 pub performed_not_done : (last : List ℕ → Option ℕ) (now : ℕ) (caller : List ℕ) (what : Op) (old : Namesystem) (verdict : Verdict)
@@ -260,5 +260,5 @@ performed_write last now caller verb old new verdict judged done effected users 
       ring = ring ∙ sym (keys_stay_written verb verdict now old.ring);
       blocks = blocks ∙ sym (blocks_stay_written verb caller verdict now old.blocks);
       exact = subst (λ v. IsExact (renewed_where (renews (write_op verb) v) caller now last) new.tree new.writers) (sym (judged ∙ granted.told)) (effected.exact facts last exact);
-      unchanged = changing old new verdict (Done (reply_of facts (write_op verb) old.tree)) (judged ∙ granted.told) (change_reported facts verb old.tree);
+      unchanged = changing old new verdict (Done (reply_of facts caller (write_op verb) old.tree)) (judged ∙ granted.told) (change_reported facts caller verb old.tree);
     }

@@ -10,7 +10,6 @@ use Rattle.namespace_rows.specs.declared.row.Row.{Row}
 use Rattle.flat_rows.specs.declared.verdict.Verdict.TheVariants.{Done, Denied, Refused}
 use Rattle.flat_rows.specs.Denial as denied
 use Rattle.flat_rows.specs.Decision.{decision}
-use Rattle.flat_rows.specs.FileOutcome.{LeaseFacts}
 use Rattle.flat_rows.specs.Facts.{Facts}
 use Rattle.flat_rows.specs.Outcome.{Step, step, denied_or_outcome}
 use Rattle.file_effects.specs.Effected.{IsExact}
@@ -23,13 +22,13 @@ abbrev rolled : Option ℕ → List Row → Users → Step
 rolled None rows users = record { verdict = Refused (Spent Serial); rows = rows; users = users }
 rolled (Some serial) rows users = record { verdict = Done (reply.Serial serial); rows = rows; users = users }
 
-abbrev with_next : LeaseFacts → Option ℕ → Facts
-with_next leases next = record { leases = leases; next_serial = next }
+abbrev with_next : Facts → Option ℕ → Facts
+with_next facts next = record facts { next_serial = next }
 
-rolled_is : (leases : LeaseFacts) (next : Option ℕ) (rows : List Row) (users : Users) (caller key : List ℕ) → decision rows users caller (op.RollKey key) ≡ None
-    → step (with_next leases next) rows users caller (op.RollKey key) ≡ rolled next rows users
-rolled_is leases None rows users caller key granted = ap (denied_or_outcome (with_next leases None) rows users caller (op.RollKey key)) granted
-rolled_is leases (Some serial) rows users caller key granted = ap (denied_or_outcome (with_next leases (Some serial)) rows users caller (op.RollKey key)) granted
+rolled_is : (facts : Facts) (next : Option ℕ) (rows : List Row) (users : Users) (caller key : List ℕ) → decision rows users caller (op.RollKey key) ≡ None
+    → step (with_next facts next) rows users caller (op.RollKey key) ≡ rolled next rows users
+rolled_is facts None rows users caller key granted = ap (denied_or_outcome (with_next facts None) rows users caller (op.RollKey key)) granted
+rolled_is facts (Some serial) rows users caller key granted = ap (denied_or_outcome (with_next facts (Some serial)) rows users caller (op.RollKey key)) granted
 
 abbrev with_ring : Namesystem → Ring → Namesystem
 with_ring old ring = record old { ring = ring }
@@ -38,8 +37,8 @@ module _ (last : List ℕ → Option ℕ) (now : ℕ) (caller key : List ℕ) (o
   stepped_is : (next : Option ℕ) → next ≡ next_serial old.ring.serial → decision old.tree old.users caller (op.RollKey key) ≡ None
       → rolled next old.tree old.users ≡ step (facts_in last now old) old.tree old.users caller (op.RollKey key)
   stepped_is next is granted =
-      let leases = (facts_in last now old).leases in
-      sym (rolled_is leases next old.tree old.users caller key granted) ∙ ap (λ n. step (with_next leases n) old.tree old.users caller (op.RollKey key)) is
+      let facts = facts_in last now old in
+      sym (rolled_is facts next old.tree old.users caller key granted) ∙ ap (λ n. step (with_next facts n) old.tree old.users caller (op.RollKey key)) is
 
   pub done_roll : (ring : Ring) (serial : ℕ) → decision old.tree old.users caller (op.RollKey key) ≡ None → Some serial ≡ next_serial old.ring.serial → ring ≡ ring_after_roll old.ring key now
       → IsPerformed last now caller (op.RollKey key) old (Done (reply.Serial serial)) (with_ring old ring)

@@ -3,6 +3,7 @@ use Rattle.std.proofs.Common.{◌≡◌, ℕ, List, Option, Some, None, refl, ap
 use Rattle.hdfs_types.specs.declared.op.Op.{Op}
 use Rattle.hdfs_types.specs.declared.reply.Refusal.{Refusal}
 use Rattle.block_tokens.specs.Ring.{Ring}
+use Rattle.block_map.specs.BlockFacts.{BlockFacts}
 use Rattle.lease_manager.specs.Leases.{Limits}
 use Rattle.principals.specs.Users.{Users}
 use Rattle.namespace_rows.specs.declared.row.Row.{Row}
@@ -33,10 +34,15 @@ module _ (facts : Facts) (rows : List Row) (users : Users) (caller : List ℕ) (
   pub stepped_users : (step facts rows users caller op).users ≡ users_by op (step facts rows users caller op).verdict users
   stepped_users = (by_denial (decision rows users caller op)).users_are
 
--- the same facts of leases and keys
-pub same_facts : (l m : Limits) (n k : ℕ) (last : List ℕ → Option ℕ) (rows others : List Row) (ring other : Ring) → l ≡ m → n ≡ k → rows ≡ others → ring ≡ other → facts_with l n (lease_in last rows) ring ≡ facts_with m k (lease_in last others) other
-same_facts l m n k last rows others ring other p q r w =
-    ap (λ x. facts_with x n (lease_in last rows) ring) p ∙ (ap (λ x. facts_with m x (lease_in last rows) ring) q ∙ (ap (λ x. facts_with m k (lease_in last x) ring) r ∙ ap (λ x. facts_with m k (lease_in last others) x) w))
+-- the same facts of leases, keys and blocks
+pub same_facts : (l m : Limits) (n k : ℕ) (last : List ℕ → Option ℕ) (rows others : List Row) (ring other : Ring) (blocks known : BlockFacts) → l ≡ m → n ≡ k → rows ≡ others → ring ≡ other → blocks ≡ known
+    → facts_with l n (lease_in last rows) ring blocks ≡ facts_with m k (lease_in last others) other known
+same_facts l m n k last rows others ring other blocks known p q r w z =
+    ap (λ x. facts_with x n (lease_in last rows) ring blocks) p
+    ∙ (ap (λ x. facts_with m x (lease_in last rows) ring blocks) q
+    ∙ (ap (λ x. facts_with m k (lease_in last x) ring blocks) r
+    ∙ (ap (λ x. facts_with m k (lease_in last others) x blocks) w
+    ∙ ap (λ x. facts_with m k (lease_in last others) other x) z)))
 
 pub same_step : (f g : Facts) (rows others : List Row) (users known : Users) (caller : List ℕ) (op : Op) → f ≡ g → rows ≡ others → users ≡ known → step f rows users caller op ≡ step g others known caller op
 same_step f g rows others users known caller op p q r =

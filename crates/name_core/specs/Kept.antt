@@ -6,6 +6,7 @@ use Rattle.history.specs.Config.{Opening, limits_of}
 use Rattle.history.specs.ClockAndLease.{clock_of, last_renewal}
 use Rattle.history.specs.Keys.{ring_of}
 use Rattle.history.specs.Blocks.{blocks_of}
+use Rattle.history.specs.Grants.{ledger_of}
 use Rattle.history.specs.State.{rows_of, users_of}
 use Rattle.history.specs.LegalHistory.{IsLegal}
 use Rattle.name_core.specs.declared.namenode.NameCore.TheInside.{Inside}
@@ -28,6 +29,7 @@ pub record IsKept (core : Inside) : Type 0 where
   pub users : core.system.users ≡ users_of (entries_of core)
   pub ring : core.system.ring ≡ ring_of (opening_of core) (entries_of core)
   pub blocks : core.system.blocks ≡ blocks_of (opening_of core) (entries_of core)
+  pub ledger : core.ledger.rows ≡ ledger_of (opening_of core) (entries_of core)
   -- of each client how many files it has open, and its lease
   pub exact : IsExact (last_renewal (entries_of core)) core.system.tree core.system.writers
   pub limits : core.system.writers.leases.limits ≡ limits_of core.config

@@ -13,9 +13,9 @@ use Rattle.file_effects.specs.Effected.{IsExact, renewed_where}
 use Rattle.name_core.specs.declared.namesystem.Namesystem.{Namesystem}
 use Rattle.name_core.specs.Told.{may_change}
 
--- how leases and keys stand, by the last renewals of clients
+-- how leases, keys, blocks and nodes stand, by the last renewals of clients
 abbrev pub facts_in : (List ℕ → Option ℕ) → ℕ → Namesystem → Facts
-facts_in last now system = facts_with system.writers.leases.limits now (lease_in last system.tree) system.ring
+facts_in last now system = facts_with system.writers.leases.limits now (lease_in last system.tree) system.ring system.blocks
 
 -- nothing but room may be other
 pub record IsUndone (old new : Namesystem) : Type 0 where

@@ -4,12 +4,14 @@ ghost use Rattle.hdfs_types.specs.Request.{is_look};
 ghost use Rattle.hdfs_values.specs.Who.{IsWho};
 ghost use Rattle.history.specs.LegalHistory.{IsLegal};
 ghost use Rattle.history.specs.Blocks.{blocks_of};
+ghost use Rattle.history.specs.Grants.{ledger_of};
 ghost use Rattle.history.specs.State.{rows_of, users_of};
 ghost use Rattle.name_core.specs.NameCore.{Steps, Looks, stepped};
 
 use crate::namesystem::{Namesystem, perform, perform_with_copy};
 use crate::told::Told;
 use block_map::blocks::Blocks;
+use grant_ledger::ledger::Ledger;
 use block_tokens::ring::KeyRing;
 use fs_operations::apply::answer_look;
 use hdfs_types::key::Key;
@@ -111,14 +113,16 @@ fn record(
     }
 }
 
-/// A NameNode's core: what it opened with, and its history, which is legal. Its namespace, its users, its leases, its keys and what it
-/// knows of blocks and DataNodes are what the history gives.
+/// A NameNode's core: what it opened with, and its history, which is legal. Its namespace, its users, its leases, its keys, what it
+/// granted and what it knows of blocks and DataNodes are what the history gives.
 #[derive(Drop)]
 pub struct NameCore {
     config: Config,
     first_key: Key,
     system: Namesystem,
     open_paths: OpenPaths,
+    // what was granted
+    ledger: Ledger,
     clock: Moment,
     // the oldest first
     history: Vec<HistoryEntry>,
@@ -166,6 +170,7 @@ impl NameCore {
                 blocks: Blocks::new(alloc, dead, retry, first.block, first.stamp),
             },
             open_paths: OpenPaths::new(alloc),
+            ledger: Ledger::new(alloc),
             clock: first_moment(),
             history: Vec::new(alloc),
             alloc,
@@ -241,6 +246,13 @@ impl NameCore {
         &self.system.blocks
     }
 
+    /// Every token that was granted, with the place of the entry that granted it, the oldest first. Takes no memory.
+    pub fn ledger(&self) -> &Ledger
+        ensures { result.now.rows ≡ ledger_of self.now.opening self.now.entries }
+    {
+        &self.ledger
+    }
+
     /// Answers a request that only looks, on what the history gives. It makes no entry, and the answer's place is the number of
     /// entries.
     ///
@@ -287,6 +299,8 @@ impl NameCore {
             self.alloc,
             &mut self.system,
             &mut self.open_paths,
+            &mut self.ledger,
+            place,
             &request,
             clock,
         ) else {
@@ -321,6 +335,8 @@ impl NameCore {
             self.alloc,
             &mut self.system,
             &mut self.open_paths,
+            &mut self.ledger,
+            place,
             request,
             now,
         ) else {

@@ -1,4 +1,4 @@
-ghost use Rattle.std.specs.Prelude.{◌≡◌, ◌≤◌, ℕ, List, Option, true, IfOk, OnOk, OnErr};
+ghost use Rattle.std.specs.Prelude.{◌≡◌, ◌≤◌, ◌++◌, ℕ, List, Option, true, IfOk, OnOk, OnErr};
 ghost use Rattle.hdfs_types.specs.Verb.{read_op, update_op, write_op};
 ghost use Rattle.hdfs_types.specs.declared.op.Op.TheVariants as op;
 ghost use Rattle.hdfs_types.specs.declared.reply.Reply.TheVariants as reply;
@@ -9,6 +9,7 @@ ghost use Rattle.flat_rows.specs.Outcome.{step};
 ghost use Rattle.flat_rows.specs.declared.verdict.Verdict.TheVariants.{Done};
 ghost use Rattle.write_rules.specs.Judged.{takeover};
 ghost use Rattle.history.specs.ClockAndLease as spec;
+ghost use Rattle.history.specs.Grants.{rows_granted};
 ghost use Rattle.flat_rows.specs.Verdicts.{is_done};
 ghost use Rattle.lease_manager.specs.Leases as lease;
 ghost use Rattle.lease_manager.specs.Leases.{latest_moment};
@@ -18,6 +19,7 @@ ghost use Rattle.name_core.specs.Performed.{IsPerformed, IsUndone, facts_in};
 
 use crate::told::{Told, is_done, with_copy};
 use block_map::blocks::Blocks;
+use grant_ledger::ledger::Ledger;
 use block_tokens::ring::{KeyRing, RollFault};
 use file_effects::effect::effect;
 use file_effects::expiry::expire;
@@ -26,7 +28,8 @@ use fs_operations::apply::needs;
 use fs_operations::change::apply_update;
 use fs_operations::read::answer;
 use hdfs_types::key::Key;
-use hdfs_types::op::Request;
+use hdfs_types::op::{Op, Request};
+use hdfs_types::replica::ReportedReplica;
 use hdfs_types::reply::{Counter, Expired, ObjectKind, Refusal, Reply};
 use hdfs_types::verb::{Read, Update, Verb, Write};
 use hdfs_values::moment::Moment;
@@ -36,6 +39,7 @@ use inode_tree::tree::Tree;
 use lease_manager::leases::LeaseState;
 use lease_manager::open_paths::OpenPaths;
 use lease_manager::writers::Writers;
+use node_commands::commands::granted_commands;
 use principals::users::Users;
 use required_rights::demand::Needs;
 use std::alloc::{AllocError, Global};
@@ -314,16 +318,58 @@ fn perform_roll(
 
 // ---- DataNodes
 
-/// A heartbeat: the DataNode whose principal the caller is lives. Costs a look-up of the node.
+/// A heartbeat: the DataNode whose principal the caller is lives, and is told what waits for it. A copy of the verdict is made before
+/// anything changes, since it takes memory. Costs what `Blocks::instructions` costs, and a code for each token.
 fn perform_heartbeat(
+    alloc: Global,
+    system: &mut Namesystem,
+    ledger: &mut Ledger,
+    place: u64,
+    caller: &Who,
+    needs: &Needs,
+    now: Moment,
+) -> Result<Told, AllocError>
+    requires { needs.now ≡ required_rights op.Heartbeat }
+    ensures ok { (last : List ℕ → Option ℕ) → IsExact last system.old.tree system.old.writers → IfOk result (λ told. IsPerformed last now caller.now op.Heartbeat system.old told.verdict system.new) }
+    ensures copy { IfOk result (λ told. told.copy ≡ told.verdict) }
+    ensures ledger { IfOk result (λ told. ledger.new.rows ≡ ledger.old.rows ++ rows_granted place system.old.ring now caller.now op.Heartbeat told.verdict) }
+    ensures writers { system.new.writers ≡ system.old.writers }
+    ensures err { OnErr result (IsUndone system.old system.new) }
+    ensures err_ledger { OnErr result (ledger.new.rows ≡ ledger.old.rows) }
+{
+    if let Some(denial) = judge_node(alloc, &system.tree, &system.users, caller, needs)? {
+        return with_copy(Verdict::Denied(denial));
+    }
+    let Some(node) = node_of(caller) else {
+        return with_copy(Verdict::Done(Reply::Empty));
+    };
+    let told = system.blocks.instructions(node, now)?;
+    let granted = granted_commands(alloc, &system.ring, place, now, caller, &told)?;
+    let copy = granted.commands.clone()?;
+    let before = ledger.len();
+    ledger.enter(granted.rows)?;
+    if system.blocks.hand_out(node, now, &told).is_err() {
+        ledger.take_back(before);
+        drop(copy);
+        return Err(AllocError);
+    }
+    Ok(Told {
+        verdict: Verdict::Done(Reply::Commands(granted.commands)),
+        copy: Verdict::Done(Reply::Commands(copy)),
+    })
+}
+
+/// A report of a replica by the DataNode whose principal the caller is. Costs a look-up of the block, and one among its nodes.
+fn perform_report(
     alloc: Global,
     system: &mut Namesystem,
     caller: &Who,
     needs: &Needs,
+    replica: ReportedReplica,
     now: Moment,
 ) -> Result<Verdict, AllocError>
-    requires { needs.now ≡ required_rights op.Heartbeat }
-    ensures ok { (last : List ℕ → Option ℕ) → IsExact last system.old.tree system.old.writers → IfOk result (λ verdict. IsPerformed last now caller.now op.Heartbeat system.old verdict system.new) }
+    requires { needs.now ≡ required_rights (op.Reported replica) }
+    ensures ok { (last : List ℕ → Option ℕ) → IsExact last system.old.tree system.old.writers → IfOk result (λ verdict. IsPerformed last now caller.now (op.Reported replica) system.old verdict system.new) }
     ensures writers { system.new.writers ≡ system.old.writers }
     ensures err { OnErr result (IsUndone system.old system.new) }
 {
@@ -331,15 +377,17 @@ fn perform_heartbeat(
         return Ok(Verdict::Denied(denial));
     }
     let Some(node) = node_of(caller) else {
-        return Ok(Verdict::Done(Reply::Heartbeat));
+        return Ok(Verdict::Done(Reply::Empty));
     };
-    system.blocks.heartbeat(node, now)?;
-    Ok(Verdict::Done(Reply::Heartbeat))
+    system
+        .blocks
+        .report(node, replica.block, replica.stamp, replica.length)?;
+    Ok(Verdict::Done(Reply::Empty))
 }
 
 // ---- all
 
-/// Answers a request, and does it where no need fails and nothing refuses it.
+/// Answers a request, and does it where no need fails and nothing refuses it. What it grants is entered into the ledger at this place.
 ///
 /// # Errors
 /// Out of memory, and nothing has changed.
@@ -347,6 +395,8 @@ pub fn perform(
     alloc: Global,
     system: &mut Namesystem,
     open_paths: &mut OpenPaths,
+    ledger: &mut Ledger,
+    place: u64,
     request: &Request,
     now: Moment,
 ) -> Result<Verdict, AllocError>
@@ -355,7 +405,9 @@ pub fn perform(
     ensures ok { (last : List ℕ → Option ℕ) → IsExact last system.old.tree system.old.writers → IfOk result (λ verdict. IsPerformed last now request.now.caller request.now.op system.old verdict system.new) }
     ensures limits { system.new.writers.leases.limits ≡ system.old.writers.leases.limits }
     ensures latest { OnOk result (latest_moment system.new.writers.leases.renewals ≤ now) }
+    ensures ledger { IfOk result (λ verdict. ledger.new.rows ≡ ledger.old.rows ++ rows_granted place system.old.ring now request.now.caller request.now.op verdict) }
     ensures err { OnErr result (IsUndone system.old system.new) }
+    ensures err_ledger { OnErr result (ledger.new.rows ≡ ledger.old.rows) }
 {
     let caller = &request.caller;
     let needs = needs(alloc, &request.op)?;
@@ -366,7 +418,11 @@ pub fn perform(
         Verb::RollKey(key) => perform_roll(alloc, system, caller, &needs, key, now),
         Verb::Renew => perform_renewal(system, caller, now),
         Verb::Tick => perform_tick(alloc, system, open_paths, caller, &needs, now),
-        Verb::Heartbeat => perform_heartbeat(alloc, system, caller, &needs, now),
+        Verb::Heartbeat => {
+            let told = perform_heartbeat(alloc, system, ledger, place, caller, &needs, now)?;
+            Ok(told.verdict)
+        }
+        Verb::Reported(replica) => perform_report(alloc, system, caller, &needs, replica, now),
     }
 }
 
@@ -378,6 +434,8 @@ pub fn perform_with_copy(
     alloc: Global,
     system: &mut Namesystem,
     open_paths: &mut OpenPaths,
+    ledger: &mut Ledger,
+    place: u64,
     request: &Request,
     now: Moment,
 ) -> Result<Told, AllocError>
@@ -387,9 +445,15 @@ pub fn perform_with_copy(
     ensures copy { IfOk result (λ told. told.copy ≡ told.verdict) }
     ensures limits { system.new.writers.leases.limits ≡ system.old.writers.leases.limits }
     ensures latest { OnOk result (latest_moment system.new.writers.leases.renewals ≤ now) }
+    ensures ledger { IfOk result (λ told. ledger.new.rows ≡ ledger.old.rows ++ rows_granted place system.old.ring now request.now.caller request.now.op told.verdict) }
     ensures err { (last : List ℕ → Option ℕ) → IsExact last system.old.tree system.old.writers → OnErr result (IsUndone system.old system.new) }
+    ensures err_ledger { OnErr result (ledger.new.rows ≡ ledger.old.rows) }
 {
-    let verdict = perform(alloc, system, open_paths, request, now)?;
+    if let Op::Heartbeat = request.op {
+        let needs = needs(alloc, &request.op)?;
+        return perform_heartbeat(alloc, system, ledger, place, &request.caller, &needs, now);
+    }
+    let verdict = perform(alloc, system, open_paths, ledger, place, request, now)?;
     let told = with_copy(verdict)?;
     Ok(told)
 }

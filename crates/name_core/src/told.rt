@@ -1,6 +1,6 @@
 ghost use Rattle.std.specs.Prelude.{◌≡◌, false, IfOk, OnErr};
 ghost use Rattle.flat_rows.specs.Verdicts as kind;
-ghost use Rattle.name_core.specs.Told.{IsTold, may_change};
+ghost use Rattle.name_core.specs.Told.{IsTold, may_change, is_told_before};
 
 use flat_rows::verdict::Verdict;
 use hdfs_types::reply::Reply;
@@ -20,10 +20,10 @@ pub fn is_done(verdict: &Verdict) -> bool
     matches!(verdict, Verdict::Done(_))
 }
 
-/// A copy of a verdict. Takes no memory where the verdict may come with a change.
+/// A copy of a verdict. Takes no memory where the verdict may come with a change, but for one that is copied before the change.
 fn copy_of(verdict: &Verdict) -> Result<Verdict, AllocError>
     ensures ok { IfOk result (λ copy. copy ≡ verdict.now) }
-    ensures err { OnErr result (may_change verdict.now ≡ false) }
+    ensures err { is_told_before verdict.now ≡ false → OnErr result (may_change verdict.now ≡ false) }
 {
     match verdict {
         Verdict::Done(Reply::Empty) => Ok(Verdict::Done(Reply::Empty)),
@@ -32,7 +32,6 @@ fn copy_of(verdict: &Verdict) -> Result<Verdict, AllocError>
         Verdict::Done(Reply::Closed(bytes)) => Ok(Verdict::Done(Reply::Closed(*bytes))),
         Verdict::Done(Reply::Expired(files)) => Ok(Verdict::Done(Reply::Expired(*files))),
         Verdict::Done(Reply::Serial(serial)) => Ok(Verdict::Done(Reply::Serial(*serial))),
-        Verdict::Done(Reply::Heartbeat) => Ok(Verdict::Done(Reply::Heartbeat)),
         _ => verdict.clone(),
     }
 }
@@ -40,10 +39,10 @@ fn copy_of(verdict: &Verdict) -> Result<Verdict, AllocError>
 /// A verdict with a copy of it.
 ///
 /// # Errors
-/// Out of memory, which never meets a verdict that may come with a change.
+/// Out of memory, which never meets a verdict that may come with a change, but for one that is copied before the change.
 pub fn with_copy(verdict: Verdict) -> Result<Told, AllocError>
     ensures ok { IfOk result (IsTold verdict) }
-    ensures err { OnErr result (may_change verdict ≡ false) }
+    ensures err { is_told_before verdict ≡ false → OnErr result (may_change verdict ≡ false) }
 {
     let Ok(copy) = copy_of(&verdict) else {
         drop(verdict);

@@ -248,6 +248,7 @@ module _ (rows : List Row) (namespace : IsNamespace rows) (users : Users) (name 
   reached op.Renew = nothing
   reached op.Tick = administered
   reached op.Heartbeat = nodes_reached
+  reached (op.Reported replica) = nodes_reached
 
   -- ---- turned back at a closed directory
 

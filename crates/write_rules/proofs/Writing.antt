@@ -43,7 +43,7 @@ or_none : (refusal : Option Refusal) → option_or refusal None ≡ refusal
 or_none None = refl
 or_none (Some refusal) = refl
 
-verdict_is : (facts : Facts) (rows : List Row) (users : Users) (caller : List ℕ) (op : Op) (refusal : Option Refusal) → refused_or (reply_of facts op rows) refusal ≡ (refused_or_done facts rows users caller op refusal).verdict
+verdict_is : (facts : Facts) (rows : List Row) (users : Users) (caller : List ℕ) (op : Op) (refusal : Option Refusal) → refused_or (reply_of facts caller op rows) refusal ≡ (refused_or_done facts rows users caller op refusal).verdict
 verdict_is facts rows users caller op None = refl
 verdict_is facts rows users caller op (Some refusal) = refl
 

@@ -1,7 +1,7 @@
 use Rattle.std.proofs.Common.{ap, refl, true}
 use Rattle.lease_manager.specs.Leases.{Leases}
 use Rattle.lease_manager.proofs.Moments.{undone_leases}
-use Rattle.file_effects.proofs.Effects.{no_facts}
+use Rattle.flat_rows.proofs.AnyFacts.{no_facts}
 use Rattle.file_effects.proofs.effect.create_first.Goals as goal
 
 pub returns-in_default-clause-err : goal.returns-in_default-clause-err

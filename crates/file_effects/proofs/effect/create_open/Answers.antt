@@ -1,7 +1,7 @@
 use Rattle.std.proofs.Common.{ap, refl, true}
 use Rattle.std.proofs.lemmas.Result.{on_ok_weaker}
 use Rattle.lease_manager.specs.Leases.{Leases}
-use Rattle.file_effects.proofs.Effects.{no_facts}
+use Rattle.flat_rows.proofs.AnyFacts.{no_facts}
 use Rattle.file_effects.proofs.Effected.{created_with_room}
 use Rattle.file_effects.proofs.effect.create_open.Goals as goal
 

@@ -2,7 +2,7 @@ use Rattle.std.proofs.Common.{ap}
 use Rattle.hdfs_types.specs.Verb.{write_op}
 use Rattle.write_rules.specs.Judged.{verdict_under}
 use Rattle.name_core.specs.Performed.{facts_in}
-use Rattle.file_effects.proofs.Effects.{no_facts}
+use Rattle.flat_rows.proofs.AnyFacts.{no_facts}
 use Rattle.name_core.proofs.Deciding.{free_of, judged_is, held_free, held_is}
 use Rattle.name_core.proofs.namesystem.decide.Goals as goal
 

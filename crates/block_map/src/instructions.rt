@@ -1,0 +1,1 @@
+pub use node_orders::instructions::Instructions;

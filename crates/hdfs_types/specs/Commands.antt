@@ -1,0 +1,14 @@
+-- What a DataNode is told with the answer to its heartbeat: keys, recoveries that it is to lead, replicas that it is to remove, and
+-- replicas that it is to copy.
+-- (HDFS Architecture, "Data Disk Failure, Heartbeats and Re-Replication"; the DataNode protocol.)
+use Rattle.std.specs.Prelude.{List}
+use Rattle.hdfs_types.specs.KeyList.{KeyList}
+use Rattle.hdfs_types.specs.declared.commands.Recover.{Recover}
+use Rattle.hdfs_types.specs.declared.commands.Removal.{Removal}
+use Rattle.hdfs_types.specs.declared.commands.CopyOrder.{CopyOrder}
+
+pub record Commands : Type 0 where
+  pub keys : KeyList
+  pub recoveries : List Recover
+  pub removals : List Removal
+  pub copies : List CopyOrder
