@@ -4,6 +4,7 @@ ghost use Rattle.lease_manager.specs.Leases.{latest_moment};
 use block_map::blocks::Blocks;
 use block_tokens::ring::KeyRing;
 use flat_rows::verdict::Verdict;
+use grant_ledger::ledger::Ledger;
 use hdfs_types::key::Key;
 use hdfs_types::op::{Op, Request};
 use hdfs_types::reply::{Counter, Refusal, Reply};
@@ -207,7 +208,15 @@ fn closed(
     ensures { OnOk result (latest_moment system.new.writers.leases.renewals ≤ now) }
 {
     let _root = system.tree.root();
-    let verdict = perform(alloc, system, &mut OpenPaths::new(alloc), request, now)?;
+    let verdict = perform(
+        alloc,
+        system,
+        &mut OpenPaths::new(alloc),
+        &mut Ledger::new(alloc),
+        1,
+        request,
+        now,
+    )?;
     let closed = closed_by(&verdict);
     drop(verdict);
     Ok(closed)

@@ -46,9 +46,12 @@ pub fn apply(
         Verb::Update(update) => {
             apply_update(alloc, tree, users, &request.caller, &needs, &update)
         }
-        Verb::Write(_) | Verb::RollKey(_) | Verb::Renew | Verb::Tick | Verb::Heartbeat => {
-            unreachable!()
-        }
+        Verb::Write(_)
+        | Verb::RollKey(_)
+        | Verb::Renew
+        | Verb::Tick
+        | Verb::Heartbeat
+        | Verb::Reported(_) => { unreachable!() }
     }
 }
 

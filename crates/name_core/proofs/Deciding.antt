@@ -6,7 +6,7 @@ use Rattle.namespace_rows.specs.declared.row.Row.{Row}
 use Rattle.flat_rows.specs.declared.verdict.Verdict as answer
 use Rattle.flat_rows.specs.FileOutcome.{LeaseFacts}
 use Rattle.flat_rows.specs.Facts.{Facts}
-use Rattle.flat_rows.proofs.AnyFacts.{with_leases}
+use Rattle.flat_rows.proofs.AnyFacts.{no_facts}
 use Rattle.flat_rows.specs.Outcome.{step}
 use Rattle.write_rules.specs.declared.write.Judged.{Judged}
 use Rattle.write_rules.specs.Judged.{verdict_under, takeover, IsJudged}
@@ -34,7 +34,7 @@ module _ (system : Namesystem) (caller : List ℕ) (what : Op) (judged : Judged)
     pub held_free : is_done verdict ≡ true → IsFree what caller system.tree system.users
     held_free done =
         let leases = live_facts (is_live (state_at system.writers.leases.limits now (moment_of system.writers.leases.renewals holder))) in
-        let facts : Facts = with_leases leases in
+        let facts : Facts = record no_facts { leases = leases } in
         free_of facts system.tree system.users caller what verdict (judged_is facts verdict (held leases ∙ sym (told leases refl))) done
 
     pub held_is : (last : List ℕ → Option ℕ) → IsExact last system.tree system.writers → verdict ≡ (step (facts_in last now system) system.tree system.users caller what).verdict

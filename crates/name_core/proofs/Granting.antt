@@ -59,6 +59,10 @@ pub no_beat_write : (verb : Write) → is_beat (write_op verb) ≡ false
 no_beat_write (write.Append path) = refl
 no_beat_write _ = refl
 
+pub other_than_beat : (what : Op) → (what ≡ op.Heartbeat → ⊥) → is_beat what ≡ false
+other_than_beat op.Heartbeat h = elim (h refl)
+other_than_beat _ h = refl
+
 -- ---- lists
 
 status_no_list : (at : Option Row) → is_list (status_of at) ≡ false

@@ -48,6 +48,10 @@ pub given_all : {T E L : Type 0} (result : Result T E) (P : L → T → Type 0) 
 given_all (Ok value) P Q all h = all value h
 given_all (Err error) P Q all h = tt
 
+pub where_ok : {T E : Type 0} (result : Result T E) (P Q : T → Type 0) → ((value : T) → P value → Q value) → IfOk result P → IfOk result Q
+where_ok (Ok value) P Q more h = more value h
+where_ok (Err error) P Q more h = tt
+
 pub on_err : {T E P : Type 0} (result : Result T E) → P → OnErr result P
 on_err (Ok value) p = tt
 on_err (Err error) p = p

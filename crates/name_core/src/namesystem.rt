@@ -17,9 +17,8 @@ ghost use Rattle.lease_manager.specs.Writers.{moment_of};
 ghost use Rattle.file_effects.specs.Effected.{IsExact, IsFree};
 ghost use Rattle.name_core.specs.Performed.{IsPerformed, IsUndone, facts_in};
 
-use crate::told::{Told, is_done, with_copy};
+use crate::told::{Told, is_done, verdict_of, with_copy};
 use block_map::blocks::Blocks;
-use grant_ledger::ledger::Ledger;
 use block_tokens::ring::{KeyRing, RollFault};
 use file_effects::effect::effect;
 use file_effects::expiry::expire;
@@ -27,6 +26,7 @@ use flat_rows::verdict::Verdict;
 use fs_operations::apply::needs;
 use fs_operations::change::apply_update;
 use fs_operations::read::answer;
+use grant_ledger::ledger::Ledger;
 use hdfs_types::key::Key;
 use hdfs_types::op::{Op, Request};
 use hdfs_types::replica::ReportedReplica;
@@ -420,7 +420,7 @@ pub fn perform(
         Verb::Tick => perform_tick(alloc, system, open_paths, caller, &needs, now),
         Verb::Heartbeat => {
             let told = perform_heartbeat(alloc, system, ledger, place, caller, &needs, now)?;
-            Ok(told.verdict)
+            Ok(verdict_of(told))
         }
         Verb::Reported(replica) => perform_report(alloc, system, caller, &needs, replica, now),
     }

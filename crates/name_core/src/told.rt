@@ -50,3 +50,12 @@ pub fn with_copy(verdict: Verdict) -> Result<Told, AllocError>
     };
     Ok(Told { verdict, copy })
 }
+
+/// The verdict alone. Takes no memory.
+pub fn verdict_of(told: Told) -> Verdict
+    ensures { result ≡ told.verdict }
+{
+    let Told { verdict, copy } = told;
+    drop(copy);
+    verdict
+}

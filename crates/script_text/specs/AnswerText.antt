@@ -6,7 +6,7 @@ use Rattle.hdfs_values.specs.declared.fault.IllFormed.{IllFormed}
 use Rattle.hdfs_types.specs.Reply.{status_text, acl_status_text, names_text, summary_text, refusal_text}
 use Rattle.hdfs_types.specs.declared.reply.Expired.{Expired as ExpiredFiles}
 use Rattle.hdfs_types.specs.declared.reply.Reply.{Reply}
-use Rattle.hdfs_types.specs.declared.reply.Reply.TheVariants.{Empty, Status, Acl, Names, Summary, Deleted, Released, Closed, Opened, Expired, Serial, Heartbeat}
+use Rattle.hdfs_types.specs.declared.reply.Reply.TheVariants.{Empty, Status, Acl, Names, Summary, Deleted, Released, Closed, Opened, Expired, Serial, Commands}
 use Rattle.flat_rows.specs.DenialText.{denial_text}
 use Rattle.flat_rows.specs.declared.verdict.Verdict.{Verdict}
 use Rattle.flat_rows.specs.declared.verdict.Verdict.TheVariants.{Done, Denied, Refused}
@@ -29,7 +29,7 @@ reply_text (Closed bytes) = codes "ok closed " ++ decimal bytes
 reply_text (Opened bytes) = codes "ok open " ++ decimal bytes
 reply_text (Expired files) = codes "ok " ++ expired_text files
 reply_text (Serial serial) = codes "ok serial " ++ decimal serial
-reply_text Heartbeat = codes "ok heartbeat"
+reply_text (Commands commands) = codes "ok heartbeat"
 
 abbrev pub verdict_text : Verdict → List ℕ
 verdict_text (Done reply) = reply_text reply

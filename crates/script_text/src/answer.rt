@@ -56,7 +56,7 @@ fn print_reply<W: fmt::Write>(reply: &Reply, f: &mut fmt::Formatter<W>) -> fmt::
         Reply::Opened(bytes) => print_behind("ok open ", bytes, f),
         Reply::Expired(files) => print_expired(files, f),
         Reply::Serial(serial) => print_behind("ok serial ", &serial.get(), f),
-        Reply::Heartbeat => f.write_str("ok heartbeat"),
+        Reply::Commands(_) => f.write_str("ok heartbeat"),
     }
 }
 
