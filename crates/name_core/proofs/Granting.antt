@@ -60,7 +60,7 @@ no_beat_write (write.Append path) = refl
 no_beat_write _ = refl
 
 pub other_than_beat : (what : Op) → (what ≡ op.Heartbeat → ⊥) → is_beat what ≡ false
-other_than_beat op.Heartbeat h = elim (h refl)
+other_than_beat op.Heartbeat h = absurd (h refl)
 other_than_beat _ h = refl
 
 -- ---- lists

@@ -1,6 +1,11 @@
-use Rattle.std.proofs.Common.{sym, ◌∙◌, subst}
-use Rattle.name_core.specs.Performed.{IsPerformed}
+use Rattle.std.proofs.Common.{◌≡◌, false, ◌++◌, sym, ap, ◌∙◌, subst}
+use Rattle.std.proofs.lemmas.List.{append-nil}
+use Rattle.flat_rows.specs.Outcome.{Step}
+use Rattle.history.specs.Grants.{rows_granted}
+use Rattle.name_core.specs.Told.{is_told_before}
+use Rattle.name_core.specs.Performed.{IsPerformed, facts_in}
 use Rattle.name_core.proofs.Performing.{on_err}
+use Rattle.name_core.proofs.Granting.{is_beat, other_than_beat, no_rows, told_behind}
 use Rattle.name_core.proofs.namesystem.perform_with_copy.Goals as goal
 
 pub returns-clause-ok : goal.returns-clause-ok
@@ -10,5 +15,26 @@ returns-clause-ok c = λ last exact.
 pub returns-clause-copy : goal.returns-clause-copy
 returns-clause-copy c = c.in_ok-told.ensures.ok.copy ∙ sym c.in_ok-told.ensures.ok.verdict_is
 
+pub returns-clause-ledger : goal.returns-clause-ledger
+returns-clause-ledger c =
+    c.in_ok-verdict.ensures.ledger
+    ∙ ap (λ verdict. c.args.ledger.now.rows ++ rows_granted c.args.place c.args.system.now.ring c.args.now c.args.request.now.caller c.args.request.now.op verdict) (sym c.in_ok-told.ensures.ok.verdict_is)
+
+-- a verdict that can't be copied tells no list
+behind : (c : goal.After-from_residual-in_err-told) → is_beat c.args.request.now.op ≡ false
+behind c = other_than_beat c.args.request.now.op c.in_default.not-Heartbeat
+
 pub returns-in_err-told-clause-err : goal.returns-in_err-told-clause-err
-returns-in_err-told-clause-err c = λ last exact. on_err c.from_residual-in_err-told.result ((c.in_ok-verdict.ensures.ok last exact).unchanged c.in_err-told.ensures.err)
+returns-in_err-told-clause-err c = λ last exact.
+    let performed = c.in_ok-verdict.ensures.ok last exact in
+    on_err c.from_residual-in_err-told.result
+    (performed.unchanged (c.in_err-told.ensures.err
+    (ap (λ (s : Step). is_told_before s.verdict) performed.stepped
+    ∙ told_behind (facts_in last c.args.now c.args.system.now) c.args.system.now.tree c.args.system.now.users c.args.request.now.caller c.args.request.now.op (behind c))))
+
+pub returns-in_err-told-clause-err_ledger : goal.returns-in_err-told-clause-err_ledger
+returns-in_err-told-clause-err_ledger c =
+    on_err c.from_residual-in_err-told.result
+    (c.in_ok-verdict.ensures.ledger
+    ∙ (ap (λ rows. c.args.ledger.now.rows ++ rows) (no_rows c.args.place c.args.system.now.ring c.args.now c.args.request.now.caller c.args.request.now.op c.in_ok-verdict.verdict (behind c))
+    ∙ append-nil c.args.ledger.now.rows))
