@@ -10,7 +10,7 @@ use Rattle.namespace_rows.specs.declared.row.Row.{Row}
 use Rattle.namespace_rows.specs.declared.row.Change.{Change}
 use Rattle.namespace_rows.specs.declared.row.Change.TheVariants as change
 use Rattle.namespace_rows.specs.declared.file_row.FileRow.{FileRow}
-use Rattle.namespace_rows.specs.Files.{with_state, with_replication}
+use Rattle.namespace_rows.specs.Files.{with_state, with_replication, with_block, committed_at, without_last, recovered_at}
 use Rattle.namespace_rows.specs.Rows.{is_directory, replaced}
 use Rattle.namespace_rows.specs.Namespace.{is_child}
 
@@ -46,16 +46,30 @@ moved from to rows = replaced to (map (moved_row from to) (rows_under from rows)
 abbrev pub with_file : Option FileRow → Row → Row
 with_file file row = record row { file = file }
 
--- a row with one of its parts changed; a directory has neither state nor replication
+-- a row with what its file has changed; a directory has nothing of that
+abbrev pub edited : (FileRow → FileRow) → Row → Row
+edited edit row = with_file (option_map edit row.file) row
+
+-- a row with one of its parts changed; a directory has neither state nor replication nor blocks
 abbrev pub changed : Change → Row → Row
 changed (change.Owner owner group) row = record row { owner = owner; group = group }
 changed (change.List acl) row = record row { acl = acl }
-changed (change.State state) row = with_file (option_map (with_state state) row.file) row
-changed (change.Replication replication) row = with_file (option_map (with_replication replication) row.file) row
+changed (change.State state) row = edited (with_state state) row
+changed (change.Replication replication) row = edited (with_replication replication) row
+changed (change.Committed block bytes) row = edited (committed_at block bytes) row
+changed change.LastTaken row = edited without_last row
+changed (change.Recovered block bytes) row = edited (recovered_at block bytes) row
 
 -- the rows with the one at a path changed
+abbrev pub rewritten_by : (Row → Row) → List (List ℕ) → List Row → List Row
+rewritten_by new path rows = map (λ row. if same_path path row.path then new row else row) rows
+
 abbrev pub rewritten : List (List ℕ) → Change → List Row → List Row
-rewritten path change rows = map (λ row. if same_path path row.path then changed change row else row) rows
+rewritten path change rows = rewritten_by (changed change) path rows
+
+-- the rows with a new block at the end of the file at a path (HDFS Architecture, "Data Replication")
+abbrev pub block_added : List (List ℕ) → ℕ → List Row → List Row
+block_added path block rows = rewritten_by (edited (with_block block)) path rows
 
 -- the change suits what stands there
 abbrev pub suits_row : Change → Row → Bool
@@ -63,6 +77,9 @@ suits_row (change.Owner owner group) row = true
 suits_row (change.List acl) row = is_directory row || suits_file acl
 suits_row (change.State state) row = true
 suits_row (change.Replication replication) row = true
+suits_row (change.Committed block bytes) row = true
+suits_row change.LastTaken row = true
+suits_row (change.Recovered block bytes) row = true
 
 abbrev pub suits_change : Change → Option Row → Bool
 suits_change change None = true
