@@ -1,6 +1,6 @@
 -- What a change leaves of the rows, and which rows a question about a sub-tree concerns. Each is a filter or a map.
 -- (HDFS Architecture, "The File System Namespace".)
-use Rattle.std.specs.Prelude.{ℕ, Bool, true, ◌||◌, not, List, [], ◌∷◌, ◌++◌, map, filter, length, drop, if◌then◌else◌, Option, Some, None}
+use Rattle.std.specs.Prelude.{ℕ, Bool, true, false, ◌||◌, not, List, [], ◌∷◌, ◌++◌, map, filter, length, drop, if◌then◌else◌, Option, Some, None}
 use Rattle.std.specs.List.{list_all}
 use Rattle.std.specs.Option.{option_map}
 use Rattle.hdfs_values.specs.Path.{is_path, is_prefix}
@@ -10,7 +10,7 @@ use Rattle.namespace_rows.specs.declared.row.Row.{Row}
 use Rattle.namespace_rows.specs.declared.row.Change.{Change}
 use Rattle.namespace_rows.specs.declared.row.Change.TheVariants as change
 use Rattle.namespace_rows.specs.declared.file_row.FileRow.{FileRow}
-use Rattle.namespace_rows.specs.Files.{with_state, with_replication, with_block, committed_at, without_last, recovered_at}
+use Rattle.namespace_rows.specs.Files.{with_state, with_replication, with_block, committed_at, without_last, state_recovers, recovered_at}
 use Rattle.namespace_rows.specs.Rows.{is_directory, replaced}
 use Rattle.namespace_rows.specs.Namespace.{is_child}
 
@@ -70,6 +70,18 @@ rewritten path change rows = rewritten_by (changed change) path rows
 -- the rows with a new block at the end of the file at a path (HDFS Architecture, "Data Replication")
 abbrev pub block_added : List (List ℕ) → ℕ → List Row → List Row
 block_added path block rows = rewritten_by (edited (with_block block)) path rows
+
+-- the rows with the recovery of a block ended: the file whose state is that has the block's length committed, and is closed
+abbrev pub recovery_ended : ℕ → ℕ → List Row → List Row
+recovery_ended block bytes rows = map (edited (recovered_at block bytes)) rows
+
+abbrev pub is_recovered : ℕ → Option FileRow → Bool
+is_recovered block None = false
+is_recovered block (Some file) = state_recovers block file.state
+
+-- no file but that at the path has a state that is a recovery of the block
+abbrev pub recovers_nowhere_else : List (List ℕ) → ℕ → List Row → Bool
+recovers_nowhere_else path block rows = list_all (λ row. same_path path row.path || not (is_recovered block row.file)) rows
 
 -- the change suits what stands there
 abbrev pub suits_row : Change → Row → Bool

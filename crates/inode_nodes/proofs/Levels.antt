@@ -143,17 +143,17 @@ pub record IsPathless (new : Row → Row) : Type 0 where
   pub under_name : (n : List ℕ) (row : Row) → new (under n row) ≡ under n (new row)
   pub top : (t : Top) → row_of [] (top_of (new (row_of [] t))) ≡ new (row_of [] t)
 
-pub edited-pathless : (edit : FileRow → FileRow) → IsPathless (edited edit)
-edited-pathless edit = record { under_name = λ n row. refl; top = λ t. refl }
+pub edited_pathless : (edit : FileRow → FileRow) → IsPathless (edited edit)
+edited_pathless edit = record { under_name = λ n row. refl; top = λ t. refl }
 
-pub changed-pathless : (c : Change) → IsPathless (changed c)
-changed-pathless (change.Owner owner group) = record { under_name = λ n row. refl; top = λ t. refl }
-changed-pathless (change.List acl) = record { under_name = λ n row. refl; top = λ t. refl }
-changed-pathless (change.State state) = edited-pathless (with_state state)
-changed-pathless (change.Replication replication) = edited-pathless (with_replication replication)
-changed-pathless (change.Committed block bytes) = edited-pathless (committed_at block bytes)
-changed-pathless change.LastTaken = edited-pathless without_last
-changed-pathless (change.Recovered block bytes) = edited-pathless (recovered_at block bytes)
+pub changed_pathless : (c : Change) → IsPathless (changed c)
+changed_pathless (change.Owner owner group) = record { under_name = λ n row. refl; top = λ t. refl }
+changed_pathless (change.List acl) = record { under_name = λ n row. refl; top = λ t. refl }
+changed_pathless (change.State state) = edited_pathless (with_state state)
+changed_pathless (change.Replication replication) = edited_pathless (with_replication replication)
+changed_pathless (change.Committed block bytes) = edited_pathless (committed_at block bytes)
+changed_pathless change.LastTaken = edited_pathless without_last
+changed_pathless (change.Recovered block bytes) = edited_pathless (recovered_at block bytes)
 
 module _ (new : Row → Row) (pathless : IsPathless new) where
   abbrev one : List (List ℕ) → Row → Row

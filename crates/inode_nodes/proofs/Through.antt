@@ -187,7 +187,7 @@ taken_through n m ms names es b p sorted is found whole =
 
 -- rewriting
 
-module _ (new : Row → Row) (pathless : IsPathless new) where
+module _ (new : Row → Row) where
   untouched_row : (m : List ℕ) (rs : List Row) → rewritten_by new [] (map (under m) rs) ≡ map (under m) rs
   untouched_row m [] = refl
   untouched_row m (r ∷ rs) = ap (λ t. under m r ∷ t) (untouched_row m rs)
@@ -205,6 +205,7 @@ module _ (new : Row → Row) (pathless : IsPathless new) where
   pub untouched_beneath : (i : Inside) (b : Node) → branch_of i ≡ b → rewritten_by new [] b.beneath ≡ b.beneath
   untouched_beneath i b seen = subst (λ x. rewritten_by new [] x.beneath ≡ x.beneath) seen (untouched_in i.held)
 
+module _ (new : Row → Row) (pathless : IsPathless new) where
   pub rewrite_top : (names : List (List ℕ)) (b d : Node) → names ≡ [] → rewritten_by new [] b.beneath ≡ b.beneath → d ≡ record { top = top_of (new (row_of [] b.top)); beneath = b.beneath } → rows d ≡ rewritten_by new names (rows b)
   rewrite_top names b d none beneath given =
       ap rows given ∙ ap (λ l. row_of [] (top_of (new (row_of [] b.top))) ∷ l) (sym beneath) ∙ ap (λ r. r ∷ rewritten_by new [] b.beneath) (pathless.top b.top) ∙ ap (λ xs. rewritten_by new xs (rows b)) (sym none)

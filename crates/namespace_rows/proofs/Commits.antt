@@ -1,11 +1,11 @@
 -- The length of one block of a list is committed.
-use Rattle.std.proofs.Common.{◌≡◌, ℕ, zero, suc, ◌+◌, ◌<◌, Bool, true, false, ◌&&◌, ◌||◌, not, length, nat_eq, List, [], ◌∷◌, drop, Some, refl, sym, ap, ◌∙◌, arith}
-use Rattle.std.proofs.lemmas.Bool.{eq-eqb}
+use Rattle.std.proofs.Common.{◌≡◌, ℕ, zero, suc, ◌+◌, ◌<◌, Bool, true, false, ◌&&◌, ◌||◌, not, length, nat_eq, List, [], ◌∷◌, ◌++◌, map, drop, Some, refl, sym, ap, ◌∙◌, arith}
+use Rattle.std.proofs.lemmas.Bool.{eq-eqb, eqb-true}
 use Rattle.std.specs.Prelude.{slice_get, slice_set}
 use Rattle.std.specs.List.{list_any}
 use Rattle.namespace_rows.specs.declared.file_row.FileBlock.{FileBlock}
-use Rattle.namespace_rows.specs.Files.{IsLastPlace, has_id, with_length, committed_in}
-use Rattle.namespace_rows.proofs.Tests.{or_left, or_right, and_false}
+use Rattle.namespace_rows.specs.Files.{IsLastPlace, are_distinct, has_id, with_length, committed_in}
+use Rattle.namespace_rows.proofs.Tests.{both, or_left, or_right, and_false}
 
 next : (i : ℕ) → suc i + 1 ≡ suc (i + 1)
 next i = omega arith
@@ -44,3 +44,37 @@ module _ (id bytes : ℕ) where
 
   pub place_committed : (blocks : List FileBlock) (place : ℕ) → IsLastPlace id blocks place → slice_set blocks place committed ≡ committed_in id bytes blocks
   place_committed blocks place last = last_committed blocks place last.within last.here last.behind
+
+-- laws of it
+
+module _ (id bytes : ℕ) where
+  length_id : (here : Bool) (b : FileBlock) → (with_length here bytes b).id ≡ b.id
+  length_id true b = refl
+  length_id false b = refl
+
+  -- the blocks stay the same ones
+  pub committed_ids : (blocks : List FileBlock) → map (λ block. block.id) (committed_in id bytes blocks) ≡ map (λ block. block.id) blocks
+  committed_ids [] = refl
+  committed_ids (b ∷ bs) =
+      ap (λ n. n ∷ map (λ block. block.id) (committed_in id bytes bs)) (length_id (has_id id b && not (list_any (has_id id) bs)) b) ∙ ap (λ l. b.id ∷ l) (committed_ids bs)
+
+  -- where no two have one id, each one with this id has the length
+  pub committed_each : (blocks : List FileBlock) → are_distinct blocks ≡ true → committed_in id bytes blocks ≡ map (λ block. with_length (has_id id block) bytes block) blocks
+  committed_each [] h = refl
+  committed_each (b ∷ bs) h =
+      let hs = both (not (list_any (has_id b.id) bs)) (are_distinct bs) h in
+      ap (λ t. with_length t bytes b ∷ committed_in id bytes bs) (by (has_id id b) refl hs.0) ∙ ap (λ l. with_length (has_id id b) bytes b ∷ l) (committed_each bs hs.1)
+    where
+      by : (t : Bool) → has_id id b ≡ t → not (list_any (has_id b.id) bs) ≡ true → (t && not (list_any (has_id id) bs)) ≡ t
+      by true e alone = ap (λ n. not (list_any (has_id n) bs)) (sym (eqb-true b.id id e)) ∙ alone
+      by false e alone = refl
+
+  -- a block behind, with another id, stays as it is
+  pub committed_before : (blocks : List FileBlock) (new : FileBlock) → has_id id new ≡ false → committed_in id bytes (blocks ++ new ∷ []) ≡ committed_in id bytes blocks ++ new ∷ []
+  committed_before [] new other = ap (λ t. with_length (t && true) bytes new ∷ []) other
+  committed_before (b ∷ bs) new other =
+      ap (λ t. with_length (has_id id b && not t) bytes b ∷ committed_in id bytes (bs ++ new ∷ [])) (unseen bs) ∙ ap (λ l. with_length (has_id id b && not (list_any (has_id id) bs)) bytes b ∷ l) (committed_before bs new other)
+    where
+      unseen : (xs : List FileBlock) → list_any (has_id id) (xs ++ new ∷ []) ≡ list_any (has_id id) xs
+      unseen [] = ap (λ t. t || false) other
+      unseen (x ∷ xs) = ap (λ t. has_id id x || t) (unseen xs)

@@ -71,6 +71,11 @@ without_last file = record file { blocks = but_last file.blocks }
 abbrev pub has_id : ℕ → FileBlock → Bool
 has_id id block = block.id == id
 
+-- no block has the id of another
+abbrev pub are_distinct : List FileBlock → Bool
+are_distinct [] = true
+are_distinct (block ∷ blocks) = not (list_any (has_id block.id) blocks) && are_distinct blocks
+
 -- the block at this place has this id, and none behind it
 pub record IsLastPlace (id : ℕ) (blocks : List FileBlock) (place : ℕ) : Type 0 where
   pub within : place < length blocks

@@ -1,4 +1,4 @@
-ghost use Rattle.std.specs.Prelude.{◌≡◌, ◌<◌, ◌^◌, false, [], ◌∷◌, ◌++◌, None, IfOk, OnOk, OnErr, MatchOption};
+ghost use Rattle.std.specs.Prelude.{◌≡◌, ◌<◌, ◌^◌, false, [], ◌∷◌, ◌++◌, None, IfOk, map, IsTrue, OnOk, OnErr, MatchOption};
 ghost use Rattle.std.specs.List.{list_any};
 ghost use Rattle.std.specs.Option.{option_copied};
 ghost use Rattle.namespace_rows.specs.Files as spec;
@@ -98,7 +98,8 @@ impl FileBlocks {
     /// Commits the length of the block with this id, where it is there. Costs the blocks from that on to the end, since it is
     /// nearly always the last; takes no memory.
     pub fn commit(&mut self, id: BlockId, bytes: u64)
-        ensures { self.new ≡ spec.committed_in id bytes self.old }
+        ensures last { self.new ≡ spec.committed_in id bytes self.old }
+        ensures each { IsTrue (spec.are_distinct self.old) → self.new ≡ map (λ block. spec.with_length (spec.has_id id block) bytes block) self.old }
     {
         if let Some(place) = place_of(&self.list, id) {
             self.list[place] = FileBlock {
