@@ -10,7 +10,7 @@ use std::alloc::{AllocError, Global};
 use std::collections::BTreeMap;
 
 /// The blocks of the files of the node and of all beneath it.
-pub fn blocks(alloc: Global, node: &Node) -> Result<Vec<BlockId>, AllocError>
+pub fn blocks_of(alloc: Global, node: &Node) -> Result<Vec<BlockId>, AllocError>
     ensures { IfOk result (λ found. found.items ≡ blocks_in (rows node.now)) }
 {
     let mut found = Vec::new(alloc);
@@ -30,10 +30,7 @@ fn push_blocks(node: &Node, found: &mut Vec<BlockId>) -> Result<(), AllocError>
 }
 
 #[cycle(blocks)]
-fn push_blocks_in(
-    nodes: &BTreeMap<Name, Node>,
-    found: &mut Vec<BlockId>,
-) -> Result<(), AllocError>
+fn push_blocks_in(nodes: &BTreeMap<Name, Node>, found: &mut Vec<BlockId>) -> Result<(), AllocError>
     ensures { OnOk result (found.new.items ≡ found.old.items ++ blocks_in (flatten nodes.now.entries)) }
 {
     for (_name, child) in nodes {

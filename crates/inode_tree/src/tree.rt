@@ -184,7 +184,7 @@ impl Tree {
         ensures { IfOk result (λ found. found.items ≡ blocks_in (rows_under path.now self.now)) }
     {
         match self.root.find(path.names()) {
-            Some(node) => blocks::blocks(self.alloc, node),
+            Some(node) => blocks::blocks_of(self.alloc, node),
             None => Ok(Vec::new(self.alloc)),
         }
     }
@@ -318,7 +318,6 @@ impl Tree {
     }
 
     /// Takes the last block out of the file at a path, and so undoes `push_block`. Takes no memory.
-    #[tactic(auto, using(crate::proofs::Blocks::undone))]
     pub fn pop_block(&mut self, path: &Path)
         ensures taken { self.new ≡ rewritten path.now change.LastTaken self.old }
         ensures undone { (block : ℕ) (rows : List Row) → self.old ≡ block_added path.now block rows → self.new ≡ rows }
@@ -329,12 +328,13 @@ impl Tree {
     /// Ends the recovery of a block in the file at a path, where the state of that is one of this block: the block's length is
     /// committed, and the file is closed (HDFS Architecture, "Data Replication"). Costs also the blocks behind that one; takes no
     /// memory.
-    #[tactic(auto, using(crate::proofs::Blocks::all_ended))]
+    #[tactic(auto, using(crate::proofs::FileBlocks::all_ended))]
     pub fn end_recovery(&mut self, path: &Path, block: BlockId, bytes: u64)
         ensures here { self.new ≡ rewritten path.now (change.Recovered block bytes) self.old }
         ensures all { IsTrue (recovers_nowhere_else path.now block self.old) → self.new ≡ recovery_ended block bytes self.old }
     {
-        self.root.rewrite(path.names(), Change::Recovered(block, bytes));
+        self.root
+            .rewrite(path.names(), Change::Recovered(block, bytes));
     }
 
     /// Closes the files whose holders are among these clients, but where the length of the last block isn't committed. Costs

@@ -2,7 +2,7 @@ use Rattle.std.proofs.Common.{arith, ◌++◌}
 use Rattle.namespace_rows.specs.Files.{blocks_in}
 use Rattle.inode_nodes.specs.Node.{flatten}
 use Rattle.inode_tree.proofs.Visits.{shorter}
-use Rattle.inode_tree.proofs.Blocks.{blocks_next}
+use Rattle.inode_tree.proofs.FileBlocks.{blocks_next}
 use Rattle.inode_tree.proofs.blocks.+blocks.Goals as goal
 
 pub push_blocks_in-loop-name-preserved : goal.push_blocks_in-loop-name-preserved

@@ -1,6 +1,6 @@
 use Rattle.namespace_rows.specs.declared.row.Change.TheVariants as change
 use Rattle.namespace_rows.specs.Rows.{row_at}
-use Rattle.inode_tree.proofs.Blocks.{ending_suits}
+use Rattle.inode_tree.proofs.FileBlocks.{ending_suits}
 use Rattle.inode_tree.proofs.Trees.{rewrite_keeps}
 use Rattle.inode_tree.proofs.tree.Tree.end_recovery.Goals as goal
 

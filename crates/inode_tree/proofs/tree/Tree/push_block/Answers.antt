@@ -1,4 +1,4 @@
-use Rattle.inode_tree.proofs.Blocks.{push_keeps}
+use Rattle.inode_tree.proofs.FileBlocks.{push_keeps}
 use Rattle.inode_tree.proofs.tree.Tree.push_block.Goals as goal
 
 pub invariant_of-self : goal.invariant_of-self
