@@ -1,5 +1,5 @@
 -- The blocks of files: those of a visit, and a block that was added and taken back.
-use Rattle.std.proofs.Common.{◌≡◌, ℕ, ◌+◌, ◌-◌, Bool, true, false, ◌&&◌, ◌||◌, not, List, [], ◌∷◌, ◌++◌, map, length, length-append, take, append_assoc, cond, Option, Some, None, refl, sym, ap, ◌∙◌, subst, arith, Result, OnOk, OnErr}
+use Rattle.std.proofs.Common.{◌≡◌, ℕ, ◌+◌, ◌-◌, nat_eq, Bool, true, false, ◌&&◌, ◌||◌, not, List, [], ◌∷◌, ◌++◌, map, length, length-append, take, append_assoc, cond, Option, Some, None, refl, sym, ap, ◌∙◌, subst, arith, Result, OnOk, OnErr}
 use Rattle.std.proofs.Math.Seq.{take-append_seam}
 use Rattle.std.specs.List.{list_all}
 use Rattle.std.specs.Option.{option_map}
@@ -12,6 +12,7 @@ use Rattle.namespace_rows.specs.declared.row.Row.{Row}
 use Rattle.namespace_rows.specs.declared.row.Change.TheVariants as change
 use Rattle.namespace_rows.specs.Files.{ids_in, blocks_in, new_block, with_block, with_state, but_last, without_last, committed_at, state_recovers, recovered_at}
 use Rattle.namespace_rows.proofs.Tests.{both}
+use Rattle.namespace_rows.proofs.Commits.{committed_before}
 use Rattle.flat_rows.specs.Changes.{with_file, edited, rewritten, rewritten_by, block_added, is_recovered, recovers_nowhere_else, recovery_ended, rows_under, suits_change}
 use Rattle.flat_rows.proofs.Changes.{edited_namespace, edited_paths}
 use Rattle.inode_nodes.specs.Node.{Node, flatten, rows, rows_or, under, placed}
@@ -71,6 +72,37 @@ module _ (path : List (List ℕ)) (block : ℕ) where
   pub undone : (old new rows : List Row) → new ≡ rewritten path change.LastTaken old → old ≡ block_added path block rows → new ≡ rows
   undone old new rows taken added = taken ∙ ap (rewritten path change.LastTaken) added ∙ taken_back rows
 
+-- a length that is committed behind a new block of another id
+
+module _ (path : List (List ℕ)) (block bytes added : ℕ) (other : nat_eq added block ≡ false) where
+  file_commits : (file : Option FileRow) → option_map (committed_at block bytes) (option_map (with_block added) file) ≡ option_map (with_block added) (option_map (committed_at block bytes) file)
+  file_commits None = refl
+  file_commits (Some file) = ap (λ blocks. Some (record file { blocks = blocks })) (committed_before block bytes file.blocks (new_block added) other)
+
+  row_commits : (row : Row) → edited (committed_at block bytes) (edited (with_block added) row) ≡ edited (with_block added) (edited (committed_at block bytes) row)
+  row_commits row = ap (λ file. with_file file row) (file_commits row.file)
+
+  before_added : (rows : List Row) → rewritten path (change.Committed block bytes) (block_added path added rows) ≡ block_added path added (rewritten path (change.Committed block bytes) rows)
+  before_added [] = refl
+  before_added (row ∷ rows) = by (same_path path row.path) refl (before_added rows)
+    where
+      later : List Row
+      later = rewritten path (change.Committed block bytes) (block_added path added rows)
+
+      sooner : List Row
+      sooner = block_added path added (rewritten path (change.Committed block bytes) rows)
+
+      by : (b : Bool) → same_path path row.path ≡ b → later ≡ sooner
+          → rewritten path (change.Committed block bytes) (cond b (edited (with_block added) row) row ∷ block_added path added rows) ≡ block_added path added (cond b (edited (committed_at block bytes) row) row ∷ rewritten path (change.Committed block bytes) rows)
+      by true e rest =
+          ap (λ b. cond b (edited (committed_at block bytes) (edited (with_block added) row)) (edited (with_block added) row) ∷ later) e ∙ ap (λ r. r ∷ later) (row_commits row) ∙ ap (λ l. edited (with_block added) (edited (committed_at block bytes) row) ∷ l) rest
+          ∙ ap (λ b. cond b (edited (with_block added) (edited (committed_at block bytes) row)) (edited (committed_at block bytes) row) ∷ sooner) (sym e)
+      by false e rest =
+          ap (λ b. cond b (edited (committed_at block bytes) row) row ∷ later) e ∙ ap (λ l. row ∷ l) rest ∙ ap (λ b. cond b (edited (with_block added) row) row ∷ sooner) (sym e)
+
+  pub committed_as_before : (old new rows : List Row) → new ≡ rewritten path (change.Committed block bytes) old → old ≡ block_added path added rows → new ≡ block_added path added (rewritten path (change.Committed block bytes) rows)
+  committed_as_before old new rows done is = done ∙ ap (rewritten path (change.Committed block bytes)) is ∙ before_added rows
+
 -- the end of a recovery
 
 module _ (path : List (List ℕ)) (block bytes : ℕ) where
@@ -100,6 +132,10 @@ module _ (path : List (List ℕ)) (block bytes : ℕ) where
 pub taking_suits : (found : Option Row) → suits_change change.LastTaken found ≡ true
 taking_suits None = refl
 taking_suits (Some row) = refl
+
+pub committing_suits : (block bytes : ℕ) (found : Option Row) → suits_change (change.Committed block bytes) found ≡ true
+committing_suits block bytes None = refl
+committing_suits block bytes (Some row) = refl
 
 pub ending_suits : (block bytes : ℕ) (found : Option Row) → suits_change (change.Recovered block bytes) found ≡ true
 ending_suits block bytes None = refl

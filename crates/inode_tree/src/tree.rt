@@ -1,4 +1,4 @@
-ghost use Rattle.std.specs.Prelude.{ℕ, List, ◌≡◌, [], ◌∷◌, ◌||◌, map, filter, not, None, IsTrue, IfOk, OnOk, OnErr};
+ghost use Rattle.std.specs.Prelude.{ℕ, List, ◌≡◌, ◌==◌, false, [], ◌∷◌, ◌||◌, map, filter, not, None, IsTrue, IfOk, OnOk, OnErr};
 ghost use Rattle.std.specs.Option.{option_map};
 ghost use Rattle.hdfs_values.specs.Path.{is_prefix};
 ghost use Rattle.acl_entries.specs.Acl.{suits_file};
@@ -323,6 +323,16 @@ impl Tree {
         ensures undone { (block : ℕ) (rows : List Row) → self.old ≡ block_added path.now block rows → self.new ≡ rows }
     {
         self.root.rewrite(path.names(), Change::LastTaken);
+    }
+
+    /// Commits the length of a block of the file at a path, where that has the block. Behind `push_block` of another block that is
+    /// the same as before it. Costs also the blocks behind that one; takes no memory (HDFS Architecture, "Data Replication").
+    pub fn commit_block(&mut self, path: &Path, block: BlockId, bytes: u64)
+        ensures committed { self.new ≡ rewritten path.now (change.Committed block bytes) self.old }
+        ensures as_before { (added : ℕ) (rows : List Row) → (added == block) ≡ false → self.old ≡ block_added path.now added rows → self.new ≡ block_added path.now added (rewritten path.now (change.Committed block bytes) rows) }
+    {
+        self.root
+            .rewrite(path.names(), Change::Committed(block, bytes));
     }
 
     /// Ends the recovery of a block in the file at a path, where the state of that is one of this block: the block's length is
