@@ -54,22 +54,19 @@ edited edit row = with_file (option_map edit row.file) row
 abbrev pub changed : Change → Row → Row
 changed (change.Owner owner group) row = record row { owner = owner; group = group }
 changed (change.List acl) row = record row { acl = acl }
-changed (change.State state) row = edited (with_state state) row
-changed (change.Replication replication) row = edited (with_replication replication) row
+changed (change.State state) row = with_file (option_map (with_state state) row.file) row
+changed (change.Replication replication) row = with_file (option_map (with_replication replication) row.file) row
 changed (change.Committed block bytes) row = edited (committed_at block bytes) row
 changed change.LastTaken row = edited without_last row
 changed (change.Recovered block bytes) row = edited (recovered_at block bytes) row
 
 -- the rows with the one at a path changed
-abbrev pub rewritten_by : (Row → Row) → List (List ℕ) → List Row → List Row
-rewritten_by new path rows = map (λ row. if same_path path row.path then new row else row) rows
-
 abbrev pub rewritten : List (List ℕ) → Change → List Row → List Row
-rewritten path change rows = rewritten_by (changed change) path rows
+rewritten path change rows = map (λ row. if same_path path row.path then changed change row else row) rows
 
 -- the rows with a new block at the end of the file at a path (HDFS Architecture, "Data Replication")
 abbrev pub block_added : List (List ℕ) → ℕ → List Row → List Row
-block_added path block rows = rewritten_by (edited (with_block block)) path rows
+block_added path block rows = map (λ row. if same_path path row.path then edited (with_block block) row else row) rows
 
 -- the rows with the recovery of a block ended: the file whose state is that has the block's length committed, and is closed
 abbrev pub recovery_ended : ℕ → ℕ → List Row → List Row

@@ -13,7 +13,7 @@ use Rattle.namespace_rows.specs.declared.row.Row.{Row}
 use Rattle.namespace_rows.specs.Rows.{is_before, is_beyond, replaced}
 use Rattle.namespace_rows.specs.declared.file_row.FileRow.{FileRow}
 use Rattle.namespace_rows.specs.Files.{with_state, with_replication, without_last, committed_at, recovered_at}
-use Rattle.flat_rows.specs.Changes.{without, edited, changed, rewritten_by}
+use Rattle.flat_rows.specs.Changes.{without, edited, changed}
 use Rattle.inode_nodes.specs.Node.{Node, Top, flatten, rows, row_of, top_of, under, placed}
 use Rattle.inode_nodes.specs.Change.{grafted}
 use Rattle.inode_nodes.proofs.Split.{R, Side, split, at, entry}
@@ -137,6 +137,10 @@ cut_entry n es sorted =
         filter-flatten (outside (n ∷ [])) (outside []) n true true (outside-splits n []) es fs b s t ∙ rw (none-outside (rows b)) (sym (flatten-append es fs))
 
 -- rewriting
+
+-- the rows with the one at a path made anew
+abbrev pub rewritten_by : (Row → Row) → List (List ℕ) → OnRows
+rewritten_by new path rows = map (λ row. cond (same_path path row.path) (new row) row) rows
 
 -- what is made of a row reads and changes no path
 pub record IsPathless (new : Row → Row) : Type 0 where

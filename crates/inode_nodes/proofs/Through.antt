@@ -14,7 +14,9 @@ use Rattle.namespace_rows.specs.declared.row.Row.{Row}
 use Rattle.namespace_rows.specs.First.{first}
 use Rattle.namespace_rows.specs.Rows.{is_directory, is_none, is_missing}
 use Rattle.namespace_rows.specs.Namespace.{is_child, has_parent}
-use Rattle.flat_rows.specs.Changes.{without, rewritten_by}
+use Rattle.namespace_rows.specs.declared.row.Change.{Change}
+use Rattle.namespace_rows.specs.Files.{with_block}
+use Rattle.flat_rows.specs.Changes.{without, edited, changed, rewritten, block_added}
 use Rattle.inode_nodes.specs.Kept.{branch_of, rows_in, IsSorted}
 use Rattle.inode_nodes.specs.declared.node.Held.{Held}
 use Rattle.inode_nodes.specs.declared.node.Held.TheVariants.{File, Directory}
@@ -25,7 +27,7 @@ use Rattle.inode_nodes.specs.Change.{grafted, holds_parent}
 use Rattle.inode_nodes.proofs.Split.{R, at}
 use Rattle.inode_nodes.proofs.Filters.{Entries, self, standing, standing-splits}
 use Rattle.inode_nodes.proofs.Parts.{part-lookup, whole_at, whole_itself}
-use Rattle.inode_nodes.proofs.Levels.{IsLevel, Sorted, set_entry, missing_entry, grafted-level, grafted_top, put_entry, cut_entry, without-level, IsPathless, rewritten-level, rewritten-kept}
+use Rattle.inode_nodes.proofs.Levels.{IsLevel, Sorted, set_entry, missing_entry, grafted-level, grafted_top, put_entry, cut_entry, without-level, IsPathless, rewritten_by, rewritten-level, rewritten-kept}
 
 pub on_ok : {T E : Type 0} {P Q : Type 0} (r : Result T E) → (P → Q) → OnOk r P → OnOk r Q
 on_ok (Ok x) f h = f h
@@ -202,8 +204,14 @@ module _ (new : Row → Row) where
   untouched_in (File file) = refl
   untouched_in (Directory m) = untouched m.entries
 
-  pub untouched_beneath : (i : Inside) (b : Node) → branch_of i ≡ b → rewritten_by new [] b.beneath ≡ b.beneath
+  untouched_beneath : (i : Inside) (b : Node) → branch_of i ≡ b → rewritten_by new [] b.beneath ≡ b.beneath
   untouched_beneath i b seen = subst (λ x. rewritten_by new [] x.beneath ≡ x.beneath) seen (untouched_in i.held)
+
+pub unchanged_beneath : (c : Change) (i : Inside) (b : Node) → branch_of i ≡ b → rewritten [] c b.beneath ≡ b.beneath
+unchanged_beneath c = untouched_beneath (changed c)
+
+pub unadded_beneath : (block : ℕ) (i : Inside) (b : Node) → branch_of i ≡ b → block_added [] block b.beneath ≡ b.beneath
+unadded_beneath block = untouched_beneath (edited (with_block block))
 
 module _ (new : Row → Row) (pathless : IsPathless new) where
   pub rewrite_top : (names : List (List ℕ)) (b d : Node) → names ≡ [] → rewritten_by new [] b.beneath ≡ b.beneath → d ≡ record { top = top_of (new (row_of [] b.top)); beneath = b.beneath } → rows d ≡ rewritten_by new names (rows b)

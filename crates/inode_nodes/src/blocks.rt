@@ -30,7 +30,7 @@ impl Node {
     }
 
     /// Adds a block to the node, where that is a file.
-    #[tactic(auto, using(crate::proofs::Through::untouched_beneath))]
+    #[tactic(auto, using(crate::proofs::Through::unadded_beneath))]
     fn add_block(&mut self, block: BlockId) -> Result<(), AllocError>
         ensures ok { OnOk result (self.new ≡ record { top = top_of (edited (with_block block) (row_of [] self.old.top)); beneath = self.old.beneath }) }
         ensures err { OnErr result (self.new ≡ self.old) }

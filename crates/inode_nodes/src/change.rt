@@ -107,7 +107,7 @@ impl Node {
     }
 
     /// Gives the node what the change says.
-    #[tactic(auto, using(crate::proofs::Through::untouched_beneath))]
+    #[tactic(auto, using(crate::proofs::Through::unchanged_beneath))]
     fn give(&mut self, change: Change)
         ensures given { self.new ≡ record { top = changed_top change self.old.top; beneath = self.old.beneath } }
         ensures beneath { rewritten [] change self.old.beneath ≡ self.old.beneath }

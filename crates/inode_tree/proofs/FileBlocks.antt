@@ -13,7 +13,7 @@ use Rattle.namespace_rows.specs.declared.row.Change.TheVariants as change
 use Rattle.namespace_rows.specs.Files.{ids_in, blocks_in, new_block, with_block, with_state, but_last, without_last, committed_at, state_recovers, recovered_at}
 use Rattle.namespace_rows.proofs.Tests.{both}
 use Rattle.namespace_rows.proofs.Commits.{committed_before}
-use Rattle.flat_rows.specs.Changes.{with_file, edited, rewritten, rewritten_by, block_added, is_recovered, recovers_nowhere_else, recovery_ended, rows_under, suits_change}
+use Rattle.flat_rows.specs.Changes.{with_file, edited, rewritten, block_added, is_recovered, recovers_nowhere_else, recovery_ended, rows_under, suits_change}
 use Rattle.flat_rows.proofs.Changes.{edited_namespace, edited_paths}
 use Rattle.inode_nodes.specs.Node.{Node, flatten, rows, rows_or, under, placed}
 use Rattle.inode_nodes.specs.Part.{IsWhole}
