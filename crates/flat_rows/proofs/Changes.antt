@@ -17,12 +17,12 @@ use Rattle.namespace_rows.specs.declared.row.Change.TheVariants as change
 use Rattle.hdfs_types.specs.declared.file.FileState.{FileState}
 use Rattle.std.specs.Option.{option_map}
 use Rattle.acl_entries.specs.Acl.{suits_file}
-use Rattle.namespace_rows.specs.Files.{with_state, with_replication}
+use Rattle.namespace_rows.specs.Files.{with_state, with_replication, without_last, committed_at, recovered_at}
 use Rattle.namespace_rows.specs.First.{first}
 use Rattle.namespace_rows.specs.Rows.{is_directory, row_at, ancestor, is_before, is_beyond, replaced, with_sub_tree}
 use Rattle.namespace_rows.specs.Namespace.{IsNamespace, is_ascending, is_before_all, is_child, has_parent, is_root, is_rooted, have_parents, suits_parts, suits_kind, fits}
 use Rattle.flat_rows.specs.Outcome.{mode_of_new, file_of_new, new_row, new_rows}
-use Rattle.flat_rows.specs.Changes.{without, changed, rewritten, suits_row, suits_change, are_paths}
+use Rattle.flat_rows.specs.Changes.{without, edited, changed, rewritten, suits_row, suits_change, are_paths}
 use Rattle.namespace_rows.proofs.Tests.{both, and, or_left, or_right, all_imp, all_both, all_append, all_filtered, all_kept}
 use Rattle.namespace_rows.proofs.PathOrders.{less_is, child_starts, same_path_is}
 use Rattle.flat_rows.proofs.NewDirectories.{starts_self, beneath_parts, ancestor_above}
@@ -160,17 +160,23 @@ module _ (f : Row → Row) (paths : (row : Row) → (f row).path ≡ row.path) (
 
 -- each change leaves the path and the kind
 
-changed_path : (change : Change) (row : Row) → (changed change row).path ≡ row.path
+pub changed_path : (change : Change) (row : Row) → (changed change row).path ≡ row.path
 changed_path (change.Owner owner group) row = refl
 changed_path (change.List acl) row = refl
 changed_path (change.State state) row = refl
 changed_path (change.Replication replication) row = refl
+changed_path (change.Committed block bytes) row = refl
+changed_path change.LastTaken row = refl
+changed_path (change.Recovered block bytes) row = refl
 
 changed_kind : (change : Change) (row : Row) → is_directory (changed change row) ≡ is_directory row
 changed_kind (change.Owner owner group) row = refl
 changed_kind (change.List acl) row = refl
 changed_kind (change.State state) row = refl
 changed_kind (change.Replication replication) row = refl
+changed_kind (change.Committed block bytes) row = refl
+changed_kind change.LastTaken row = refl
+changed_kind (change.Recovered block bytes) row = refl
 
 -- and what it suits stays suited
 
@@ -191,6 +197,9 @@ changed_suits (change.Owner owner group) row h k = h
 changed_suits (change.List acl) row h k = listed_suits (is_directory row) row.acl acl row.file h k
 changed_suits (change.State state) row h k = filed_suits (with_state state) (is_directory row) row.acl row.file h
 changed_suits (change.Replication replication) row h k = filed_suits (with_replication replication) (is_directory row) row.acl row.file h
+changed_suits (change.Committed block bytes) row h k = filed_suits (committed_at block bytes) (is_directory row) row.acl row.file h
+changed_suits change.LastTaken row h k = filed_suits without_last (is_directory row) row.acl row.file h
+changed_suits (change.Recovered block bytes) row h k = filed_suits (recovered_at block bytes) (is_directory row) row.acl row.file h
 
 module _ (path : List (List ℕ)) (change : Change) where
   abbrev anew : Row → Row
@@ -238,39 +247,48 @@ module _ (path : List (List ℕ)) (change : Change) where
   pub rewritten_paths : (rows : List Row) → are_paths rows ≡ true → are_paths (rewritten path change rows) ≡ true
   rewritten_paths rows h = map_paths anew anew_path anew_kind rows ∙ h
 
+-- the file of a row edited where the row passes a test
+
+module _ (edit : FileRow → FileRow) (test : Row → Bool) where
+  abbrev edited_where : Row → Row
+  edited_where row = cond (test row) (edited edit row) row
+
+  edited_path : (row : Row) → (edited_where row).path ≡ row.path
+  edited_path row = by (test row)
+    where
+      by : (b : Bool) → (cond b (edited edit row) row).path ≡ row.path
+      by true = refl
+      by false = refl
+
+  edited_kind : (row : Row) → is_directory (edited_where row) ≡ is_directory row
+  edited_kind row = by (test row)
+    where
+      by : (b : Bool) → is_directory (cond b (edited edit row) row) ≡ is_directory row
+      by true = refl
+      by false = refl
+
+  edited_suits : (rows : List Row) → list_all suits_kind rows ≡ true → list_all suits_kind (map edited_where rows) ≡ true
+  edited_suits [] h = refl
+  edited_suits (row ∷ rows) h = let hs = both (suits_kind row) (list_all suits_kind rows) h in and _ _ (by (test row) hs.0) (edited_suits rows hs.1)
+    where
+      by : (b : Bool) → suits_kind row ≡ true → suits_kind (cond b (edited edit row) row) ≡ true
+      by true k = filed_suits edit (is_directory row) row.acl row.file k
+      by false k = k
+
+  pub edited_namespace : (rows : List Row) → IsNamespace rows → IsNamespace (map edited_where rows)
+  edited_namespace rows h = map_namespace edited_where edited_path edited_kind rows h (edited_suits rows (namespace_tests rows h).suit)
+
+  pub edited_paths : (rows : List Row) → are_paths rows ≡ true → are_paths (map edited_where rows) ≡ true
+  edited_paths rows h = map_paths edited_where edited_path edited_kind rows ∙ h
+
 -- files closed
 
 module _ (test : Row → Bool) (state : FileState) where
-  abbrev closed : Row → Row
-  closed row = cond (test row) (changed (change.State state) row) row
+  pub closed_namespace : (rows : List Row) → IsNamespace rows → IsNamespace (map (λ row. cond (test row) (changed (change.State state) row) row) rows)
+  closed_namespace rows h = edited_namespace (with_state state) test rows h
 
-  closed_path : (row : Row) → (closed row).path ≡ row.path
-  closed_path row = by (test row)
-    where
-      by : (b : Bool) → (cond b (changed (change.State state) row) row).path ≡ row.path
-      by true = refl
-      by false = refl
-
-  closed_kind : (row : Row) → is_directory (closed row) ≡ is_directory row
-  closed_kind row = by (test row)
-    where
-      by : (b : Bool) → is_directory (cond b (changed (change.State state) row) row) ≡ is_directory row
-      by true = refl
-      by false = refl
-
-  closed_suits : (rows : List Row) → list_all suits_kind rows ≡ true → list_all suits_kind (map closed rows) ≡ true
-  closed_suits [] h = refl
-  closed_suits (row ∷ rows) h = let hs = both (suits_kind row) (list_all suits_kind rows) h in and _ _ (by (test row) hs.0) (closed_suits rows hs.1)
-    where
-      by : (b : Bool) → suits_kind row ≡ true → suits_kind (cond b (changed (change.State state) row) row) ≡ true
-      by true k = filed_suits (with_state state) (is_directory row) row.acl row.file k
-      by false k = k
-
-  pub closed_namespace : (rows : List Row) → IsNamespace rows → IsNamespace (map closed rows)
-  closed_namespace rows h = map_namespace closed closed_path closed_kind rows h (closed_suits rows (namespace_tests rows h).suit)
-
-  pub closed_paths : (rows : List Row) → are_paths rows ≡ true → are_paths (map closed rows) ≡ true
-  closed_paths rows h = map_paths closed closed_path closed_kind rows ∙ h
+  pub closed_paths : (rows : List Row) → are_paths rows ≡ true → are_paths (map (λ row. cond (test row) (changed (change.State state) row) row) rows) ≡ true
+  closed_paths rows h = edited_paths (with_state state) test rows h
 
 -- the paths of new directories are fronts of the path
 

@@ -1,6 +1,6 @@
 -- What a change leaves of the rows, and which rows a question about a sub-tree concerns. Each is a filter or a map.
 -- (HDFS Architecture, "The File System Namespace".)
-use Rattle.std.specs.Prelude.{ℕ, Bool, true, ◌||◌, not, List, [], ◌∷◌, ◌++◌, map, filter, length, drop, if◌then◌else◌, Option, Some, None}
+use Rattle.std.specs.Prelude.{ℕ, Bool, true, false, ◌||◌, not, List, [], ◌∷◌, ◌++◌, map, filter, length, drop, if◌then◌else◌, Option, Some, None}
 use Rattle.std.specs.List.{list_all}
 use Rattle.std.specs.Option.{option_map}
 use Rattle.hdfs_values.specs.Path.{is_path, is_prefix}
@@ -10,7 +10,7 @@ use Rattle.namespace_rows.specs.declared.row.Row.{Row}
 use Rattle.namespace_rows.specs.declared.row.Change.{Change}
 use Rattle.namespace_rows.specs.declared.row.Change.TheVariants as change
 use Rattle.namespace_rows.specs.declared.file_row.FileRow.{FileRow}
-use Rattle.namespace_rows.specs.Files.{with_state, with_replication}
+use Rattle.namespace_rows.specs.Files.{with_state, with_replication, with_block, committed_at, without_last, state_recovers, recovered_at}
 use Rattle.namespace_rows.specs.Rows.{is_directory, replaced}
 use Rattle.namespace_rows.specs.Namespace.{is_child}
 
@@ -46,16 +46,39 @@ moved from to rows = replaced to (map (moved_row from to) (rows_under from rows)
 abbrev pub with_file : Option FileRow → Row → Row
 with_file file row = record row { file = file }
 
--- a row with one of its parts changed; a directory has neither state nor replication
+-- a row with what its file has changed; a directory has nothing of that
+abbrev pub edited : (FileRow → FileRow) → Row → Row
+edited edit row = with_file (option_map edit row.file) row
+
+-- a row with one of its parts changed; a directory has neither state nor replication nor blocks
 abbrev pub changed : Change → Row → Row
 changed (change.Owner owner group) row = record row { owner = owner; group = group }
 changed (change.List acl) row = record row { acl = acl }
 changed (change.State state) row = with_file (option_map (with_state state) row.file) row
 changed (change.Replication replication) row = with_file (option_map (with_replication replication) row.file) row
+changed (change.Committed block bytes) row = edited (committed_at block bytes) row
+changed change.LastTaken row = edited without_last row
+changed (change.Recovered block bytes) row = edited (recovered_at block bytes) row
 
 -- the rows with the one at a path changed
 abbrev pub rewritten : List (List ℕ) → Change → List Row → List Row
 rewritten path change rows = map (λ row. if same_path path row.path then changed change row else row) rows
+
+-- the rows with a new block at the end of the file at a path (HDFS Architecture, "Data Replication")
+abbrev pub block_added : List (List ℕ) → ℕ → List Row → List Row
+block_added path block rows = map (λ row. if same_path path row.path then edited (with_block block) row else row) rows
+
+-- the rows with the recovery of a block ended: the file whose state is that has the block's length committed, and is closed
+abbrev pub recovery_ended : ℕ → ℕ → List Row → List Row
+recovery_ended block bytes rows = map (edited (recovered_at block bytes)) rows
+
+abbrev pub is_recovered : ℕ → Option FileRow → Bool
+is_recovered block None = false
+is_recovered block (Some file) = state_recovers block file.state
+
+-- no file but that at the path has a state that is a recovery of the block
+abbrev pub recovers_nowhere_else : List (List ℕ) → ℕ → List Row → Bool
+recovers_nowhere_else path block rows = list_all (λ row. same_path path row.path || not (is_recovered block row.file)) rows
 
 -- the change suits what stands there
 abbrev pub suits_row : Change → Row → Bool
@@ -63,6 +86,9 @@ suits_row (change.Owner owner group) row = true
 suits_row (change.List acl) row = is_directory row || suits_file acl
 suits_row (change.State state) row = true
 suits_row (change.Replication replication) row = true
+suits_row (change.Committed block bytes) row = true
+suits_row change.LastTaken row = true
+suits_row (change.Recovered block bytes) row = true
 
 abbrev pub suits_change : Change → Option Row → Bool
 suits_change change None = true

@@ -11,8 +11,10 @@ use Rattle.namespace_rows.specs.declared.row.Change.{Change}
 use Rattle.namespace_rows.specs.declared.row.Change.TheVariants as change
 use Rattle.namespace_rows.specs.declared.row.Row.{Row}
 use Rattle.namespace_rows.specs.Rows.{is_before, is_beyond, replaced}
-use Rattle.flat_rows.specs.Changes.{without, changed, rewritten}
-use Rattle.inode_nodes.specs.Node.{Node, Top, flatten, rows, row_of, under, placed}
+use Rattle.namespace_rows.specs.declared.file_row.FileRow.{FileRow}
+use Rattle.namespace_rows.specs.Files.{with_state, with_replication, without_last, committed_at, recovered_at}
+use Rattle.flat_rows.specs.Changes.{without, edited, changed}
+use Rattle.inode_nodes.specs.Node.{Node, Top, flatten, rows, row_of, top_of, under, placed}
 use Rattle.inode_nodes.specs.Change.{grafted}
 use Rattle.inode_nodes.proofs.Split.{R, Side, split, at, entry}
 use Rattle.inode_nodes.proofs.Filters.{Entries, flatten-append, append_rows, self, filter-flatten, filter-missing, before-splits, beyond-splits, outside-splits, outside}
@@ -136,15 +138,30 @@ cut_entry n es sorted =
 
 -- rewriting
 
-pub changed_under : (c : Change) (n : List ℕ) (row : Row) → changed c (under n row) ≡ under n (changed c row)
-changed_under (change.Owner owner group) n row = refl
-changed_under (change.List acl) n row = refl
-changed_under (change.State state) n row = refl
-changed_under (change.Replication replication) n row = refl
+-- the rows with the one at a path made anew
+abbrev pub rewritten_by : (Row → Row) → List (List ℕ) → OnRows
+rewritten_by new path rows = map (λ row. cond (same_path path row.path) (new row) row) rows
 
-module _ (c : Change) where
+-- what is made of a row reads and changes no path
+pub record IsPathless (new : Row → Row) : Type 0 where
+  pub under_name : (n : List ℕ) (row : Row) → new (under n row) ≡ under n (new row)
+  pub top : (t : Top) → row_of [] (top_of (new (row_of [] t))) ≡ new (row_of [] t)
+
+pub edited_pathless : (edit : FileRow → FileRow) → IsPathless (edited edit)
+edited_pathless edit = record { under_name = λ n row. refl; top = λ t. refl }
+
+pub changed_pathless : (c : Change) → IsPathless (changed c)
+changed_pathless (change.Owner owner group) = record { under_name = λ n row. refl; top = λ t. refl }
+changed_pathless (change.List acl) = record { under_name = λ n row. refl; top = λ t. refl }
+changed_pathless (change.State state) = edited_pathless (with_state state)
+changed_pathless (change.Replication replication) = edited_pathless (with_replication replication)
+changed_pathless (change.Committed block bytes) = edited_pathless (committed_at block bytes)
+changed_pathless change.LastTaken = edited_pathless without_last
+changed_pathless (change.Recovered block bytes) = edited_pathless (recovered_at block bytes)
+
+module _ (new : Row → Row) (pathless : IsPathless new) where
   abbrev one : List (List ℕ) → Row → Row
-  one path row = cond (same_path path row.path) (changed c row) row
+  one path row = cond (same_path path row.path) (new row) row
 
   other_row : (n : List ℕ) (ns : List (List ℕ)) (m : List ℕ) (o : Ordering) → R n m ≡ o → is_eq o ≡ false → (rs : List Row) → map (one (n ∷ ns)) (map (under m) rs) ≡ map (under m) rs
   other_row n ns m o h k [] = refl
@@ -162,11 +179,11 @@ module _ (c : Change) where
   same_row n ns (r ∷ rs) = rw (self n) (by_test (same_path ns r.path) (same_row n ns rs))
     where
       by_test : (t : Bool) → map (one (n ∷ ns)) (map (under n) rs) ≡ map (under n) (map (one ns) rs)
-          → cond t (changed c (under n r)) (under n r) ∷ map (one (n ∷ ns)) (map (under n) rs) ≡ under n (cond t (changed c r) r) ∷ map (under n) (map (one ns) rs)
-      by_test true e = ap (λ t. t ∷ map (one (n ∷ ns)) (map (under n) rs)) (changed_under c n r) ∙ ap (λ t. under n (changed c r) ∷ t) e
+          → cond t (new (under n r)) (under n r) ∷ map (one (n ∷ ns)) (map (under n) rs) ≡ under n (cond t (new r) r) ∷ map (under n) (map (one ns) rs)
+      by_test true e = ap (λ t. t ∷ map (one (n ∷ ns)) (map (under n) rs)) (pathless.under_name n r) ∙ ap (λ t. under n (new r) ∷ t) e
       by_test false e = ap (λ t. under n r ∷ t) e
 
-  pub rewritten-level : (n : List ℕ) (ns : List (List ℕ)) → IsLevel n (rewritten (n ∷ ns) c) (rewritten ns c)
+  pub rewritten-level : (n : List ℕ) (ns : List (List ℕ)) → IsLevel n (rewritten_by new (n ∷ ns)) (rewritten_by new ns)
   rewritten-level n ns = record {
     level = λ es fs b d s t is.
         ap (map (one (n ∷ ns))) (flatten-append es ((n, b) ∷ fs)) ∙ map-append (one (n ∷ ns)) (flatten es) (map (under n) (rows b) ++ flatten fs)
@@ -176,7 +193,7 @@ module _ (c : Change) where
     top = λ t rs. refl;
   }
 
-  pub rewritten-kept : (n : List ℕ) (ns : List (List ℕ)) → IsKept n (rewritten (n ∷ ns) c)
+  pub rewritten-kept : (n : List ℕ) (ns : List (List ℕ)) → IsKept n (rewritten_by new (n ∷ ns))
   rewritten-kept n ns = record {
     kept = λ es fs s t.
         ap (map (one (n ∷ ns))) (flatten-append es fs) ∙ map-append (one (n ∷ ns)) (flatten es) (flatten fs) ∙ ap (λ l. l ++ map (one (n ∷ ns)) (flatten fs)) (other_side Greater n ns refl es s)

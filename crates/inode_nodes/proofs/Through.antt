@@ -10,24 +10,24 @@ use Rattle.std.proofs.lemmas.Map.Steps.{set_value_same}
 use Rattle.std.specs.Option.{option_copied_mut}
 use Rattle.std.specs.Borrow.{MutBor}
 use Rattle.namespace_rows.specs.declared.file_row.FileRow.{FileRow}
-use Rattle.namespace_rows.specs.declared.row.Change.{Change}
-use Rattle.namespace_rows.specs.declared.row.Change.TheVariants as change
 use Rattle.namespace_rows.specs.declared.row.Row.{Row}
 use Rattle.namespace_rows.specs.First.{first}
 use Rattle.namespace_rows.specs.Rows.{is_directory, is_none, is_missing}
 use Rattle.namespace_rows.specs.Namespace.{is_child, has_parent}
-use Rattle.flat_rows.specs.Changes.{without, changed, rewritten}
+use Rattle.namespace_rows.specs.declared.row.Change.{Change}
+use Rattle.namespace_rows.specs.Files.{with_block}
+use Rattle.flat_rows.specs.Changes.{without, edited, changed, rewritten, block_added}
 use Rattle.inode_nodes.specs.Kept.{branch_of, rows_in, IsSorted}
 use Rattle.inode_nodes.specs.declared.node.Held.{Held}
 use Rattle.inode_nodes.specs.declared.node.Held.TheVariants.{File, Directory}
 use Rattle.inode_nodes.specs.declared.node.Node.TheInside.{Inside}
-use Rattle.inode_nodes.specs.Node.{Node, Top, flatten, rows, rows_or, row_of, under, with_rows}
+use Rattle.inode_nodes.specs.Node.{Node, Top, flatten, rows, rows_or, row_of, top_of, under, with_rows}
 use Rattle.inode_nodes.specs.Part.{Splits, IsPart, IsWhole}
-use Rattle.inode_nodes.specs.Change.{grafted, holds_parent, changed_top}
+use Rattle.inode_nodes.specs.Change.{grafted, holds_parent}
 use Rattle.inode_nodes.proofs.Split.{R, at}
 use Rattle.inode_nodes.proofs.Filters.{Entries, self, standing, standing-splits}
 use Rattle.inode_nodes.proofs.Parts.{part-lookup, whole_at, whole_itself}
-use Rattle.inode_nodes.proofs.Levels.{IsLevel, Sorted, set_entry, missing_entry, grafted-level, grafted_top, put_entry, cut_entry, without-level, rewritten-level, rewritten-kept}
+use Rattle.inode_nodes.proofs.Levels.{IsLevel, Sorted, set_entry, missing_entry, grafted-level, grafted_top, put_entry, cut_entry, without-level, IsPathless, rewritten_by, rewritten-level, rewritten-kept}
 
 pub on_ok : {T E : Type 0} {P Q : Type 0} (r : Result T E) → (P → Q) → OnOk r P → OnOk r Q
 on_ok (Ok x) f h = f h
@@ -189,37 +189,38 @@ taken_through n m ms names es b p sorted is found whole =
 
 -- rewriting
 
-top_given : (c : Change) (t : Top) → row_of [] (changed_top c t) ≡ changed c (row_of [] t)
-top_given (change.Owner owner group) t = refl
-top_given (change.List acl) t = refl
-top_given (change.State state) t = refl
-top_given (change.Replication replication) t = refl
-
-module _ (c : Change) where
-  untouched_row : (m : List ℕ) (rs : List Row) → rewritten [] c (map (under m) rs) ≡ map (under m) rs
+module _ (new : Row → Row) where
+  untouched_row : (m : List ℕ) (rs : List Row) → rewritten_by new [] (map (under m) rs) ≡ map (under m) rs
   untouched_row m [] = refl
   untouched_row m (r ∷ rs) = ap (λ t. under m r ∷ t) (untouched_row m rs)
 
-  untouched : (es : Entries) → rewritten [] c (flatten es) ≡ flatten es
+  untouched : (es : Entries) → rewritten_by new [] (flatten es) ≡ flatten es
   untouched [] = refl
   untouched (e ∷ es) =
-      map-append (λ row. cond (same_path [] row.path) (changed c row) row) (map (under e.0) (rows e.1)) (flatten es)
-      ∙ ap (λ l. l ++ rewritten [] c (flatten es)) (untouched_row e.0 (rows e.1)) ∙ ap (λ l. map (under e.0) (rows e.1) ++ l) (untouched es)
+      map-append (λ row. cond (same_path [] row.path) (new row) row) (map (under e.0) (rows e.1)) (flatten es)
+      ∙ ap (λ l. l ++ rewritten_by new [] (flatten es)) (untouched_row e.0 (rows e.1)) ∙ ap (λ l. map (under e.0) (rows e.1) ++ l) (untouched es)
 
-  untouched_in : (h : Held) → rewritten [] c (rows_in h) ≡ rows_in h
+  untouched_in : (h : Held) → rewritten_by new [] (rows_in h) ≡ rows_in h
   untouched_in (File file) = refl
   untouched_in (Directory m) = untouched m.entries
 
-  pub untouched_beneath : (i : Inside) (b : Node) → branch_of i ≡ b → rewritten [] c b.beneath ≡ b.beneath
-  untouched_beneath i b seen = subst (λ x. rewritten [] c x.beneath ≡ x.beneath) seen (untouched_in i.held)
+  untouched_beneath : (i : Inside) (b : Node) → branch_of i ≡ b → rewritten_by new [] b.beneath ≡ b.beneath
+  untouched_beneath i b seen = subst (λ x. rewritten_by new [] x.beneath ≡ x.beneath) seen (untouched_in i.held)
 
-  pub rewrite_top : (names : List (List ℕ)) (b d : Node) → names ≡ [] → rewritten [] c b.beneath ≡ b.beneath → d ≡ record { top = changed_top c b.top; beneath = b.beneath } → rows d ≡ rewritten names c (rows b)
+pub unchanged_beneath : (c : Change) (i : Inside) (b : Node) → branch_of i ≡ b → rewritten [] c b.beneath ≡ b.beneath
+unchanged_beneath c = untouched_beneath (changed c)
+
+pub unadded_beneath : (block : ℕ) (i : Inside) (b : Node) → branch_of i ≡ b → block_added [] block b.beneath ≡ b.beneath
+unadded_beneath block = untouched_beneath (edited (with_block block))
+
+module _ (new : Row → Row) (pathless : IsPathless new) where
+  pub rewrite_top : (names : List (List ℕ)) (b d : Node) → names ≡ [] → rewritten_by new [] b.beneath ≡ b.beneath → d ≡ record { top = top_of (new (row_of [] b.top)); beneath = b.beneath } → rows d ≡ rewritten_by new names (rows b)
   rewrite_top names b d none beneath given =
-      ap rows given ∙ ap (λ l. row_of [] (changed_top c b.top) ∷ l) (sym beneath) ∙ ap (λ r. r ∷ rewritten [] c b.beneath) (top_given c b.top) ∙ ap (λ xs. rewritten xs c (rows b)) (sym none)
+      ap rows given ∙ ap (λ l. row_of [] (top_of (new (row_of [] b.top))) ∷ l) (sym beneath) ∙ ap (λ r. r ∷ rewritten_by new [] b.beneath) (pathless.top b.top) ∙ ap (λ xs. rewritten_by new xs (rows b)) (sym none)
 
-  pub rewrite_through : (n : List ℕ) (ns : List (List ℕ)) (b d : Node) (es fs : Entries) → Sorted es → lookup (at n) es ≡ Some b → rows d ≡ rewritten ns c (rows b) → fs ≡ set_value (at n) es d → flatten fs ≡ rewritten (n ∷ ns) c (flatten es)
+  pub rewrite_through : (n : List ℕ) (ns : List (List ℕ)) (b d : Node) (es fs : Entries) → Sorted es → lookup (at n) es ≡ Some b → rows d ≡ rewritten_by new ns (rows b) → fs ≡ set_value (at n) es d → flatten fs ≡ rewritten_by new (n ∷ ns) (flatten es)
   rewrite_through n ns b d es fs sorted found same written =
-      ap flatten written ∙ set_entry (rewritten (n ∷ ns) c) (rewritten ns c) n (rewritten-level c n ns) es b d sorted found same
+      ap flatten written ∙ set_entry (rewritten_by new (n ∷ ns)) (rewritten_by new ns) n (rewritten-level new pathless n ns) es b d sorted found same
 
-  pub rewrite_none : (n : List ℕ) (ns : List (List ℕ)) (es : Entries) → Sorted es → lookup (at n) es ≡ None → flatten es ≡ rewritten (n ∷ ns) c (flatten es)
-  rewrite_none n ns es sorted missing = missing_entry (rewritten (n ∷ ns) c) n (rewritten-kept c n ns) es sorted missing
+  pub rewrite_none : (n : List ℕ) (ns : List (List ℕ)) (es : Entries) → Sorted es → lookup (at n) es ≡ None → flatten es ≡ rewritten_by new (n ∷ ns) (flatten es)
+  rewrite_none n ns es sorted missing = missing_entry (rewritten_by new (n ∷ ns)) n (rewritten-kept new pathless n ns) es sorted missing

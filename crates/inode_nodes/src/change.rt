@@ -5,7 +5,7 @@ ghost use Rattle.hdfs_values.specs.Path.{is_prefix};
 ghost use Rattle.hdfs_values.specs.Text.{text_cmp};
 ghost use Rattle.namespace_rows.specs.Rows.{is_missing, file_above, ancestor};
 ghost use Rattle.namespace_rows.specs.Namespace.{has_parent};
-ghost use Rattle.namespace_rows.specs.Files.{with_state, with_replication};
+ghost use Rattle.namespace_rows.specs.Files.{with_state, with_replication, without_last, committed_at, recovered_at};
 ghost use Rattle.flat_rows.specs.FileOutcome.{is_expired_file, closed_where_expired};
 ghost use Rattle.flat_rows.specs.Outcome.{kind_of_new, with_new};
 ghost use Rattle.flat_rows.specs.Changes.{without, moved, rewritten};
@@ -21,6 +21,7 @@ use acl_entries::acl::Acl;
 use default_acl::inherit::inherit;
 use hdfs_types::file::FileState;
 use hdfs_types::reply::ObjectKind;
+use hdfs_values::ids::BlockId;
 use hdfs_values::name::Name;
 use hdfs_values::replication::Repl;
 use hdfs_values::who::Who;
@@ -106,7 +107,7 @@ impl Node {
     }
 
     /// Gives the node what the change says.
-    #[tactic(auto, using(crate::proofs::Through::untouched_beneath))]
+    #[tactic(auto, using(crate::proofs::Through::unchanged_beneath))]
     fn give(&mut self, change: Change)
         ensures given { self.new ≡ record { top = changed_top change self.old.top; beneath = self.old.beneath } }
         ensures beneath { rewritten [] change self.old.beneath ≡ self.old.beneath }
@@ -119,6 +120,9 @@ impl Node {
             Change::List(acl) => replace_list(&mut self.acl, acl),
             Change::State(state) => self.held.give_state(state),
             Change::Replication(replication) => self.held.give_replication(replication),
+            Change::Committed(block, bytes) => self.held.commit(block, bytes),
+            Change::LastTaken => self.held.take_last(),
+            Change::Recovered(block, bytes) => self.held.end_recovery(block, bytes),
         }
     }
 
@@ -263,6 +267,48 @@ impl Held {
     {
         match self {
             Held::File(file) => file.replication = replication,
+            Held::Directory(_) => (),
+        }
+    }
+
+    /// Commits the length of a file's block.
+    fn commit(&mut self, block: BlockId, bytes: u64)
+        requires { IsSorted self.old }
+        ensures sorted { IsSorted self.new }
+        ensures kind { kind_of_held self.new ≡ kind_of_held self.old }
+        ensures file { file_of self.new ≡ option_map (committed_at block bytes) (file_of self.old) }
+        ensures rows { rows_in self.new ≡ rows_in self.old }
+    {
+        match self {
+            Held::File(file) => file.blocks.commit(block, bytes),
+            Held::Directory(_) => (),
+        }
+    }
+
+    /// Takes the last block out of a file.
+    fn take_last(&mut self)
+        requires { IsSorted self.old }
+        ensures sorted { IsSorted self.new }
+        ensures kind { kind_of_held self.new ≡ kind_of_held self.old }
+        ensures file { file_of self.new ≡ option_map without_last (file_of self.old) }
+        ensures rows { rows_in self.new ≡ rows_in self.old }
+    {
+        match self {
+            Held::File(file) => file.blocks.pop(),
+            Held::Directory(_) => (),
+        }
+    }
+
+    /// Ends the recovery of a file's block, where that is recovered.
+    fn end_recovery(&mut self, block: BlockId, bytes: u64)
+        requires { IsSorted self.old }
+        ensures sorted { IsSorted self.new }
+        ensures kind { kind_of_held self.new ≡ kind_of_held self.old }
+        ensures file { file_of self.new ≡ option_map (recovered_at block bytes) (file_of self.old) }
+        ensures rows { rows_in self.new ≡ rows_in self.old }
+    {
+        match self {
+            Held::File(file) => file.end_recovery(block, bytes),
             Held::Directory(_) => (),
         }
     }

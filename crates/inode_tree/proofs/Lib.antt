@@ -2,3 +2,4 @@ pub mod Visits
 pub mod Limits
 pub mod Trees
 pub mod Asked
+pub mod FileBlocks

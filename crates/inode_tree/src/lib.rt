@@ -2,6 +2,7 @@
 //! File System Namespace").
 #![tactic(auto)]
 
+pub mod blocks;
 pub mod expired_holders;
 pub mod inode;
 pub mod limit;

@@ -1,14 +1,16 @@
-ghost use Rattle.std.specs.Prelude.{◌≡◌, [], ◌∷◌, ◌||◌, map, filter, not, None, IsTrue, IfOk, OnOk, OnErr};
+ghost use Rattle.std.specs.Prelude.{ℕ, List, ◌≡◌, ◌==◌, false, [], ◌∷◌, ◌||◌, map, filter, not, None, IsTrue, IfOk, OnOk, OnErr};
 ghost use Rattle.std.specs.Option.{option_map};
 ghost use Rattle.hdfs_values.specs.Path.{is_prefix};
 ghost use Rattle.acl_entries.specs.Acl.{suits_file};
 ghost use Rattle.namespace_rows.specs.Opening.{root_row};
 ghost use Rattle.namespace_rows.specs.Rows.{row_at, is_directory_kind, is_missing, file_above, ancestor, with_sub_tree};
 ghost use Rattle.namespace_rows.specs.Namespace.{has_parent, is_root};
-ghost use Rattle.namespace_rows.specs.Files.{holders};
+ghost use Rattle.namespace_rows.specs.Files.{holders, blocks_in};
+ghost use Rattle.namespace_rows.specs.declared.row.Row.{Row};
+ghost use Rattle.namespace_rows.specs.declared.row.Change.TheVariants as change;
 ghost use Rattle.flat_rows.specs.FileOutcome.{is_expired, closed_where_expired};
 ghost use Rattle.flat_rows.specs.Outcome.{is_alone, kind_of_new, with_new};
-ghost use Rattle.flat_rows.specs.Changes.{rows_under, without, moved_row, moved, rewritten, suits_change, are_paths, child_names};
+ghost use Rattle.flat_rows.specs.Changes.{rows_under, without, moved_row, moved, rewritten, block_added, recovery_ended, recovers_nowhere_else, suits_change, are_paths, child_names};
 ghost use Rattle.namespace_rows.specs.First.{first};
 ghost use Rattle.inode_tree.specs.Visits.{counts_of, is_closed};
 ghost use Rattle.inode_nodes.specs.Node.{rows, row_of};
@@ -18,9 +20,10 @@ ghost use Rattle.inode_tree.specs.Tree.{branch_at, IsTree};
 
 use crate::inode::Inode;
 use crate::visit::{self, Counts};
-use crate::{expired_holders, limit};
+use crate::{blocks, expired_holders, limit};
 use acl_entries::acl::Acl;
 use hdfs_types::reply::ObjectKind;
+use hdfs_values::ids::BlockId;
 use hdfs_values::name::Name;
 use hdfs_values::path::Path;
 use hdfs_values::who::Who;
@@ -172,6 +175,20 @@ impl Tree {
         }
     }
 
+    /// The blocks of the files at a path and beneath it, in path order, and those of a file in its order. Costs also what stands
+    /// there, with these blocks.
+    ///
+    /// # Errors
+    /// Out of memory.
+    pub fn blocks_under(&self, path: &Path) -> Result<Vec<BlockId>, AllocError>
+        ensures { IfOk result (λ found. found.items ≡ blocks_in (rows_under path.now self.now)) }
+    {
+        match self.root.find(path.names()) {
+            Some(node) => blocks::blocks_of(self.alloc, node),
+            None => Ok(Vec::new(self.alloc)),
+        }
+    }
+
     /// The holders of the files that `close_expired` closes, in path order, one for each file. Costs the whole tree, and for each
     /// open file these clients.
     ///
@@ -287,6 +304,47 @@ impl Tree {
         ensures { self.new ≡ rewritten path.now change self.old }
     {
         self.root.rewrite(path.names(), change);
+    }
+
+    /// Adds a block, whose length isn't committed, at the end of the file at a path; where no file stands there, changes nothing.
+    ///
+    /// # Errors
+    /// Out of memory, and nothing has changed.
+    pub fn push_block(&mut self, path: &Path, block: BlockId) -> Result<(), AllocError>
+        ensures ok { OnOk result (self.new ≡ block_added path.now block self.old) }
+        ensures err { OnErr result (self.new ≡ self.old) }
+    {
+        self.root.push_block(path.names(), block)
+    }
+
+    /// Takes the last block out of the file at a path, and so undoes `push_block`. Takes no memory.
+    pub fn pop_block(&mut self, path: &Path)
+        ensures taken { self.new ≡ rewritten path.now change.LastTaken self.old }
+        ensures undone { (block : ℕ) (rows : List Row) → self.old ≡ block_added path.now block rows → self.new ≡ rows }
+    {
+        self.root.rewrite(path.names(), Change::LastTaken);
+    }
+
+    /// Commits the length of a block of the file at a path, where that has the block. Behind `push_block` of another block that is
+    /// the same as before it. Costs also the blocks behind that one; takes no memory (HDFS Architecture, "Data Replication").
+    pub fn commit_block(&mut self, path: &Path, block: BlockId, bytes: u64)
+        ensures committed { self.new ≡ rewritten path.now (change.Committed block bytes) self.old }
+        ensures as_before { (added : ℕ) (rows : List Row) → (added == block) ≡ false → self.old ≡ block_added path.now added rows → self.new ≡ block_added path.now added (rewritten path.now (change.Committed block bytes) rows) }
+    {
+        self.root
+            .rewrite(path.names(), Change::Committed(block, bytes));
+    }
+
+    /// Ends the recovery of a block in the file at a path, where the state of that is one of this block: the block's length is
+    /// committed, and the file is closed (HDFS Architecture, "Data Replication"). Costs also the blocks behind that one; takes no
+    /// memory.
+    #[tactic(auto, using(crate::proofs::FileBlocks::all_ended))]
+    pub fn end_recovery(&mut self, path: &Path, block: BlockId, bytes: u64)
+        ensures here { self.new ≡ rewritten path.now (change.Recovered block bytes) self.old }
+        ensures all { IsTrue (recovers_nowhere_else path.now block self.old) → self.new ≡ recovery_ended block bytes self.old }
+    {
+        self.root
+            .rewrite(path.names(), Change::Recovered(block, bytes));
     }
 
     /// Closes the files whose holders are among these clients, but where the length of the last block isn't committed. Costs

@@ -1,6 +1,6 @@
 -- What a file has beside what a directory has: its replication, its blocks, and who may write it.
 -- (HDFS Architecture, "The File System Namespace" and "Data Replication".)
-use Rattle.std.specs.Prelude.{ℕ, ◌+◌, ◌-◌, ◌^◌, Bool, true, false, ◌&&◌, nat_lt, not, if◌then◌else◌, List, [], ◌∷◌, filter, length, is_some, Option, Some, None, unwrap_or}
+use Rattle.std.specs.Prelude.{◌≡◌, ℕ, ◌+◌, ◌-◌, ◌<◌, ◌^◌, ◌==◌, Bool, true, false, ◌&&◌, nat_lt, not, if◌then◌else◌, List, [], ◌∷◌, ◌++◌, map, filter, length, take, drop, is_some, Option, Some, None, unwrap_or}
 use Rattle.std.specs.List.{list_any, flat_map, slice_get}
 use Rattle.std.specs.Option.{option_to_list}
 use Rattle.hdfs_values.specs.Text.{same}
@@ -23,9 +23,12 @@ abbrev pub is_uncommitted : Option FileBlock → Bool
 is_uncommitted None = false
 is_uncommitted (Some block) = not (is_some block.committed)
 
+abbrev pub last_of : List FileBlock → Option FileBlock
+last_of blocks = slice_get blocks (length blocks - 1)
+
 -- there is a last block, and its length isn't committed
 abbrev pub ends_uncommitted : List FileBlock → Bool
-ends_uncommitted blocks = is_uncommitted (slice_get blocks (length blocks - 1))
+ends_uncommitted blocks = is_uncommitted (last_of blocks)
 
 -- a new file, open for a client to write
 abbrev pub new_file : ℕ → List ℕ → FileRow
@@ -36,6 +39,69 @@ with_state state file = record file { state = state }
 
 abbrev pub with_replication : ℕ → FileRow → FileRow
 with_replication replication file = record file { replication = replication }
+
+-- What a file's blocks are (HDFS Architecture, "Data Replication": a file is a sequence of blocks).
+
+abbrev pub ids_of : FileRow → List ℕ
+ids_of file = map (λ block. block.id) file.blocks
+
+abbrev pub ids_in : Option FileRow → List ℕ
+ids_in None = []
+ids_in (Some file) = ids_of file
+
+-- the blocks of all files, in the order of the rows, and those of a file in its order
+abbrev pub blocks_in : List Row → List ℕ
+blocks_in rows = flat_map (λ row. ids_in row.file) rows
+
+-- a block that is begun: what it holds isn't committed
+abbrev pub new_block : ℕ → FileBlock
+new_block id = record { id = id; committed = None }
+
+-- a new block at the end of the file ("Data Replication"; "Staging": a client that writes asks for a block after the other)
+abbrev pub with_block : ℕ → FileRow → FileRow
+with_block id file = record file { blocks = file.blocks ++ new_block id ∷ [] }
+
+abbrev pub but_last : List FileBlock → List FileBlock
+but_last blocks = take (length blocks - 1) blocks
+
+-- the file without its last block
+abbrev pub without_last : FileRow → FileRow
+without_last file = record file { blocks = but_last file.blocks }
+
+abbrev pub has_id : ℕ → FileBlock → Bool
+has_id id block = block.id == id
+
+-- no block has the id of another
+abbrev pub are_distinct : List FileBlock → Bool
+are_distinct [] = true
+are_distinct (block ∷ blocks) = not (list_any (has_id block.id) blocks) && are_distinct blocks
+
+-- the block at this place has this id, and none behind it
+pub record IsLastPlace (id : ℕ) (blocks : List FileBlock) (place : ℕ) : Type 0 where
+  pub within : place < length blocks
+  pub here : (block : FileBlock) → slice_get blocks place ≡ Some block → block.id ≡ id
+  pub behind : list_any (has_id id) (drop (place + 1) blocks) ≡ false
+
+abbrev pub with_length : Bool → ℕ → FileBlock → FileBlock
+with_length here bytes block = if here then record block { committed = Some bytes } else block
+
+-- the block with this id has this length committed; if several had that id, it would be the last of them
+abbrev pub committed_in : ℕ → ℕ → List FileBlock → List FileBlock
+committed_in id bytes [] = []
+committed_in id bytes (block ∷ blocks) = with_length (has_id id block && not (list_any (has_id id) blocks)) bytes block ∷ committed_in id bytes blocks
+
+abbrev pub committed_at : ℕ → ℕ → FileRow → FileRow
+committed_at id bytes file = record file { blocks = committed_in id bytes file.blocks }
+
+-- the state of a file whose last block, this one, is recovered ("Data Replication"; HDFS-265, "Lease recovery")
+abbrev pub state_recovers : ℕ → FileState → Bool
+state_recovers id Closed = false
+state_recovers id (Open client) = false
+state_recovers id (Recovering own stamp begun) = own == id
+
+-- where this block is recovered, the end of that: its length is committed, and the file closed
+abbrev pub recovered_at : ℕ → ℕ → FileRow → FileRow
+recovered_at id bytes file = if state_recovers id file.state then with_state Closed (committed_at id bytes file) else file
 
 -- the client who has the file open
 abbrev pub holder_of : FileState → Option (List ℕ)

@@ -1,4 +1,6 @@
-ghost use Rattle.std.specs.Prelude.{◌≡◌, ◌<◌, ◌^◌, [], ◌∷◌, ◌++◌, None, IfOk, MatchOption};
+ghost use Rattle.std.specs.Prelude.{◌≡◌, ◌<◌, ◌^◌, false, [], ◌∷◌, ◌++◌, None, IfOk, map, IsTrue, OnOk, OnErr, MatchOption};
+ghost use Rattle.std.specs.List.{list_any};
+ghost use Rattle.std.specs.Option.{option_copied};
 ghost use Rattle.namespace_rows.specs.Files as spec;
 
 use hdfs_types::file::FileState;
@@ -63,6 +65,63 @@ impl FileBlocks {
             None => false,
         }
     }
+
+    /// The last block.
+    pub fn last(&self) -> Option<&FileBlock>
+        ensures { option_copied result ≡ spec.last_of self.now }
+    {
+        self.list.last()
+    }
+
+    /// Adds a block at the end, whose length isn't committed. The cost is constant, taken over many calls.
+    ///
+    /// # Errors
+    /// Out of memory, and nothing has changed.
+    pub fn push(&mut self, id: BlockId) -> Result<(), AllocError>
+        ensures ok { OnOk result (self.new ≡ self.old ++ spec.new_block id ∷ []) }
+        ensures err { OnErr result (self.new ≡ self.old) }
+    {
+        self.list.push(FileBlock {
+            id,
+            committed: None,
+        })?;
+        Ok(())
+    }
+
+    /// Takes the last block out, where there is one. Takes no memory.
+    pub fn pop(&mut self)
+        ensures { self.new ≡ spec.but_last self.old }
+    {
+        let _last = self.list.pop();
+    }
+
+    /// Commits the length of the block with this id, where it is there. Costs the blocks from that on to the end, since it is
+    /// nearly always the last; takes no memory.
+    pub fn commit(&mut self, id: BlockId, bytes: u64)
+        ensures last { self.new ≡ spec.committed_in id bytes self.old }
+        ensures each { IsTrue (spec.are_distinct self.old) → self.new ≡ map (λ block. spec.with_length (spec.has_id id block) bytes block) self.old }
+    {
+        if let Some(place) = place_of(&self.list, id) {
+            self.list[place] = FileBlock {
+                id,
+                committed: Some(bytes),
+            };
+        }
+    }
+}
+
+/// The place of the last block with this id.
+fn place_of(blocks: &[FileBlock], id: BlockId) -> Option<usize>
+    ensures { MatchOption result (list_any (spec.has_id id) blocks.now ≡ false) (spec.IsLastPlace id blocks.now) }
+{
+    let mut left = blocks.len();
+    while left > 0 {
+        left -= 1;
+        if blocks[left].id == id {
+            return Some(left);
+        }
+    }
+    None
 }
 
 #[tactic(auto, using(crate::proofs::Lengths::length_behind, crate::proofs::Lengths::told))]
@@ -117,6 +176,28 @@ impl FileRow {
             replication,
             blocks: FileBlocks::new(alloc),
             state: FileState::Open(client),
+        }
+    }
+
+    /// Whether the file's last block, this one, is recovered.
+    fn recovers(&self, id: BlockId) -> bool
+        ensures { result ≡ spec.state_recovers id self.now.state }
+    {
+        match &self.state {
+            FileState::Recovering(own, _, _) => *own == id,
+            FileState::Open(_) => false,
+            FileState::Closed => false,
+        }
+    }
+
+    /// Where this block of the file is recovered, commits its length and closes the file. Costs what `FileBlocks::commit` does;
+    /// takes no memory (HDFS Architecture, "Data Replication").
+    pub fn end_recovery(&mut self, id: BlockId, bytes: u64)
+        ensures { self.new ≡ spec.recovered_at id bytes self.old }
+    {
+        if self.recovers(id) {
+            self.blocks.commit(id, bytes);
+            self.state = FileState::Closed;
         }
     }
 }

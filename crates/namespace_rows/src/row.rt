@@ -8,6 +8,7 @@ use acl_entries::acl::Acl;
 use acl_entries::deciding_entry::Chosen;
 use hdfs_types::file::FileState;
 use hdfs_types::reply::ObjectKind;
+use hdfs_values::ids::BlockId;
 use hdfs_values::path::Path;
 use hdfs_values::replication::Repl;
 use hdfs_values::who::Who;
@@ -89,4 +90,10 @@ pub enum Change {
     State(FileState),
     /// Where it is a file, this replication.
     Replication(Repl),
+    /// Where it is a file that has this block, this length for that block.
+    Committed(BlockId, u64),
+    /// Where it is a file, its blocks without the last.
+    LastTaken,
+    /// Where it is a file whose last block, this one, is recovered, this length for that block, and no writer.
+    Recovered(BlockId, u64),
 }

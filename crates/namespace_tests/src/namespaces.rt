@@ -1,8 +1,7 @@
-ghost use Rattle.std.specs.Prelude.{◌≡◌, true, IsTrue};
+ghost use Rattle.std.specs.Prelude.{◌≡◌, true, IsTrue, IfOk};
 ghost use Rattle.namespace_rows.specs.Namespace.{has_parent, suits_kind};
 
 use acl_entries::acl::Acl;
-use hdfs_cli::explain::rows_of;
 use hdfs_types::reply::ObjectKind;
 use hdfs_values::path::Path;
 use hdfs_values::replication::Repl;
@@ -16,11 +15,11 @@ use std::alloc::{AllocError, Global};
 
 // These have no clauses, so that no proof of a test computes what they read. They answer none where memory is out.
 
-fn path_of(alloc: Global, text: &str) -> Option<Path> {
+pub fn path_of(alloc: Global, text: &str) -> Option<Path> {
     Path::parse(alloc, text).ok()
 }
 
-fn who_of(alloc: Global, text: &str) -> Option<Who> {
+pub fn who_of(alloc: Global, text: &str) -> Option<Who> {
     Who::parse(alloc, text).ok()
 }
 
@@ -35,6 +34,15 @@ fn is_held(rows: &[Row], path: &Path) -> bool
     ensures { result ≡ true → IsTrue (has_parent path.now rows.now) }
 {
     directory_of(rows, path.names()).is_some()
+}
+
+/// The rows of a tree.
+fn rows_of(alloc: Global, tree: &Tree) -> Result<Rows, AllocError>
+    ensures { IfOk result (λ rows. rows ≡ tree.now) }
+{
+    let rows = tree.rows_under(&Path::root(alloc))?;
+    let _root = tree.root();
+    Ok(Rows::from_vec(rows))
 }
 
 /// Whether a tree has a directory that holds the path.
@@ -59,7 +67,7 @@ fn put_file_at(alloc: Global, tree: &mut Tree, path: &Path) -> Option<bool> {
     Some(tree.insert(path, owner, group, acl, Some(file)).is_ok())
 }
 
-fn put_file(alloc: Global, tree: &mut Tree, path: &str) -> Option<bool> {
+pub fn put_file(alloc: Global, tree: &mut Tree, path: &str) -> Option<bool> {
     put_file_at(alloc, tree, &path_of(alloc, path)?)
 }
 
@@ -106,7 +114,7 @@ fn opening_rows(alloc: Global) -> Option<Rows> {
 }
 
 /// A new namespace.
-fn opening_tree(alloc: Global) -> Option<Tree> {
+pub fn opening_tree(alloc: Global) -> Option<Tree> {
     Some(Tree::new(alloc, who_of(alloc, "hdfs")?, who_of(alloc, "supergroup")?))
 }
 

@@ -29,7 +29,7 @@ use Rattle.flat_rows.specs.Changes.{without, moved, moved_row, rows_under, chang
 use Rattle.flat_rows.specs.FileOutcome.{directory_there, file_there, holder_at, state_after_append}
 use Rattle.flat_rows.specs.Facts.{Facts}
 use Rattle.flat_rows.specs.Outcome.{first_refusal, first_some, beneath_file, rows_after, with_new, made_at, new_row, new_rows, mode_of_new, file_of_new, with_mode_at, with_owner_at, with_acl_at, with_list_at}
-use Rattle.flat_rows.proofs.Changes.{same_self, any_kept}
+use Rattle.flat_rows.proofs.Changes.{same_self, any_kept, changed_path}
 use Rattle.flat_rows.proofs.Firsts.{first_passes}
 use Rattle.flat_rows.proofs.Holders.{all_apart}
 use Rattle.flat_rows.proofs.Making.{all_upto, not_upto, upto, beneath_more}
@@ -216,12 +216,6 @@ module _ (rows : List Row) (other : List (List ℕ)) where
   abbrev anew_at : List (List ℕ) → Change → Row → Row
   anew_at path given row = cond (same_path path row.path) (changed given row) row
 
-  given_path : (given : Change) (row : Row) → (changed given row).path ≡ row.path
-  given_path (change.Owner owner group) row = refl
-  given_path (change.List acl) row = refl
-  given_path (change.State state) row = refl
-  given_path (change.Replication replication) row = refl
-
   pub rewritten_elsewhere : (path : List (List ℕ)) (given : Change) → (same_path other path || false) ≡ false → row_at other (rewritten path given rows) ≡ row_at other rows
   rewritten_elsewhere path given apart = at_map_same other (anew_at path given) keeps stays rows
     where
@@ -229,7 +223,7 @@ module _ (rows : List Row) (other : List (List ℕ)) where
       keeps row = by (same_path path row.path)
         where
           by : (b : Bool) → (cond b (changed given row) row).path ≡ row.path
-          by true = given_path given row
+          by true = changed_path given row
           by false = refl
 
       stays : (row : Row) → same_path other row.path ≡ true → anew_at path given row ≡ row

@@ -1,0 +1,153 @@
+-- The blocks of files: those of a visit, and a block that was added and taken back.
+use Rattle.std.proofs.Common.{◌≡◌, ℕ, ◌+◌, ◌-◌, nat_eq, Bool, true, false, ◌&&◌, ◌||◌, not, List, [], ◌∷◌, ◌++◌, map, length, length-append, take, append_assoc, cond, Option, Some, None, refl, sym, ap, ◌∙◌, subst, arith, Result, OnOk, OnErr}
+use Rattle.std.proofs.Math.Seq.{take-append_seam}
+use Rattle.std.specs.List.{list_all}
+use Rattle.std.specs.Option.{option_map}
+use Rattle.std.specs.declared.alloc.AllocError.{AllocError}
+use Rattle.hdfs_values.specs.PathOrder.{same_path}
+use Rattle.hdfs_types.specs.declared.file.FileState.TheVariants.{Closed}
+use Rattle.namespace_rows.specs.declared.file_row.FileBlock.{FileBlock}
+use Rattle.namespace_rows.specs.declared.file_row.FileRow.{FileRow}
+use Rattle.namespace_rows.specs.declared.row.Row.{Row}
+use Rattle.namespace_rows.specs.declared.row.Change.TheVariants as change
+use Rattle.namespace_rows.specs.Files.{ids_in, blocks_in, new_block, with_block, with_state, but_last, without_last, committed_at, state_recovers, recovered_at}
+use Rattle.namespace_rows.proofs.Tests.{both}
+use Rattle.namespace_rows.proofs.Commits.{committed_before}
+use Rattle.flat_rows.specs.Changes.{with_file, edited, rewritten, block_added, is_recovered, recovers_nowhere_else, recovery_ended, rows_under, suits_change}
+use Rattle.flat_rows.proofs.Changes.{edited_namespace, edited_paths}
+use Rattle.inode_nodes.specs.Node.{Node, flatten, rows, rows_or, under, placed}
+use Rattle.inode_nodes.specs.Part.{IsWhole}
+use Rattle.inode_nodes.proofs.Filters.{Entries}
+use Rattle.inode_nodes.proofs.Through.{on_err}
+use Rattle.inode_tree.specs.Tree.{IsTree}
+use Rattle.inode_tree.proofs.Trees.{either_tree}
+
+-- a visit
+
+module _ (f : Row → Row) (same : (row : Row) → (f row).file ≡ row.file) where
+  blocks_map : (rs : List Row) → blocks_in (map f rs) ≡ blocks_in rs
+  blocks_map [] = refl
+  blocks_map (r ∷ rs) = ap (λ file. ids_in file ++ blocks_in (map f rs)) (same r) ∙ ap (λ l. ids_in r.file ++ l) (blocks_map rs)
+
+blocks_append : (xs ys : List Row) → blocks_in (xs ++ ys) ≡ blocks_in xs ++ blocks_in ys
+blocks_append [] ys = refl
+blocks_append (x ∷ xs) ys = ap (λ l. ids_in x.file ++ l) (blocks_append xs ys) ∙ sym (append_assoc (ids_in x.file) (blocks_in xs) (blocks_in ys))
+
+-- those of one entry are added, and those of the entries behind it are left
+pub blocks_next : (it new : Entries) (n : List ℕ) (b : Node) (before after all : List ℕ) → it ≡ (n, b) ∷ new → after ≡ before ++ blocks_in (rows b) → before ++ blocks_in (flatten it) ≡ all → after ++ blocks_in (flatten new) ≡ all
+blocks_next it new n b before after all is a h =
+    ap (λ l. l ++ blocks_in (flatten new)) a ∙ append_assoc before (blocks_in (rows b)) (blocks_in (flatten new))
+    ∙ ap (λ l. before ++ l) (sym (ap (λ (x : Entries). blocks_in (flatten x)) is ∙ blocks_append (map (under n) (rows b)) (flatten new) ∙ ap (λ l. l ++ blocks_in (flatten new)) (blocks_map (under n) (λ row. refl) (rows b)))) ∙ h
+
+-- those of the rows at and beneath a path, where these were found there
+pub blocks_there : (names path : List (List ℕ)) → names ≡ path → (root : Node) (all : List Row) → rows root ≡ all → (o : Option Node) → IsWhole names (rows root) o → blocks_in (rows_or o) ≡ blocks_in (rows_under path all)
+blocks_there names path is root all seen o whole =
+    sym (ap blocks_in (sym (ap (λ p. rows_under p all) is) ∙ sym (ap (rows_under names) seen) ∙ whole) ∙ blocks_map (placed names) (λ row. refl) (rows_or o))
+
+-- a block that was added and taken back
+
+last_added : (blocks : List FileBlock) (new : FileBlock) → but_last (blocks ++ new ∷ []) ≡ blocks
+last_added blocks new = ap (λ k. take k (blocks ++ new ∷ [])) (shorter (length blocks) (length (blocks ++ new ∷ [])) (length-append blocks (new ∷ []))) ∙ take-append_seam blocks (new ∷ [])
+  where
+    shorter : (n m : ℕ) → m ≡ n + 1 → m - 1 ≡ n
+    shorter n m h = omega (arith, h)
+
+module _ (path : List (List ℕ)) (block : ℕ) where
+  file_back : (file : Option FileRow) → option_map without_last (option_map (with_block block) file) ≡ file
+  file_back None = refl
+  file_back (Some file) = ap (λ blocks. Some (record file { blocks = blocks })) (last_added file.blocks (new_block block))
+
+  back : (row : Row) → edited without_last (edited (with_block block) row) ≡ row
+  back row = ap (λ file. with_file file row) (file_back row.file)
+
+  pub taken_back : (rows : List Row) → rewritten path change.LastTaken (block_added path block rows) ≡ rows
+  taken_back [] = refl
+  taken_back (row ∷ rows) = by (same_path path row.path) refl (taken_back rows)
+    where
+      by : (b : Bool) → same_path path row.path ≡ b → rewritten path change.LastTaken (block_added path block rows) ≡ rows
+          → rewritten path change.LastTaken (cond b (edited (with_block block) row) row ∷ block_added path block rows) ≡ row ∷ rows
+      by true e rest = ap (λ b. cond b (edited without_last (edited (with_block block) row)) (edited (with_block block) row) ∷ rewritten path change.LastTaken (block_added path block rows)) e ∙ ap (λ r. r ∷ rewritten path change.LastTaken (block_added path block rows)) (back row) ∙ ap (λ l. row ∷ l) rest
+      by false e rest = ap (λ b. cond b (edited without_last row) row ∷ rewritten path change.LastTaken (block_added path block rows)) e ∙ ap (λ l. row ∷ l) rest
+
+  pub undone : (old new rows : List Row) → new ≡ rewritten path change.LastTaken old → old ≡ block_added path block rows → new ≡ rows
+  undone old new rows taken added = taken ∙ ap (rewritten path change.LastTaken) added ∙ taken_back rows
+
+-- a length that is committed behind a new block of another id
+
+module _ (path : List (List ℕ)) (block bytes added : ℕ) (other : nat_eq added block ≡ false) where
+  file_commits : (file : Option FileRow) → option_map (committed_at block bytes) (option_map (with_block added) file) ≡ option_map (with_block added) (option_map (committed_at block bytes) file)
+  file_commits None = refl
+  file_commits (Some file) = ap (λ blocks. Some (record file { blocks = blocks })) (committed_before block bytes file.blocks (new_block added) other)
+
+  row_commits : (row : Row) → edited (committed_at block bytes) (edited (with_block added) row) ≡ edited (with_block added) (edited (committed_at block bytes) row)
+  row_commits row = ap (λ file. with_file file row) (file_commits row.file)
+
+  before_added : (rows : List Row) → rewritten path (change.Committed block bytes) (block_added path added rows) ≡ block_added path added (rewritten path (change.Committed block bytes) rows)
+  before_added [] = refl
+  before_added (row ∷ rows) = by (same_path path row.path) refl (before_added rows)
+    where
+      later : List Row
+      later = rewritten path (change.Committed block bytes) (block_added path added rows)
+
+      sooner : List Row
+      sooner = block_added path added (rewritten path (change.Committed block bytes) rows)
+
+      by : (b : Bool) → same_path path row.path ≡ b → later ≡ sooner
+          → rewritten path (change.Committed block bytes) (cond b (edited (with_block added) row) row ∷ block_added path added rows) ≡ block_added path added (cond b (edited (committed_at block bytes) row) row ∷ rewritten path (change.Committed block bytes) rows)
+      by true e rest =
+          ap (λ b. cond b (edited (committed_at block bytes) (edited (with_block added) row)) (edited (with_block added) row) ∷ later) e ∙ ap (λ r. r ∷ later) (row_commits row) ∙ ap (λ l. edited (with_block added) (edited (committed_at block bytes) row) ∷ l) rest
+          ∙ ap (λ b. cond b (edited (with_block added) (edited (committed_at block bytes) row)) (edited (committed_at block bytes) row) ∷ sooner) (sym e)
+      by false e rest =
+          ap (λ b. cond b (edited (committed_at block bytes) row) row ∷ later) e ∙ ap (λ l. row ∷ l) rest ∙ ap (λ b. cond b (edited (with_block added) row) row ∷ sooner) (sym e)
+
+  pub committed_as_before : (old new rows : List Row) → new ≡ rewritten path (change.Committed block bytes) old → old ≡ block_added path added rows → new ≡ block_added path added (rewritten path (change.Committed block bytes) rows)
+  committed_as_before old new rows done is = done ∙ ap (rewritten path (change.Committed block bytes)) is ∙ before_added rows
+
+-- the end of a recovery
+
+module _ (path : List (List ℕ)) (block bytes : ℕ) where
+  not_true : (b : Bool) → not b ≡ true → b ≡ false
+  not_true true h = cc
+  not_true false h = refl
+
+  kept_file : (file : Option FileRow) → is_recovered block file ≡ false → option_map (recovered_at block bytes) file ≡ file
+  kept_file None h = refl
+  kept_file (Some file) h = ap (λ b. Some (cond b (with_state Closed (committed_at block bytes file)) file)) h
+
+  kept_row : (row : Row) → is_recovered block row.file ≡ false → edited (recovered_at block bytes) row ≡ row
+  kept_row row h = ap (λ file. with_file file row) (kept_file row.file h)
+
+  pub all_ended : (rows : List Row) → recovers_nowhere_else path block rows ≡ true → rewritten path (change.Recovered block bytes) rows ≡ recovery_ended block bytes rows
+  all_ended [] h = refl
+  all_ended (row ∷ rows) h =
+      let hs = both (same_path path row.path || not (is_recovered block row.file)) (recovers_nowhere_else path block rows) h in
+      ap (λ r. r ∷ rewritten path (change.Recovered block bytes) rows) (by (same_path path row.path) hs.0) ∙ ap (λ l. edited (recovered_at block bytes) row ∷ l) (all_ended rows hs.1)
+    where
+      by : (b : Bool) → (b || not (is_recovered block row.file)) ≡ true → cond b (edited (recovered_at block bytes) row) row ≡ edited (recovered_at block bytes) row
+      by true k = refl
+      by false k = sym (kept_row row (not_true (is_recovered block row.file) k))
+
+-- these changes suit each row
+
+pub taking_suits : (found : Option Row) → suits_change change.LastTaken found ≡ true
+taking_suits None = refl
+taking_suits (Some row) = refl
+
+pub committing_suits : (block bytes : ℕ) (found : Option Row) → suits_change (change.Committed block bytes) found ≡ true
+committing_suits block bytes None = refl
+committing_suits block bytes (Some row) = refl
+
+pub ending_suits : (block bytes : ℕ) (found : Option Row) → suits_change (change.Recovered block bytes) found ≡ true
+ending_suits block bytes None = refl
+ending_suits block bytes (Some row) = refl
+
+-- a tree stays one
+
+module _ (path names : List (List ℕ)) (is : names ≡ path) (b : Node) (all : List Row) (seen : rows b ≡ all) (tree : IsTree (rows b)) where
+  pub push_keeps : (block : ℕ) (r : Result (Unit {0}) AllocError) (new : Node) → OnOk r (rows new ≡ block_added names block (rows b)) → OnErr r (new ≡ b) → IsTree (rows new)
+  push_keeps block r new ok err =
+      either_tree r (rows b) (rows new) (block_added names block (rows b)) ok (on_err r (ap rows) err)
+      (record {
+        namespace = edited_namespace (with_block block) (λ row. same_path names row.path) (rows b) tree.namespace;
+        paths = edited_paths (with_block block) (λ row. same_path names row.path) (rows b) tree.paths;
+      }) tree

@@ -1,0 +1,18 @@
+use Rattle.std.proofs.Common.{ap, ◌∙◌}
+use Rattle.namespace_rows.specs.declared.row.Change.TheVariants as change
+use Rattle.namespace_rows.specs.Rows.{row_at}
+use Rattle.flat_rows.specs.Changes.{rewritten}
+use Rattle.inode_nodes.specs.Node.{rows}
+use Rattle.inode_tree.proofs.FileBlocks.{taking_suits, undone}
+use Rattle.inode_tree.proofs.Trees.{rewrite_keeps}
+use Rattle.inode_tree.proofs.tree.Tree.pop_block.Goals as goal
+
+pub invariant_of-self : goal.invariant_of-self
+invariant_of-self c =
+    rewrite_keeps c.args.path.now c.names.result.now c.names.ensures.names c.self.inside.root c.args.self.now c.self.view_is c.self.invariant change.LastTaken c.rewrite.new.self
+    (taking_suits (row_at c.args.path.now c.args.self.now)) c.rewrite.ensures
+
+pub returns-clause-undone : goal.returns-clause-undone
+returns-clause-undone c =
+    λ block before added. undone c.args.path.now block c.args.self.now (rows c.rewrite.new.self) before
+    (c.rewrite.ensures ∙ ap (λ p. rewritten p change.LastTaken (rows c.self.inside.root)) c.names.ensures.names ∙ ap (rewritten c.args.path.now change.LastTaken) c.self.view_is) added
