@@ -4,4 +4,6 @@
 #![tactic(auto)]
 
 pub mod blocks;
-pub mod recovery;
+pub use known_blocks::last_block;
+pub use new_blocks::behind;
+pub use node_orders::{instructions, recovery};

@@ -1,5 +1,6 @@
 -- How many blocks the nodes have once the length of a block is committed.
 use Rattle.std.proofs.Common.{◌≡◌, ℕ, ◌+◌, ◌-◌, ◌==◌, Bool, true, false, ◌&&◌, ◌||◌, not, List, [], ◌∷◌, filter, length, Option, Some, None, refl, sym, ap, ◌∙◌, cond, arith}
+use Rattle.std.proofs.lemmas.List.Sums.{sum_by-cons}
 use Rattle.std.proofs.lemmas.Map.Entries.{sum_by-set_value}
 use Rattle.std.specs.List.{sum_by}
 use Rattle.std.specs.List.Sorted.{IsStrictlySortedBy}
@@ -14,13 +15,13 @@ use Rattle.block_records.proofs.Reporting.{has_key, has_kept, kept_reports, hold
 use Rattle.block_tables.specs.Changes.{changed, changed_by, with_length}
 use Rattle.block_tables.specs.Kept.{blocks_of, load, load_without}
 
-weight : ℕ → BlockRecord → ℕ
+abbrev pub weight : ℕ → BlockRecord → ℕ
 weight node own = cond (holds_by node (Some own)) 1 0
 
 -- a node's load is a sum over all blocks
 load_is : (node : ℕ) (table : List (ℕ × BlockRecord)) → load table node ≡ sum_by (weight node) (values_of table)
 load_is node [] = refl
-load_is node (entry ∷ table) = by (holds_by node (Some entry.1)) (load_is node table)
+load_is node (entry ∷ table) = by (holds_by node (Some entry.1)) (load_is node table) ∙ sym (sum_by-cons (weight node) entry.1 (values_of table))
   where
     rest : List (ℕ × BlockRecord)
     rest = filter (λ own. holds_by node (Some own.1)) table
@@ -51,10 +52,10 @@ other_reported bytes node reports other = sym (has_key node reports) ∙ in_all 
 
 module _ (bytes node : ℕ) (own : BlockRecord) (sorted : IsStrictlySortedBy nat_cmp (keys_of own.reports)) where
   -- the nodes that reported another length and aren't to hold the block
-  leaves : List ℕ
+  abbrev pub leaves : List ℕ
   leaves = filter (λ other. not (has_number other own.expected)) (others_of bytes own.reports)
 
-  other : Bool
+  abbrev pub other : Bool
   other = has_number node (others_of bytes own.reports)
 
   leaves_is : has_number node leaves ≡ (not (has_number node own.expected) && other)
@@ -78,10 +79,10 @@ module _ (bytes node : ℕ) (own : BlockRecord) (sorted : IsStrictlySortedBy nat
       ∙ by (has_number node own.expected) other refl (holds_by node (Some own)) held_before)
     where
       by : (expected reported : Bool) → other ≡ reported → (held : Bool) → (other ≡ true → held ≡ true) → cond (not expected && reported) 1 0 + cond (cond (reported && not expected) false held) 1 0 ≡ cond held 1 0
-      by true true is held has = refl
-      by true false is held has = refl
+      by true true is held has = omega arith
+      by true false is held has = omega arith
       by false true is held has = ap (λ b. cond b 1 0) (sym (has is))
-      by false false is held has = refl
+      by false false is held has = omega arith
 
   pub less : (block : ℕ) (table : List (ℕ × BlockRecord)) → entry_at block table ≡ Some own
       → load_without table leaves node ≡ load (set_value (is_number block) table (with_length bytes own)) node
