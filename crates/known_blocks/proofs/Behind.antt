@@ -11,6 +11,7 @@ use Rattle.block_records.specs.declared.block_record.BlockRecord.{BlockRecord}
 use Rattle.block_records.proofs.Numbers.{number_is}
 use Rattle.block_tables.specs.Changes.{changed, changed_by}
 use Rattle.known_blocks.specs.Kept.{AreBelow}
+use Rattle.known_blocks.specs.Known.{Known, block_of, altered, added, new_record}
 
 -- the next number is another than that of a block that is known
 pub is_another : (block next : ℕ) (table : List (ℕ × BlockRecord)) → AreBelow table next → is_some (entry_at block table) ≡ true → is_number block next ≡ false
@@ -72,3 +73,14 @@ module _ (block next : ℕ) (own : BlockRecord) (another : is_number block next 
       by : (found : Option BlockRecord) → changed_by change block found (insert_entry nat_cmp table next own) ≡ insert_entry nat_cmp (changed_by change block found table) next own
       by None = refl
       by (Some old) = set_behind (change old) table
+
+-- ---- the same of all that is known
+
+module _ (known : Known) (block : ℕ) (below : AreBelow known.blocks known.next_block) (there : is_some (block_of known block) ≡ true) (targets : List ℕ) (replication : ℕ) where
+  pub same_block : block_of (added known targets replication) block ≡ block_of known block
+  same_block = same_entry block known.next_block (new_record known.next_stamp targets replication) (is_another block known.next_block known.blocks below there) known.blocks
+
+  pub altered_behind : (change : BlockRecord → BlockRecord) → altered change block (added known targets replication) ≡ added (altered change block known) targets replication
+  altered_behind change =
+      ap (λ blocks. record (added known targets replication) { blocks = blocks })
+      (changed_behind block known.next_block (new_record known.next_stamp targets replication) (is_another block known.next_block known.blocks below there) change known.blocks)
