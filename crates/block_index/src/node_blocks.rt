@@ -1,6 +1,7 @@
-ghost use Rattle.std.specs.Prelude.{◌≡◌, ℕ, ◌&&◌, true, false, [], not, is_some, length, if◌then◌else◌, IfOk, OnOk, OnErr};
+ghost use Rattle.std.specs.Prelude.{◌≡◌, ℕ, ◌&&◌, true, false, [], not, is_some, length, fold, if◌then◌else◌, IfOk, OnOk, OnErr};
 ghost use Rattle.std.specs.List.{list_any};
 ghost use Rattle.std.specs.List.Sorted.{IsStrictlySortedBy};
+ghost use Rattle.std.specs.Map.{remove_entry};
 ghost use Rattle.std.specs.Ordering.{nat_cmp};
 ghost use Rattle.block_records.specs.Numbers.{is_number, has_number, entry_at};
 ghost use Rattle.block_index.specs.Relation.{blocks_at, relates};
@@ -54,6 +55,15 @@ impl BlockSet {
         ensures ascending { IsStrictlySortedBy nat_cmp self.now }
     {
         self.ids.iter().copied().collect(alloc)
+    }
+
+    /// Takes these blocks out of a table of nodes. Costs a look-up for each, and takes no memory.
+    pub fn remove_from(&self, table: &mut BTreeMap<BlockId, NodeId>)
+        ensures { table.new.entries ≡ fold (λ left block. remove_entry (is_number block) left) table.old.entries self.now }
+    {
+        for block in self.ids.iter() {
+            table.remove(block);
+        }
     }
 
     /// Adds a block, which may be there. Costs a look-up.
@@ -127,11 +137,19 @@ impl NodeBlocks {
         }
     }
 
-    /// Notes that a node has nothing to do with any block. Costs a look-up, and takes no memory.
-    pub fn clear(&mut self, node: NodeId)
-        ensures { (n b : ℕ) → relates self.new n b ≡ (if is_number node n then false else relates self.old n b) }
+    /// Takes out the blocks that a node has to do with. Costs a look-up, and takes no memory.
+    pub fn take(&mut self, node: NodeId) -> BlockSet
+        ensures blocks { result ≡ blocks_at self.old node }
+        ensures ascending { IsStrictlySortedBy nat_cmp result }
+        ensures left { (n b : ℕ) → relates self.new n b ≡ (if is_number node n then false else relates self.old n b) }
     {
-        self.nodes.remove(&node);
+        let blocks = match self.nodes.remove(&node) {
+            Some(blocks) => blocks,
+            None => BlockSet::new(self.alloc),
+        };
+        // its contract tells that the ids ascend
+        let _count = blocks.len();
+        blocks
     }
 
     /// Notes that a node has to do with a block.

@@ -2,11 +2,13 @@
 use Rattle.std.specs.Prelude.{ℕ, ◌==◌, not, List, [], ◌++◌, map, filter, if◌then◌else◌, Option, Some, None}
 use Rattle.std.specs.List.{flat_map}
 use Rattle.std.specs.Map.{keys_of}
+use Rattle.std.specs.Option.{option_or}
 use Rattle.block_records.specs.Numbers.{has_number}
 use Rattle.block_records.specs.Reports.{others_of}
 use Rattle.block_records.specs.Marks.{with_mark, with_marks, marks_for, marks_but}
 use Rattle.block_records.specs.Verdicts.{verdict_by}
 use Rattle.block_records.specs.declared.block_record.BlockRecord.{BlockRecord}
+use Rattle.block_records.specs.declared.fault.BlockRefusal.{BlockRefusal}
 use Rattle.block_records.specs.declared.report.ReportVerdict.{ReportVerdict}
 use Rattle.block_records.specs.declared.report.ReportVerdict.TheVariants.{Superseded, Invalid, Valid}
 use Rattle.block_records.specs.declared.mark.Mark.{Mark}
@@ -15,14 +17,14 @@ use Rattle.block_tables.specs.Changes.{with_report, without_report, with_replica
 use Rattle.recovery_queue.specs.Queue as queue
 use Rattle.heartbeats.specs.Live as nodes
 use Rattle.known_blocks.specs.Known as known
-use Rattle.known_blocks.specs.Known.{Known, altered}
-use Rattle.block_map.specs.BlockFacts.{BlockFacts, block_of, newest_stamp, leader, recoveries_for, transfers_for}
+use Rattle.known_blocks.specs.Known.{Known, altered, refused_new_block}
+use Rattle.known_blocks.specs.declared.last_block.LastBlock.{LastBlock}
+use Rattle.new_blocks.specs.Behind.{marks_of, marks_of_others}
+use Rattle.new_blocks.specs.declared.behind.NewBlock.{NewBlock}
 use Rattle.node_orders.specs.Orders.{Instructions}
+use Rattle.block_map.specs.BlockFacts.{BlockFacts, block_of, newest_stamp, leader, chosen_targets, recoveries_for, transfers_for, refused_targets, refused_commit}
 
 -- ---- marks
-
-abbrev pub marks_of : List ℕ → ℕ → ℕ → List Mark
-marks_of nodes block stamp = map (λ node. record { node = node; block = block; stamp = stamp }) nodes
 
 -- the nodes that are to hold a block, and those that reported it
 abbrev pub holders_by : Option BlockRecord → List ℕ
@@ -33,12 +35,7 @@ abbrev pub marks_of_holders : ℕ → Option BlockRecord → List Mark
 marks_of_holders block None = []
 marks_of_holders block (Some own) = marks_of (own.expected ++ keys_of own.reports) block own.stamp
 
--- of the nodes that reported a block with another length
-abbrev pub marks_of_others : ℕ → ℕ → Option BlockRecord → List Mark
-marks_of_others block length None = []
-marks_of_others block length (Some own) = marks_of (others_of length own.reports) block own.stamp
-
--- the same, but of these nodes
+-- of the nodes that reported a block with another length, but of these
 abbrev pub marks_but_of : List ℕ → ℕ → ℕ → Option BlockRecord → List Mark
 marks_but_of nodes block length None = []
 marks_but_of nodes block length (Some own) = marks_of (filter (λ node. not (has_number node nodes)) (others_of length own.reports)) block own.stamp
@@ -78,6 +75,31 @@ committed facts block length = record facts {
   marks = with_marks facts.marks (marks_of_others block length (block_of facts block));
 }
 
+-- ---- a writer's request for a new block
+
+-- the length of the file's last block is committed, if one is named
+abbrev pub committed_last : BlockFacts → Option LastBlock → BlockFacts
+committed_last facts None = facts
+committed_last facts (Some last) = committed facts last.block last.length
+
+abbrev pub refused_last : BlockFacts → Option LastBlock → Option BlockRefusal
+refused_last facts None = None
+refused_last facts (Some last) = refused_commit facts last.block last.length
+
+-- a node has to have reported that length, a node to be live, and numbers to be left, in this order
+abbrev pub refused_behind : BlockFacts → Option LastBlock → ℕ → Option BlockRefusal
+refused_behind facts last now = option_or (refused_last facts last) (option_or (refused_targets facts now) (refused_new_block facts.known))
+
+-- the new block gets the next numbers, and the nodes are chosen behind that commit
+abbrev pub given_behind : BlockFacts → Option LastBlock → ℕ → ℕ → NewBlock
+given_behind facts last now replication =
+    record { block = facts.known.next_block; stamp = facts.known.next_stamp; targets = chosen_targets (committed_last facts last) now replication }
+
+abbrev pub added_behind : BlockFacts → Option LastBlock → ℕ → ℕ → BlockFacts
+added_behind facts last now replication = added (committed_last facts last) (chosen_targets (committed_last facts last) now replication) replication
+
+-- ---- heartbeats
+
 abbrev pub beaten : BlockFacts → ℕ → ℕ → BlockFacts
 beaten facts node now = record facts { nodes = nodes.beaten facts.nodes node now }
 
@@ -111,6 +133,21 @@ told_recoveries facts node = record facts { queued = queue.told facts.queued nod
 abbrev pub told_transfers : BlockFacts → ℕ → List Transfer → BlockFacts
 told_transfers facts now transfers = record facts { known = known.told facts.known (map (λ transfer. transfer.block) transfers) now }
 
+-- ---- a heartbeat's answer
+
+-- what a node is told at its heartbeat: that is noted first, so that the node is live
+abbrev pub instructions_for : BlockFacts → ℕ → ℕ → Instructions
+instructions_for facts now node = record {
+  recoveries = recoveries_for (beaten facts node now) node;
+  removals = marks_for node (beaten facts node now).marks;
+  copies = transfers_for (beaten facts node now) now node;
+}
+
+-- a node's heartbeat is noted, and it was told all that
+abbrev pub handed_out : BlockFacts → ℕ → ℕ → BlockFacts
+handed_out facts node now =
+    told_transfers (told_marks (told_recoveries (beaten facts node now) node) node) now (transfers_for (beaten facts node now) now node)
+
 -- ---- a node's report of a replica
 
 abbrev pub held : BlockFacts → ℕ → ℕ → ℕ → BlockFacts
@@ -135,17 +172,3 @@ reported_by Valid facts node block stamp length = held facts node block length
 
 abbrev pub reported : BlockFacts → ℕ → ℕ → ℕ → ℕ → BlockFacts
 reported facts node block stamp length = reported_by (verdict_by (block_of facts block) stamp length) facts node block stamp length
-
--- ---- a heartbeat
-
--- what a node is told at its heartbeat: that is noted first, so that the node is live
-abbrev pub instructions_for : BlockFacts → ℕ → ℕ → Instructions
-instructions_for facts now node = record {
-  recoveries = recoveries_for (beaten facts node now) node;
-  removals = marks_for node (beaten facts node now).marks;
-  copies = transfers_for (beaten facts node now) now node;
-}
-
--- a node's heartbeat is noted, and it is told all that
-abbrev pub handed_out : BlockFacts → ℕ → ℕ → BlockFacts
-handed_out facts node now = told_transfers (told_marks (told_recoveries (beaten facts node now) node) node) now (transfers_for (beaten facts node now) now node)

@@ -1,24 +1,21 @@
 -- What is known of blocks and of the DataNodes that hold them, and the questions that are asked of it.
 -- (HDFS Architecture, "Data Replication" and "Data Disk Failure, Heartbeats and Re-Replication"; HDFS-265 for recoveries.)
-use Rattle.std.specs.Prelude.{◌≡◌, ℕ, ◌==◌, not, List, [], ◌∷◌, if◌then◌else◌, Option, Some, None}
-use Rattle.std.specs.List.{filter_map}
+use Rattle.std.specs.Prelude.{ℕ, ◌==◌, not, List, [], if◌then◌else◌, Option, Some, None}
 use Rattle.std.specs.Option.{is_some, option_map, option_and_then, option_or}
-use Rattle.block_records.specs.Reports.{is_reported}
 use Rattle.block_records.specs.declared.block_record.BlockRecord.{BlockRecord}
-use Rattle.block_records.specs.declared.fault.BlockFault.{BlockFault}
-use Rattle.block_records.specs.declared.fault.BlockFault.TheVariants.{Refused, OutOfMemory}
 use Rattle.block_records.specs.declared.fault.BlockRefusal.{BlockRefusal}
-use Rattle.block_records.specs.declared.fault.BlockRefusal.TheVariants.{NotFound, NotOpen, NotYetReplicated, StaleStamp, TooFewNodes}
+use Rattle.block_records.specs.declared.fault.BlockRefusal.TheVariants.{NotFound, NotOpen, StaleStamp, TooFewNodes}
 use Rattle.block_records.specs.declared.mark.Mark.{Mark}
 use Rattle.block_placement.specs.Placement.{targets}
 use Rattle.block_tables.specs.Kept.{load}
-use Rattle.recovery_queue.specs.Queue.{led_by}
 use Rattle.heartbeats.specs.Live.{Heartbeats, live_nodes, primary_of}
 use Rattle.block_copies.specs.Copies as copies
 use Rattle.block_copies.specs.declared.transfer.Transfer.{Transfer}
 use Rattle.known_blocks.specs.Known as known
 use Rattle.known_blocks.specs.Known.{Known, refused_new_stamp}
+use Rattle.node_orders.specs.Orders as orders
 use Rattle.node_orders.specs.declared.recovery.Recovery.{Recovery}
+use Rattle.new_blocks.specs.Behind.{reports_by, refused_length, refused_without}
 
 pub record BlockFacts : Type 0 where
   -- in milliseconds: a recovery or a copy is asked for again behind this time
@@ -52,10 +49,6 @@ expected_by (Some own) = own.expected
 abbrev pub expected_nodes : BlockFacts → ℕ → List ℕ
 expected_nodes facts block = expected_by (block_of facts block)
 
-abbrev pub reports_by : Option BlockRecord → List (ℕ × ℕ)
-reports_by None = []
-reports_by (Some own) = own.reports
-
 -- the nodes that reported a block at its newest stamp, by id, each with the length
 abbrev pub reports_of : BlockFacts → ℕ → List (ℕ × ℕ)
 reports_of facts block = reports_by (block_of facts block)
@@ -72,13 +65,9 @@ leader facts block now = primary_of facts.nodes now (expected_nodes facts block)
 
 -- ---- what a node is told
 
--- of a block that is known its newest stamp and all its expected nodes, live or not
-abbrev pub recovery_by : ℕ → Option BlockRecord → Option Recovery
-recovery_by block found = option_map (λ (own : BlockRecord). record { block = block; stamp = own.stamp; nodes = own.expected }) found
-
 -- the recoveries that a node is to lead, by block
 abbrev pub recoveries_for : BlockFacts → ℕ → List Recovery
-recoveries_for facts node = filter_map (λ block. recovery_by block (block_of facts block)) (led_by node facts.queued)
+recoveries_for facts node = orders.recoveries_for facts.known facts.queued node
 
 -- the blocks whose recovery is to be begun anew
 abbrev pub due_recoveries : BlockFacts → ℕ → List ℕ
@@ -90,17 +79,13 @@ transfers_for facts now node = copies.transfers_for facts.known.blocks (record {
 
 -- ---- refusals
 
-abbrev pub refused_without : List ℕ → Option BlockRefusal
-refused_without [] = Some TooFewNodes
-refused_without (node ∷ nodes) = None
-
 -- a node has to be live
 abbrev pub refused_targets : BlockFacts → ℕ → Option BlockRefusal
 refused_targets facts now = refused_without (live_nodes facts.nodes now)
 
 -- a node has to have reported the block at its newest stamp with this length
 abbrev pub refused_commit : BlockFacts → ℕ → ℕ → Option BlockRefusal
-refused_commit facts block length = if is_reported (reports_of facts block) length then None else Some NotYetReplicated
+refused_commit facts block length = refused_length (block_of facts block) length
 
 abbrev pub refused_unled : Option ℕ → Option BlockRefusal
 refused_unled None = Some TooFewNodes
@@ -118,8 +103,3 @@ refused_recovered_by (Some own) stamp = if not (stamp == own.stamp) then Some (S
 
 abbrev pub refused_recovered : BlockFacts → ℕ → ℕ → Option BlockRefusal
 refused_recovered facts block stamp = refused_recovered_by (block_of facts block) stamp
-
--- a call that is refused says why; want of memory may stand in the place of any other answer
-abbrev pub IsFaultOf : Option BlockRefusal → BlockFault → Type 0
-IsFaultOf refusal (Refused own) = refusal ≡ Some own
-IsFaultOf refusal OutOfMemory = Unit {0}

@@ -1,17 +1,13 @@
-ghost use Rattle.std.specs.Prelude.{◌≡◌, [], None, Some, map, option_copied, OnOk, OnErr, IfOk, IfErr};
-ghost use Rattle.std.specs.List.{filter_map};
+ghost use Rattle.std.specs.Prelude.{◌≡◌, [], None, Some, option_copied, OnOk, OnErr, IfOk, IfErr};
 ghost use Rattle.std.specs.Option.{option_map};
 ghost use Rattle.heartbeats.specs.Live.{is_live, live_nodes};
-ghost use Rattle.known_blocks.specs.Known.{refused_new_block};
-ghost use Rattle.block_map.specs.BlockFacts.{newest_stamp, committed_length, recovering_since, expected_nodes, chosen_targets, recovery_by, recoveries_for, transfers_for, due_recoveries, refused_targets, refused_commit, refused_recovery, refused_recovered, IsFaultOf, block_of};
+ghost use Rattle.new_blocks.specs.Behind.{IsFaultOf};
+ghost use Rattle.block_map.specs.BlockFacts.{newest_stamp, committed_length, recovering_since, expected_nodes, transfers_for, due_recoveries, refused_commit, refused_recovery, refused_recovered, block_of};
 ghost use Rattle.block_map.specs.BlockEffects as effect;
-ghost use Rattle.block_copies.specs.declared.transfer.Transfer.{Transfer};
 ghost use Rattle.block_records.specs.Marks.{marks_for};
 ghost use Rattle.block_records.specs.Verdicts.{verdict_by};
 ghost use Rattle.block_records.specs.declared.block_record.BlockRecord.{BlockRecord};
 
-use crate::instructions::Instructions;
-use crate::recovery::Recovery;
 use block_copies::transfer::{HandOut, Transfer};
 use block_records::fault::{BlockFault, BlockRefusal};
 use block_records::mark::{Mark, Marks};
@@ -24,6 +20,11 @@ use hdfs_values::node_id::NodeId;
 use hdfs_values::replication::Repl;
 use heartbeats::heartbeats::Heartbeats;
 use known_blocks::known_blocks::KnownBlocks;
+use known_blocks::last_block::LastBlock;
+use new_blocks::behind;
+use new_blocks::behind::NewBlock;
+use node_orders::instructions;
+use node_orders::instructions::Instructions;
 use recovery_queue::queue::RecoveryQueue;
 use std::alloc::{AllocError, Global};
 use std::marker::Model;
@@ -46,35 +47,6 @@ impl Model for Blocks {
     ghost Value = { BlockFacts };
 
     ghost view = { λ blocks. record { retry = blocks.retry; known = blocks.known; nodes = blocks.nodes; marks = blocks.marks; queued = blocks.queue } };
-}
-
-// A mark of each of these nodes.
-fn marks_of(
-    alloc: Global,
-    nodes: &[NodeId],
-    block: BlockId,
-    stamp: Stamp,
-) -> Result<Vec<Mark>, AllocError>
-    ensures { IfOk result (λ marks. marks.items ≡ effect.marks_of nodes.now block stamp) }
-{
-    nodes
-        .iter()
-        .map(|node| Mark {
-            node: *node,
-            block,
-            stamp,
-        })
-        .collect(alloc)
-}
-
-// The blocks of these copies.
-fn blocks_of(alloc: Global, transfers: &[Transfer]) -> Result<Vec<BlockId>, AllocError>
-    ensures { IfOk result (λ blocks. blocks.items ≡ map (λ (transfer : Transfer). transfer.block) transfers.now) }
-{
-    transfers
-        .iter()
-        .map(|transfer| transfer.block)
-        .collect(alloc)
 }
 
 impl Blocks {
@@ -163,57 +135,37 @@ impl Blocks {
         self.nodes.live(now)
     }
 
-    /// The nodes that are to hold a new block: of the live ones so many that have the fewest blocks, ties to the lowest id, or all
-    /// where there are no more. Costs a sort of the nodes, and three look-ups for each.
-    ///
-    /// # Errors
-    /// `TooFewNodes` where none is live, or out of memory.
-    pub fn choose_targets(&self, replication: Repl, now: Moment) -> Result<NodeSet, BlockFault>
-        ensures live { OnOk result (refused_targets self.now now ≡ None) }
-        ensures chosen { IfOk result (λ nodes. nodes ≡ chosen_targets self.now now replication) }
-        ensures fault { IfErr result (IsFaultOf (refused_targets self.now now)) }
-    {
-        let live = self.live_nodes(now)?;
-        if live.as_slice().is_empty() {
-            return Err(BlockFault::Refused(BlockRefusal::TooFewNodes));
-        }
-        let count = usize::from(replication.get());
-        Ok(self.known.targets(&live, count)?)
-    }
-
     // ---- new blocks
 
-    /// Whether there are numbers left for a new block. Takes no memory.
+    /// Adds a block to a file: the length of the file's last block is committed, where one is named, and each node that reported another
+    /// length of it is to remove its replica; behind that the live nodes with the fewest blocks, ties to the lowest id, are chosen to
+    /// hold the new block, as many as there are to be replicas, or all. It gets the next id and the next stamp. Costs a sort of the
+    /// nodes, and four look-ups for each node that ever sent a heartbeat; the reports of the last block for each; and its marks.
     ///
     /// # Errors
-    /// `Spent` of block ids, and then of stamps: the greatest number is never given.
-    pub fn can_add(&self) -> Result<(), BlockRefusal>
-        ensures ok { OnOk result (refused_new_block self.now.known ≡ None) }
-        ensures err { IfErr result (λ refusal. refused_new_block self.now.known ≡ Some refusal) }
-    {
-        self.known.can_add()
-    }
-
-    /// Makes a new block known, with the next id and the next stamp: these nodes are to hold it, nobody reports it, and its length
-    /// isn't committed. Costs a look-up of the block, and one for each node.
-    ///
-    /// # Errors
-    /// Those of `can_add`, or out of memory. Nothing has changed then.
-    pub fn add(
+    /// `NotYetReplicated` where no node reported that length, `TooFewNodes` where no node is live, `Spent` of block ids, and then of
+    /// stamps, or out of memory. Nothing has changed then.
+    pub fn add_behind(
         &mut self,
-        targets: NodeSet,
+        last: Option<LastBlock>,
         replication: Repl,
-    ) -> Result<(BlockId, Stamp), BlockFault>
-        ensures room { OnOk result (refused_new_block self.old.known ≡ None) }
-        ensures given { IfOk result (λ new. new ≡ (self.old.known.next_block, self.old.known.next_stamp)) }
-        ensures added { OnOk result (self.new ≡ effect.added self.old targets replication) }
-        ensures fault { IfErr result (IsFaultOf (refused_new_block self.old.known)) }
+        now: Moment,
+    ) -> Result<NewBlock, BlockFault>
+        ensures allowed { OnOk result (effect.refused_behind self.old last now ≡ None) }
+        ensures given { IfOk result (λ new. new ≡ effect.given_behind self.old last now replication) }
+        ensures added { OnOk result (self.new ≡ effect.added_behind self.old last now replication) }
+        ensures fault { IfErr result (IsFaultOf (effect.refused_behind self.old last now)) }
         ensures err { OnErr result (self.new ≡ self.old) }
     {
-        if let Err(refusal) = self.known.can_add() {
-            return Err(BlockFault::Refused(refusal));
-        }
-        Ok(self.known.add(targets, replication)?)
+        let live = self.nodes.live(now)?;
+        behind::add_behind(
+            self.alloc,
+            &mut self.known,
+            &mut self.marks,
+            &live,
+            last,
+            replication,
+        )
     }
 
     /// Gives a block another replication; nothing changes where the block isn't known. Costs a look-up, and takes no memory.
@@ -242,7 +194,7 @@ impl Blocks {
         let Some(own) = self.known.get(block) else {
             return Ok(Vec::new(self.alloc));
         };
-        marks_of(self.alloc, &self.holders(block)?, block, own.stamp)
+        behind::marks_of(self.alloc, &self.holders(block)?, block, own.stamp)
     }
 
     /// Makes a block known no more: each node that was to hold it or reported it is to remove its replica of the newest stamp. Nothing
@@ -307,7 +259,7 @@ impl Blocks {
             return Err(BlockFault::Refused(BlockRefusal::NotYetReplicated));
         }
         let others = own.reports.others(self.alloc, length)?;
-        let marks = marks_of(self.alloc, &others, block, own.stamp)?;
+        let marks = behind::marks_of(self.alloc, &others, block, own.stamp)?;
         self.marks.add_all(marks)?;
         self.known.commit(block, length, &others);
         Ok(())
@@ -386,52 +338,10 @@ impl Blocks {
         }
         let others = own.reports.others(self.alloc, length)?;
         let unnamed = nodes.leave_out(self.alloc, &others)?;
-        let marks = marks_of(self.alloc, &unnamed, block, own.stamp)?;
+        let marks = behind::marks_of(self.alloc, &unnamed, block, own.stamp)?;
         self.known
             .end_recovery(block, length, nodes, &mut self.marks, marks)?;
         Ok(())
-    }
-
-    // What a node is told of the recovery of a block, where that is known.
-    fn recovery_of(&self, block: BlockId) -> Result<Option<Recovery>, AllocError>
-        ensures { IfOk result (λ order. order ≡ recovery_by block (block_of self.now block)) }
-    {
-        let Some(own) = self.known.get(block) else {
-            return Ok(None);
-        };
-        Ok(Some(Recovery {
-            block,
-            stamp: own.stamp,
-            nodes: own.expected.clone()?,
-        }))
-    }
-
-    // What a node is told of the recoveries of these blocks.
-    fn recoveries_of(&self, blocks: &[BlockId]) -> Result<Vec<Recovery>, AllocError>
-        ensures { IfOk result (λ orders. orders.items ≡ filter_map (λ block. recovery_by block (block_of self.now block)) blocks.now) }
-    {
-        let mut orders = Vec::new(self.alloc);
-        for block in blocks {
-            if let Some(order) = self.recovery_of(*block)? {
-                orders.push(order)?;
-            }
-        }
-        Ok(orders)
-    }
-
-    /// Takes out the recoveries that a node is to be told to lead, by block: it is told of each once. Costs a look-up for each of them.
-    ///
-    /// # Errors
-    /// Out of memory. Nothing has changed then.
-    pub fn take_recoveries(&mut self, node: NodeId) -> Result<Vec<Recovery>, AllocError>
-        ensures orders { IfOk result (λ orders. orders.items ≡ recoveries_for self.old node) }
-        ensures ok { OnOk result (self.new ≡ effect.told_recoveries self.old node) }
-        ensures err { OnErr result (self.new ≡ self.old) }
-    {
-        let blocks = self.queue.led(self.alloc, node)?;
-        let orders = self.recoveries_of(&blocks)?;
-        let _told = self.queue.take(self.alloc, node)?;
-        Ok(orders)
     }
 
     // ---- reports
@@ -484,17 +394,15 @@ impl Blocks {
 
     // ---- nodes
 
-    /// Takes out the replicas that a node is to be told to remove, by block and then by stamp: it is told of each once. Costs a look-up
-    /// for each of them, and for each that is to be removed since the last time.
+    /// The replicas that a node is still to be told to remove, by block and then by stamp. Costs a look-up for each of them, and a step for
+    /// each that is to be removed since a node was last told.
     ///
     /// # Errors
-    /// Out of memory. Nothing has changed then.
-    pub fn take_marks(&mut self, node: NodeId) -> Result<Vec<Mark>, AllocError>
-        ensures marks { IfOk result (λ marks. marks.items ≡ marks_for node self.old.marks) }
-        ensures ok { OnOk result (self.new ≡ effect.told_marks self.old node) }
-        ensures err { OnErr result (self.new ≡ self.old) }
+    /// Out of memory.
+    pub fn invalid_for(&self, node: NodeId) -> Result<Vec<Mark>, AllocError>
+        ensures { IfOk result (λ marks. marks.items ≡ marks_for node self.now.marks) }
     {
-        self.marks.take(self.alloc, node)
+        self.marks.for_node(self.alloc, node)
     }
 
     /// The copies that a node is to make, by block: of each committed block that fewer live nodes report than there are to be replicas,
@@ -515,43 +423,6 @@ impl Blocks {
         block_copies::transfer::transfers_for(self.alloc, &self.known, &at, node)
     }
 
-    /// The copies that a node is to make, of which it is told now: none of these blocks is copied again within the retry limit. Costs as
-    /// `under_replicated`, and a look-up for each copy.
-    ///
-    /// # Errors
-    /// Out of memory. Nothing has changed then.
-    pub fn take_transfers(&mut self, node: NodeId, now: Moment) -> Result<Vec<Transfer>, AllocError>
-        ensures transfers { IfOk result (λ transfers. transfers.items ≡ transfers_for self.old now node) }
-        ensures ok { OnOk result (self.new ≡ effect.told_transfers self.old now (transfers_for self.old now node)) }
-        ensures err { OnErr result (self.new ≡ self.old) }
-    {
-        let transfers = self.under_replicated(node, now)?;
-        let blocks = blocks_of(self.alloc, &transfers)?;
-        self.known.hand_out(&blocks, now);
-        Ok(transfers)
-    }
-
-    /// What a node is told at its heartbeat now.
-    pub fn instructions(&self, _node: NodeId, _now: Moment) -> Result<Instructions, AllocError>
-        ensures { IfOk result (λ told. told ≡ effect.instructions_for self.now _now _node) }
-    {
-        Err(AllocError)
-    }
-
-    /// Notes a node's heartbeat and that it is told this.
-    pub fn hand_out(
-        &mut self,
-        _node: NodeId,
-        _now: Moment,
-        told: &Instructions,
-    ) -> Result<(), AllocError>
-        requires { told.now ≡ effect.instructions_for self.old _now _node }
-        ensures ok { OnOk result (self.new ≡ effect.handed_out self.old _node _now) }
-        ensures err { OnErr result (self.new ≡ self.old) }
-    {
-        Err(AllocError)
-    }
-
     /// Notes a node's heartbeat. Costs a look-up.
     ///
     /// # Errors
@@ -561,5 +432,58 @@ impl Blocks {
         ensures err { OnErr result (self.new ≡ self.old) }
     {
         self.nodes.beat(node, now)
+    }
+
+    /// What a node is to be told at its heartbeat now, behind which it is live: the recoveries that it is to lead, the replicas that it is
+    /// to remove, and the copies that it is to make. Costs a copy of what is known of nodes and a look-up for each node that ever sent a
+    /// heartbeat; a look-up for each recovery and each replica, and a step for each replica that is to be removed since a node was last
+    /// told; the live nodes for each block that the node is to hold or reported, and a sort of them for each copy.
+    ///
+    /// # Errors
+    /// Out of memory.
+    pub fn instructions(&self, node: NodeId, now: Moment) -> Result<Instructions, AllocError>
+        ensures { IfOk result (λ told. told ≡ effect.instructions_for self.now now node) }
+    {
+        let at = HandOut {
+            live: self.nodes.live_behind(node, now)?,
+            moment: now,
+            retry: self.retry,
+        };
+        instructions::orders_for(
+            self.alloc,
+            &self.known,
+            &self.queue,
+            &self.marks,
+            &at,
+            node,
+        )
+    }
+
+    /// Notes a node's heartbeat, and that it is told this, which is what `instructions` answers now: none of it is told again, but a copy
+    /// behind the retry limit. Costs a look-up for each part of it, and for each replica that is to be removed since a node was last
+    /// told.
+    ///
+    /// # Errors
+    /// Out of memory, which only a node's first heartbeat can meet. Nothing has changed then.
+    pub fn hand_out(
+        &mut self,
+        node: NodeId,
+        now: Moment,
+        told: &Instructions,
+    ) -> Result<(), AllocError>
+        requires { told.now ≡ effect.instructions_for self.old now node }
+        ensures ok { OnOk result (self.new ≡ effect.handed_out self.old node now) }
+        ensures err { OnErr result (self.new ≡ self.old) }
+    {
+        self.nodes.beat(node, now)?;
+        instructions::hand_out(
+            &mut self.known,
+            &mut self.queue,
+            &mut self.marks,
+            node,
+            now,
+            told,
+        );
+        Ok(())
     }
 }

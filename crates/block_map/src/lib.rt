@@ -4,5 +4,6 @@
 #![tactic(auto)]
 
 pub mod blocks;
-pub mod instructions;
-pub mod recovery;
+pub use known_blocks::last_block;
+pub use new_blocks::behind;
+pub use node_orders::{instructions, recovery};

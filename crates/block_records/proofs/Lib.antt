@@ -2,3 +2,4 @@ pub mod Numbers
 pub mod Reporting
 pub mod Ascending
 pub mod Taking
+pub mod Waiting

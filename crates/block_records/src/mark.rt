@@ -77,6 +77,41 @@ fn remove_each(ordered: &mut BTreeSet<Mark>, marks: &[Mark])
     }
 }
 
+// The marks of a node among those that came of late.
+fn latest_of(
+    alloc: Global,
+    latest: &VecDeque<Mark>,
+    node: NodeId,
+) -> Result<Vec<Mark>, AllocError>
+    ensures { IfOk result (λ marks. marks.items ≡ marks_for node latest.now.items) }
+{
+    latest
+        .iter()
+        .copied()
+        .filter(|mark| mark.node == node)
+        .collect(alloc)
+}
+
+// Puts these marks in their places, up to the first for which there is no memory.
+fn insert_each(ordered: &mut BTreeSet<Mark>, marks: &[Mark]) -> Result<(), AllocError>
+    ensures { OnOk result (ordered.new.keys ≡ with_marks ordered.old.keys marks.now) }
+{
+    for mark in marks {
+        ordered.insert(*mark)?;
+    }
+    Ok(())
+}
+
+// Takes out the marks of a node, wherever they stand. Costs all marks, and takes no memory.
+fn keep_others(ordered: &mut BTreeSet<Mark>, latest: &mut VecDeque<Mark>, node: NodeId)
+    ensures ordered { ordered.new.keys ≡ marks_but node ordered.old.keys }
+    ensures latest { latest.new.items ≡ marks_but node latest.old.items }
+    ensures sorted { IsStrictlySortedBy mark_cmp ordered.old.keys }
+{
+    ordered.retain(|mark| mark.node != node);
+    latest.retain(|mark| mark.node != node);
+}
+
 impl Marks {
     /// No mark. Takes no memory.
     pub fn new(alloc: Global) -> Marks
@@ -113,19 +148,34 @@ impl Marks {
         Ok(())
     }
 
-    /// Takes out the marks of a node, and answers them in their order. Costs a look-up for each of them, and for each mark that came
-    /// since the last time.
+    /// The marks of a node, in their order. Costs a look-up for each of them, and a step for each mark that came since marks were last
+    /// forgotten.
     ///
     /// # Errors
-    /// Out of memory. Nothing has changed then.
-    pub fn take(&mut self, alloc: Global, node: NodeId) -> Result<Vec<Mark>, AllocError>
-        ensures taken { IfOk result (λ marks. marks.items ≡ marks_for node self.old) }
-        ensures left { OnOk result (self.new ≡ marks_but node self.old) }
-        ensures err { OnErr result (self.new ≡ self.old) }
+    /// Out of memory.
+    pub fn for_node(&self, alloc: Global, node: NodeId) -> Result<Vec<Mark>, AllocError>
+        ensures { IfOk result (λ marks. marks.items ≡ marks_for node self.now) }
     {
-        settle(&mut self.ordered, &mut self.latest)?;
         let marks = marks_of(alloc, &self.ordered, node)?;
-        remove_each(&mut self.ordered, &marks);
-        Ok(marks)
+        let latest = latest_of(alloc, &self.latest, node)?;
+        let mut own = BTreeSet::new(alloc);
+        insert_each(&mut own, &marks)?;
+        insert_each(&mut own, &latest)?;
+        own.iter().copied().collect(alloc)
+    }
+
+    /// Takes out the marks of a node, which are handed in. Costs a look-up for each of them, and for each mark that came since the last
+    /// time. Needs no memory: where there is none to put the latest marks in order, it costs a step for each mark that is there.
+    pub fn forget(&mut self, node: NodeId, marks: &[Mark])
+        requires { marks.now ≡ marks_for node self.old }
+        ensures { self.new ≡ marks_but node self.old }
+    {
+        let Ok(()) = settle(&mut self.ordered, &mut self.latest) else {
+            keep_others(&mut self.ordered, &mut self.latest, node);
+            return;
+        };
+        // its contract tells that they stand in their order
+        let _count = self.ordered.len();
+        remove_each(&mut self.ordered, marks);
     }
 }

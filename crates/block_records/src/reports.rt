@@ -1,5 +1,6 @@
 ghost use Rattle.std.specs.Prelude.{◌≡◌, ◌+◌, ◌&&◌, ◌||◌, ℕ, [], not, is_some, length, if◌then◌else◌, IfOk, IfSome, IfNone, OnOk, OnErr, Some, None};
 ghost use Rattle.std.specs.BTreeMap.{insert_entry};
+ghost use Rattle.std.specs.List.Sorted.{IsStrictlySortedBy};
 ghost use Rattle.std.specs.Map.{remove_entry, keys_of};
 ghost use Rattle.std.specs.Ordering.{nat_cmp};
 ghost use Rattle.block_records.specs.Numbers.{is_number, has_number, entry_at};
@@ -32,6 +33,14 @@ impl Reports {
         Reports {
             lengths: BTreeMap::new(alloc),
         }
+    }
+
+    /// How many nodes have reported. Takes no memory.
+    pub fn len(&self) -> usize
+        ensures count { result ≡ length self.now }
+        ensures ascending { IsStrictlySortedBy nat_cmp (keys_of self.now) }
+    {
+        self.lengths.len()
     }
 
     /// Whether a node has reported. Costs a look-up, and takes no memory.

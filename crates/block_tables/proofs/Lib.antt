@@ -1,2 +1,4 @@
 pub mod Indexes
 pub mod Held
+pub mod Loads
+pub mod Restored

@@ -1,7 +1,7 @@
 -- What the index of the blocks of each node keeps.
-use Rattle.std.specs.Prelude.{◌≡◌, ℕ, Bool, List, Some, filter, length}
+use Rattle.std.specs.Prelude.{◌≡◌, ℕ, ◌-◌, Bool, List, Some, filter, length, if◌then◌else◌}
 use Rattle.std.specs.Map.{keys_of}
-use Rattle.block_records.specs.Numbers.{entry_at}
+use Rattle.block_records.specs.Numbers.{has_number, entry_at}
 use Rattle.block_records.specs.Verdicts.{holds_by}
 use Rattle.block_records.specs.declared.block_record.BlockRecord.{BlockRecord}
 use Rattle.block_index.specs.Relation.{relates}
@@ -19,3 +19,7 @@ blocks_of table node = keys_of (filter (λ entry. holds_by node (Some entry.1)) 
 
 abbrev pub load : List (ℕ × BlockRecord) → ℕ → ℕ
 load table node = length (blocks_of table node)
+
+-- the same, where some nodes have a block less
+abbrev pub load_without : List (ℕ × BlockRecord) → List ℕ → ℕ → ℕ
+load_without table leaving node = if has_number node leaving then load table node - 1 else load table node

@@ -3,9 +3,9 @@ ghost use Rattle.std.specs.BTreeMap.{insert_entry};
 ghost use Rattle.std.specs.List.Sorted.{IsStrictlySortedBy};
 ghost use Rattle.std.specs.Map.{remove_entry, keys_of};
 ghost use Rattle.std.specs.Ordering.{nat_cmp};
-ghost use Rattle.block_records.specs.Numbers.{is_number, entry_at};
+ghost use Rattle.block_records.specs.Numbers.{is_number, has_number, entry_at};
 ghost use Rattle.block_placement.specs.Placement.{beside, is_chosen, targets};
-ghost use Rattle.block_tables.specs.Kept.{load, blocks_of};
+ghost use Rattle.block_tables.specs.Kept.{load, load_without, blocks_of};
 ghost use Rattle.block_tables.specs.Changes.{changed, with_report, without_report, with_replication, with_length, without_blocks, with_recovery, with_recovered, with_hand_out, handed_out};
 ghost use Rattle.block_records.specs.Marks.{with_marks};
 ghost use Rattle.block_records.specs.Reports.{others_of, agreeing, with_reports_of};
@@ -64,6 +64,13 @@ fn set_recovered(
     own.reports = reports;
 }
 
+// Whether a node is among these.
+fn is_among(nodes: &[NodeId], node: NodeId) -> bool
+    ensures { result ≡ has_number node nodes.now }
+{
+    nodes.iter().any(|own| *own == node)
+}
+
 impl BlockTable {
     /// No block is known. Takes no memory.
     pub fn new(alloc: Global) -> BlockTable
@@ -98,39 +105,74 @@ impl BlockTable {
         self.held.count(node).min(self.records.len())
     }
 
-    // These nodes beside their loads.
-    fn candidates(&self, alloc: Global, nodes: &[NodeId]) -> Result<Vec<Candidate>, AllocError>
-        ensures { IfOk result (λ candidates. candidates.items ≡ map (beside (load self.now)) nodes.now) }
+    // The load of a node, of which a block less where it is among these.
+    fn load_without(&self, leaving: &[NodeId], node: NodeId) -> usize
+        ensures { result ≡ load_without self.now leaving.now node }
+    {
+        let load = self.load(node);
+        if is_among(leaving, node) {
+            load.saturating_sub(1)
+        } else {
+            load
+        }
+    }
+
+    // These nodes beside their loads, of which some have a block less.
+    fn candidates(
+        &self,
+        alloc: Global,
+        nodes: &[NodeId],
+        leaving: &[NodeId],
+    ) -> Result<Vec<Candidate>, AllocError>
+        ensures { IfOk result (λ candidates. candidates.items ≡ map (beside (load_without self.now leaving.now)) nodes.now) }
     {
         nodes
             .iter()
             .map(|node| Candidate {
-                load: self.load(*node),
+                load: self.load_without(leaving, *node),
                 node: *node,
             })
             .collect(alloc)
     }
 
-    // Of these nodes those up to the last that is chosen.
+    // Of these nodes those up to the last that is chosen, where some have a block less.
     fn up_to(
         &self,
         alloc: Global,
         nodes: &[NodeId],
+        leaving: &[NodeId],
         last: Option<Candidate>,
     ) -> Result<Vec<NodeId>, AllocError>
-        ensures { IfOk result (λ chosen. chosen.items ≡ filter (λ node. is_chosen last (beside (load self.now) node)) nodes.now) }
+        ensures { IfOk result (λ chosen. chosen.items ≡ filter (λ node. is_chosen last (beside (load_without self.now leaving.now) node)) nodes.now) }
     {
         nodes
             .iter()
             .copied()
             .filter(|node| {
                 let own = Candidate {
-                    load: self.load(*node),
+                    load: self.load_without(leaving, *node),
                     node: *node,
                 };
                 own.is_chosen(last)
             })
             .collect(alloc)
+    }
+
+    // So many of these nodes that have the fewest blocks, where some have a block less.
+    fn targets_without(
+        &self,
+        alloc: Global,
+        nodes: &NodeSet,
+        leaving: &[NodeId],
+        count: usize,
+    ) -> Result<NodeSet, AllocError>
+        requires { 0 < count }
+        ensures { IfOk result (λ chosen. chosen ≡ targets (load_without self.now leaving.now) count nodes.now) }
+    {
+        let nodes = nodes.as_slice();
+        let last = last_chosen(self.candidates(alloc, nodes, leaving)?, count);
+        let chosen = self.up_to(alloc, nodes, leaving, last)?;
+        Ok(NodeSet::of_ascending(chosen))
     }
 
     /// So many of these nodes that have the fewest blocks, ties to the lowest id; all of them where there are no more. Costs a sort of
@@ -147,17 +189,49 @@ impl BlockTable {
         requires { 0 < count }
         ensures { IfOk result (λ chosen. chosen ≡ targets (load self.now) count nodes.now) }
     {
-        let nodes = nodes.as_slice();
-        let last = last_chosen(self.candidates(alloc, nodes)?, count);
-        let chosen = self.up_to(alloc, nodes, last)?;
-        Ok(NodeSet::of_ascending(chosen))
+        self.targets_without(alloc, nodes, &[], count)
     }
 
-    /// Makes a block known that isn't, and that nobody has reported. Costs a look-up for each expected node.
+    // The nodes that have a block less once a block's length is committed.
+    fn leaving(
+        &self,
+        alloc: Global,
+        block: BlockId,
+        bytes: u64,
+    ) -> Result<Vec<NodeId>, AllocError>
+        ensures { IfOk result (λ leaving. (node : ℕ) → load_without self.now leaving.items node ≡ load (changed (with_length bytes) block self.now) node) }
+    {
+        let Some(own) = self.records.get(&block) else {
+            return Ok(Vec::new(alloc));
+        };
+        // its contract tells that the ids ascend
+        let _count = own.reports.len();
+        let others = own.reports.others(alloc, bytes)?;
+        let leaving = own.expected.leave_out(alloc, &others)?;
+        Ok(leaving)
+    }
+
+    /// What `targets` would answer once a block's length is committed. Costs as `targets`, and the reports of the block for each node.
     ///
     /// # Errors
-    /// Out of memory. Nothing has changed then.
-    pub fn insert(&mut self, block: BlockId, own: BlockRecord) -> Result<(), AllocError>
+    /// Out of memory.
+    pub fn targets_behind(
+        &self,
+        alloc: Global,
+        nodes: &NodeSet,
+        count: usize,
+        block: BlockId,
+        bytes: u64,
+    ) -> Result<NodeSet, AllocError>
+        requires { 0 < count }
+        ensures { IfOk result (λ chosen. chosen ≡ targets (load (changed (with_length bytes) block self.now)) count nodes.now) }
+    {
+        let leaving = self.leaving(alloc, block, bytes)?;
+        self.targets_without(alloc, nodes, &leaving, count)
+    }
+
+    // Makes a block known that isn't, and that nobody has reported; where memory runs out nothing has changed.
+    fn insert(&mut self, block: BlockId, own: BlockRecord) -> Result<(), AllocError>
         requires unknown { entry_at block self.old ≡ None }
         requires unreported { own.reports ≡ [] }
         ensures ok { OnOk result (self.new ≡ insert_entry nat_cmp self.old block own) }
@@ -170,6 +244,33 @@ impl BlockTable {
             self.held.remove_each(own.expected.as_slice(), block);
             return Err(AllocError);
         }
+        Ok(())
+    }
+
+    /// Makes a block known that isn't, and that nobody has reported. Marks that come with it are added, or nothing changes. Costs a
+    /// look-up for each expected node, and the marks.
+    ///
+    /// # Errors
+    /// Out of memory. Nothing has changed then.
+    pub fn insert_with(
+        &mut self,
+        block: BlockId,
+        own: BlockRecord,
+        marks: &mut Marks,
+        more: Vec<Mark>,
+    ) -> Result<(), AllocError>
+        requires unknown { entry_at block self.old ≡ None }
+        requires unreported { own.reports ≡ [] }
+        ensures ok { OnOk result (self.new ≡ insert_entry nat_cmp self.old block own) }
+        ensures others { OnOk result ((other : ℕ) → entry_at other self.new ≡ (if is_number block other then Some own else entry_at other self.old)) }
+        ensures marked { OnOk result (marks.new ≡ with_marks marks.old more.items) }
+        ensures err { OnErr result ((self.new ≡ self.old) × (marks.new ≡ marks.old)) }
+    {
+        self.insert(block, own)?;
+        let Ok(()) = marks.add_all(more) else {
+            self.remove(block);
+            return Err(AllocError);
+        };
         Ok(())
     }
 

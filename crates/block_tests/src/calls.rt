@@ -1,7 +1,9 @@
 // Calls of the map of blocks, and what is written of their answers.
 
 use block_copies::transfer::Transfer;
+use block_map::behind::NewBlock;
 use block_map::blocks::Blocks;
+use block_map::last_block::LastBlock;
 use block_map::recovery::Recovery;
 use block_records::fault::{BlockFault, BlockRefusal, Counter};
 use block_records::mark::Mark;
@@ -90,31 +92,32 @@ fn set_replication(blocks: &mut Blocks, block: u64, replication: u8) -> Result<(
     Ok(())
 }
 
-fn tell_new(blocks: &Blocks, block: BlockId, stamp: Stamp, text: &mut String) -> Result<(), Fail> {
-    let (id, number) = (block.get(), stamp.get());
+fn tell_new(new: &NewBlock, text: &mut String) -> Result<(), Fail> {
+    let (id, number) = (new.block.get(), new.stamp.get());
     write!(text, "{id}:{number}:")?;
-    tell_nodes(blocks.expected(block), text)?;
+    tell_nodes(new.targets.as_slice(), text)?;
     Ok(text.push(' ')?)
 }
 
-fn add_to(
+// Makes a new block behind a file's last one, and writes its id, its stamp and its targets.
+fn add(
     blocks: &mut Blocks,
-    targets: NodeSet,
-    replication: Repl,
+    last: Option<LastBlock>,
+    replication: u8,
+    now: u64,
     text: &mut String,
 ) -> Result<(), Fail> {
-    match blocks.add(targets, replication) {
-        Ok((block, stamp)) => tell_new(blocks, block, stamp, text),
+    let replication = Repl::new(replication).ok_or("a replication")?;
+    match blocks.add_behind(last, replication, moment(now)?) {
+        Ok(new) => tell_new(&new, text),
         Err(fault) => tell_fault(fault, text),
     }
 }
 
-// Makes a new block, and writes its id, its stamp and its targets.
-fn add(blocks: &mut Blocks, replication: u8, now: u64, text: &mut String) -> Result<(), Fail> {
-    let replication = Repl::new(replication).ok_or("a replication")?;
-    match blocks.choose_targets(replication, moment(now)?) {
-        Ok(targets) => add_to(blocks, targets, replication, text),
-        Err(fault) => tell_fault(fault, text),
+fn last_of(block: u64, length: u64) -> LastBlock {
+    LastBlock {
+        block: BlockId::new(block),
+        length,
     }
 }
 
@@ -169,11 +172,6 @@ fn tell_recoveries(recoveries: &[Recovery], text: &mut String) -> Result<(), Fai
     Ok(text.push_str(". ")?)
 }
 
-fn take_recoveries(blocks: &mut Blocks, id: u32, text: &mut String) -> Result<(), Fail> {
-    let recoveries = blocks.take_recoveries(node(id)?)?;
-    tell_recoveries(&recoveries, text)
-}
-
 // Writes ids, and a stop.
 fn tell_blocks(blocks: &[BlockId], text: &mut String) -> Result<(), Fail> {
     for block in blocks {
@@ -197,8 +195,8 @@ fn tell_marks(marks: &[Mark], text: &mut String) -> Result<(), Fail> {
     Ok(text.push_str(". ")?)
 }
 
-fn take_marks(blocks: &mut Blocks, id: u32, text: &mut String) -> Result<(), Fail> {
-    let marks = blocks.take_marks(node(id)?)?;
+fn tell_invalid(blocks: &Blocks, id: u32, text: &mut String) -> Result<(), Fail> {
+    let marks = blocks.invalid_for(node(id)?)?;
     tell_marks(&marks, text)
 }
 
@@ -212,10 +210,14 @@ fn tell_transfers(transfers: &[Transfer], text: &mut String) -> Result<(), Fail>
     Ok(text.push_str(". ")?)
 }
 
-// Takes the copies that a node is to make.
-fn take_transfers(blocks: &mut Blocks, id: u32, now: u64, text: &mut String) -> Result<(), Fail> {
-    let transfers = blocks.take_transfers(node(id)?, moment(now)?)?;
-    tell_transfers(&transfers, text)
+// A node's heartbeat, and what it is told: recoveries, replicas to be removed, and copies.
+fn hand_out(blocks: &mut Blocks, id: u32, now: u64, text: &mut String) -> Result<(), Fail> {
+    let (node, now) = (node(id)?, moment(now)?);
+    let told = blocks.instructions(node, now)?;
+    blocks.hand_out(node, now, &told)?;
+    tell_recoveries(&told.recoveries, text)?;
+    tell_marks(&told.removals, text)?;
+    tell_transfers(&told.copies, text)
 }
 
 fn under_replicated(blocks: &Blocks, id: u32, now: u64, text: &mut String) -> Result<(), Fail> {
@@ -228,8 +230,10 @@ fn under_replicated(blocks: &Blocks, id: u32, now: u64, text: &mut String) -> Re
 pub enum Call {
     /// A node's heartbeat at a moment.
     Beat(u32, u64),
-    /// A new block with so many replicas, at a moment.
+    /// A file's first block with so many replicas, at a moment.
     Add(u8, u64),
+    /// A block with so many replicas behind a file's last block with its length, at a moment.
+    Behind(u64, u64, u8, u64),
     /// A block is to have so many replicas.
     Replicate(u64, u8),
     /// A node reports a block, at a stamp, with a length.
@@ -243,23 +247,19 @@ pub enum Call {
     End(u64, u64, u64, u32),
     /// Which recoveries are due at a moment.
     Due(u64),
-    /// What a node is told of recoveries.
-    Lead(u32),
-    /// What a node is told of replicas to be removed.
+    /// The replicas that a node is still to be told to remove.
     Invalid(u32),
-    /// What a node is to copy at a moment, and is told of.
-    Copy(u32, u64),
+    /// A node's heartbeat at a moment, and what it is told.
+    Tell(u32, u64),
     /// What a node is to copy at a moment.
     Short(u32, u64),
 }
 
-// Calls that ask for what is due and for what nodes are told.
-fn ask(blocks: &mut Blocks, call: Call, text: &mut String) -> Result<(), Fail> {
+// Calls that ask for what is due and for what nodes are to be told.
+fn ask(blocks: &Blocks, call: Call, text: &mut String) -> Result<(), Fail> {
     match call {
         Call::Due(now) => tell_due(blocks, now, text),
-        Call::Lead(id) => take_recoveries(blocks, id, text),
-        Call::Invalid(id) => take_marks(blocks, id, text),
-        Call::Copy(id, now) => take_transfers(blocks, id, now, text),
+        Call::Invalid(id) => tell_invalid(blocks, id, text),
         Call::Short(id, now) => under_replicated(blocks, id, now, text),
         _ => Ok(()),
     }
@@ -273,7 +273,11 @@ fn call_once(
 ) -> Result<(), Fail> {
     match call {
         Call::Beat(id, now) => beat(blocks, id, now),
-        Call::Add(replication, now) => add(blocks, replication, now, text),
+        Call::Add(replication, now) => add(blocks, None, replication, now, text),
+        Call::Behind(block, length, replication, now) => {
+            add(blocks, Some(last_of(block, length)), replication, now, text)
+        }
+        Call::Tell(id, now) => hand_out(blocks, id, now, text),
         Call::Replicate(block, replication) => set_replication(blocks, block, replication),
         Call::Report(id, block, stamp, length) => report(blocks, id, block, stamp, length),
         Call::Commit(block, length) => commit(blocks, block, length, text),

@@ -9,14 +9,14 @@ static LEADERS: [Call; 14] = [
     Call::Add(3, 0),
     Call::Beat(2, 10),
     Call::Begin(1, 20),
-    Call::Lead(1),
-    Call::Lead(2),
-    Call::Lead(2),
+    Call::Tell(1, 20),
+    Call::Tell(2, 21),
+    Call::Tell(2, 21),
     Call::Begin(1, 30),
     Call::Beat(3, 40),
     Call::Begin(1, 60_031),
-    Call::Lead(2),
-    Call::Lead(3),
+    Call::Tell(2, 60_040),
+    Call::Tell(3, 60_041),
 ];
 
 #[test]
@@ -24,7 +24,7 @@ fn one_leader_is_told_once(rt: HostRuntime) -> Result<(), Fail> {
     let text = told(rt.alloc(), 1, 1001, &LEADERS)?;
     assert_eq!(rt;
         text.as_str(),
-        "1:1001:1,2,3, 1002 . 1:1002:1,2,3, . . 1003 1004 . 1:1004:1,2,3, . "
+        "1:1001:1,2,3, 1002 . . . 1:1002:1,2,3, . . . . . . 1003 1004 . . . 1:1004:1,2,3, . . . "
     );
     Ok(())
 }
@@ -64,16 +64,15 @@ fn a_recovery_ends_once(rt: HostRuntime) -> Result<(), Fail> {
 }
 
 // Node 1 is live at the limit, and not behind it.
-static REMOVED: [Call; 9] = [
+static REMOVED: [Call; 8] = [
     Call::Begin(1, 0),
     Call::Beat(1, 0),
     Call::Add(1, 0),
     Call::Begin(1, 630_001),
     Call::Begin(1, 630_000),
     Call::Remove(1),
-    Call::Lead(1),
     Call::Due(700_000),
-    Call::Invalid(1),
+    Call::Tell(1, 700_000),
 ];
 
 #[test]
@@ -81,7 +80,7 @@ fn a_removed_block_is_recovered_by_nobody(rt: HostRuntime) -> Result<(), Fail> {
     let text = told(rt.alloc(), 1, 1001, &REMOVED)?;
     assert_eq!(rt;
         text.as_str(),
-        "NotFound 1:1001:1, TooFewNodes 1002 . . 1:1002 . "
+        "NotFound 1:1001:1, TooFewNodes 1002 . . 1:1002 . . "
     );
     Ok(())
 }

@@ -79,6 +79,23 @@ impl Heartbeats {
         Ok(NodeSet::of_ascending(nodes))
     }
 
+    /// The nodes that are live behind a heartbeat of this node, which isn't noted. Costs a copy of what is known of nodes, and a look-up
+    /// for each node that ever sent a heartbeat.
+    ///
+    /// # Errors
+    /// Out of memory.
+    pub fn live_behind(&self, node: NodeId, now: Moment) -> Result<NodeSet, AllocError>
+        ensures { IfOk result (λ nodes. nodes ≡ spec.live_nodes (spec.beaten self.now node now) now) }
+    {
+        let mut behind = Heartbeats {
+            dead: self.dead,
+            last: self.last.clone()?,
+            alloc: self.alloc,
+        };
+        behind.beat(node, now)?;
+        behind.live(now)
+    }
+
     // The moment of a node's last heartbeat; 0 where it sent none.
     fn last_of(&self, node: NodeId) -> u64
         ensures { result ≡ spec.last_of self.now node }

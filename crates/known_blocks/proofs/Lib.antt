@@ -1,2 +1,3 @@
 pub mod Below
 pub mod Listed
+pub mod Behind

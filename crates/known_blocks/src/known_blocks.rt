@@ -1,4 +1,4 @@
-ghost use Rattle.std.specs.Prelude.{◌≡◌, ◌<◌, [], None, Some, filter, option_copied, OnOk, OnErr, IfOk, IfErr, IfSome};
+ghost use Rattle.std.specs.Prelude.{◌≡◌, ◌<◌, [], None, Some, true, is_some, filter, option_copied, OnOk, OnErr, IfOk, IfErr, IfSome};
 ghost use Rattle.std.specs.List.Sorted.{IsStrictlySortedBy};
 ghost use Rattle.std.specs.Map.{keys_of};
 ghost use Rattle.std.specs.Ordering.{nat_cmp};
@@ -10,6 +10,7 @@ ghost use Rattle.block_tables.specs.Kept.{blocks_of, load};
 ghost use Rattle.recovery_queue.specs.Queue.{put};
 ghost use Rattle.known_blocks.specs.Known as spec;
 
+use crate::last_block::LastBlock;
 use block_index::node_blocks::BlockSet;
 use block_records::block_record::BlockRecord;
 use block_records::fault::{BlockRefusal, Counter};
@@ -94,6 +95,24 @@ impl KnownBlocks {
         self.table.targets(self.alloc, nodes, count)
     }
 
+    /// What `targets` would answer once the length of a file's last block is committed. Costs as `targets`, and the reports of the block
+    /// for each node.
+    ///
+    /// # Errors
+    /// Out of memory.
+    pub fn targets_behind(
+        &self,
+        last: LastBlock,
+        nodes: &NodeSet,
+        count: usize,
+    ) -> Result<NodeSet, AllocError>
+        requires { 0 < count }
+        ensures { IfOk result (λ chosen. chosen ≡ targets (load (spec.altered (with_length last.length) last.block self.now).blocks) count nodes.now) }
+    {
+        self.table
+            .targets_behind(self.alloc, nodes, count, last.block, last.length)
+    }
+
     // Whether the recovery of a block began longer ago than this limit.
     fn is_due(&self, block: BlockId, retry: u32, now: Moment) -> bool
         ensures { result ≡ spec.is_due_by retry now (spec.block_of self.now block) }
@@ -170,7 +189,8 @@ impl KnownBlocks {
     // ---- blocks that come and go
 
     /// Makes a new block known, with the next id and the next stamp: these nodes are to hold it, nobody reports it, and its length
-    /// isn't committed. Costs a look-up of the block, and one for each node.
+    /// isn't committed. Marks that come with it are added, or nothing changes. Costs a look-up of the block, one for each node, and the
+    /// marks.
     ///
     /// # Errors
     /// Out of memory. Nothing has changed then.
@@ -178,11 +198,14 @@ impl KnownBlocks {
         &mut self,
         targets: NodeSet,
         replication: Repl,
+        marks: &mut Marks,
+        more: Vec<Mark>,
     ) -> Result<(BlockId, Stamp), AllocError>
         requires { spec.refused_new_block self.old ≡ None }
         ensures given { IfOk result (λ new. new ≡ (self.old.next_block, self.old.next_stamp)) }
         ensures added { OnOk result (self.new ≡ spec.added self.old targets replication) }
-        ensures err { OnErr result (self.new ≡ self.old) }
+        ensures marked { OnOk result (marks.new ≡ with_marks marks.old more.items) }
+        ensures err { OnErr result ((self.new ≡ self.old) × (marks.new ≡ marks.old)) }
     {
         let block = BlockId::new(self.next_block);
         let stamp = Stamp::new(self.next_stamp);
@@ -195,10 +218,39 @@ impl KnownBlocks {
             recovering: None,
             handed_out: None,
         };
-        self.table.insert(block, own)?;
+        self.table.insert_with(block, own, marks, more)?;
         self.next_block += 1;
         self.next_stamp += 1;
         Ok((block, stamp))
+    }
+
+    /// Commits the length of a file's last block, which is known, and makes a new block known as `add` does. The nodes that reported
+    /// another length of the last block are handed in. Costs as `add`, and a look-up for each of these nodes.
+    ///
+    /// # Errors
+    /// Out of memory. Nothing has changed then.
+    pub fn add_behind(
+        &mut self,
+        last: LastBlock,
+        others: &[NodeId],
+        targets: NodeSet,
+        replication: Repl,
+        marks: &mut Marks,
+        more: Vec<Mark>,
+    ) -> Result<(BlockId, Stamp), AllocError>
+        requires numbers { spec.refused_new_block self.old ≡ None }
+        requires known { is_some (spec.block_of self.old last.block) ≡ true }
+        requires others { IfSome (spec.block_of self.old last.block) (λ own. others.now ≡ others_of last.length own.reports) }
+        ensures given { IfOk result (λ new. new ≡ (self.old.next_block, self.old.next_stamp)) }
+        ensures added { OnOk result (self.new ≡ spec.added (spec.altered (with_length last.length) last.block self.old) targets replication) }
+        ensures marked { OnOk result (marks.new ≡ with_marks marks.old more.items) }
+        ensures err { OnErr result ((self.new ≡ self.old) × (marks.new ≡ marks.old)) }
+    {
+        // what is kept tells that the new block is another than the last
+        let _table = &self.table;
+        let new = self.add(targets, replication, marks, more)?;
+        self.commit(last.block, last.length, others);
+        Ok(new)
     }
 
     /// Makes a block known no more. Costs a look-up for each node that was to hold it or reported it, and takes no memory.

@@ -2,3 +2,4 @@
 #![tactic(auto)]
 
 pub mod known_blocks;
+pub mod last_block;

@@ -28,15 +28,6 @@ impl Model for RecoveryQueue {
     ghost invariant = { λ queue. IsIndexed queue.primaries.entries queue.blocks };
 }
 
-// Takes these blocks out of a table, each with a look-up. Takes no memory.
-fn remove_each(primaries: &mut BTreeMap<BlockId, NodeId>, blocks: &[BlockId])
-    ensures { primaries.new.entries ≡ without_each primaries.old.entries blocks.now }
-{
-    for block in blocks {
-        primaries.remove(block);
-    }
-}
-
 impl RecoveryQueue {
     /// No recovery waits. Takes no memory.
     pub fn new(alloc: Global) -> RecoveryQueue
@@ -99,20 +90,13 @@ impl RecoveryQueue {
         self.blocks.blocks(alloc, node)
     }
 
-    /// Takes out the blocks whose recovery a node is to lead, by their ids. Costs a look-up for each.
-    ///
-    /// # Errors
-    /// Out of memory. Nothing has changed then.
-    pub fn take(&mut self, alloc: Global, node: NodeId) -> Result<Vec<BlockId>, AllocError>
-        ensures taken { IfOk result (λ blocks. blocks.items ≡ led_by node self.old) }
-        ensures left { OnOk result (self.new ≡ told self.old node) }
-        ensures err { OnErr result (self.new ≡ self.old) }
+    /// Takes out the blocks whose recovery a node is to lead: it was told of them. Costs a look-up for each, and takes no memory.
+    pub fn forget_led(&mut self, node: NodeId)
+        ensures { self.new ≡ told self.old node }
     {
         // its contract tells that the keys ascend
         let _count = self.primaries.len();
-        let blocks = self.blocks.blocks(alloc, node)?;
-        remove_each(&mut self.primaries, &blocks);
-        self.blocks.clear(node);
-        Ok(blocks)
+        let blocks = self.blocks.take(node);
+        blocks.remove_from(&mut self.primaries);
     }
 }

@@ -3,7 +3,8 @@ use Rattle.block_records.specs.Numbers.{has_number}
 use Rattle.block_records.specs.Reports.{others_of}
 use Rattle.block_records.specs.Marks.{with_marks}
 use Rattle.block_map.specs.BlockFacts.{BlockFacts}
-use Rattle.block_map.specs.BlockEffects.{marks_of, marks_but_of, recovered}
+use Rattle.block_map.specs.BlockEffects.{marks_but_of, recovered}
+use Rattle.new_blocks.specs.Behind.{marks_of}
 use Rattle.block_map.proofs.blocks.Blocks.commit_recovery.Goals as goal
 
 pub returns-clause-ok : goal.returns-clause-ok

@@ -1,0 +1,79 @@
+-- A new block, before which the length of a file's last block is committed.
+-- (HDFS Architecture, "Data Replication" and "Replication Pipelining"; in the client's protocol the request for a block names the one
+-- before it with its length. That a DataNode has to have reported this length, and which nodes are chosen, are this project's own rules.)
+use Rattle.std.specs.Prelude.{◌≡◌, ℕ, List, [], ◌∷◌, map, if◌then◌else◌, Option, Some, None}
+use Rattle.std.specs.Option.{option_or}
+use Rattle.block_records.specs.Reports.{is_reported, others_of}
+use Rattle.block_records.specs.declared.block_record.BlockRecord.{BlockRecord}
+use Rattle.block_records.specs.declared.fault.BlockFault.{BlockFault}
+use Rattle.block_records.specs.declared.fault.BlockFault.TheVariants.{Refused, OutOfMemory}
+use Rattle.block_records.specs.declared.fault.BlockRefusal.{BlockRefusal}
+use Rattle.block_records.specs.declared.fault.BlockRefusal.TheVariants.{NotYetReplicated, TooFewNodes}
+use Rattle.block_records.specs.declared.mark.Mark.{Mark}
+use Rattle.block_placement.specs.Placement.{targets}
+use Rattle.block_tables.specs.Changes.{with_length}
+use Rattle.block_tables.specs.Kept.{load}
+use Rattle.known_blocks.specs.Known.{Known, block_of, altered, added, refused_new_block}
+use Rattle.known_blocks.specs.declared.last_block.LastBlock.{LastBlock}
+use Rattle.new_blocks.specs.declared.behind.NewBlock.{NewBlock}
+
+-- ---- marks
+
+abbrev pub marks_of : List ℕ → ℕ → ℕ → List Mark
+marks_of nodes block stamp = map (λ node. record { node = node; block = block; stamp = stamp }) nodes
+
+-- of the nodes that reported a block with another length
+abbrev pub marks_of_others : ℕ → ℕ → Option BlockRecord → List Mark
+marks_of_others block length None = []
+marks_of_others block length (Some own) = marks_of (others_of length own.reports) block own.stamp
+
+-- ---- the last block, if one is named
+
+abbrev pub with_last : Option LastBlock → Known → Known
+with_last None known = known
+with_last (Some last) known = altered (with_length last.length) last.block known
+
+-- the nodes that reported another length of it are to remove their replicas
+abbrev pub marks_behind : Option LastBlock → Known → List Mark
+marks_behind None known = []
+marks_behind (Some last) known = marks_of_others last.block last.length (block_of known last.block)
+
+-- ---- the new block
+
+-- of these nodes so many that have the fewest blocks then
+abbrev pub targets_behind : Option LastBlock → Known → ℕ → List ℕ → List ℕ
+targets_behind last known count live = targets (load (with_last last known).blocks) count live
+
+abbrev pub given_behind : Option LastBlock → Known → ℕ → List ℕ → NewBlock
+given_behind last known count live = record { block = known.next_block; stamp = known.next_stamp; targets = targets_behind last known count live }
+
+abbrev pub added_behind : Option LastBlock → Known → ℕ → List ℕ → Known
+added_behind last known count live = added (with_last last known) (targets_behind last known count live) count
+
+-- ---- refusals
+
+abbrev pub reports_by : Option BlockRecord → List (ℕ × ℕ)
+reports_by None = []
+reports_by (Some own) = own.reports
+
+-- a node has to have reported the block at its newest stamp with this length
+abbrev pub refused_length : Option BlockRecord → ℕ → Option BlockRefusal
+refused_length found length = if is_reported (reports_by found) length then None else Some NotYetReplicated
+
+abbrev pub refused_last : Option LastBlock → Known → Option BlockRefusal
+refused_last None known = None
+refused_last (Some last) known = refused_length (block_of known last.block) last.length
+
+-- a node has to be live
+abbrev pub refused_without : List ℕ → Option BlockRefusal
+refused_without [] = Some TooFewNodes
+refused_without (node ∷ nodes) = None
+
+-- in this order
+abbrev pub refused_behind : Option LastBlock → Known → List ℕ → Option BlockRefusal
+refused_behind last known live = option_or (refused_last last known) (option_or (refused_without live) (refused_new_block known))
+
+-- a call that is refused says why; want of memory may stand in the place of any other answer
+abbrev pub IsFaultOf : Option BlockRefusal → BlockFault → Type 0
+IsFaultOf refusal (Refused own) = refusal ≡ Some own
+IsFaultOf refusal OutOfMemory = Unit {0}

@@ -1,6 +1,0 @@
-use Rattle.std.proofs.Common.{◌≡◌, take}
-use Rattle.recovery_queue.specs.Queue.{without_each}
-use Rattle.recovery_queue.proofs.queue.remove_each.Given as goal
-
-abbrev pub invariant-loop-block : goal.invariant-loop-block
-invariant-loop-block l = l.primaries.entries ≡ without_each l.initial.primaries.entries (take l.block-index l.blocks)
