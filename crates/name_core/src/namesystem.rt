@@ -450,8 +450,8 @@ pub fn perform_with_copy(
     ensures err_ledger { OnErr result (ledger.new.rows ≡ ledger.old.rows) }
 {
     if let Op::Heartbeat = request.op {
-        let needs = needs(alloc, &request.op)?;
-        return perform_heartbeat(alloc, system, ledger, place, &request.caller, &needs, now);
+        let required = needs(alloc, &request.op)?;
+        return perform_heartbeat(alloc, system, ledger, place, &request.caller, &required, now);
     }
     let verdict = perform(alloc, system, open_paths, ledger, place, request, now)?;
     let told = with_copy(verdict)?;

@@ -39,10 +39,8 @@ fn granted(
     requires { IsTrue (is_modes granted.0) }
     ensures { IfOk result (λ row. row ≡ row_of place ring.now now principal.now (record { block = block; modes = granted })) }
 {
-    Ok(LedgerRow {
-        place: place,
-        grant: ring.issue(alloc, now, principal, block, granted)?,
-    })
+    let grant = ring.issue(alloc, now, principal, block, granted)?;
+    Ok(LedgerRow { place, grant })
 }
 
 // To read and to write.

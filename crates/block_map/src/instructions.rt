@@ -1,1 +1,0 @@
-pub use node_orders::instructions::Instructions;
