@@ -51,6 +51,7 @@ asked_of (op.RollKey key) = bare (codes "rollkey")
 asked_of op.Renew = bare (codes "renew")
 asked_of op.Tick = bare (codes "tick")
 asked_of op.Heartbeat = bare (codes "heartbeat")
+asked_of (op.Reported replica) = bare (codes "reported")
 
 -- ---- what a line tells of a verdict
 

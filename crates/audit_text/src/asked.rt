@@ -73,5 +73,6 @@ pub(crate) fn asked_of(op: &Op) -> Asked<'_>
         Op::Renew => bare("renew"),
         Op::Tick => bare("tick"),
         Op::Heartbeat => bare("heartbeat"),
+        Op::Reported(_) => bare("reported"),
     }
 }

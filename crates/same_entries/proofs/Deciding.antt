@@ -1,0 +1,31 @@
+-- Tests that decide whether two values are one.
+use Rattle.std.proofs.Common.{◌≡◌, ℕ, Bool, true, false, ◌&&◌, List, Option, Some, None, refl, sym, ap, ◌∙◌, subst, cond}
+use Rattle.std.specs.Bool.{Decides}
+use Rattle.std.specs.Cmp.Lexicographic.{pointwise}
+use Rattle.std.proofs.lemmas.Slice.Eq.{slice_eq-Decides}
+use Rattle.hdfs_values.specs.Text.{same}
+use Rattle.hdfs_values.proofs.Texts.{same_is, same_self}
+
+pub text_decides : (a b : List ℕ) → Decides (same a b) (a ≡ b)
+text_decides a b = (same_is a b, λ e. subst (λ (x : List ℕ). same a x ≡ true) e (same_self a))
+
+pub texts_decide : (a b : List (List ℕ)) → Decides (pointwise same a b) (a ≡ b)
+texts_decide a b = slice_eq-Decides text_decides a b (pointwise same a b) refl
+
+-- the test is computed in another way
+pub decides_by : {P : Type 0} (r b : Bool) → r ≡ b → Decides b P → Decides r P
+decides_by {P} r b e d = subst (λ (x : Bool). Decides x P) (sym e) d
+
+-- two tests in a row
+pub both_decide : {P Q R : Type 0} (a b : Bool) → Decides a P → Decides b Q → (P → Q → R) → (R → P) → (R → Q) → Decides (a && b) R
+both_decide {P} {Q} {R} a b p q together first second = (forth a b p q, λ r. back a b (p.1 (first r)) (q.1 (second r)))
+  where
+    forth : (a b : Bool) → Decides a P → Decides b Q → (a && b) ≡ true → R
+    forth true b p q e = together (p.0 refl) (q.0 e)
+    forth false b p q e = absurd (never e)
+      where
+        never : false ≡ true → ⊥
+        never e = cc
+
+    back : (a b : Bool) → a ≡ true → b ≡ true → (a && b) ≡ true
+    back a b x y = ap (λ (c : Bool). c && b) x ∙ y

@@ -1,0 +1,11 @@
+//! Whether two requests, or two verdicts, are one.
+#![tactic(auto)]
+
+pub mod acls;
+pub mod denials;
+pub mod names;
+pub mod refusals;
+pub mod replies;
+pub mod requests;
+pub mod rows;
+pub mod verdicts;

@@ -1,0 +1,148 @@
+ghost use Rattle.std.specs.Prelude.{◌≡◌, ◌++◌, [], ◌∷◌, List, IfOk, OnOk};
+ghost use Rattle.hdfs_values.specs.Text.{same};
+ghost use Rattle.token_provenance.specs.Provenance.{allows, lesser, place_of, least_place};
+ghost use Rattle.token_provenance.specs.Index.{IsIndex};
+ghost use Rattle.grant_ledger.specs.declared.ledger.LedgerRow.{LedgerRow};
+
+use grant_ledger::ledger::LedgerRow;
+use node_calls::access_log::AccessRecord;
+use std::alloc::{AllocError, Global};
+use std::collections::BTreeMap;
+use std::marker::Model;
+
+/// Rows of a ledger that have one token, borrowed.
+#[derive(Drop)]
+struct TokenRows<'a> {
+    rows: Vec<&'a LedgerRow>,
+}
+
+impl<'a> Model for TokenRows<'a> {
+    ghost use Rattle.std.specs.Prelude.{List, map};
+    ghost use Rattle.grant_ledger.specs.declared.ledger.LedgerRow.{LedgerRow};
+
+    ghost Value = { List LedgerRow };
+
+    ghost view = { λ group. map (λ row. row.now) group.rows.items };
+}
+
+fn lesser(least: Option<u64>, place: Option<u64>) -> Option<u64>
+    ensures { result ≡ lesser least place }
+{
+    match (least, place) {
+        (Some(least), Some(place)) => Some(least.min(place)),
+        (None, place) => place,
+        (least, None) => least,
+    }
+}
+
+// Whether a grant lets the caller at the block, for what he did, when he did it.
+fn allows(row: &LedgerRow, entry: &AccessRecord) -> bool
+    ensures { result ≡ allows row.now entry.now }
+{
+    row.grant.user == entry.caller
+        && row.grant.block == entry.block
+        && row.grant.modes.covers(entry.mode)
+        && entry.moment.milliseconds() < row.grant.expiry
+}
+
+fn is_token(row: &LedgerRow, entry: &AccessRecord) -> bool
+    ensures { result ≡ same row.now.grant.token entry.now.token }
+{
+    row.grant.token.as_bytes() == entry.token.as_bytes()
+}
+
+// The place of a row where a record rests on it.
+fn place_of(row: &LedgerRow, entry: &AccessRecord) -> Option<u64>
+    ensures { result ≡ place_of row.now entry.now }
+{
+    if is_token(row, entry) && allows(row, entry) {
+        return Some(row.place);
+    }
+    None
+}
+
+impl<'a> TokenRows<'a> {
+    fn one(alloc: Global, row: &'a LedgerRow) -> Result<TokenRows<'a>, AllocError>
+        ensures { IfOk result (λ rows. rows ≡ row.now ∷ []) }
+    {
+        let mut rows = Vec::new(alloc);
+        rows.push(row)?;
+        Ok(TokenRows { rows })
+    }
+
+    fn push(&mut self, row: &'a LedgerRow) -> Result<(), AllocError>
+        ensures { OnOk result (self.new ≡ self.old ++ row.now ∷ []) }
+    {
+        self.rows.push(row)?;
+        Ok(())
+    }
+
+    // The least place of those that fit.
+    fn least_place(&self, entry: &AccessRecord) -> Option<u64>
+        ensures { result ≡ least_place self.now entry.now }
+    {
+        let mut least = None;
+        for row in &self.rows {
+            least = lesser(least, place_of(row, entry));
+        }
+        least
+    }
+}
+
+/// The rows of a ledger by their tokens.
+#[derive(Drop)]
+pub(crate) struct TokenIndex<'a> {
+    tokens: BTreeMap<&'a [u8], TokenRows<'a>>,
+    alloc: Global,
+}
+
+impl<'a> Model for TokenIndex<'a> {
+    ghost use Rattle.token_provenance.specs.Index.{Table};
+
+    ghost Value = { Table };
+
+    ghost view = { λ index. index.tokens.entries };
+}
+
+impl<'a> TokenIndex<'a> {
+    // Lists a row under its token. Costs a look-up.
+    fn add(&mut self, row: &'a LedgerRow) -> Result<(), AllocError>
+        ensures { OnOk result ((rows : List LedgerRow) → IsIndex self.old rows → IsIndex self.new (rows ++ row.now ∷ [])) }
+    {
+        let token = row.grant.token.as_bytes();
+        if let Some(rows) = self.tokens.get_mut(token) {
+            rows.push(row)?;
+            return Ok(());
+        }
+        let rows = TokenRows::one(self.alloc, row)?;
+        self.tokens.insert(token, rows)?;
+        Ok(())
+    }
+
+    /// The index of these rows. Costs a look-up for each.
+    ///
+    /// # Errors
+    /// Out of memory.
+    pub(crate) fn of(alloc: Global, rows: &'a [LedgerRow]) -> Result<TokenIndex<'a>, AllocError>
+        ensures { IfOk result (λ index. IsIndex index rows.now) }
+    {
+        let mut index = TokenIndex {
+            tokens: BTreeMap::new(alloc),
+            alloc,
+        };
+        for row in rows {
+            index.add(row)?;
+        }
+        Ok(index)
+    }
+
+    /// The least place of the rows that a record rests on. Costs a look-up, and a step for each row that has its token. Takes no memory.
+    pub(crate) fn least_place(&self, entry: &AccessRecord) -> Option<u64>
+        ensures { (rows : List LedgerRow) → IsIndex self.now rows → result ≡ least_place rows entry.now }
+    {
+        match self.tokens.get(entry.token.as_bytes()) {
+            Some(rows) => rows.least_place(entry),
+            None => None,
+        }
+    }
+}
