@@ -2,6 +2,7 @@
 #![tactic(auto)]
 
 pub mod acls;
+pub mod commands;
 pub mod denials;
 pub mod names;
 pub mod refusals;

@@ -1,6 +1,7 @@
 ghost use Rattle.std.specs.Prelude.{◌≡◌};
 ghost use Rattle.std.specs.Bool.{Decides};
 
+use crate::commands::are_same_commands;
 use crate::names::{are_same_names, is_same_who};
 use crate::rows::is_same_state;
 use hdfs_types::file::FileDetail;
@@ -69,9 +70,8 @@ pub fn is_same_reply(reply: &Reply, other: &Reply) -> bool
         (Reply::Opened(bytes), Reply::Opened(other)) => bytes == other,
         (Reply::Expired(expired), Reply::Expired(other)) => expired == other,
         (Reply::Serial(serial), Reply::Serial(other)) => serial == other,
-        (Reply::Empty, Reply::Empty)
-        | (Reply::Released, Reply::Released)
-        | (Reply::Heartbeat, Reply::Heartbeat) => true,
+        (Reply::Commands(commands), Reply::Commands(other)) => are_same_commands(commands, other),
+        (Reply::Empty, Reply::Empty) | (Reply::Released, Reply::Released) => true,
         _ => false,
     }
 }

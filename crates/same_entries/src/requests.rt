@@ -7,7 +7,8 @@ use hdfs_types::file::LastBlock;
 use hdfs_types::key::Key;
 use hdfs_types::op::{Op, Request};
 
-fn is_same_key(key: &Key, other: &Key) -> bool
+/// Whether two keys are one.
+pub fn is_same_key(key: &Key, other: &Key) -> bool
     ensures { Decides result (key.now ≡ other.now) }
 {
     key.as_bytes() == other.as_bytes()
@@ -68,6 +69,7 @@ pub fn is_same_op(op: &Op, other: &Op) -> bool
         }
         (Op::RollKey(key), Op::RollKey(same)) => is_same_key(key, same),
         (Op::Renew, Op::Renew) | (Op::Tick, Op::Tick) | (Op::Heartbeat, Op::Heartbeat) => true,
+        (Op::Reported(replica), Op::Reported(same)) => replica == same,
         _ => false,
     }
 }
