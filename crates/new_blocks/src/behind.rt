@@ -22,13 +22,6 @@ pub struct NewBlock {
     pub targets: NodeSet,
 }
 
-// The nodes that reported another length of a block than the one that is to be committed, and the marks of their replicas.
-#[derive(Drop)]
-struct Others {
-    nodes: Vec<NodeId>,
-    marks: Vec<Mark>,
-}
-
 /// A mark of each of these nodes. Costs them.
 ///
 /// # Errors
@@ -80,33 +73,49 @@ fn check_new(known: &KnownBlocks, live: &NodeSet) -> Result<(), BlockRefusal>
 fn check(
     known: &KnownBlocks,
     live: &NodeSet,
-    last: Option<LastBlock>,
+    last: &Option<LastBlock>,
 ) -> Result<(), BlockRefusal>
-    ensures ok { OnOk result (spec.refused_behind last known.now live.now ≡ None) }
-    ensures err { IfErr result (λ refusal. spec.refused_behind last known.now live.now ≡ Some refusal) }
+    ensures ok { OnOk result (spec.refused_behind last.now known.now live.now ≡ None) }
+    ensures err { IfErr result (λ refusal. spec.refused_behind last.now known.now live.now ≡ Some refusal) }
 {
     if let Some(last) = last {
-        if let Err(refusal) = check_last(known, last) {
+        if let Err(refusal) = check_last(known, *last) {
             return Err(refusal);
         }
     }
     check_new(known, live)
 }
 
-// What the commit of a block's length takes away.
-fn others_of(alloc: Global, known: &KnownBlocks, last: LastBlock) -> Result<Others, AllocError>
-    ensures nodes { IfOk result (λ others. IfSome (block_of known.now last.block) (λ own. others.nodes.items ≡ others_of last.length own.reports)) }
-    ensures marks { IfOk result (λ others. others.marks.items ≡ spec.marks_of_others last.block last.length (block_of known.now last.block)) }
+// The nodes that reported another length of a file's last block than the one that is to be committed.
+fn others_of(
+    alloc: Global,
+    known: &KnownBlocks,
+    last: LastBlock,
+) -> Result<Vec<NodeId>, AllocError>
+    ensures { IfOk result (λ others. IfSome (block_of known.now last.block) (λ own. others.items ≡ others_of last.length own.reports)) }
 {
     let Some(own) = known.get(last.block) else {
-        return Ok(Others {
-            nodes: Vec::new(alloc),
-            marks: Vec::new(alloc),
-        });
+        return Ok(Vec::new(alloc));
     };
-    let nodes = own.reports.others(alloc, last.length)?;
-    let marks = marks_of(alloc, &nodes, last.block, own.stamp)?;
-    Ok(Others { nodes, marks })
+    let others = own.reports.others(alloc, last.length)?;
+    Ok(others)
+}
+
+// The marks of their replicas.
+fn marks_of_others(
+    alloc: Global,
+    known: &KnownBlocks,
+    last: LastBlock,
+    others: &[NodeId],
+) -> Result<Vec<Mark>, AllocError>
+    requires { IfSome (block_of known.now last.block) (λ own. others.now ≡ others_of last.length own.reports) }
+    ensures { IfOk result (λ marks. marks.items ≡ spec.marks_of_others last.block last.length (block_of known.now last.block)) }
+{
+    let Some(own) = known.get(last.block) else {
+        return Ok(Vec::new(alloc));
+    };
+    let marks = marks_of(alloc, others, last.block, own.stamp)?;
+    Ok(marks)
 }
 
 // Adds the first block of a file.
@@ -140,21 +149,22 @@ fn add_next(
     known: &mut KnownBlocks,
     marks: &mut Marks,
     live: &NodeSet,
-    last: LastBlock,
+    last: &LastBlock,
     replication: Repl,
 ) -> Result<NewBlock, AllocError>
     requires numbers { refused_new_block known.old ≡ None }
-    requires known { is_some (block_of known.old last.block) ≡ true }
-    ensures given { IfOk result (λ new. new ≡ spec.given_behind (Some last) known.old replication live.now) }
-    ensures added { OnOk result (known.new ≡ spec.added_behind (Some last) known.old replication live.now) }
-    ensures marked { OnOk result (marks.new ≡ with_marks marks.old (spec.marks_behind (Some last) known.old)) }
+    requires known { is_some (block_of known.old last.now.block) ≡ true }
+    ensures given { IfOk result (λ new. new ≡ spec.given_behind (Some last.now) known.old replication live.now) }
+    ensures added { OnOk result (known.new ≡ spec.added_behind (Some last.now) known.old replication live.now) }
+    ensures marked { OnOk result (marks.new ≡ with_marks marks.old (spec.marks_behind (Some last.now) known.old)) }
     ensures err { OnErr result ((known.new ≡ known.old) × (marks.new ≡ marks.old)) }
 {
     let count = usize::from(replication.get());
-    let targets = known.targets_behind(last, live, count)?;
+    let targets = known.targets_behind(*last, live, count)?;
     let own = targets.clone()?;
-    let Others { nodes, marks: more } = others_of(alloc, known, last)?;
-    let (block, stamp) = known.add_behind(last, &nodes, own, replication, marks, more)?;
+    let others = others_of(alloc, known, *last)?;
+    let more = marks_of_others(alloc, known, *last, &others)?;
+    let (block, stamp) = known.add_behind(*last, &others, own, replication, marks, more)?;
     Ok(NewBlock {
         block,
         stamp,
@@ -185,12 +195,11 @@ pub fn add_behind(
     ensures fault { IfErr result (spec.IsFaultOf (spec.refused_behind last known.old live.now)) }
     ensures err { OnErr result ((known.new ≡ known.old) × (marks.new ≡ marks.old)) }
 {
-    if let Err(refusal) = check(known, live, last) {
+    if let Err(refusal) = check(known, live, &last) {
         return Err(BlockFault::Refused(refusal));
     }
-    let new = match last {
-        Some(last) => add_next(alloc, known, marks, live, last, replication)?,
-        None => add_first(alloc, known, marks, live, replication)?,
-    };
-    Ok(new)
+    match &last {
+        Some(last) => Ok(add_next(alloc, known, marks, live, last, replication)?),
+        None => Ok(add_first(alloc, known, marks, live, replication)?),
+    }
 }
