@@ -444,19 +444,13 @@ impl Blocks {
     pub fn instructions(&self, node: NodeId, now: Moment) -> Result<Instructions, AllocError>
         ensures { IfOk result (λ told. told ≡ effect.instructions_for self.now now node) }
     {
+        let retry = self.retry;
         let at = HandOut {
             live: self.nodes.live_behind(node, now)?,
             moment: now,
-            retry: self.retry,
+            retry,
         };
-        instructions::orders_for(
-            self.alloc,
-            &self.known,
-            &self.queue,
-            &self.marks,
-            &at,
-            node,
-        )
+        instructions::orders_for(self.alloc, &self.known, &self.queue, &self.marks, &at, node)
     }
 
     /// Notes a node's heartbeat, and that it is told this, which is what `instructions` answers now: none of it is told again, but a copy

@@ -4,6 +4,7 @@
 #![tactic(auto)]
 
 pub mod blocks;
+
 pub use known_blocks::last_block;
 pub use new_blocks::behind;
 pub use node_orders::{instructions, recovery};

@@ -70,11 +70,7 @@ fn check_new(known: &KnownBlocks, live: &NodeSet) -> Result<(), BlockRefusal>
 }
 
 // Whether a new block can be added.
-fn check(
-    known: &KnownBlocks,
-    live: &NodeSet,
-    last: &Option<LastBlock>,
-) -> Result<(), BlockRefusal>
+fn check(known: &KnownBlocks, live: &NodeSet, last: &Option<LastBlock>) -> Result<(), BlockRefusal>
     ensures ok { OnOk result (spec.refused_behind last.now known.now live.now ≡ None) }
     ensures err { IfErr result (λ refusal. spec.refused_behind last.now known.now live.now ≡ Some refusal) }
 {
@@ -87,11 +83,7 @@ fn check(
 }
 
 // The nodes that reported another length of a file's last block than the one that is to be committed.
-fn others_of(
-    alloc: Global,
-    known: &KnownBlocks,
-    last: LastBlock,
-) -> Result<Vec<NodeId>, AllocError>
+fn others_of(alloc: Global, known: &KnownBlocks, last: LastBlock) -> Result<Vec<NodeId>, AllocError>
     ensures { IfOk result (λ others. IfSome (block_of known.now last.block) (λ own. others.items ≡ others_of last.length own.reports)) }
 {
     let Some(own) = known.get(last.block) else {
