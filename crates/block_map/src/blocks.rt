@@ -20,7 +20,9 @@ use hdfs_values::node_id::NodeId;
 use hdfs_values::replication::Repl;
 use heartbeats::heartbeats::Heartbeats;
 use known_blocks::known_blocks::KnownBlocks;
+use known_blocks::last_block::LastBlock;
 use new_blocks::behind;
+use new_blocks::behind::NewBlock;
 use node_orders::instructions;
 use node_orders::instructions::Instructions;
 use recovery_queue::queue::RecoveryQueue;
@@ -134,6 +136,37 @@ impl Blocks {
     }
 
     // ---- new blocks
+
+    /// Adds a block to a file: the length of the file's last block is committed, where one is named, and each node that reported another
+    /// length of it is to remove its replica; behind that the live nodes with the fewest blocks, ties to the lowest id, are chosen to
+    /// hold the new block, as many as there are to be replicas, or all. It gets the next id and the next stamp. Costs a sort of the
+    /// nodes, and four look-ups for each node that ever sent a heartbeat; the reports of the last block for each; and its marks.
+    ///
+    /// # Errors
+    /// `NotYetReplicated` where no node reported that length, `TooFewNodes` where no node is live, `Spent` of block ids, and then of
+    /// stamps, or out of memory. Nothing has changed then.
+    pub fn add_behind(
+        &mut self,
+        last: Option<LastBlock>,
+        replication: Repl,
+        now: Moment,
+    ) -> Result<NewBlock, BlockFault>
+        ensures allowed { OnOk result (effect.refused_behind self.old last now ≡ None) }
+        ensures given { IfOk result (λ new. new ≡ effect.given_behind self.old last now replication) }
+        ensures added { OnOk result (self.new ≡ effect.added_behind self.old last now replication) }
+        ensures fault { IfErr result (IsFaultOf (effect.refused_behind self.old last now)) }
+        ensures err { OnErr result (self.new ≡ self.old) }
+    {
+        let live = self.nodes.live(now)?;
+        behind::add_behind(
+            self.alloc,
+            &mut self.known,
+            &mut self.marks,
+            &live,
+            last,
+            replication,
+        )
+    }
 
     /// Gives a block another replication; nothing changes where the block isn't known. Costs a look-up, and takes no memory.
     pub fn set_replication(&mut self, block: BlockId, replication: Repl)
@@ -411,10 +444,11 @@ impl Blocks {
     pub fn instructions(&self, node: NodeId, now: Moment) -> Result<Instructions, AllocError>
         ensures { IfOk result (λ told. told ≡ effect.instructions_for self.now now node) }
     {
+        let retry = self.retry;
         let at = HandOut {
             live: self.nodes.live_behind(node, now)?,
             moment: now,
-            retry: self.retry,
+            retry,
         };
         instructions::orders_for(self.alloc, &self.known, &self.queue, &self.marks, &at, node)
     }

@@ -78,11 +78,7 @@ fn remove_each(ordered: &mut BTreeSet<Mark>, marks: &[Mark])
 }
 
 // The marks of a node among those that came of late.
-fn latest_of(
-    alloc: Global,
-    latest: &VecDeque<Mark>,
-    node: NodeId,
-) -> Result<Vec<Mark>, AllocError>
+fn latest_of(alloc: Global, latest: &VecDeque<Mark>, node: NodeId) -> Result<Vec<Mark>, AllocError>
     ensures { IfOk result (λ marks. marks.items ≡ marks_for node latest.now.items) }
 {
     latest

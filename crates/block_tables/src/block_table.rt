@@ -193,12 +193,7 @@ impl BlockTable {
     }
 
     // The nodes that have a block less once a block's length is committed.
-    fn leaving(
-        &self,
-        alloc: Global,
-        block: BlockId,
-        bytes: u64,
-    ) -> Result<Vec<NodeId>, AllocError>
+    fn leaving(&self, alloc: Global, block: BlockId, bytes: u64) -> Result<Vec<NodeId>, AllocError>
         ensures { IfOk result (λ leaving. (node : ℕ) → load_without self.now leaving.items node ≡ load (changed (with_length bytes) block self.now) node) }
     {
         let Some(own) = self.records.get(&block) else {

@@ -209,9 +209,6 @@ static STAMPS: [Call; 4] = [
 #[test]
 fn a_block_needs_a_stamp(rt: HostRuntime) -> Result<(), Fail> {
     let text = told(rt.alloc(), 1, u64::MAX - 1, &STAMPS)?;
-    assert_eq!(rt;
-        text.as_str(),
-        "1:18446744073709551614:1, Spent Stamp "
-    );
+    assert_eq!(rt; text.as_str(), "1:18446744073709551614:1, Spent Stamp ");
     Ok(())
 }
