@@ -1,7 +1,6 @@
 -- The blocks of files: those of a visit, and a block that was added and taken back.
-use Rattle.std.proofs.Common.{◌≡◌, ℕ, ◌+◌, ◌-◌, nat_eq, Bool, true, false, ◌&&◌, ◌||◌, not, List, [], ◌∷◌, ◌++◌, map, length, length-append, take, append_assoc, cond, Option, Some, None, refl, sym, ap, ◌∙◌, subst, arith, Result, OnOk, OnErr}
+use Rattle.std.proofs.Common.{◌≡◌, ℕ, ◌+◌, ◌-◌, nat_eq, Bool, true, false, ◌||◌, not, List, [], ◌∷◌, ◌++◌, map, length, length-append, take, append_assoc, cond, Option, Some, None, refl, sym, ap, ◌∙◌, arith, Result, OnOk, OnErr}
 use Rattle.std.proofs.Math.Seq.{take-append_seam}
-use Rattle.std.specs.List.{list_all}
 use Rattle.std.specs.Option.{option_map}
 use Rattle.std.specs.declared.alloc.AllocError.{AllocError}
 use Rattle.hdfs_values.specs.PathOrder.{same_path}
@@ -10,7 +9,7 @@ use Rattle.namespace_rows.specs.declared.file_row.FileBlock.{FileBlock}
 use Rattle.namespace_rows.specs.declared.file_row.FileRow.{FileRow}
 use Rattle.namespace_rows.specs.declared.row.Row.{Row}
 use Rattle.namespace_rows.specs.declared.row.Change.TheVariants as change
-use Rattle.namespace_rows.specs.Files.{ids_in, blocks_in, new_block, with_block, with_state, but_last, without_last, committed_at, state_recovers, recovered_at}
+use Rattle.namespace_rows.specs.Files.{ids_in, blocks_in, new_block, with_block, with_state, but_last, without_last, committed_at, recovered_at}
 use Rattle.namespace_rows.proofs.Tests.{both}
 use Rattle.namespace_rows.proofs.Commits.{committed_before}
 use Rattle.flat_rows.specs.Changes.{with_file, edited, rewritten, block_added, is_recovered, recovers_nowhere_else, recovery_ended, rows_under, suits_change}

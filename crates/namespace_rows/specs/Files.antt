@@ -57,7 +57,7 @@ blocks_in rows = flat_map (λ row. ids_in row.file) rows
 abbrev pub new_block : ℕ → FileBlock
 new_block id = record { id = id; committed = None }
 
--- a new block at the end of the file ("Data Replication"; "Staging": a client that writes asks for a block after the other)
+-- a new block at the end of the file ("Data Replication": a client that writes asks for one block after the other)
 abbrev pub with_block : ℕ → FileRow → FileRow
 with_block id file = record file { blocks = file.blocks ++ new_block id ∷ [] }
 
@@ -93,7 +93,7 @@ committed_in id bytes (block ∷ blocks) = with_length (has_id id block && not (
 abbrev pub committed_at : ℕ → ℕ → FileRow → FileRow
 committed_at id bytes file = record file { blocks = committed_in id bytes file.blocks }
 
--- the state of a file whose last block, this one, is recovered ("Data Replication"; HDFS-265, "Lease recovery")
+-- the state of a file whose last block, this one, is recovered ("Data Replication"; HDFS-265, "Block recovery")
 abbrev pub state_recovers : ℕ → FileState → Bool
 state_recovers id Closed = false
 state_recovers id (Open client) = false
