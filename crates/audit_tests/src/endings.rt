@@ -9,7 +9,8 @@ use std::test::Fail;
 #[test]
 fn ill_formed_lines_have_no_line(rt: HostRuntime) -> Result<(), Fail> {
     let script = "# comment\n\n \n0 hdfs frob /\n7 bob stat /x\n0 hdfs stat /..\n9 hdfs stat /";
-    let history = r#"{"caller":"bob","code":2,"moment":7,"op":"stat","path":"/x","place":1,"verdict":"refused"}
+    let history =
+        r#"{"caller":"bob","code":2,"moment":7,"op":"stat","path":"/x","place":1,"verdict":"refused"}
 {"caller":"hdfs","moment":9,"op":"stat","path":"/","place":2,"verdict":"done"}
 "#;
     prints(&rt, script.as_bytes(), Ok(Status::IllFormed), history)
@@ -98,12 +99,7 @@ fn many_entries(rt: &HostRuntime) -> Result<String, Fail> {
 fn many_entries_are_printed_in_their_order(rt: HostRuntime) -> Result<(), Fail> {
     let script = many_lines(&rt)?;
     let history = many_entries(&rt)?;
-    prints(
-        &rt,
-        script.as_bytes(),
-        Ok(Status::Clean),
-        history.as_str(),
-    )
+    prints(&rt, script.as_bytes(), Ok(Status::Clean), history.as_str())
 }
 
 #[test]

@@ -15,7 +15,8 @@ const NAMES: &str = "\
 0 u\"\\ chmod /\"q\" 755
 ";
 
-const NAMES_HISTORY: &str = r#"{"caller":"hdfs","moment":0,"op":"mkdirs","path":"/\"q\"/back\\slash","place":1,"verdict":"done"}
+const NAMES_HISTORY: &str =
+    r#"{"caller":"hdfs","moment":0,"op":"mkdirs","path":"/\"q\"/back\\slash","place":1,"verdict":"done"}
 {"caller":"hdfs","moment":0,"op":"chown","path":"/\"q\"","place":2,"verdict":"done"}
 {"caller":"hdfs","moment":0,"op":"chmod","path":"/\"q\"","place":3,"verdict":"done"}
 {"at":"/\"q\"","by":"other::---","caller":"u\"\\","moment":0,"need":"--x","op":"stat","path":"/\"q\"/back\\slash","place":4,"verdict":"denied"}

@@ -12,7 +12,11 @@ pub(crate) fn prints(
     let mut reader = script;
     let mut text = Vec::new(rt.alloc());
     let ended = audit(rt.alloc(), &mut reader, &mut text);
-    assert!(rt; ended == want);
-    assert!(rt; text.as_slice() == history.as_bytes());
+    if ended != want {
+        return Err(Fail::new("it ended otherwise"));
+    }
+    if text.as_slice() != history.as_bytes() {
+        return Err(Fail::new("another history is printed"));
+    }
     Ok(())
 }

@@ -29,7 +29,8 @@ const DONE: &str = "\
 12 dn-1 heartbeat
 ";
 
-const DONE_HISTORY: &str = r#"{"caller":"hdfs","moment":0,"op":"mkdirs","path":"/d","place":1,"verdict":"done"}
+const DONE_HISTORY: &str =
+    r#"{"caller":"hdfs","moment":0,"op":"mkdirs","path":"/d","place":1,"verdict":"done"}
 {"caller":"hdfs","moment":0,"op":"stat","path":"/d","place":2,"verdict":"done"}
 {"caller":"hdfs","moment":0,"op":"ls","path":"/d","place":3,"verdict":"done"}
 {"caller":"hdfs","moment":0,"op":"du","path":"/d","place":4,"verdict":"done"}
@@ -75,22 +76,29 @@ const NOT_DONE: &str = "\
 0 hdfs stat /d/f/g
 0 hdfs append /d/f
 0 hdfs delete /
+0 hdfs chown /d bob -
+0 bob chown /d ann -
+0 bob chown /d - ops
 ";
 
-const NOT_DONE_HISTORY: &str = r#"{"caller":"hdfs","moment":0,"op":"mkdirs","path":"/d","place":1,"verdict":"done"}
+const NOT_DONE_HISTORY: &str =
+    r#"{"caller":"hdfs","moment":0,"op":"mkdirs","path":"/d","place":1,"verdict":"done"}
 {"caller":"hdfs","moment":0,"op":"create","path":"/d/f","place":2,"verdict":"done"}
 {"caller":"bob","moment":0,"op":"stat","path":"/d/f","place":3,"verdict":"done"}
 {"at":"/d/f","by":"owner:hdfs dir:hdfs","caller":"bob","moment":0,"need":"sticky","op":"rename","path":"/d/f","place":4,"to":"/d/g","verdict":"denied"}
 {"at":"/d","by":"owner:hdfs","caller":"bob","moment":0,"need":"owner","op":"chmod","path":"/d","place":5,"verdict":"denied"}
 {"at":"/","by":"other::r-x","caller":"bob","moment":0,"need":"-w-","op":"mkdirs","path":"/x","place":6,"verdict":"denied"}
 {"at":"/","by":"other::r-x","caller":"bob","moment":0,"need":"-w-","op":"create","path":"/y","place":7,"verdict":"denied"}
-{"at":"/d","by":"superuser","caller":"bob","moment":0,"need":"superuser","op":"chown","path":"/d","place":8,"verdict":"denied"}
+{"at":"/d","by":"owner:hdfs","caller":"bob","moment":0,"need":"owner","op":"chown","path":"/d","place":8,"verdict":"denied"}
 {"at":"/d/f","by":"other::---","caller":"bob","moment":0,"need":"r--","op":"open","path":"/d/f","place":9,"verdict":"denied"}
 {"at":"/","by":"superuser","caller":"bob","moment":0,"need":"superuser","op":"tick","place":10,"verdict":"denied"}
 {"at":"/","by":"node","caller":"bob","moment":0,"need":"node","op":"heartbeat","place":11,"verdict":"denied"}
 {"caller":"hdfs","code":3,"moment":0,"op":"stat","path":"/d/f/g","place":12,"verdict":"refused"}
 {"caller":"hdfs","code":11,"moment":0,"op":"append","path":"/d/f","place":13,"verdict":"refused"}
 {"caller":"hdfs","code":7,"moment":0,"op":"delete","path":"/","place":14,"verdict":"refused"}
+{"caller":"hdfs","moment":0,"op":"chown","path":"/d","place":15,"verdict":"done"}
+{"at":"/d","by":"superuser","caller":"bob","moment":0,"need":"superuser","op":"chown","path":"/d","place":16,"verdict":"denied"}
+{"at":"/d","by":"group:ops","caller":"bob","moment":0,"need":"member:ops","op":"chown","path":"/d","place":17,"verdict":"denied"}
 "#;
 
 #[test]

@@ -20,16 +20,16 @@ returns-clause-ok c state holds =
     let answer : Numbered = record { number = state.number + 1; answer = Ok (verdict_of script_opening state.entries request) } in
     ok_then c.append.result
     (λ stepped.
-        record {
-          opening = ap (λ (core : NameCore). core.opening) stepped ∙ holds.opening;
-          entries =
-              ap (λ (core : NameCore). core.entries) stepped
-              ∙ ap (λ index. entry_of old.core 0 index request ∷ old.core.entries) c.place-index.ensures.place
-              ∙ ap (λ opening. entry_behind opening old.core.entries request ∷ old.core.entries) holds.opening
-              ∙ ap (λ entries. entry_behind script_opening entries request ∷ entries) holds.entries;
-          bad =
-              holds.bad
-              ∙ sym (or_false (list_any (λ (numbered : Numbered). is_bad numbered.answer) state.answers))
-              ∙ sym (list_any-append (λ (numbered : Numbered). is_bad numbered.answer) state.answers (answer ∷ []));
-        })
+    record {
+      opening = ap (λ (core : NameCore). core.opening) stepped ∙ holds.opening;
+      entries =
+          ap (λ (core : NameCore). core.entries) stepped
+          ∙ ap (λ index. entry_of old.core 0 index request ∷ old.core.entries) c.place-index.ensures.place
+          ∙ ap (λ opening. entry_behind opening old.core.entries request ∷ old.core.entries) holds.opening
+          ∙ ap (λ entries. entry_behind script_opening entries request ∷ entries) holds.entries;
+      bad =
+          holds.bad
+          ∙ sym (or_false (list_any (λ (numbered : Numbered). is_bad numbered.answer) state.answers))
+          ∙ sym (list_any-append (λ (numbered : Numbered). is_bad numbered.answer) state.answers (answer ∷ []));
+    })
     c.append.ensures.ok

@@ -9,4 +9,4 @@ returns-in_err-serve_all-clause-err c =
     let held = c.in_err-serve_all.ensures.err no_lines c.requires in
     on_err c.from_residual-in_err-serve_all.result
     (first_lines c.args.script.now held.count c.serve_all.new.self.core.entries
-        (held.entries ∙ ap (λ lines. (after_lines (take held.count lines)).entries) (ap (map (λ line. line.now)) c.deref.ensures.value ∙ c.in_ok-lines.ensures)))
+    (held.entries ∙ ap (λ lines. (after_lines (take held.count lines)).entries) (ap (map (λ line. line.now)) c.deref.ensures.value ∙ c.in_ok-lines.ensures)))
