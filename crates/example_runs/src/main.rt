@@ -1,7 +1,9 @@
 //! Runs the shipped examples that the command line names, each a script `NAME.hdfs` and what it has to print, `NAME.out`, and
-//! tells of each whether it does. The gate runs it in the folder of the examples.
+//! tells of each whether it does; of `NAME.audit` the history of the script is printed, which stands in `NAME.audit.out`. The gate
+//! runs it in the folder of the examples.
 #![tactic(auto)]
 
+use audit_runs::audit::audit;
 use script_runs::script::run_script;
 use std::alloc::AllocError;
 use std::process::ExitCode;
@@ -17,11 +19,30 @@ fn printed(rt: &HostRuntime, script: &str) -> io::Result<Vec<u8>> {
     }
 }
 
+/// The history of a script in a file.
+fn audited(rt: &HostRuntime, script: &str) -> io::Result<Vec<u8>> {
+    let mut text = Vec::new(rt.alloc());
+    let mut file = fs::open(rt, script)?;
+    match audit(rt.alloc(), &mut file, &mut text) {
+        Ok(_) => Ok(text),
+        Err(_) => Err(io::Error::from(io::ErrorKind::Other)),
+    }
+}
+
+/// What the example of this name prints.
+fn shown(rt: &HostRuntime, name: &str) -> io::Result<Vec<u8>> {
+    if let Some(audited_name) = name.strip_suffix(".audit") {
+        let script = format!(in rt.alloc(); "{audited_name}.hdfs")?;
+        return audited(rt, script.as_str());
+    }
+    let script = format!(in rt.alloc(); "{name}.hdfs")?;
+    printed(rt, script.as_str())
+}
+
 /// Whether the example of this name prints what is stored with it.
 fn is_as_stored(rt: &HostRuntime, name: &str) -> io::Result<bool> {
-    let script = format!(in rt.alloc(); "{name}.hdfs")?;
     let wanted = format!(in rt.alloc(); "{name}.out")?;
-    let printed = printed(rt, script.as_str())?;
+    let printed = shown(rt, name)?;
     let wanted = fs::read(rt, wanted.as_str())?;
     Ok(printed == wanted)
 }

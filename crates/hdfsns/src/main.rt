@@ -3,6 +3,7 @@
 
 use clap::error::ErrorKind;
 use clap::{Arg, ArgAction, ArgMatches, Command, Error, value_parser};
+use hdfs_cli::audit::audit;
 use hdfs_cli::explain::{Explained, explain};
 use hdfs_cli::explain_hints::hints_on_explained;
 use hdfs_cli::hints::hints_on_script;
@@ -72,6 +73,14 @@ fn explain_command<'a>(alloc: Global) -> Result<Command<'a>, AllocError> {
         .arg(hints)
 }
 
+fn audit_command<'a>(alloc: Global) -> Result<Command<'a>, AllocError> {
+    Command::new(alloc, "audit")
+        .about(
+            "Runs a script of requests, and prints their history: for each an object of JSON on a line of its own",
+        )
+        .arg(script(alloc))
+}
+
 fn digits<'a>(alloc: Global) -> Arg<'a> {
     Arg::new(alloc, "HEX")
         .help("The token's bytes in hexadecimal digits")
@@ -84,8 +93,8 @@ fn token_command<'a>(alloc: Global) -> Result<Command<'a>, AllocError> {
         .arg(digits(alloc))
 }
 
-/// The command line with the first of the subcommands. Each of the three is added in a function of its own: a function that has
-/// them all at once takes far longer to prove.
+/// The command line with the first of the subcommands. Each of them is added in a function of its own: a function that has
+/// all at once takes far longer to prove.
 fn with_run<'a>(alloc: Global, verbs: &'a str) -> Result<Command<'a>, AllocError> {
     let run = run_command(alloc, verbs)?;
     Command::new(alloc, "hdfsns")
@@ -100,10 +109,15 @@ fn with_explain<'a>(alloc: Global, verbs: &'a str) -> Result<Command<'a>, AllocE
     with_run(alloc, verbs)?.subcommand(explain)
 }
 
+fn with_audit<'a>(alloc: Global, verbs: &'a str) -> Result<Command<'a>, AllocError> {
+    let audit = audit_command(alloc)?;
+    with_explain(alloc, verbs)?.subcommand(audit)
+}
+
 /// The whole command line. The text is the help on the verbs of scripts.
 fn command<'a>(alloc: Global, verbs: &'a str) -> Result<Command<'a>, AllocError> {
     let token = token_command(alloc)?;
-    with_explain(alloc, verbs)?.subcommand(token)
+    with_audit(alloc, verbs)?.subcommand(token)
 }
 
 /// Runs the script that a path or `-` names.
@@ -126,6 +140,18 @@ fn explain_line(rt: &HostRuntime, path: &str, number: u32) -> Result<Explained, 
     }
     match fs::open(rt, path) {
         Ok(mut file) => explain(rt.alloc(), &mut file, number, &mut writer),
+        Err(_) => Err(ScriptFault::CannotRead),
+    }
+}
+
+/// Prints the history of the script that a path or `-` names.
+fn audit_script(rt: &HostRuntime, path: &str) -> Result<Status, ScriptFault> {
+    let mut writer = io::writer(rt);
+    if path == "-" {
+        return audit(rt.alloc(), &mut rt.reader(), &mut writer);
+    }
+    match fs::open(rt, path) {
+        Ok(mut file) => audit(rt.alloc(), &mut file, &mut writer),
         Err(_) => Err(ScriptFault::CannotRead),
     }
 }
@@ -185,6 +211,11 @@ fn code_of_explanation(
 /// Answers a script that a path or `-` names.
 fn answer_script(rt: &HostRuntime, path: &str) -> ExitCode {
     code_of_run(rt, path, run(rt, path))
+}
+
+/// Prints the history of a script that a path or `-` names.
+fn answer_history(rt: &HostRuntime, path: &str) -> ExitCode {
+    code_of_run(rt, path, audit_script(rt, path))
 }
 
 /// Prints the needs of a line of a script.
@@ -333,6 +364,9 @@ fn run_matches(rt: &HostRuntime, matches: &ArgMatches) -> ExitCode {
     }
     if let Some(path) = word(matches, "explain", "SCRIPT") {
         return explain_or_hint(rt, matches, path);
+    }
+    if let Some(path) = word(matches, "audit", "SCRIPT") {
+        return answer_history(rt, path);
     }
     if let Some(digits) = word(matches, "token", "HEX") {
         return answer_token(rt, digits);

@@ -1,0 +1,8 @@
+use Rattle.std.proofs.Common.{map, take}
+use Rattle.script_runs.specs.Output.{State, behind_lines}
+use Rattle.audit_runs.specs.Recorded.{Holds}
+use Rattle.audit_runs.proofs.recording.Recording.serve_all.Given as goal
+
+-- the recording holds what the lines so far leave
+abbrev pub invariant-loop-line : goal.invariant-loop-line
+invariant-loop-line l = (state : State) → Holds state l.initial.self → Holds (behind_lines state (take l.line-index (map (λ line. line.now) l.lines))) l.self

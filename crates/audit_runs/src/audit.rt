@@ -1,0 +1,140 @@
+ghost use Rattle.std.specs.Prelude.{◌≡◌, ◌≢◌, ◌≤◌, ℕ, length, take, drop, reverse, Ok, Err, IfOk, IfSome, OnOk, OnErr};
+ghost use Rattle.std.specs.Io.KnownBytes.{Appends, Keeps};
+ghost use Rattle.std.specs.Str.{IsUtf8};
+ghost use Rattle.script_runs.specs.Channel.{AppendsFront};
+ghost use Rattle.script_runs.specs.Output.{status_of, answers_of};
+ghost use Rattle.audit_text.specs.AuditText.{audit_text};
+ghost use Rattle.audit_runs.specs.Audit as spec;
+ghost use Rattle.audit_runs.specs.Audit.{AppendsFirst};
+ghost use Rattle.audit_runs.specs.Recorded.{AreFirstOf};
+
+use crate::recording::Recording;
+use audit_text::lines::audit_lines;
+use history::entry::HistoryEntry;
+use script_runs::channel::write_text;
+use script_runs::script::{ScriptFault, Status, read_script};
+use std::alloc::{AllocError, Global};
+use std::io::{Read, Write};
+use std::mem;
+
+/// Of how many entries lines are made before they are written.
+const BLOCK: usize = 256;
+
+/// The entries of the next block, behind so many that are done.
+fn block_behind(entries: &[HistoryEntry], done: usize) -> &[HistoryEntry]
+    requires { done ≤ length entries.now }
+    ensures { result.now ≡ take 256 (drop done entries.now) }
+{
+    let (_, rest) = entries.split_at(done);
+    let (block, _) = rest.split_at(BLOCK.min(rest.len()));
+    block
+}
+
+/// Writes the lines of a block of entries, behind so many that are done.
+fn write_block<W: Write>(
+    alloc: Global,
+    writer: &mut W,
+    block: &[HistoryEntry],
+    done: usize,
+) -> Result<(), ScriptFault>
+    ensures ok { OnOk result (Appends (W.contents writer.old) (W.contents writer.new) (audit_text block.now)) }
+    ensures no_memory { (count : ℕ) → result ≡ Err (ScriptFault.OutOfMemory count) → (count ≡ done) × Keeps (W.contents writer.old) (W.contents writer.new) }
+    ensures unwritten { result ≡ Err ScriptFault.CannotWrite → AppendsFront (W.contents writer.old) (W.contents writer.new) (audit_text block.now) }
+    ensures write_only { (result ≢ Err ScriptFault.CannotRead) × (result ≢ Err ScriptFault.NotUtf8) }
+{
+    let Ok(text) = audit_lines(alloc, block) else {
+        return Err(ScriptFault::OutOfMemory { served: done });
+    };
+    write_text(writer, text.as_bytes()).map_err(|_| ScriptFault::CannotWrite)
+}
+
+/// Writes the lines of the entries, a block of them at a time.
+fn write_entries<W: Write>(
+    alloc: Global,
+    writer: &mut W,
+    entries: &[HistoryEntry],
+) -> Result<(), ScriptFault>
+    ensures ok { OnOk result (Appends (W.contents writer.old) (W.contents writer.new) (audit_text entries.now)) }
+    ensures no_memory { (count : ℕ) → result ≡ Err (ScriptFault.OutOfMemory count) → AppendsFirst count (W.contents writer.old) (W.contents writer.new) entries.now }
+    ensures unwritten { result ≡ Err ScriptFault.CannotWrite → AppendsFront (W.contents writer.old) (W.contents writer.new) (audit_text entries.now) }
+    ensures write_only { (result ≢ Err ScriptFault.CannotRead) × (result ≢ Err ScriptFault.NotUtf8) }
+{
+    let mut done = 0;
+    while done < entries.len() {
+        let block = block_behind(entries, done);
+        match write_block(alloc, writer, block, done) {
+            Ok(()) => done += block.len(),
+            Err(fault) => return Err(fault),
+        }
+    }
+    Ok(())
+}
+
+/// A script whose requests were recorded, and how it ended.
+#[derive(Drop)]
+struct RecordedRun {
+    recording: Recording,
+    ended: Result<Status, AllocError>,
+}
+
+/// Records a script on a NameNode of its own. Where memory ran out, the entries of the lines before are held.
+fn record_script(alloc: Global, script: &str) -> Result<RecordedRun, AllocError>
+    ensures ok { IfOk result (λ recorded. OnOk recorded.ended (reverse recorded.recording.core.entries ≡ spec.history_of script.now)) }
+    ensures status { IfOk result (λ recorded. IfOk recorded.ended (λ status. status ≡ status_of (answers_of script.now))) }
+    ensures err { IfOk result (λ recorded. OnErr recorded.ended (AreFirstOf (spec.history_of script.now) recorded.recording.core.entries)) }
+{
+    let mut recording = Recording::open(alloc)?;
+    let ended = recording.run(alloc, script);
+    Ok(RecordedRun { recording, ended })
+}
+
+/// Writes the lines of all entries that were recorded, and answers how the script ended.
+fn write_recorded<W: Write>(
+    alloc: Global,
+    writer: &mut W,
+    recorded: &RecordedRun,
+) -> Result<Status, ScriptFault>
+    ensures ok { IfOk result (λ status. (recorded.now.ended ≡ Ok status) × Appends (W.contents writer.old) (W.contents writer.new) (audit_text (reverse recorded.now.recording.core.entries))) }
+    ensures no_memory { (count : ℕ) → result ≡ Err (ScriptFault.OutOfMemory count) → AppendsFirst count (W.contents writer.old) (W.contents writer.new) (reverse recorded.now.recording.core.entries) }
+    ensures unwritten { result ≡ Err ScriptFault.CannotWrite → AppendsFront (W.contents writer.old) (W.contents writer.new) (audit_text (reverse recorded.now.recording.core.entries)) }
+    ensures write_only { (result ≢ Err ScriptFault.CannotRead) × (result ≢ Err ScriptFault.NotUtf8) }
+{
+    let entries = recorded.recording.history();
+    if let Err(fault) = write_entries(alloc, writer, entries) {
+        return Err(fault);
+    }
+    match recorded.ended {
+        Ok(status) => Ok(status),
+        Err(_) => Err(ScriptFault::OutOfMemory {
+            served: entries.len(),
+        }),
+    }
+}
+
+/// Reads a script whole, runs its lines, and writes the history that their requests make, a line of JSON for each entry, the oldest
+/// first, and nothing else. Linear in the script and the text beside the requests; of the text at most 256 lines are held at a time.
+///
+/// # Errors
+/// `CannotRead` where the reader fails, or hasn't ended after 4,294,967,295 reads, and `NotUtf8`: nothing is written.
+/// `OutOfMemory`: the lines of the first `served` entries are written, all of them, and nothing else. `CannotWrite`: a front of the
+/// text is written.
+pub fn audit<R: Read, W: Write>(
+    alloc: Global,
+    reader: &mut R,
+    writer: &mut W,
+) -> Result<Status, ScriptFault>
+    ensures ok { IfOk result (λ status. IfSome (R.remaining reader.old) (λ script. IsUtf8 script × Appends (W.contents writer.old) (W.contents writer.new) (spec.audit_of script) × (status ≡ status_of (answers_of script)))) }
+    ensures unread { result ≡ Err ScriptFault.CannotRead → Keeps (W.contents writer.old) (W.contents writer.new) }
+    ensures not_text { result ≡ Err ScriptFault.NotUtf8 → Keeps (W.contents writer.old) (W.contents writer.new) × IfSome (R.remaining reader.old) (λ script. ¬ (IsUtf8 script)) }
+    ensures no_memory { (count : ℕ) → result ≡ Err (ScriptFault.OutOfMemory count) → IfSome (R.remaining reader.old) (λ script. AppendsFirst count (W.contents writer.old) (W.contents writer.new) (spec.history_of script)) }
+    ensures unwritten { result ≡ Err ScriptFault.CannotWrite → IfSome (R.remaining reader.old) (λ script. AppendsFront (W.contents writer.old) (W.contents writer.new) (spec.audit_of script)) }
+{
+    let script = read_script(alloc, reader)?;
+    let Ok(recorded) = record_script(alloc, &script) else {
+        return Err(ScriptFault::OutOfMemory { served: 0 });
+    };
+    let ended = write_recorded(alloc, writer, &recorded);
+    // as where a script is run: its memory is given back all at once, when the program ends
+    mem::forget(recorded);
+    ended
+}
