@@ -54,8 +54,14 @@ rests : (op : Op) → ((users : Users) (told : Reply) → users_by op (Done told
     → ((caller : List ℕ) (told : Reply) (now : ℕ) (blocks : BlockFacts) → blocks_by op caller (Done told) now blocks ≡ blocks)
     → ((told : Reply) → granted_by op told ≡ []) → (verdict : Verdict) → Rests op verdict
 rests op users rows renewals keys blocks grants (Done told) =
-    record { users = λ some. users some told; rows = λ facts caller some. rows facts caller told some; renewals = renewals told; keys = keys told; blocks = λ caller. blocks caller told;
-      grants = λ place ring now caller. ap (map (row_of place ring now caller)) (grants told) }
+    record {
+      users = λ some. users some told;
+      rows = λ facts caller some. rows facts caller told some;
+      renewals = renewals told;
+      keys = keys told;
+      blocks = λ caller. blocks caller told;
+      grants = λ place ring now caller. ap (map (row_of place ring now caller)) (grants told);
+    }
 rests op users rows renewals keys blocks grants (Denied denial) = not_done_rests op (Denied denial) refl
 rests op users rows renewals keys blocks grants (Refused refusal) = not_done_rests op (Refused refusal) refl
 

@@ -451,7 +451,15 @@ pub fn perform_with_copy(
 {
     if let Op::Heartbeat = request.op {
         let required = needs(alloc, &request.op)?;
-        return perform_heartbeat(alloc, system, ledger, place, &request.caller, &required, now);
+        return perform_heartbeat(
+            alloc,
+            system,
+            ledger,
+            place,
+            &request.caller,
+            &required,
+            now,
+        );
     }
     let verdict = perform(alloc, system, open_paths, ledger, place, request, now)?;
     let told = with_copy(verdict)?;
