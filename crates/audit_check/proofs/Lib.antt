@@ -1,2 +1,2 @@
-pub mod Placing
-pub mod Stepping
+pub mod Replaying
+pub mod Finding

@@ -1,16 +1,11 @@
 -- What a replay tells.
-use Rattle.std.specs.Prelude.{◌≡◌, ◌≤◌, ◌<◌, ℕ, true, List, Some, slice_get, length}
+use Rattle.std.specs.Prelude.{◌≡◌, ◌≤◌, ℕ, true, List, Some, slice_get}
 use Rattle.hdfs_types.specs.Request.{is_look}
 use Rattle.history.specs.declared.entry.HistoryEntry.{HistoryEntry}
 use Rattle.history.specs.declared.entry.Answer.{Answer}
 use Rattle.history.specs.Config.{Opening}
 use Rattle.history.specs.LegalHistory.{verdict_of}
-use Rattle.receipt_checks.specs.Agreement.{receipt_of, given_by, IsLegalAt, Legal, Told}
-
--- of a pair: entries that name it, and its look
-pub record Replayed (opening : Opening) (begun : ℕ) (history : List HistoryEntry) (passes : List (List Answer)) (pass index : ℕ) : Type 0 where
-  pub legal : Legal opening begun history pass index
-  pub told : Told opening history passes pass index
+use Rattle.receipt_checks.specs.Agreement.{receipt_of, given_by, IsLegalAt}
 
 -- the entry behind so many others is legal, unless it was there when the passes began
 abbrev pub LegalFrom : Opening → ℕ → List HistoryEntry → ℕ → Type 0

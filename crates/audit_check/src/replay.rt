@@ -5,8 +5,7 @@ ghost use Rattle.hdfs_types.specs.Request.{is_look};
 ghost use Rattle.history.specs.LegalHistory.{verdict_of};
 ghost use Rattle.name_core.specs.NameCore.{stepped};
 ghost use Rattle.receipt_checks.specs.Agreement.{Finds};
-ghost use Rattle.audit_check.specs.Replaying.{Replayed};
-ghost use Rattle.receipt_checks.specs.Looking.{ToldHere, FindsAmong, IsLegalBehind, HasAllLooks};
+ghost use Rattle.receipt_checks.specs.Looking.{ToldHere, FindsAmong, IsLegalBehind, Replayed, HasAllLooks};
 
 use fs_operations::apply::answer_look;
 use hdfs_types::op::{Request, is_look};
@@ -62,7 +61,8 @@ fn find_untold(
     ensures { IfOk result (FindsAmong pairs.now (ToldHere core.now.opening core.now.entries passes.now)) }
 {
     for pair in pairs {
-        if !is_told_here(alloc, core, passes, *pair)? {
+        let told = is_told_here(alloc, core, passes, *pair)?;
+        if !told {
             return Ok(Some(*pair));
         }
     }
