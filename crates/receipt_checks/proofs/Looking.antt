@@ -1,5 +1,5 @@
 -- Looks that are listed.
-use Rattle.std.proofs.Common.{◌≡◌, ℕ, ◌+◌, ◌<◌, ◌∙◌, List, length, get_or, Some, true, sym, subst, slice_get}
+use Rattle.std.proofs.Common.{◌≡◌, ℕ, ◌+◌, ◌<◌, ◌∙◌, List, length, get_or, Some, true, subst, slice_get}
 use Rattle.std.proofs.lemmas.Option.{get_or_from_slice_get}
 use Rattle.hdfs_types.specs.Request.{is_look}
 use Rattle.history.specs.declared.entry.Answer.{Answer}

@@ -1,5 +1,5 @@
 -- Entries and receipts by their places.
-use Rattle.std.proofs.Common.{◌≡◌, ℕ, ◌-◌, ◌+◌, ◌<◌, ◌∙◌, List, zero, suc, length, get_or, Option, Some, None, true, false, sym, ap, subst, arith, slice_get}
+use Rattle.std.proofs.Common.{◌≡◌, ℕ, ◌-◌, ◌+◌, ◌<◌, ◌∙◌, List, zero, suc, get_or, Option, Some, None, true, false, sym, ap, subst, arith, slice_get}
 use Rattle.std.specs.Option.{option_map_or, is_some}
 use Rattle.std.proofs.lemmas.Option.{get_or_from_slice_get}
 use Rattle.history.specs.declared.entry.HistoryEntry.{HistoryEntry}
