@@ -15,7 +15,6 @@ use script_runs::channel::write_text;
 use script_runs::script::{ScriptFault, Status, read_script};
 use std::alloc::{AllocError, Global};
 use std::io::{Read, Write};
-use std::mem;
 
 /// Of how many entries lines are made before they are written.
 const BLOCK: usize = 256;
@@ -135,6 +134,6 @@ pub fn audit<R: Read, W: Write>(
     };
     let ended = write_recorded(alloc, writer, &recorded);
     // as where a script is run: its memory is given back all at once, when the program ends
-    mem::forget(recorded);
+    drop(recorded);
     ended
 }

@@ -1,7 +1,9 @@
 //! What DataNodes report, and what they are told.
 
 use block_tokens::key::KeyList;
+use flat_rows::denial::Denial;
 use flat_rows::verdict::Verdict;
+use hdfs_types::commands::Commands;
 use hdfs_types::key::Key;
 use hdfs_types::op::{Op, Request};
 use hdfs_types::replica::ReportedReplica;
@@ -15,20 +17,35 @@ use std::alloc::Global;
 use std::fmt::Write;
 use std::test::Fail;
 
-fn request(alloc: Global, now: u64, caller: &str, op: Op) -> Result<Request, Fail> {
-    Ok(Request {
-        caller: Who::parse(alloc, caller)?,
-        moment: Moment::new(now).ok_or("a moment")?,
-        op,
-    })
+// What is asked.
+#[derive(Clone, Copy)]
+enum Asked {
+    Heartbeat,
+    // of a replica of 10 bytes of block 7, by its stamp
+    Report(u64),
+    // to a key of such bytes
+    RollKey(u8),
 }
 
-// A report of a replica of 10 bytes of block 7.
-fn report(stamp: u64) -> Op {
-    Op::Reported(ReportedReplica {
-        block: BlockId::new(7),
-        stamp: Stamp::new(stamp),
-        length: 10,
+fn op_of(asked: Asked) -> Op {
+    match asked {
+        Asked::Heartbeat => Op::Heartbeat,
+        Asked::Report(stamp) => Op::Reported(ReportedReplica {
+            block: BlockId::new(7),
+            stamp: Stamp::new(stamp),
+            length: 10,
+        }),
+        Asked::RollKey(byte) => Op::RollKey(Key::new([byte; 20])),
+    }
+}
+
+fn request(alloc: Global, now: u64, caller: &str, asked: Asked) -> Result<Request, Fail> {
+    let moment = Moment::new(now).ok_or("a moment")?;
+    let caller = Who::parse(alloc, caller)?;
+    Ok(Request {
+        caller,
+        moment,
+        op: op_of(asked),
     })
 }
 
@@ -44,27 +61,36 @@ fn write_keys(keys: &KeyList, text: &mut String) -> Result<(), Fail> {
     Ok(())
 }
 
+fn write_commands(commands: &Commands, text: &mut String) -> Result<(), Fail> {
+    text.push_str("told")?;
+    write_keys(commands.keys(), text)?;
+    for removal in commands.removals() {
+        let (block, stamp) = (removal.block.get(), removal.stamp.get());
+        write!(text, " remove {block} {stamp}")?;
+    }
+    let (recoveries, copies) = (commands.recoveries().len(), commands.copies().len());
+    Ok(write!(text, " lead {recoveries} copy {copies};")?)
+}
+
+fn write_denial(denial: &Denial, text: &mut String) -> Result<(), Fail> {
+    Ok(write!(text, "denied {denial};")?)
+}
+
+fn write_verdict(verdict: &Verdict, text: &mut String) -> Result<(), Fail> {
+    match verdict {
+        Verdict::Done(Reply::Commands(commands)) => write_commands(commands, text),
+        Verdict::Done(_) => Ok(text.push_str("done;")?),
+        Verdict::Denied(denial) => write_denial(denial, text),
+        Verdict::Refused(_) => Ok(text.push_str("refused;")?),
+    }
+}
+
 // What the last entry tells.
 fn write_last(core: &NameCore, text: &mut String) -> Result<(), Fail> {
-    let Some(entry) = core.last() else {
-        return Ok(());
-    };
-    match &entry.verdict {
-        Verdict::Done(Reply::Commands(commands)) => {
-            text.push_str("told")?;
-            write_keys(commands.keys(), text)?;
-            for removal in commands.removals() {
-                let (block, stamp) = (removal.block.get(), removal.stamp.get());
-                write!(text, " remove {block} {stamp}")?;
-            }
-            let (recoveries, copies) = (commands.recoveries().len(), commands.copies().len());
-            write!(text, " lead {recoveries} copy {copies};")?;
-        }
-        Verdict::Done(_) => text.push_str("done;")?,
-        Verdict::Denied(denial) => write!(text, "denied {denial};")?,
-        Verdict::Refused(refusal) => write!(text, "refused {refusal};")?,
+    match core.last() {
+        Some(entry) => write_verdict(&entry.verdict, text),
+        None => Ok(()),
     }
-    Ok(())
 }
 
 // Steps what a caller asks at a moment, and writes what it is answered.
@@ -74,9 +100,9 @@ fn ask(
     alloc: Global,
     now: u64,
     caller: &str,
-    op: Op,
+    asked: Asked,
 ) -> Result<(), Fail> {
-    let request = request(alloc, now, caller, op)?;
+    let request = request(alloc, now, caller, asked)?;
     let answer = core.step(0, 0, &request);
     drop(request);
     drop(answer?);
@@ -85,22 +111,22 @@ fn ask(
 
 // A node reports a replica of a block that isn't known twice, another node another one of it, and then they beat.
 fn unknown_block(alloc: Global, core: &mut NameCore, text: &mut String) -> Result<(), Fail> {
-    ask(core, text, alloc, 0, "dn-1", Op::Heartbeat)?;
-    ask(core, text, alloc, 0, "dn-1", report(1001))?;
-    ask(core, text, alloc, 0, "dn-1", report(1001))?;
-    ask(core, text, alloc, 0, "dn-2", report(1000))?;
-    ask(core, text, alloc, 0, "hdfs", report(1001))?;
-    ask(core, text, alloc, 0, "dn-1", Op::Heartbeat)?;
-    ask(core, text, alloc, 0, "dn-1", Op::Heartbeat)?;
-    ask(core, text, alloc, 0, "dn-2", Op::Heartbeat)
+    ask(core, text, alloc, 0, "dn-1", Asked::Heartbeat)?;
+    ask(core, text, alloc, 0, "dn-1", Asked::Report(1001))?;
+    ask(core, text, alloc, 0, "dn-1", Asked::Report(1001))?;
+    ask(core, text, alloc, 0, "dn-2", Asked::Report(1000))?;
+    ask(core, text, alloc, 0, "hdfs", Asked::Report(1001))?;
+    ask(core, text, alloc, 0, "dn-1", Asked::Heartbeat)?;
+    ask(core, text, alloc, 0, "dn-1", Asked::Heartbeat)?;
+    ask(core, text, alloc, 0, "dn-2", Asked::Heartbeat)
 }
 
 // A key is rolled at moment 5, and serves until the tokens under it have expired.
 fn rolled_key(alloc: Global, core: &mut NameCore, text: &mut String) -> Result<(), Fail> {
-    ask(core, text, alloc, 0, "dn-1", Op::Heartbeat)?;
-    ask(core, text, alloc, 5, "hdfs", Op::RollKey(Key::new([2; 20])))?;
-    ask(core, text, alloc, 36_000_004, "dn-1", Op::Heartbeat)?;
-    ask(core, text, alloc, 36_000_005, "dn-1", Op::Heartbeat)
+    ask(core, text, alloc, 0, "dn-1", Asked::Heartbeat)?;
+    ask(core, text, alloc, 5, "hdfs", Asked::RollKey(2))?;
+    ask(core, text, alloc, 36_000_004, "dn-1", Asked::Heartbeat)?;
+    ask(core, text, alloc, 36_000_005, "dn-1", Asked::Heartbeat)
 }
 
 fn open(alloc: Global) -> Result<NameCore, Fail> {
