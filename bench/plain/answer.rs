@@ -1,6 +1,7 @@
 //! What a caller is told, and how it is printed.
 
 use crate::access_list::{AclFault, Deciding, EntryKind};
+use crate::blocks::NewBlock;
 use crate::names::{Names, Who};
 use crate::request::{IllFormed, SpecFault};
 use crate::tree::{Denial, FileState, Need};
@@ -19,6 +20,20 @@ pub struct Status {
     pub file: Option<FileDetail>,
 }
 
+#[allow(dead_code)]
+pub struct Added {
+    pub new: NewBlock,
+    pub token: Box<[u8]>,
+    pub row: u64,
+}
+
+/// What a DataNode is told: the keys, each with its serial number, and the replicas that it is to remove.
+#[allow(dead_code)]
+pub struct Commands {
+    pub keys: Box<[(u32, [u8; 20])]>,
+    pub removals: Vec<(u64, u64)>,
+}
+
 pub enum Reply {
     Empty,
     Status(Status),
@@ -27,8 +42,14 @@ pub enum Reply {
     Deleted(u64),
     /// The file was taken from a client whose lease is past a limit, and closed.
     Released,
-    /// The file is closed; it holds nothing, since files have no blocks.
+    /// The file is closed; it holds nothing, since no block's length is committed.
     Closed,
+    /// A file to be read; none of its blocks is told, since no block's length is committed.
+    Opened,
+    /// A new block, the token with which it is written, and the row of the ledger that has it, counted from 1.
+    Added(Box<Added>),
+    #[allow(dead_code)]
+    Heartbeat(Box<Commands>),
     /// So many files were closed.
     Expired(u64),
 }
@@ -48,6 +69,10 @@ pub enum Refusal {
     /// Another client has the file open.
     NoLease,
     NotOpen,
+    /// No DataNode has reported the last block.
+    NotYetReplicated,
+    /// No DataNode is live.
+    TooFewNodes,
     BadName,
 }
 
@@ -150,6 +175,7 @@ impl Printer<'_> {
                 self.push_who(*owner);
             }
             Need::Superuser => self.push("superuser by superuser"),
+            Need::Node => self.push("node by node"),
         }
     }
 
@@ -189,6 +215,20 @@ impl Printer<'_> {
         }
     }
 
+    fn push_added(&mut self, added: &Added) {
+        self.push("ok block ");
+        self.push_number(added.new.block);
+        self.push(" ");
+        self.push_number(added.new.stamp);
+        self.push(" targets ");
+        for (i, target) in added.new.targets.iter().enumerate() {
+            self.push(if i == 0 { "" } else { "," });
+            self.push_number((*target).into());
+        }
+        self.push(" token #");
+        self.push_number(added.row);
+    }
+
     fn push_reply(&mut self, reply: &Reply) {
         match reply {
             Reply::Empty => self.push("ok"),
@@ -200,6 +240,9 @@ impl Printer<'_> {
             }
             Reply::Released => self.push("ok released"),
             Reply::Closed => self.push("ok closed 0"),
+            Reply::Opened => self.push("ok open 0"),
+            Reply::Added(added) => self.push_added(added),
+            Reply::Heartbeat(_) => self.push("ok heartbeat"),
             Reply::Expired(count) => {
                 self.push("ok closed ");
                 self.push_number(*count);
@@ -230,6 +273,8 @@ impl Printer<'_> {
             }
             Refusal::NoLease => self.push("13 NoLease"),
             Refusal::NotOpen => self.push("14 NotOpen"),
+            Refusal::NotYetReplicated => self.push("15 NotYetReplicated"),
+            Refusal::TooFewNodes => self.push("16 TooFewNodes"),
             Refusal::BadName => self.push("19 BadName"),
         }
     }

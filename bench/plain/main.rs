@@ -8,16 +8,19 @@
 //!
 //! It is written for speed, with nothing proved: a path is one allocation, users and groups are numbers, nodes stand in one vector,
 //! a request moves into the history, and an answer is printed from its entry. It does less in these ways: it has only the verbs of
-//! the workloads, of `setfacl` two forms, no default lists, no blocks, no recovery, and it aborts for want of memory.
+//! the workloads, of `setfacl` two forms, no default lists, one key, no reports of blocks and so no committed length, no recovery, and
+//! it aborts for want of memory.
 
 mod access_list;
 mod answer;
+mod blocks;
 mod leases;
 mod name_node;
 mod names;
 mod request;
 mod session;
 mod text;
+mod tokens;
 mod tree;
 #[path = "../../crates/hdfs_bench/src/workload.rt"]
 mod workload;

@@ -1,12 +1,16 @@
-//! A NameNode in plain Rust: the tree, the users, the leases of clients, and the history of all requests.
+//! A NameNode in plain Rust: the tree, the users, the leases of clients, blocks and DataNodes, the tokens that were granted, and the
+//! history of all requests.
 
 use crate::access_list::AclChange;
-use crate::answer::{Failure, FileDetail, Refusal, Reply, Status, Verdict};
+use crate::answer::{Added, Commands, Failure, FileDetail, Refusal, Reply, Status, Verdict};
+use crate::blocks::Blocks;
 use crate::leases::Leases;
 use crate::names::{FastMap, Names, Who};
 use crate::request::{Op, Request};
+use crate::tokens::{KEY, Key, LedgerRow, WRITE};
 use crate::tree::{
-    Caller, File, FileState, Held, Node, Place, Tree, Walk, last_name, require_superuser,
+    Caller, Deleted, File, FileState, Held, Node, Place, Tree, Walk, last_name, no_node,
+    require_superuser,
 };
 
 const MOST_NAMES: usize = 1000;
@@ -46,6 +50,9 @@ pub struct NameNode {
     tree: Tree,
     users: Users,
     leases: Leases,
+    blocks: Blocks,
+    key: Key,
+    ledger: Vec<LedgerRow>,
     /// The greatest moment of a request.
     clock: u64,
     history: Vec<HistoryEntry>,
@@ -56,8 +63,13 @@ struct Serving<'a> {
     names: &'a Names,
     tree: &'a mut Tree,
     leases: &'a mut Leases,
+    blocks: &'a mut Blocks,
+    key: &'a Key,
+    ledger: &'a mut Vec<LedgerRow>,
     caller: Caller<'a>,
     now: u64,
+    /// The place of the entry that is made.
+    place: u64,
 }
 
 impl NameNode {
@@ -72,6 +84,9 @@ impl NameNode {
                 supergroup,
             },
             leases: Leases::new(),
+            blocks: Blocks::new(),
+            key: Key::new(),
+            ledger: Vec::new(),
             clock: 0,
             history: Vec::new(),
         }
@@ -102,7 +117,7 @@ impl NameNode {
 
     fn add_user(&mut self, names: &Names, caller: Who, user: Who, groups: &[Who]) -> Verdict {
         require_superuser(self.users.caller(caller))?;
-        if names.is_node(user) {
+        if names.node(user).is_some() {
             return Err(Refusal::BadName.into());
         }
         if self.users.groups.contains_key(&user) {
@@ -117,8 +132,12 @@ impl NameNode {
             names,
             tree: &mut self.tree,
             leases: &mut self.leases,
+            blocks: &mut self.blocks,
+            key: &self.key,
+            ledger: &mut self.ledger,
             caller: self.users.caller(caller),
             now: self.clock,
+            place: self.history.len() as u64 + 1,
         }
     }
 }
@@ -137,8 +156,11 @@ impl Serving<'_> {
                 self.create(path, *mode, *replication, *over)
             }
             Op::Append(path) => self.append(path),
+            Op::AddBlock(path) => self.add_block(path),
             Op::Complete(path) => self.complete(path),
+            Op::Open(path) => self.open(path),
             Op::Tick => self.tick(),
+            Op::Heartbeat => self.heartbeat(),
             Op::AddUser(..) => unreachable!("users are added elsewhere"),
         }
     }
@@ -239,11 +261,18 @@ impl Serving<'_> {
         if is_filled && !is_recursive {
             return Err(Refusal::NotEmpty.into());
         }
-        let (gone, open) = self.tree.delete(&walk);
-        for (holder, place) in open {
+        let deleted = self.tree.delete(&walk);
+        let gone = deleted.gone;
+        self.forget(deleted);
+        Ok(Reply::Deleted(gone))
+    }
+
+    /// What was deleted is open to nobody, and its blocks are known no more.
+    fn forget(&mut self, deleted: Deleted) {
+        for (holder, place) in deleted.open {
             self.leases.closed(holder, place);
         }
-        Ok(Reply::Deleted(gone))
+        self.blocks.remove_all(&deleted.blocks);
     }
 
     fn rename(&mut self, from: &str, to: &str) -> Verdict {
@@ -325,7 +354,12 @@ impl Serving<'_> {
             return Err(Refusal::Exists.into());
         }
         let state = FileState::Open(self.caller.name);
-        let place = self.make(walk, mode, File { replication, state });
+        let file = File {
+            replication,
+            state,
+            blocks: Vec::new(),
+        };
+        let place = self.make(walk, mode, file);
         self.leases.opened(self.caller.name, place, self.now);
         Ok(Reply::Empty)
     }
@@ -333,10 +367,8 @@ impl Serving<'_> {
     /// Makes a file, after one that has the path is deleted.
     fn make(&mut self, mut walk: Walk, mode: u16, file: File) -> Place {
         if walk.is_found() {
-            let (_, open) = self.tree.delete(&walk);
-            for (holder, place) in open {
-                self.leases.closed(holder, place);
-            }
+            let deleted = self.tree.delete(&walk);
+            self.forget(deleted);
             walk = walk.without_last();
         }
         self.tree.make(self.caller.name, &walk, mode, Some(file))
@@ -360,19 +392,60 @@ impl Serving<'_> {
         Ok(Reply::Released)
     }
 
-    fn complete(&mut self, path: &str) -> Verdict {
+    /// The place of a file that the caller has open, whose last block, if there is one, he doesn't state.
+    fn written(&self, path: &str) -> Result<Place, Failure> {
         let walk = self.walk(path)?;
         let place = self.expect_found(&walk)?;
-        let file = self.tree.file_mut(place).ok_or(Refusal::IsDirectory)?;
+        let file = self.tree.file(place).ok_or(Refusal::IsDirectory)?;
         match file.state {
-            FileState::Closed => return Err(Refusal::NotOpen.into()),
-            FileState::Open(holder) if holder != self.caller.name => {
-                return Err(Refusal::NoLease.into());
-            }
-            FileState::Open(_) => file.state = FileState::Closed,
+            FileState::Closed => Err(Refusal::NotOpen.into()),
+            FileState::Open(holder) if holder != self.caller.name => Err(Refusal::NoLease.into()),
+            FileState::Open(_) if !file.blocks.is_empty() => Err(Refusal::NotYetReplicated.into()),
+            FileState::Open(_) => Ok(place),
         }
+    }
+
+    fn add_block(&mut self, path: &str) -> Verdict {
+        let place = self.written(path)?;
+        let file = self.tree.file_mut(place).expect("a file");
+        let added = self.blocks.add(file.replication, self.now);
+        let new = added.ok_or(Refusal::TooFewNodes)?;
+        file.blocks.push(new.block);
+        let user = self.names.text(self.caller.name);
+        let token = self.key.token(self.now, user, new.block, WRITE);
+        self.ledger.push(LedgerRow {
+            place: self.place,
+            user: self.caller.name,
+            block: new.block,
+            modes: WRITE,
+            expiry: LedgerRow::expiry_at(self.now),
+            serial: 1,
+            token: token.clone(),
+        });
+        let row = self.ledger.len() as u64;
+        Ok(Reply::Added(Box::new(Added { new, token, row })))
+    }
+
+    fn complete(&mut self, path: &str) -> Verdict {
+        let place = self.written(path)?;
+        self.tree.file_mut(place).expect("a file").state = FileState::Closed;
         self.leases.closed(self.caller.name, place);
         Ok(Reply::Closed)
+    }
+
+    fn open(&mut self, path: &str) -> Verdict {
+        let walk = self.walk(path)?;
+        self.tree.require_read(self.caller, &walk)?;
+        let place = self.expect_found(&walk)?;
+        self.tree.file(place).ok_or(Refusal::IsDirectory)?;
+        Ok(Reply::Opened)
+    }
+
+    fn heartbeat(&mut self) -> Verdict {
+        let node = self.names.node(self.caller.name).ok_or_else(no_node)?;
+        let removals = self.blocks.heard_of(node, self.now);
+        let keys = Box::new([(1, KEY)]);
+        Ok(Reply::Heartbeat(Box::new(Commands { keys, removals })))
     }
 
     fn tick(&mut self) -> Verdict {

@@ -77,13 +77,10 @@ impl Names {
         &self.texts[who.0 as usize]
     }
 
-    /// Whether the name is a DataNode's, `dn-N`, which no user can have.
-    pub fn is_node(&self, who: Who) -> bool {
-        let number = self.text(who).strip_prefix("dn-");
-        number.is_some_and(|number| {
-            !number.starts_with('0')
-                && number.bytes().all(|byte| byte.is_ascii_digit())
-                && number.parse::<u32>().is_ok()
-        })
+    /// The DataNode whose principal the name is, `dn-N`, which no user can have.
+    pub fn node(&self, who: Who) -> Option<u32> {
+        let number = self.text(who).strip_prefix("dn-")?;
+        let is_id = !number.starts_with('0') && number.bytes().all(|byte| byte.is_ascii_digit());
+        if is_id { number.parse().ok() } else { None }
     }
 }

@@ -20,8 +20,11 @@ pub enum Op {
     /// A file of this mode and replication, and whether a file that has the path is deleted first.
     Create(Path, u16, u8, bool),
     Append(Path),
+    AddBlock(Path),
     Complete(Path),
+    Open(Path),
     Tick,
+    Heartbeat,
 }
 
 pub struct Request {
@@ -160,8 +163,11 @@ fn op(names: &mut Names, verb: &str, words: &[&str]) -> Read<Op> {
             word_is(over, "over")?,
         ),
         ("append", [at]) => Op::Append(path(at)?),
+        ("addblock", [at]) => Op::AddBlock(path(at)?),
         ("complete", [at]) => Op::Complete(path(at)?),
+        ("open", [at]) => Op::Open(path(at)?),
         ("tick", []) => Op::Tick,
+        ("heartbeat", []) => Op::Heartbeat,
         _ => return Err(IllFormed::BadLine),
     })
 }
@@ -169,7 +175,8 @@ fn op(names: &mut Names, verb: &str, words: &[&str]) -> Read<Op> {
 /// Whether a verb is known and has so many words.
 fn is_verb(verb: &str, words: &[&str]) -> bool {
     match (verb, words.len()) {
-        ("tick", 0) | ("stat" | "ls" | "delete" | "append" | "complete", 1) => true,
+        ("tick" | "heartbeat", 0) => true,
+        ("stat" | "ls" | "delete" | "append" | "addblock" | "complete" | "open", 1) => true,
         ("mkdirs" | "delete" | "rename" | "chmod" | "adduser", 2) | ("create", 3 | 4) => true,
         ("setfacl", 3) => matches!(words[1], "set" | "modify"),
         _ => false,

@@ -4,6 +4,7 @@ use crate::workload::{Block, Turns};
 use std::fmt::Write;
 
 const WRITERS: u32 = 100;
+const NODES: u32 = 10;
 
 /// A number below the bound, which jumps about from turn to turn (the mixing steps of SplitMix64).
 fn jumping(turn: u32, bound: u32) -> u32 {
@@ -54,6 +55,10 @@ fn place(mark: &str, turn: Turn) -> (u32, u32) {
 fn push_mark(text: &mut String, mark: &str, turn: Turn) {
     if mark == "writer" {
         write!(text, "u{:02}", turn.number % WRITERS).expect("memory");
+        return;
+    }
+    if mark == "node" {
+        write!(text, "{}", turn.number % NODES + 1).expect("memory");
         return;
     }
     let (number, names) = place(mark, turn);

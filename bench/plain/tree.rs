@@ -22,7 +22,7 @@ pub struct Caller<'a> {
     pub is_superuser: bool,
 }
 
-/// Who may write a file. Files have no blocks, since there are no DataNodes.
+/// Who may write a file.
 #[derive(Clone, Copy, PartialEq, Eq)]
 pub enum FileState {
     Closed,
@@ -32,6 +32,15 @@ pub enum FileState {
 pub struct File {
     pub replication: u8,
     pub state: FileState,
+    /// The ids of its blocks, in their order. The length of none is committed, since no DataNode reports one.
+    pub blocks: Vec<u64>,
+}
+
+/// What was deleted: how many nodes, who had which of their files open, and the blocks of these files.
+pub struct Deleted {
+    pub gone: u64,
+    pub open: Vec<(Who, Place)>,
+    pub blocks: Vec<u64>,
 }
 
 pub enum Held {
@@ -56,6 +65,7 @@ pub enum Need {
     /// To own: the owner.
     Owner(Who),
     Superuser,
+    Node,
 }
 
 /// A need that fails, and the path of the component that it fails at.
@@ -159,6 +169,13 @@ impl Tree {
         &mut self.nodes[place.0 as usize]
     }
 
+    pub fn file(&self, place: Place) -> Option<&File> {
+        match &self.node(place).held {
+            Held::File(file) => Some(file),
+            Held::Directory(_) => None,
+        }
+    }
+
     pub fn file_mut(&mut self, place: Place) -> Option<&mut File> {
         match &mut self.node_mut(place).held {
             Held::File(file) => Some(file),
@@ -236,6 +253,16 @@ impl Tree {
         self.require_at(
             caller,
             WRITE,
+            walk,
+            walk.is_found().then_some((walk.last, walk.end)),
+        )
+    }
+
+    /// The caller may read what has the path.
+    pub fn require_read(&self, caller: Caller, walk: &Walk) -> Allowed<()> {
+        self.require_at(
+            caller,
+            READ,
             walk,
             walk.is_found().then_some((walk.last, walk.end)),
         )
@@ -361,11 +388,12 @@ impl Tree {
         children.insert(to.missing.into(), from.last);
     }
 
-    /// Removes what has a path. Answers how many nodes that were, and who had which of their files open.
-    pub fn delete(&mut self, walk: &Walk) -> (u64, Vec<(Who, Place)>) {
+    /// Removes what has a path, and tells what that was.
+    pub fn delete(&mut self, walk: &Walk) -> Deleted {
         self.unlink(walk);
         let mut gone = 0;
         let mut open = Vec::new();
+        let mut blocks = Vec::new();
         let mut places = vec![walk.last];
         while let Some(place) = places.pop() {
             gone += 1;
@@ -374,15 +402,16 @@ impl Tree {
                 Held::Directory(BTreeMap::new()),
             ) {
                 Held::Directory(children) => places.extend(children.into_values()),
-                Held::File(File {
-                    state: FileState::Open(holder),
-                    ..
-                }) => open.push((holder, place)),
-                Held::File(_) => {}
+                Held::File(file) => {
+                    if let FileState::Open(holder) = file.state {
+                        open.push((holder, place));
+                    }
+                    blocks.extend(file.blocks);
+                }
             }
             self.free.push(place);
         }
-        (gone, open)
+        Deleted { gone, open, blocks }
     }
 
     /// The most names and bytes that the paths beneath a node have behind its own.
@@ -410,6 +439,11 @@ pub fn require_superuser(caller: Caller) -> Allowed<()> {
         return Ok(());
     }
     Err(denial("/", 0, Need::Superuser))
+}
+
+/// The denial of a caller who isn't a DataNode's principal.
+pub fn no_node() -> Box<Denial> {
+    denial("/", 0, Need::Node)
 }
 
 impl Node {

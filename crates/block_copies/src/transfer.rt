@@ -158,8 +158,9 @@ fn transfers_of(
 
 /// The copies that a node is to make, by block: of each committed block that fewer live nodes report than there are to be replicas, where
 /// the node is the lowest of those that report it and the last time lies further back than the retry limit. It goes to the node with the
-/// fewest blocks, ties to the lowest id, of the live nodes that don't report it; where there is none, nothing is to be copied. Costs the
-/// live nodes for each block that the node is to hold or reported, and a sort of them for each copy.
+/// fewest blocks, ties to the lowest id, of the live nodes that don't report it; where there is none, nothing is to be copied. Costs a
+/// look-up for each node that holds blocks, and the live nodes for each block of this node; but where all nodes that hold blocks are live,
+/// for at most each block of which fewer replicas were reported than there are to be; and a sort of the live nodes for each copy.
 ///
 /// # Errors
 /// Out of memory.
@@ -171,6 +172,6 @@ pub fn transfers_for(
 ) -> Result<Vec<Transfer>, AllocError>
     ensures { IfOk result (λ transfers. transfers.items ≡ spec.transfers_for known.now.blocks at.now node) }
 {
-    let blocks = known.blocks_of(node)?;
+    let blocks = known.candidates(node, &at.live)?;
     transfers_of(alloc, known, at, node, &blocks)
 }

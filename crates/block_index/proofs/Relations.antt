@@ -1,10 +1,13 @@
 -- Which nodes have to do with which blocks, behind a change of one node's blocks.
-use Rattle.std.proofs.Common.{◌≡◌, ℕ, ◌==◌, Bool, true, false, ◌&&◌, ◌||◌, List, [], take, drop, Option, Some, None, unwrap_or, refl, sym, ap, ◌∙◌, cond}
+use Rattle.std.proofs.Common.{◌≡◌, ℕ, ◌==◌, Bool, true, false, ◌&&◌, ◌||◌, nat_lt, List, [], ◌∷◌, length, filter, take, drop, Option, Some, None, unwrap_or, refl, sym, ap, ◌∙◌, cond, true≢false, arith}
+use Rattle.std.proofs.lemmas.Bool.{lt-ltb}
 use Rattle.std.specs.List.{list_any}
+use Rattle.std.specs.Option.{is_some}
+use Rattle.std.proofs.lemmas.Map.Views.{any-filter_same}
 use Rattle.std.proofs.lemmas.List.{take-append-drop}
 use Rattle.std.proofs.lemmas.List.Folds.{list_any-append}
 use Rattle.std.specs.List.Sorted.{IsStrictlySortedBy}
-use Rattle.std.specs.Map.{lookup, set_value}
+use Rattle.std.specs.Map.{lookup, set_value, keys_of}
 use Rattle.std.specs.Ordering.{nat_cmp}
 use Rattle.std.proofs.lemmas.Map.Steps.{set_value_same}
 use Rattle.block_records.specs.Numbers.{is_number, has_number, entry_at}
@@ -72,3 +75,29 @@ among block found = list_any (is_number block) (unwrap_or found [])
 pub none_at : (x : Bool) (block : ℕ) (found : Option (List ℕ)) → among block (cond x None found) ≡ cond x false (among block found)
 none_at true block found = refl
 none_at false block found = refl
+
+-- ---- the nodes that have to do with a block
+
+some_blocks : (block : ℕ) (blocks : List ℕ) → list_any (is_number block) blocks ≡ true → nat_lt 0 (length blocks) ≡ true
+some_blocks block [] some = absurd (true≢false (sym some))
+some_blocks block (b ∷ blocks) some = lt-ltb 0 (length (b ∷ blocks)) (omega arith)
+
+has_entry : {X : Type 0} (q : ℕ) (table : List (ℕ × X)) → list_any (is_number q) (keys_of table) ≡ is_some (entry_at q table)
+has_entry q [] = refl
+has_entry {X} q (entry ∷ table) = by (is_number q entry.0) (has_entry q table)
+  where
+    by : (b : Bool) → list_any (is_number q) (keys_of table) ≡ is_some (entry_at q table) → (b || list_any (is_number q) (keys_of table)) ≡ is_some (cond b (Some entry.1) (entry_at q table))
+    by true rest = refl
+    by false rest = rest
+
+pub busy_listed : (node block : ℕ) (table : List (ℕ × List ℕ)) → relates table node block ≡ true → list_any (is_number node) (filter (λ n. nat_lt 0 (length (blocks_at table n))) (keys_of table)) ≡ true
+busy_listed node block table some =
+    any-filter_same (is_number node) busy (busy node) (λ k is. ap busy (sym (number_is node k is))) (keys_of table)
+    ∙ (ap (λ b. b && list_any (is_number node) (keys_of table)) (some_blocks block (blocks_at table node) some) ∙ (has_entry node table ∙ there (entry_at node table) some))
+  where
+    busy : ℕ → Bool
+    busy n = nat_lt 0 (length (blocks_at table n))
+
+    there : (found : Option (List ℕ)) → list_any (is_number block) (unwrap_or found []) ≡ true → is_some found ≡ true
+    there None none = none
+    there (Some blocks) here = refl

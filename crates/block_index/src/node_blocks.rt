@@ -1,7 +1,7 @@
-ghost use Rattle.std.specs.Prelude.{◌≡◌, ℕ, ◌&&◌, true, false, [], not, is_some, length, fold, if◌then◌else◌, IfOk, OnOk, OnErr};
+ghost use Rattle.std.specs.Prelude.{◌≡◌, ℕ, ◌&&◌, true, false, [], not, is_some, nat_lt, length, filter, fold, if◌then◌else◌, IfOk, OnOk, OnErr};
 ghost use Rattle.std.specs.List.{list_any};
 ghost use Rattle.std.specs.List.Sorted.{IsStrictlySortedBy};
-ghost use Rattle.std.specs.Map.{remove_entry};
+ghost use Rattle.std.specs.Map.{remove_entry, keys_of};
 ghost use Rattle.std.specs.Ordering.{nat_cmp};
 ghost use Rattle.block_records.specs.Numbers.{is_number, has_number, entry_at};
 ghost use Rattle.block_index.specs.Relation.{blocks_at, relates};
@@ -86,6 +86,16 @@ impl BlockSet {
     }
 }
 
+impl Clone for BlockSet {
+    ghost is_clone = { λ set copy. copy ≡ set };
+
+    fn clone(&self) -> Result<BlockSet, AllocError> {
+        Ok(BlockSet {
+            ids: self.ids.clone()?,
+        })
+    }
+}
+
 /// Which blocks each DataNode has to do with. A call costs a look-up for each pair that it names.
 #[derive(Drop)]
 pub struct NodeBlocks {
@@ -135,6 +145,27 @@ impl NodeBlocks {
             Some(blocks) => blocks.to_vec(alloc),
             None => Ok(Vec::new(alloc)),
         }
+    }
+
+    // Whether a node has to do with a block.
+    fn is_busy(&self, node: NodeId) -> bool
+        ensures { result ≡ nat_lt 0 (length (blocks_at self.now node)) }
+    {
+        self.count(node) > 0
+    }
+
+    /// The nodes that have to do with a block, by their ids. Costs a look-up for each node that ever had.
+    ///
+    /// # Errors
+    /// Out of memory.
+    pub fn busy(&self, alloc: Global) -> Result<Vec<NodeId>, AllocError>
+        ensures { IfOk result (λ nodes. nodes.items ≡ filter (λ node. nat_lt 0 (length (blocks_at self.now node))) (keys_of self.now)) }
+    {
+        self.nodes
+            .keys()
+            .copied()
+            .filter(|node| self.is_busy(*node))
+            .collect(alloc)
     }
 
     /// Takes out the blocks that a node has to do with. Costs a look-up, and takes no memory.
@@ -209,6 +240,20 @@ impl NodeBlocks {
         }
     }
 
+    /// Ends all reports of a block, and notes that of the nodes that made them none has anything to do with it, but those that are
+    /// expected to. Takes no memory.
+    pub fn end_reports(&mut self, reports: &mut Reports, expected: &NodeSet, block: BlockId)
+        ensures none { reports.new ≡ [] }
+        ensures left { (n b : ℕ) → relates self.new n b ≡ (if is_number block b && (is_some (entry_at n reports.old) && not (has_number n expected.now)) then false else relates self.old n b) }
+    {
+        while let Some(node) = reports.pop() {
+            if !expected.contains(node) {
+                self.remove(node, block);
+            }
+        }
+        reports.clear();
+    }
+
     // Notes each of these nodes, up to the first for which there is no memory.
     fn insert_front(&mut self, nodes: &[NodeId], block: BlockId) -> Result<(), AllocError>
         ensures ok { OnOk result ((n b : ℕ) → relates self.new n b ≡ (if is_number block b && has_number n nodes.now then true else relates self.old n b)) }
@@ -234,5 +279,16 @@ impl NodeBlocks {
             return Err(AllocError);
         }
         Ok(())
+    }
+}
+
+impl Clone for NodeBlocks {
+    ghost is_clone = { λ table copy. copy ≡ table };
+
+    fn clone(&self) -> Result<NodeBlocks, AllocError> {
+        Ok(NodeBlocks {
+            nodes: self.nodes.clone()?,
+            alloc: self.alloc,
+        })
     }
 }

@@ -1,5 +1,5 @@
 -- What can happen to what is known of blocks: each call of the map of blocks has one of these effects.
-use Rattle.std.specs.Prelude.{ℕ, ◌==◌, not, List, [], ◌++◌, map, filter, if◌then◌else◌, Option, Some, None}
+use Rattle.std.specs.Prelude.{ℕ, ◌==◌, not, List, [], ◌++◌, map, filter, fold, if◌then◌else◌, Option, Some, None}
 use Rattle.std.specs.List.{flat_map}
 use Rattle.std.specs.Map.{keys_of}
 use Rattle.std.specs.Option.{option_or}
@@ -15,30 +15,18 @@ use Rattle.block_records.specs.declared.mark.Mark.{Mark}
 use Rattle.block_copies.specs.declared.transfer.Transfer.{Transfer}
 use Rattle.block_tables.specs.Changes.{with_report, without_report, with_replication, with_length, with_recovered}
 use Rattle.recovery_queue.specs.Queue as queue
+use Rattle.recovery_queue.specs.declared.begun.BegunRecovery.{BegunRecovery}
+use Rattle.begun_recoveries.specs.Leaders as leaders
+use Rattle.begun_recoveries.specs.Ends as ends
+use Rattle.removed_blocks.specs.Removals as removals
 use Rattle.heartbeats.specs.Live as nodes
 use Rattle.known_blocks.specs.Known as known
 use Rattle.known_blocks.specs.Known.{Known, altered, refused_new_block}
-use Rattle.known_blocks.specs.declared.last_block.LastBlock.{LastBlock}
-use Rattle.new_blocks.specs.Behind.{marks_of, marks_of_others}
+use Rattle.block_records.specs.declared.last_block.LastBlock.{LastBlock}
+use Rattle.new_blocks.specs.Behind.{marks_of_others}
 use Rattle.new_blocks.specs.declared.behind.NewBlock.{NewBlock}
 use Rattle.node_orders.specs.Orders.{Instructions}
 use Rattle.block_map.specs.BlockFacts.{BlockFacts, block_of, newest_stamp, leader, chosen_targets, recoveries_for, transfers_for, refused_targets, refused_commit}
-
--- ---- marks
-
--- the nodes that are to hold a block, and those that reported it
-abbrev pub holders_by : Option BlockRecord → List ℕ
-holders_by None = []
-holders_by (Some own) = own.expected ++ keys_of own.reports
-
-abbrev pub marks_of_holders : ℕ → Option BlockRecord → List Mark
-marks_of_holders block None = []
-marks_of_holders block (Some own) = marks_of (own.expected ++ keys_of own.reports) block own.stamp
-
--- of the nodes that reported a block with another length, but of these
-abbrev pub marks_but_of : List ℕ → ℕ → ℕ → Option BlockRecord → List Mark
-marks_but_of nodes block length None = []
-marks_but_of nodes block length (Some own) = marks_of (filter (λ node. not (has_number node nodes)) (others_of length own.reports)) block own.stamp
 
 -- ---- effects
 
@@ -50,18 +38,15 @@ added facts targets replication = record facts { known = known.added facts.known
 abbrev pub removed : BlockFacts → ℕ → BlockFacts
 removed facts block = record facts {
   known = known.removed facts.known block;
-  marks = with_marks facts.marks (marks_of_holders block (block_of facts block));
+  marks = with_marks facts.marks (removals.marks_of_holders block (block_of facts block));
   queued = queue.forgotten facts.queued block;
 }
-
-abbrev pub marks_of_all_holders : BlockFacts → List ℕ → List Mark
-marks_of_all_holders facts blocks = flat_map (λ block. marks_of_holders block (block_of facts block)) blocks
 
 -- the same of many blocks at once
 abbrev pub all_removed : BlockFacts → List ℕ → BlockFacts
 all_removed facts blocks = record facts {
   known = known.all_removed facts.known blocks;
-  marks = with_marks facts.marks (marks_of_all_holders facts blocks);
+  marks = with_marks facts.marks (removals.marks_of_all_holders facts.known blocks);
   queued = queue.without_each facts.queued blocks;
 }
 
@@ -109,20 +94,24 @@ told_marks facts node = record facts { marks = marks_but node facts.marks }
 
 -- ---- recoveries
 
-abbrev pub queued_for : Option ℕ → ℕ → List (ℕ × ℕ) → List (ℕ × ℕ)
-queued_for None block queued = queued
-queued_for (Some primary) block queued = queue.put queued block primary
-
 -- a recovery of a block begins under the next stamp, which its leader is to be told; one that waits for another node is forgotten
 abbrev pub begun : BlockFacts → ℕ → ℕ → BlockFacts
-begun facts block now = record facts { known = known.begun facts.known block now; queued = queued_for (leader facts block now) block facts.queued }
+begun facts block now = record facts { known = known.begun facts.known block now; queued = leaders.queued_for (leader facts block now) block facts.queued }
+
+-- of these blocks those that a live node can lead, as long as stamps are left, each with its stamp and this node, in this order
+abbrev pub recoveries_begun : BlockFacts → List ℕ → ℕ → List BegunRecovery
+recoveries_begun facts blocks now = leaders.recoveries_begun facts.known facts.nodes blocks now
+
+-- their recoveries begin, one after another; the other blocks are passed over
+abbrev pub all_begun : BlockFacts → List ℕ → ℕ → BlockFacts
+all_begun facts blocks now = fold (λ left own. begun left own.block now) facts (recoveries_begun facts blocks now)
 
 -- the length is committed that the recovery found, with the nodes that took part; each other node that reported another length is to
 -- remove its replica
 abbrev pub recovered : BlockFacts → ℕ → ℕ → List ℕ → BlockFacts
 recovered facts block length nodes = record facts {
   known = altered (with_recovered length nodes) block facts.known;
-  marks = with_marks facts.marks (marks_but_of nodes block length (block_of facts block));
+  marks = with_marks facts.marks (ends.marks_but_of nodes block length (block_of facts block));
 }
 
 -- a node was told of the recoveries that it is to lead

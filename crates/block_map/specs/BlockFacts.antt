@@ -1,18 +1,19 @@
 -- What is known of blocks and of the DataNodes that hold them, and the questions that are asked of it.
 -- (HDFS Architecture, "Data Replication" and "Data Disk Failure, Heartbeats and Re-Replication"; HDFS-265 for recoveries.)
-use Rattle.std.specs.Prelude.{ℕ, ◌==◌, not, List, [], if◌then◌else◌, Option, Some, None}
-use Rattle.std.specs.Option.{is_some, option_map, option_and_then, option_or}
+use Rattle.std.specs.Prelude.{ℕ, ◌==◌, not, List, if◌then◌else◌, Option, Some, None}
+use Rattle.std.specs.Option.{is_some, option_map, option_and_then}
 use Rattle.block_records.specs.declared.block_record.BlockRecord.{BlockRecord}
 use Rattle.block_records.specs.declared.fault.BlockRefusal.{BlockRefusal}
-use Rattle.block_records.specs.declared.fault.BlockRefusal.TheVariants.{NotFound, NotOpen, StaleStamp, TooFewNodes}
 use Rattle.block_records.specs.declared.mark.Mark.{Mark}
 use Rattle.block_placement.specs.Placement.{targets}
 use Rattle.block_tables.specs.Kept.{load}
-use Rattle.heartbeats.specs.Live.{Heartbeats, live_nodes, primary_of}
+use Rattle.heartbeats.specs.Live.{Heartbeats, live_nodes}
+use Rattle.begun_recoveries.specs.Leaders as leaders
+use Rattle.begun_recoveries.specs.Ends as ends
 use Rattle.block_copies.specs.Copies as copies
 use Rattle.block_copies.specs.declared.transfer.Transfer.{Transfer}
 use Rattle.known_blocks.specs.Known as known
-use Rattle.known_blocks.specs.Known.{Known, refused_new_stamp}
+use Rattle.known_blocks.specs.Known.{Known}
 use Rattle.node_orders.specs.Orders as orders
 use Rattle.node_orders.specs.declared.recovery.Recovery.{Recovery}
 use Rattle.new_blocks.specs.Behind.{reports_by, refused_length, refused_without}
@@ -42,12 +43,8 @@ committed_length facts block = option_and_then (λ (own : BlockRecord). own.comm
 abbrev pub recovering_since : BlockFacts → ℕ → Option ℕ
 recovering_since facts block = option_and_then (λ (own : BlockRecord). own.recovering) (block_of facts block)
 
-abbrev pub expected_by : Option BlockRecord → List ℕ
-expected_by None = []
-expected_by (Some own) = own.expected
-
 abbrev pub expected_nodes : BlockFacts → ℕ → List ℕ
-expected_nodes facts block = expected_by (block_of facts block)
+expected_nodes facts block = leaders.expected_by (block_of facts block)
 
 -- the nodes that reported a block at its newest stamp, by id, each with the length
 abbrev pub reports_of : BlockFacts → ℕ → List (ℕ × ℕ)
@@ -61,7 +58,7 @@ chosen_targets facts now replication = targets (load facts.known.blocks) replica
 
 -- the node that is to lead a recovery of a block: of its expected nodes the live one that was heard of last
 abbrev pub leader : BlockFacts → ℕ → ℕ → Option ℕ
-leader facts block now = primary_of facts.nodes now (expected_nodes facts block)
+leader facts block now = leaders.leader facts.known facts.nodes block now
 
 -- ---- what a node is told
 
@@ -87,19 +84,10 @@ refused_targets facts now = refused_without (live_nodes facts.nodes now)
 abbrev pub refused_commit : BlockFacts → ℕ → ℕ → Option BlockRefusal
 refused_commit facts block length = refused_length (block_of facts block) length
 
-abbrev pub refused_unled : Option ℕ → Option BlockRefusal
-refused_unled None = Some TooFewNodes
-refused_unled (Some node) = None
-
 -- the block has to be known, a stamp to be left, and one of its expected nodes to be live
 abbrev pub refused_recovery : BlockFacts → ℕ → ℕ → Option BlockRefusal
-refused_recovery facts block now =
-    if not (is_some (block_of facts block)) then Some NotFound else option_or (refused_new_stamp facts.known) (refused_unled (leader facts block now))
+refused_recovery facts block now = leaders.refused_recovery facts.known facts.nodes block now
 
 -- the block has to be known, the stamp to be its newest, and a recovery to run
-abbrev pub refused_recovered_by : Option BlockRecord → ℕ → Option BlockRefusal
-refused_recovered_by None stamp = Some NotFound
-refused_recovered_by (Some own) stamp = if not (stamp == own.stamp) then Some (StaleStamp own.stamp) else (if is_some own.recovering then None else Some NotOpen)
-
 abbrev pub refused_recovered : BlockFacts → ℕ → ℕ → Option BlockRefusal
-refused_recovered facts block stamp = refused_recovered_by (block_of facts block) stamp
+refused_recovered facts block stamp = ends.refused_recovered_by (block_of facts block) stamp

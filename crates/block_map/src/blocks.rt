@@ -8,8 +8,11 @@ ghost use Rattle.block_records.specs.Marks.{marks_for};
 ghost use Rattle.block_records.specs.Verdicts.{verdict_by};
 ghost use Rattle.block_records.specs.declared.block_record.BlockRecord.{BlockRecord};
 
+use begun_recoveries::{ends, recoveries};
 use block_copies::transfer::{HandOut, Transfer};
-use block_records::fault::{BlockFault, BlockRefusal};
+use block_records::block_record::BlockRecord;
+use block_records::fault::BlockFault;
+use block_records::last_block::LastBlock;
 use block_records::mark::{Mark, Marks};
 use block_records::node_set::NodeSet;
 use block_records::report::ReportVerdict;
@@ -20,12 +23,13 @@ use hdfs_values::node_id::NodeId;
 use hdfs_values::replication::Repl;
 use heartbeats::heartbeats::Heartbeats;
 use known_blocks::known_blocks::KnownBlocks;
-use known_blocks::last_block::LastBlock;
 use new_blocks::behind;
 use new_blocks::behind::NewBlock;
 use node_orders::instructions;
 use node_orders::instructions::Instructions;
+use recovery_queue::begun::BegunRecovery;
 use recovery_queue::queue::RecoveryQueue;
+use removed_blocks::removals;
 use std::alloc::{AllocError, Global};
 use std::marker::Model;
 
@@ -97,6 +101,13 @@ impl Blocks {
         }
     }
 
+    /// What is known of a block. Costs a look-up, and takes no memory.
+    pub fn get(&self, block: BlockId) -> Option<&BlockRecord>
+        ensures { option_copied result ≡ block_of self.now block }
+    {
+        self.known.get(block)
+    }
+
     /// The nodes that are to hold a block; none where it isn't known. Costs a look-up, and takes no memory.
     pub fn expected(&self, block: BlockId) -> &[NodeId]
         ensures { result.now ≡ expected_nodes self.now block }
@@ -137,33 +148,66 @@ impl Blocks {
 
     // ---- new blocks
 
-    /// Adds a block to a file: the length of the file's last block is committed, where one is named, and each node that reported another
-    /// length of it is to remove its replica; behind that the live nodes with the fewest blocks, ties to the lowest id, are chosen to
-    /// hold the new block, as many as there are to be replicas, or all. It gets the next id and the next stamp. Costs a sort of the
-    /// nodes, and four look-ups for each node that ever sent a heartbeat; the reports of the last block for each; and its marks.
+    /// The id of the next new block, where one is left. Takes no memory.
+    pub fn next_block(&self) -> BlockId
+        ensures { result ≡ self.now.known.next_block }
+    {
+        self.known.next_block()
+    }
+
+    /// The next generation stamp, which a new block or a recovery gets, where one is left. Takes no memory.
+    pub fn next_stamp(&self) -> Stamp
+        ensures { result ≡ self.now.known.next_stamp }
+    {
+        self.known.next_stamp()
+    }
+
+    /// What a new block of a file would be: the length of the file's last block would be committed, where one is named, and behind that
+    /// the live nodes with the fewest blocks, ties to the lowest id, would hold the new block, as many as there are to be replicas, or
+    /// all. It would get the next id and the next stamp. Nothing changes: `add_planned` adds it. Costs a sort of the live nodes, three
+    /// look-ups for each node that ever sent a heartbeat, and the reports of the last block for each live node.
     ///
     /// # Errors
     /// `NotYetReplicated` where no node reported that length, `TooFewNodes` where no node is live, `Spent` of block ids, and then of
-    /// stamps, or out of memory. Nothing has changed then.
-    pub fn add_behind(
-        &mut self,
-        last: Option<LastBlock>,
+    /// stamps, or out of memory.
+    pub fn plan_behind(
+        &self,
+        last: &Option<LastBlock>,
         replication: Repl,
         now: Moment,
     ) -> Result<NewBlock, BlockFault>
-        ensures allowed { OnOk result (effect.refused_behind self.old last now ≡ None) }
-        ensures given { IfOk result (λ new. new ≡ effect.given_behind self.old last now replication) }
-        ensures added { OnOk result (self.new ≡ effect.added_behind self.old last now replication) }
-        ensures fault { IfErr result (IsFaultOf (effect.refused_behind self.old last now)) }
-        ensures err { OnErr result (self.new ≡ self.old) }
+        ensures allowed { OnOk result (effect.refused_behind self.now last.now now ≡ None) }
+        ensures given { IfOk result (λ new. new ≡ effect.given_behind self.now last.now now replication) }
+        ensures fault { IfErr result (IsFaultOf (effect.refused_behind self.now last.now now)) }
     {
         let live = self.nodes.live(now)?;
-        behind::add_behind(
+        behind::plan_behind(&self.known, &live, last, replication)
+    }
+
+    /// Adds the block to a file that `plan_behind` told with the same arguments, on the nodes that it told: the length of the file's last
+    /// block is committed, where one is named, and each node that reported another length of it is to remove its replica. Costs a
+    /// look-up for each of the nodes, the reports of the last block, and the marks of replicas that are to be removed.
+    ///
+    /// # Errors
+    /// Out of memory. Nothing has changed then.
+    pub fn add_planned(
+        &mut self,
+        last: &Option<LastBlock>,
+        targets: NodeSet,
+        replication: Repl,
+        now: Moment,
+    ) -> Result<(), AllocError>
+        requires allowed { effect.refused_behind self.old last.now now ≡ None }
+        requires given { targets ≡ (effect.given_behind self.old last.now now replication).targets }
+        ensures added { OnOk result (self.new ≡ effect.added_behind self.old last.now now replication) }
+        ensures err { OnErr result (self.new ≡ self.old) }
+    {
+        behind::add_planned(
             self.alloc,
             &mut self.known,
             &mut self.marks,
-            &live,
             last,
+            targets,
             replication,
         )
     }
@@ -175,28 +219,6 @@ impl Blocks {
         self.known.set_replication(block, replication);
     }
 
-    // The nodes that are to hold a block, and those that reported it.
-    fn holders(&self, block: BlockId) -> Result<Vec<NodeId>, AllocError>
-        ensures { IfOk result (λ nodes. nodes.items ≡ effect.holders_by (block_of self.now block)) }
-    {
-        let mut nodes = Vec::new(self.alloc);
-        if let Some(own) = self.known.get(block) {
-            nodes.extend_from_slice(own.expected.as_slice())?;
-            nodes.extend_from_slice(&own.reports.nodes(self.alloc)?)?;
-        }
-        Ok(nodes)
-    }
-
-    // The marks that are left where a block is known no more.
-    fn marks_of_holders(&self, block: BlockId) -> Result<Vec<Mark>, AllocError>
-        ensures { IfOk result (λ marks. marks.items ≡ effect.marks_of_holders block (block_of self.now block)) }
-    {
-        let Some(own) = self.known.get(block) else {
-            return Ok(Vec::new(self.alloc));
-        };
-        behind::marks_of(self.alloc, &self.holders(block)?, block, own.stamp)
-    }
-
     /// Makes a block known no more: each node that was to hold it or reported it is to remove its replica of the newest stamp. Nothing
     /// changes where the block isn't known. Costs a look-up for each of these nodes.
     ///
@@ -206,22 +228,13 @@ impl Blocks {
         ensures ok { OnOk result (self.new ≡ effect.removed self.old block) }
         ensures err { OnErr result (self.new ≡ self.old) }
     {
-        let marks = self.marks_of_holders(block)?;
-        self.marks.add_all(marks)?;
-        self.known.remove(block);
-        self.queue.forget(block);
-        Ok(())
-    }
-
-    // The marks that are left where these blocks are known no more.
-    fn marks_of_all_holders(&self, blocks: &[BlockId]) -> Result<Vec<Mark>, AllocError>
-        ensures { IfOk result (λ marks. marks.items ≡ effect.marks_of_all_holders self.now blocks.now) }
-    {
-        let mut marks = Vec::new(self.alloc);
-        for block in blocks {
-            marks.extend_from_slice(&self.marks_of_holders(*block)?)?;
-        }
-        Ok(marks)
+        removals::remove(
+            self.alloc,
+            &mut self.known,
+            &mut self.marks,
+            &mut self.queue,
+            block,
+        )
     }
 
     /// Makes blocks known no more, all of them or none. Costs as `remove` for each of them.
@@ -232,11 +245,13 @@ impl Blocks {
         ensures ok { OnOk result (self.new ≡ effect.all_removed self.old blocks.now) }
         ensures err { OnErr result (self.new ≡ self.old) }
     {
-        let marks = self.marks_of_all_holders(blocks)?;
-        self.marks.add_all(marks)?;
-        self.known.remove_all(blocks);
-        self.queue.forget_each(blocks);
-        Ok(())
+        removals::remove_all(
+            self.alloc,
+            &mut self.known,
+            &mut self.marks,
+            &mut self.queue,
+            blocks,
+        )
     }
 
     // ---- lengths
@@ -252,17 +267,8 @@ impl Blocks {
         ensures fault { IfErr result (IsFaultOf (refused_commit self.old block length)) }
         ensures err { OnErr result (self.new ≡ self.old) }
     {
-        let Some(own) = self.known.get(block) else {
-            return Err(BlockFault::Refused(BlockRefusal::NotYetReplicated));
-        };
-        if !own.reports.has_length(length) {
-            return Err(BlockFault::Refused(BlockRefusal::NotYetReplicated));
-        }
-        let others = own.reports.others(self.alloc, length)?;
-        let marks = behind::marks_of(self.alloc, &others, block, own.stamp)?;
-        self.marks.add_all(marks)?;
-        self.known.commit(block, length, &others);
-        Ok(())
+        let last = LastBlock { block, length };
+        behind::commit(self.alloc, &mut self.known, &mut self.marks, &last)
     }
 
     // ---- recoveries
@@ -281,20 +287,44 @@ impl Blocks {
         ensures fault { IfErr result (IsFaultOf (refused_recovery self.old block now)) }
         ensures err { OnErr result (self.new ≡ self.old) }
     {
-        let Some(own) = self.known.get(block) else {
-            return Err(BlockFault::Refused(BlockRefusal::NotFound));
-        };
-        if let Err(refusal) = self.known.has_stamp() {
-            return Err(BlockFault::Refused(refusal));
-        }
-        let Some(primary) = self.nodes.primary_of(own.expected.as_slice(), now)? else {
-            return Err(BlockFault::Refused(BlockRefusal::TooFewNodes));
-        };
-        let reporting = own.reports.nodes(self.alloc)?;
-        Ok(
-            self.known
-                .begin_recovery(block, now, &reporting, &mut self.queue, primary)?,
-        )
+        recoveries::begin(&mut self.known, &mut self.queue, &self.nodes, block, now)
+    }
+
+    /// The recoveries that can begin of these blocks now, in this order: of each block of which an expected node is live, as long as
+    /// stamps are left, with the stamp that it gets and the node that is to lead it; the others are passed over. Nothing changes:
+    /// `begin_recoveries` begins them. Costs a look-up for each two of the expected nodes of each block.
+    ///
+    /// # Errors
+    /// Out of memory.
+    pub fn plan_recoveries(
+        &self,
+        blocks: &[BlockId],
+        now: Moment,
+    ) -> Result<Vec<BegunRecovery>, AllocError>
+        ensures { IfOk result (λ begun. begun.items ≡ effect.recoveries_begun self.now blocks.now now) }
+    {
+        recoveries::plan(self.alloc, &self.known, &self.nodes, blocks, now)
+    }
+
+    /// Begins the recoveries of these blocks that `plan_recoveries` told of them, all of them or none; each waits for the next heartbeat of
+    /// the node that is to lead it, and one of the same block that waits is forgotten. Where there is none to begin it costs nothing; else
+    /// a copy of the recoveries that wait, a look-up for each that begins, and one for each node that reported such a block.
+    ///
+    /// # Errors
+    /// Out of memory. Nothing has changed then.
+    pub fn begin_recoveries(
+        &mut self,
+        blocks: &[BlockId],
+        planned: &[BegunRecovery],
+        now: Moment,
+    ) -> Result<(), AllocError>
+        requires { planned.now ≡ effect.recoveries_begun self.old blocks.now now }
+        ensures begun { OnOk result (self.new ≡ effect.all_begun self.old blocks.now now) }
+        ensures err { OnErr result (self.new ≡ self.old) }
+    {
+        // they were planned of these
+        let _blocks = blocks;
+        self.known.begin_all(planned, now, &mut self.queue)
     }
 
     /// The blocks whose recovery began more than the retry limit ago, by their ids: it is to be begun anew. Costs a look-up for each
@@ -327,21 +357,15 @@ impl Blocks {
         ensures fault { IfErr result (IsFaultOf (refused_recovered self.old block stamp)) }
         ensures err { OnErr result (self.new ≡ self.old) }
     {
-        let Some(own) = self.known.get(block) else {
-            return Err(BlockFault::Refused(BlockRefusal::NotFound));
-        };
-        if stamp != own.stamp {
-            return Err(BlockFault::Refused(BlockRefusal::StaleStamp(own.stamp)));
-        }
-        if own.recovering.is_none() {
-            return Err(BlockFault::Refused(BlockRefusal::NotOpen));
-        }
-        let others = own.reports.others(self.alloc, length)?;
-        let unnamed = nodes.leave_out(self.alloc, &others)?;
-        let marks = behind::marks_of(self.alloc, &unnamed, block, own.stamp)?;
-        self.known
-            .end_recovery(block, length, nodes, &mut self.marks, marks)?;
-        Ok(())
+        ends::end(
+            self.alloc,
+            &mut self.known,
+            &mut self.marks,
+            block,
+            stamp,
+            length,
+            nodes,
+        )
     }
 
     // ---- reports
@@ -408,7 +432,8 @@ impl Blocks {
     /// The copies that a node is to make, by block: of each committed block that fewer live nodes report than there are to be replicas,
     /// where the node is the lowest live one that reports it and nobody was told to copy it within the retry limit. It goes to the live node
     /// with the fewest blocks, ties to the lowest id, of those that don't report it. Costs a look-up for each node that ever sent a
-    /// heartbeat, the live nodes for each block that the node is to hold or reported, and a sort of them for each copy.
+    /// heartbeat or holds blocks, the live nodes for each block of this node, and a sort of them for each copy; but where all nodes that
+    /// hold blocks are live, only blocks are looked at of which fewer replicas were reported than there are to be.
     ///
     /// # Errors
     /// Out of memory.
@@ -436,8 +461,10 @@ impl Blocks {
 
     /// What a node is to be told at its heartbeat now, behind which it is live: the recoveries that it is to lead, the replicas that it is
     /// to remove, and the copies that it is to make. Costs a copy of what is known of nodes and a look-up for each node that ever sent a
-    /// heartbeat; a look-up for each recovery and each replica, and a step for each replica that is to be removed since a node was last
-    /// told; the live nodes for each block that the node is to hold or reported, and a sort of them for each copy.
+    /// heartbeat or holds blocks; a look-up for each recovery and each replica, and a step for each replica that is to be removed since a
+    /// node was last told; the live nodes for each block of this node, and a sort of them for each copy. But where all nodes that hold
+    /// blocks are live, only blocks are looked at of which fewer replicas were reported than there are to be: an idle heartbeat costs
+    /// nothing for its node's blocks.
     ///
     /// # Errors
     /// Out of memory.

@@ -5,6 +5,7 @@
 
 pub mod blocks;
 
-pub use known_blocks::last_block;
+pub use block_records::last_block;
 pub use new_blocks::behind;
 pub use node_orders::{instructions, recovery};
+pub use recovery_queue::begun;

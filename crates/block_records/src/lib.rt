@@ -4,6 +4,7 @@
 
 pub mod block_record;
 pub mod fault;
+pub mod last_block;
 pub mod mark;
 pub mod node_set;
 pub mod report;

@@ -1,6 +1,5 @@
 -- The index of the blocks that each node holds, behind a change of one block's record.
 use Rattle.std.proofs.Common.{◌≡◌, ℕ, Bool, true, false, not, ◌&&◌, ◌||◌, List, [], filter, Option, Some, None, refl, sym, ap, ◌∙◌, cond}
-use Rattle.std.specs.Map.{keys_of}
 use Rattle.std.specs.Option.{is_some}
 use Rattle.block_records.specs.Numbers.{is_number, has_number, entry_at}
 use Rattle.block_index.specs.Relation.{relates}
@@ -8,10 +7,11 @@ use Rattle.block_records.specs.Reports.{agreeing, others_of, with_reports_of}
 use Rattle.block_records.specs.Verdicts.{holds_by}
 use Rattle.block_tables.specs.Changes.{with_recovered}
 use Rattle.block_tables.specs.Kept.{IsIndexed}
+use Rattle.block_tables.specs.Recovered.{AreRecovered, AreFresh, AreGone}
 use Rattle.block_records.specs.declared.block_record.BlockRecord.{BlockRecord}
-use Rattle.block_index.proofs.Indexing.{indexed, step, start}
+use Rattle.block_index.proofs.Indexing.{indexed}
 use Rattle.block_records.proofs.Numbers.{number_is}
-use Rattle.block_records.proofs.Reporting.{has_key, has_kept}
+use Rattle.block_records.proofs.Reporting.{has_kept}
 
 abbrev pub PutsRecord : ℕ → Option BlockRecord → List (ℕ × BlockRecord) → List (ℕ × BlockRecord) → Type 0
 PutsRecord block own old new = (q : ℕ) → entry_at q new ≡ cond (is_number block q) own (entry_at q old)
@@ -111,11 +111,10 @@ holds_still own new node expected gone some n =
 
 -- nobody reports a newer stamp
 pub holds_expected : (own new : BlockRecord) → new.expected ≡ own.expected → new.reports ≡ []
-    → (n : ℕ) → cond (has_number n (keys_of own.reports) && not (has_number n own.expected)) false (holds_by n (Some own)) ≡ holds_by n (Some new)
+    → (n : ℕ) → cond (is_some (entry_at n own.reports) && not (has_number n own.expected)) false (holds_by n (Some own)) ≡ holds_by n (Some new)
 holds_expected own new expected none n =
-    ap (λ x. cond (x && not (has_number n own.expected)) false (holds_by n (Some own))) (has_key n own.reports)
-    ∙ (by (has_number n own.expected) (is_some (entry_at n own.reports))
-    ∙ (ap (λ reports. has_number n own.expected || is_some (entry_at n reports)) (sym none) ∙ ap (λ nodes. has_number n nodes || is_some (entry_at n new.reports)) (sym expected)))
+    by (has_number n own.expected) (is_some (entry_at n own.reports))
+    ∙ (ap (λ reports. has_number n own.expected || is_some (entry_at n reports)) (sym none) ∙ ap (λ nodes. has_number n nodes || is_some (entry_at n new.reports)) (sym expected))
   where
     by : (here there : Bool) → cond (there && not here) false (here || there) ≡ (here || false)
     by true true = refl
@@ -136,46 +135,37 @@ recovering false true false false = refl
 recovering false false true k = refl
 recovering false false false k = refl
 
-module _ (own : BlockRecord) (length : ℕ) (nodes fresh gone : List ℕ) (reports : List (ℕ × ℕ)) where
-  abbrev pub AreRecovered : Type 0
-  AreRecovered = (q : ℕ) → is_some (entry_at q reports) ≡ (has_number q nodes || (is_some (entry_at q own.reports) && not (has_number q (others_of length own.reports))))
-
-  abbrev pub AreGone : Type 0
-  AreGone = (q : ℕ) → has_number q gone ≡ (holds_by q (Some own) && not (is_some (entry_at q reports)))
-
-  abbrev pub AreFresh : Type 0
-  AreFresh = fresh ≡ filter (λ node. not (holds_by node (Some own))) nodes
-
-  is_fresh : AreFresh → (n : ℕ) → has_number n fresh ≡ (not (holds_by n (Some own)) && has_number n nodes)
-  is_fresh new n = ap (has_number n) new ∙ has_kept n (λ node. not (holds_by node (Some own))) nodes
+module _ (own : BlockRecord) (length : ℕ) (nodes fresh gone : List ℕ) (reports : List (ℕ × ℕ)) (told : AreRecovered own length nodes reports) (new : AreFresh own nodes fresh) (left : AreGone own reports gone) where
+  is_fresh : (n : ℕ) → has_number n fresh ≡ (not (holds_by n (Some own)) && has_number n nodes)
+  is_fresh n = ap (has_number n) new ∙ has_kept n (λ node. not (holds_by node (Some own))) nodes
 
   -- who is fresh didn't hold the block
-  pub apart : (table : List (ℕ × BlockRecord)) (index : List (ℕ × List ℕ)) (block : ℕ) → IsIndexed table index → Some own ≡ entry_at block table → AreFresh
+  pub apart : (table : List (ℕ × BlockRecord)) (index : List (ℕ × List ℕ)) (block : ℕ) → IsIndexed table index → Some own ≡ entry_at block table
       → (n : ℕ) → has_number n fresh ≡ true → relates index n block ≡ false
-  apart table index block law found new n here = law n block ∙ (ap (holds_by n) (sym found) ∙ by (holds_by n (Some own)) (sym (is_fresh new n) ∙ here))
+  apart table index block law found n here = law n block ∙ (ap (holds_by n) (sym found) ∙ by (holds_by n (Some own)) (sym (is_fresh n) ∙ here))
     where
       by : (x : Bool) → (not x && has_number n nodes) ≡ true → x ≡ false
       by true h = sym h
       by false h = refl
 
-  holds_recovered : AreRecovered → AreFresh → AreGone
-      → (n : ℕ) → cond (has_number n gone) false (cond (has_number n fresh) true (holds_by n (Some own))) ≡ (has_number n nodes || is_some (entry_at n reports))
-  holds_recovered told new left n =
+  holds_recovered : (n : ℕ) → cond (has_number n gone) false (cond (has_number n fresh) true (holds_by n (Some own))) ≡ (has_number n nodes || is_some (entry_at n reports))
+  holds_recovered n =
       ap (λ x. cond x false (cond (has_number n fresh) true (holds_by n (Some own)))) (left n)
-      ∙ (ap (λ x. cond (holds_by n (Some own) && not (is_some (entry_at n reports))) false (cond x true (holds_by n (Some own)))) (is_fresh new n)
+      ∙ (ap (λ x. cond (holds_by n (Some own) && not (is_some (entry_at n reports))) false (cond x true (holds_by n (Some own)))) (is_fresh n)
       ∙ (ap (λ x. cond (holds_by n (Some own) && not x) false (cond (not (holds_by n (Some own)) && has_number n nodes) true (holds_by n (Some own)))) (told n)
       ∙ (recovering (has_number n own.expected) (is_some (entry_at n own.reports)) (has_number n nodes) (not (has_number n (others_of length own.reports)))
       ∙ ap (λ x. has_number n nodes || x) (sym (told n)))))
 
-  pub indexed_recovered : (table new : List (ℕ × BlockRecord)) (index mid after : List (ℕ × List ℕ)) (block : ℕ)
-      → IsIndexed table index → Some own ≡ entry_at block table → reports ≡ with_reports_of nodes length (agreeing length own.reports) → AreRecovered → AreFresh → AreGone
-      → Relates true block (λ n. has_number n fresh) index mid → Relates false block (λ n. has_number n gone) mid after
-      → PutsRecord block (Some (with_recovered length nodes own)) table new → IsIndexed new after
-  indexed_recovered table new index mid after block law found is told some left on off put =
-      indexed holds_by table new index after block (Some (with_recovered length nodes own)) law put
-      (step false block (λ n. has_number n gone) (λ n. cond (has_number n fresh) true (holds_by n (entry_at block table))) (λ n. holds_by n (Some (with_recovered length nodes own))) index mid after
-      (step true block (λ n. has_number n fresh) (λ n. holds_by n (entry_at block table)) (λ n. cond (has_number n fresh) true (holds_by n (entry_at block table))) index index mid
-      (start holds_by table index block law) on (λ n. refl))
-      off
-      (λ n. ap (λ q. cond (has_number n gone) false (cond (has_number n fresh) true (holds_by n q))) (sym found)
-      ∙ (holds_recovered told some left n ∙ ap (λ rs. has_number n nodes || is_some (entry_at n rs)) is)))
+  pub indexed_recovered : (table after : List (ℕ × BlockRecord)) (index now : List (ℕ × List ℕ)) (block : ℕ)
+      → IsIndexed table index → Some own ≡ entry_at block table → reports ≡ with_reports_of nodes length (agreeing length own.reports)
+      → ((n b : ℕ) → relates now n b ≡ cond (is_number block b && has_number n gone) false (cond (is_number block b && has_number n fresh) true (relates index n b)))
+      → PutsRecord block (Some (with_recovered length nodes own)) table after → IsIndexed after now
+  indexed_recovered table after index now block law found is says put =
+      indexed holds_by table after index now block (Some (with_recovered length nodes own)) law put (λ n b. says n b ∙ by n b (is_number block b) refl)
+    where
+      by : (n b : ℕ) (x : Bool) → is_number block b ≡ x
+          → cond (x && has_number n gone) false (cond (x && has_number n fresh) true (relates index n b)) ≡ cond x (holds_by n (Some (with_recovered length nodes own))) (relates index n b)
+      by n b false at = refl
+      by n b true at =
+          ap (λ x. cond (has_number n gone) false (cond (has_number n fresh) true x)) (law n b ∙ (ap (λ q. holds_by n (entry_at q table)) (sym (number_is block b at)) ∙ ap (holds_by n) (sym found)))
+          ∙ (holds_recovered n ∙ ap (λ rs. has_number n nodes || is_some (entry_at n rs)) is)

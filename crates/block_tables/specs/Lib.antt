@@ -1,2 +1,3 @@
 pub mod Changes
 pub mod Kept
+pub mod Recovered

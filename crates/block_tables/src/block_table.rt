@@ -1,11 +1,14 @@
-ghost use Rattle.std.specs.Prelude.{◌≡◌, ◌<◌, ℕ, [], Some, None, map, filter, length, if◌then◌else◌, option_copied, IfSome, IfOk, OnOk, OnErr};
+ghost use Rattle.std.specs.Prelude.{◌≡◌, ◌<◌, ◌&&◌, ℕ, true, false, [], Some, None, map, filter, length, if◌then◌else◌, option_copied, IfSome, IfOk, OnOk, OnErr};
 ghost use Rattle.std.specs.BTreeMap.{insert_entry};
+ghost use Rattle.std.specs.List.{list_any};
 ghost use Rattle.std.specs.List.Sorted.{IsStrictlySortedBy};
 ghost use Rattle.std.specs.Map.{remove_entry, keys_of};
 ghost use Rattle.std.specs.Ordering.{nat_cmp};
 ghost use Rattle.block_records.specs.Numbers.{is_number, has_number, entry_at};
 ghost use Rattle.block_placement.specs.Placement.{beside, is_chosen, targets};
-ghost use Rattle.block_tables.specs.Kept.{load, load_without, blocks_of};
+ghost use Rattle.block_tables.specs.Kept.{holds, load, load_without, blocks_of};
+ghost use Rattle.block_index.specs.Relation.{relates};
+ghost use Rattle.block_tables.specs.Recovered.{AreRecovered, AreFresh, AreGone};
 ghost use Rattle.block_tables.specs.Changes.{changed, with_report, without_report, with_replication, with_length, without_blocks, with_recovery, with_recovered, with_hand_out, handed_out};
 ghost use Rattle.block_records.specs.Marks.{with_marks};
 ghost use Rattle.block_records.specs.Reports.{others_of, agreeing, with_reports_of};
@@ -62,6 +65,62 @@ fn set_recovered(
     own.recovering = None;
     own.expected = nodes;
     own.reports = reports;
+}
+
+// Who reports a block behind a recovery, and for which nodes that changes whether they hold it.
+#[derive(Drop)]
+struct Holders {
+    reports: Reports,
+    // the nodes that hold the block behind it, and didn't before
+    fresh: Vec<NodeId>,
+    // those that held it before
+    gone: Vec<NodeId>,
+}
+
+// What a recovery leaves of a block where these nodes took part in it.
+fn recovered(
+    alloc: Global,
+    own: &BlockRecord,
+    bytes: u64,
+    nodes: &[NodeId],
+) -> Result<Holders, AllocError>
+    ensures reports { IfOk result (λ left. left.reports ≡ with_reports_of nodes.now bytes (agreeing bytes own.now.reports)) }
+    ensures reporting { IfOk result (λ left. AreRecovered own.now bytes nodes.now left.reports) }
+    ensures fresh { IfOk result (λ left. AreFresh own.now nodes.now left.fresh.items) }
+    ensures gone { IfOk result (λ left. AreGone own.now left.reports left.gone.items) }
+{
+    let reports = own.reports.recovered(nodes, bytes)?;
+    let fresh = own.without_holders(alloc, nodes)?;
+    let gone = own.holders_beside(alloc, &reports)?;
+    Ok(Holders {
+        reports,
+        fresh,
+        gone,
+    })
+}
+
+// Has some nodes hold a block that didn't, and others not. Marks that come with it are added, or nothing changes.
+fn reassign(
+    held: &mut NodeBlocks,
+    block: BlockId,
+    fresh: &[NodeId],
+    gone: &[NodeId],
+    marks: &mut Marks,
+    more: Vec<Mark>,
+) -> Result<(), AllocError>
+    requires { (n : ℕ) → has_number n fresh.now ≡ true → relates held.old n block ≡ false }
+    ensures ok { OnOk result ((n b : ℕ) → relates held.new n b ≡ (if is_number block b && has_number n gone.now then false else (if is_number block b && has_number n fresh.now then true else relates held.old n b))) }
+    ensures marked { OnOk result (marks.new ≡ with_marks marks.old more.items) }
+    ensures err { OnErr result ((n b : ℕ) → relates held.new n b ≡ relates held.old n b) }
+    ensures same { OnErr result (marks.new ≡ marks.old) }
+{
+    held.insert_each(fresh, block)?;
+    if marks.add_all(more).is_err() {
+        held.remove_each(fresh, block);
+        return Err(AllocError);
+    }
+    held.remove_each(gone, block);
+    Ok(())
 }
 
 // Whether a node is among these.
@@ -329,16 +388,9 @@ impl BlockTable {
         self.held.remove_unexpected(others, &own.expected, block);
     }
 
-    /// Gives a block a newer stamp, which nobody has reported, and notes that a recovery of it begins. The nodes that reported it are
-    /// handed in. Costs a look-up for each of them, and takes no memory.
-    pub fn begin_recovery(
-        &mut self,
-        block: BlockId,
-        stamp: Stamp,
-        now: Moment,
-        reporting: &[NodeId],
-    )
-        requires { IfSome (entry_at block self.old) (λ own. reporting.now ≡ keys_of own.reports) }
+    /// Gives a block a newer stamp, which nobody has reported, and notes that a recovery of it begins. Costs a look-up for each node that
+    /// reported it, and takes no memory.
+    pub fn begin_recovery(&mut self, block: BlockId, stamp: Stamp, now: Moment)
         ensures { self.new ≡ changed (with_recovery stamp now) block self.old }
     {
         let Some(own) = self.records.get_mut(&block) else {
@@ -346,8 +398,8 @@ impl BlockTable {
         };
         own.stamp = stamp;
         own.recovering = Some(now);
-        own.reports.clear();
-        self.held.remove_unexpected(reporting, &own.expected, block);
+        self.held
+            .end_reports(&mut own.reports, &own.expected, block);
     }
 
     /// Ends the recovery of a block with this length, in which these nodes took part: they are to hold it, and report it, as do those
@@ -372,16 +424,9 @@ impl BlockTable {
         let Some(own) = self.records.get(&block) else {
             return marks.add_all(more);
         };
-        let reports = own.reports.recovered(nodes.as_slice(), bytes)?;
-        let fresh = own.without_holders(alloc, nodes.as_slice())?;
-        let gone = own.holders_beside(alloc, &reports)?;
-        self.held.insert_each(&fresh, block)?;
-        if marks.add_all(more).is_err() {
-            self.held.remove_each(&fresh, block);
-            return Err(AllocError);
-        }
-        self.held.remove_each(&gone, block);
-        set_recovered(&mut self.records, block, bytes, nodes, reports);
+        let left = recovered(alloc, own, bytes, nodes.as_slice())?;
+        reassign(&mut self.held, block, &left.fresh, &left.gone, marks, more)?;
+        set_recovered(&mut self.records, block, bytes, nodes, left.reports);
         Ok(())
     }
 
@@ -415,6 +460,16 @@ impl BlockTable {
         // its contract tells that the keys ascend
         let _count = self.records.len();
         self.held.blocks(alloc, node)
+    }
+
+    /// Nodes among which all are that are to hold a block or reported one. Costs a look-up for each.
+    ///
+    /// # Errors
+    /// Out of memory.
+    pub fn holders(&self, alloc: Global) -> Result<Vec<NodeId>, AllocError>
+        ensures { IfOk result (λ nodes. (node block : ℕ) → holds self.now node block ≡ true → list_any (is_number node) nodes.items ≡ true) }
+    {
+        self.held.busy(alloc)
     }
 
     /// Makes a block known no more. Costs a look-up for each node that was to hold it or reported it, and takes no memory.

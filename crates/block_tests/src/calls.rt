@@ -1,6 +1,7 @@
 // Calls of the map of blocks, and what is written of their answers.
 
 use block_copies::transfer::Transfer;
+use block_map::begun::BegunRecovery;
 use block_map::behind::NewBlock;
 use block_map::blocks::Blocks;
 use block_map::last_block::LastBlock;
@@ -99,16 +100,29 @@ fn tell_new(new: &NewBlock, text: &mut String) -> Result<(), Fail> {
     Ok(text.push(' ')?)
 }
 
+// Makes a new block behind a file's last one, as it was planned.
+fn add_behind(
+    blocks: &mut Blocks,
+    last: &Option<LastBlock>,
+    replication: Repl,
+    now: Moment,
+) -> Result<NewBlock, BlockFault> {
+    let new = blocks.plan_behind(last, replication, now)?;
+    let targets = new.targets.clone()?;
+    blocks.add_planned(last, targets, replication, now)?;
+    Ok(new)
+}
+
 // Makes a new block behind a file's last one, and writes its id, its stamp and its targets.
 fn add(
     blocks: &mut Blocks,
-    last: Option<LastBlock>,
+    last: &Option<LastBlock>,
     replication: u8,
     now: u64,
     text: &mut String,
 ) -> Result<(), Fail> {
     let replication = Repl::new(replication).ok_or("a replication")?;
-    match blocks.add_behind(last, replication, moment(now)?) {
+    match add_behind(blocks, last, replication, moment(now)?) {
         Ok(new) => tell_new(&new, text),
         Err(fault) => tell_fault(fault, text),
     }
@@ -138,6 +152,29 @@ fn begin(blocks: &mut Blocks, block: u64, now: u64, text: &mut String) -> Result
         }
         Err(fault) => tell_fault(fault, text),
     }
+}
+
+fn tell_begun(begun: &[BegunRecovery], text: &mut String) -> Result<(), Fail> {
+    for own in begun {
+        let (block, stamp, primary) = (own.block.get(), own.stamp.get(), own.primary.get());
+        write!(text, "{block}:{stamp}>{primary} ")?;
+    }
+    Ok(text.push_str(". ")?)
+}
+
+// Begins recoveries of these blocks, and writes block, stamp and leader of each.
+fn begin_many(
+    alloc: Global,
+    blocks: &mut Blocks,
+    ids: &[u64],
+    now: u64,
+    text: &mut String,
+) -> Result<(), Fail> {
+    let ids: Vec<BlockId> = ids.iter().map(|id| BlockId::new(*id)).collect(alloc)?;
+    let now = moment(now)?;
+    let planned = blocks.plan_recoveries(&ids, now)?;
+    blocks.begin_recoveries(&ids, &planned, now)?;
+    tell_begun(&planned, text)
 }
 
 // Ends a recovery in which this node took part.
@@ -243,6 +280,8 @@ pub enum Call {
     Remove(u64),
     /// The recovery of a block, at a moment.
     Begin(u64, u64),
+    /// The recoveries of these blocks, at a moment.
+    Many(&'static [u64], u64),
     /// A block's recovery under a stamp ends with a length, and a node took part.
     End(u64, u64, u64, u32),
     /// Which recoveries are due at a moment.
@@ -273,9 +312,15 @@ fn call_once(
 ) -> Result<(), Fail> {
     match call {
         Call::Beat(id, now) => beat(blocks, id, now),
-        Call::Add(replication, now) => add(blocks, None, replication, now, text),
+        Call::Add(replication, now) => add(blocks, &None, replication, now, text),
         Call::Behind(block, length, replication, now) => {
-            add(blocks, Some(last_of(block, length)), replication, now, text)
+            add(
+                blocks,
+                &Some(last_of(block, length)),
+                replication,
+                now,
+                text,
+            )
         }
         Call::Tell(id, now) => hand_out(blocks, id, now, text),
         Call::Replicate(block, replication) => set_replication(blocks, block, replication),
@@ -283,6 +328,7 @@ fn call_once(
         Call::Commit(block, length) => commit(blocks, block, length, text),
         Call::Remove(block) => Ok(blocks.remove(BlockId::new(block))?),
         Call::Begin(block, now) => begin(blocks, block, now, text),
+        Call::Many(ids, now) => begin_many(alloc, blocks, ids, now, text),
         Call::End(block, stamp, length, id) => {
             commit_recovery(alloc, blocks, block, stamp, length, id, text)
         }

@@ -146,3 +146,50 @@ fn the_greatest_block_id_is_never_given(rt: HostRuntime) -> Result<(), Fail> {
     );
     Ok(())
 }
+
+// Block 1 is to stand on node 3, which isn't live any more; blocks 2 and 3 on nodes 1 and 2, of which 2 was heard of last. Block 9 isn't
+// known.
+static MANY: [Call; 12] = [
+    Call::Beat(3, 0),
+    Call::Add(1, 0),
+    Call::Beat(1, 630_001),
+    Call::Beat(2, 630_002),
+    Call::Add(2, 630_002),
+    Call::Add(2, 630_002),
+    Call::Begin(2, 630_002),
+    Call::Many(&[3, 9, 1, 2, 3], 630_003),
+    Call::Tell(2, 630_004),
+    Call::Due(690_003),
+    Call::Due(690_004),
+    Call::Many(&[], 690_004),
+];
+
+#[test]
+fn recoveries_begin_in_order(rt: HostRuntime) -> Result<(), Fail> {
+    let text = told(rt.alloc(), 1, 1001, &MANY)?;
+    assert_eq!(rt;
+        text.as_str(),
+        "1:1001:3, 2:1002:1,2, 3:1003:1,2, 1004 3:1005>2 2:1006>2 3:1007>2 . 2:1006:1,2, 3:1007:1,2, . . . . 2 3 . . "
+    );
+    Ok(())
+}
+
+// Two stamps are left for three recoveries.
+static FEW: [Call; 6] = [
+    Call::Beat(1, 0),
+    Call::Add(1, 0),
+    Call::Add(1, 0),
+    Call::Add(1, 0),
+    Call::Many(&[3, 1, 2], 5),
+    Call::Many(&[2], 5),
+];
+
+#[test]
+fn recoveries_begin_while_stamps_are_left(rt: HostRuntime) -> Result<(), Fail> {
+    let text = told(rt.alloc(), 1, u64::MAX - 5, &FEW)?;
+    assert_eq!(rt;
+        text.as_str(),
+        "1:18446744073709551610:1, 2:18446744073709551611:1, 3:18446744073709551612:1, 3:18446744073709551613>1 1:18446744073709551614>1 . . "
+    );
+    Ok(())
+}

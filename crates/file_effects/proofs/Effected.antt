@@ -1,7 +1,7 @@
 -- What an operation leaves, from what its calls leave.
-use Rattle.std.proofs.Common.{◌≡◌, ℕ, Bool, List, length, filter, map, Option, Some, None, refl, sym, ap, ◌∙◌, subst}
+use Rattle.std.proofs.Common.{◌≡◌, ℕ, Bool, List, length, filter, map, Option, Some, None, refl, sym, ap, ◌∙◌, subst, Result, Ok, Err, OnOk}
 use Rattle.hdfs_types.specs.declared.op.Op.TheVariants as op
-use Rattle.hdfs_types.specs.declared.file.LastBlock.{LastBlock}
+use Rattle.block_records.specs.declared.last_block.LastBlock.{LastBlock}
 use Rattle.hdfs_types.specs.declared.file.FileState.TheVariants.{Closed, Open}
 use Rattle.hdfs_values.specs.Text.{same}
 use Rattle.lease_manager.specs.Leases.{Leases, renewals_with}
@@ -12,6 +12,7 @@ use Rattle.namespace_rows.specs.Rows.{row_at, ancestor}
 use Rattle.namespace_rows.specs.Namespace.{IsNamespace}
 use Rattle.namespace_rows.specs.Files.{new_file, holders}
 use Rattle.flat_rows.specs.FileOutcome.{LeaseFacts, holder_at, state_after_append, appended_reply, is_expired, closed_where_expired}
+use Rattle.flat_rows.specs.BlockOutcome.{ended_at}
 use Rattle.flat_rows.specs.Outcome.{with_new}
 use Rattle.flat_rows.specs.Changes.{rows_under, rewritten, without}
 use Rattle.history.specs.ClockAndLease.{has_opened}
@@ -75,8 +76,14 @@ effected_release path holder caller now rows left before after held made kept =
     }
 
 pub effected_complete : (path : List (List ℕ)) (stated : Option LastBlock) (caller : List ℕ) (now : ℕ) (rows left : List Row) (before after : Writers)
-    → left ≡ rewritten path (change.State Closed) rows → KeepsExact rows before left after → IsEffected (op.Complete path stated) caller now rows before left after
+    → left ≡ ended_at path stated rows → KeepsExact rows before left after → IsEffected (op.Complete path stated) caller now rows before left after
 effected_complete path stated caller now rows left before after made kept = record { tree = λ leases. made; exact = λ leases last exact. kept last exact }
+
+-- the same of a call that may fail
+pub effected_completion : {T E : Type 0} (result : Result T E) (path : List (List ℕ)) (stated : Option LastBlock) (caller : List ℕ) (now : ℕ) (rows left : List Row) (before after : Writers)
+    → OnOk result (left ≡ ended_at path stated rows) → OnOk result (KeepsExact rows before left after) → OnOk result (IsEffected (op.Complete path stated) caller now rows before left after)
+effected_completion (Ok value) path stated caller now rows left before after made kept = effected_complete path stated caller now rows left before after made kept
+effected_completion (Err error) path stated caller now rows left before after made kept = tt
 
 pub effected_delete : (path : List (List ℕ)) (recursive : Bool) (caller : List ℕ) (now : ℕ) (rows left : List Row) (clients : List (List ℕ)) (before after : Writers)
     → left ≡ without path rows → clients ≡ holders (rows_under path rows) → EachLess clients before after → KeepsLeased before after → IsEffected (op.Delete path recursive) caller now rows before left after
@@ -85,9 +92,6 @@ effected_delete path recursive caller now rows left clients before after made is
       tree = λ leases. made;
       exact = λ leases last exact. record { files = counted_delete path rows left before after made exact.files (less_of clients (holders (rows_under path rows)) before after is less); leased = kept last exact.leased };
     }
-
-pub effected_add_block : (path : List (List ℕ)) (stated : Option LastBlock) (caller : List ℕ) (now : ℕ) (rows : List Row) (writers : Writers) → IsEffected (op.AddBlock path stated) caller now rows writers rows writers
-effected_add_block path stated caller now rows writers = record { tree = λ leases. refl; exact = λ leases last exact. exact }
 
 pub exact_close : (path : List (List ℕ)) (holder : List ℕ) (rows left : List Row) (before after : Writers) → IsNamespace rows → holder_at (row_at path rows) ≡ Some holder → left ≡ rewritten path (change.State Closed) rows
     → OneLess holder before after → KeepsLeased before after → KeepsExact rows before left after

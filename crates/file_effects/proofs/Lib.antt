@@ -4,3 +4,4 @@ pub mod Closing
 pub mod Effected
 pub mod Replacing
 pub mod Replacement
+pub mod BlockChanges

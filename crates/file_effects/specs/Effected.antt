@@ -2,6 +2,10 @@
 use Rattle.std.specs.Prelude.{◌≡◌, ℕ, ◌+◌, Bool, ◌&&◌, List, length, if◌then◌else◌, Option, Some, None}
 use Rattle.hdfs_values.specs.Text.{same}
 use Rattle.hdfs_types.specs.declared.op.Op.{Op}
+use Rattle.hdfs_types.specs.declared.op.Op.TheVariants.{Complete}
+use Rattle.hdfs_types.specs.declared.reply.Refusal.{Refusal}
+use Rattle.block_map.specs.BlockFacts.{BlockFacts}
+use Rattle.flat_rows.specs.BlockOutcome.{refused_end}
 use Rattle.lease_manager.specs.Leases.{latest_moment, renewals_with}
 use Rattle.principals.specs.Users.{Users}
 use Rattle.namespace_rows.specs.declared.row.Row.{Row}
@@ -33,6 +37,11 @@ pub record IsCreated (path : List (List ℕ)) (mode replication : ℕ) (caller :
 -- nothing refuses the operation
 abbrev pub IsFree : Op → List ℕ → List Row → Users → Type 0
 IsFree op caller rows users = (facts : Facts) × (first_refusal facts caller op rows users ≡ None)
+
+-- what the map of blocks refuses: the end of a file, until a DataNode has reported its last block
+abbrev pub refused_end_of : Op → BlockFacts → Option Refusal
+refused_end_of (Complete path last) blocks = refused_end blocks last
+refused_end_of _ blocks = None
 
 -- what an operation leaves that nothing refuses
 pub record IsEffected (op : Op) (caller : List ℕ) (now : ℕ) (rows : List Row) (writers : Writers) (rows_left : List Row) (writers_left : Writers) : Type 0 where

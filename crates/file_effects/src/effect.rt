@@ -1,24 +1,30 @@
-ghost use Rattle.std.specs.Prelude.{◌≡◌, ◌≤◌, ◌+◌, ℕ, List, Option, None, Some, Bool, true, if◌then◌else◌, map, not, IfOk, OnOk, OnErr};
+ghost use Rattle.std.specs.Prelude.{◌≡◌, ◌≤◌, ◌+◌, ℕ, List, Option, None, Some, Bool, true, [], if◌then◌else◌, map, not, IfOk, OnOk, OnErr};
 ghost use Rattle.std.specs.Option.{IsSome};
 ghost use Rattle.flat_rows.specs.FileOutcome.{holder_at, directory_there};
-ghost use Rattle.namespace_rows.specs.Files.{holders, new_file};
+ghost use Rattle.namespace_rows.specs.Files.{holders, new_file, blocks_in};
 ghost use Rattle.flat_rows.specs.Changes.{rows_under, rewritten};
 ghost use Rattle.namespace_rows.specs.declared.row.Change.TheVariants as change;
 ghost use Rattle.namespace_rows.specs.Namespace.{IsNamespace, is_root};
 ghost use Rattle.flat_rows.specs.Outcome.{with_new};
-ghost use Rattle.namespace_rows.specs.Rows.{row_at, file_above, ancestor};
+ghost use Rattle.namespace_rows.specs.Rows.{row_at, file_above, ancestor, is_missing};
 ghost use Rattle.hdfs_types.specs.Verb.{write_op};
 ghost use Rattle.hdfs_values.specs.Text.{same};
 ghost use Rattle.hdfs_types.specs.declared.file.FileState.TheVariants.{Closed};
 ghost use Rattle.hdfs_types.specs.declared.op.Op.TheVariants as op;
 ghost use Rattle.lease_manager.specs.Leases as lease;
 ghost use Rattle.principals.specs.Users.{Users};
-ghost use Rattle.file_effects.specs.Effected.{IsCreated, IsExact, IsFree, IsEffected};
+ghost use Rattle.block_map.specs.BlockEffects.{all_removed};
+ghost use Rattle.flat_rows.specs.BlockOutcome.{refused_end, ended_at};
+ghost use Rattle.history.specs.Blocks.{ended, blocks_after};
+ghost use Rattle.file_effects.specs.Effected.{IsCreated, IsExact, IsFree, IsEffected, refused_end_of};
 ghost use Rattle.lease_manager.specs.Writers.{count_of, moment_of, HasRoom, IsAlike};
 
 use crate::make::make_file;
-use hdfs_types::file::FileState;
+use block_map::blocks::Blocks;
+use block_records::fault::BlockFault;
+use hdfs_types::file::{FileState, LastBlock};
 use hdfs_types::verb::Write;
+use hdfs_values::ids::BlockId;
 use hdfs_values::moment::Moment;
 use hdfs_values::path::Path;
 use hdfs_values::replication::Repl;
@@ -71,7 +77,9 @@ fn holder_of(tree: &Tree, path: &Path) -> Result<Option<Who>, AllocError>
 fn create_first(
     alloc: Global,
     tree: &mut Tree,
+    blocks: &mut Blocks,
     writers: &mut Writers,
+    replaced: &[BlockId],
     path: &Path,
     mode: Mode,
     replication: Repl,
@@ -83,12 +91,24 @@ fn create_first(
     requires absent { moment_of writers.old.leases.renewals caller.now ≡ None }
     requires clear { file_above path.now tree.old ≡ None }
     requires file { directory_there (row_at path.now tree.old) ≡ None }
+    requires new { is_missing path.now tree.old ≡ true → replaced.now ≡ [] }
     ensures ok { OnOk result (IsCreated path.now mode replication caller.now now tree.old writers.old tree.new writers.new) }
+    ensures blocks { OnOk result (blocks.new ≡ all_removed blocks.old replaced.now) }
     ensures limits { writers.new.leases.limits ≡ writers.old.leases.limits }
     ensures err { OnErr result ((tree.new ≡ tree.old) × (writers.new.leases ≡ writers.old.leases) × (writers.new.files ≡ writers.old.files)) }
+    ensures err_blocks { OnErr result (blocks.new ≡ blocks.old) }
 {
     writers.leases.take(caller, now)?;
-    let Ok(()) = make_file(alloc, tree, path, mode, replication, caller) else {
+    let Ok(()) = make_file(
+        alloc,
+        tree,
+        blocks,
+        replaced,
+        path,
+        mode,
+        replication,
+        caller,
+    ) else {
         writers.leases.release(caller);
         return Err(AllocError);
     };
@@ -96,11 +116,14 @@ fn create_first(
     Ok(())
 }
 
-/// Makes a file that the caller has open. A lease that the caller has is renewed behind that, which takes no memory.
+/// Makes a file that the caller has open; the blocks of one whose place it takes are known no more. A lease that the caller has is
+/// renewed behind that, which takes no memory.
 fn create_open(
     alloc: Global,
     tree: &mut Tree,
+    blocks: &mut Blocks,
     writers: &mut Writers,
+    replaced: &[BlockId],
     path: &Path,
     mode: Mode,
     replication: Repl,
@@ -110,15 +133,38 @@ fn create_open(
     requires latest { lease.latest_moment writers.old.leases.renewals ≤ now }
     requires clear { file_above path.now tree.old ≡ None }
     requires file { directory_there (row_at path.now tree.old) ≡ None }
+    requires new { is_missing path.now tree.old ≡ true → replaced.now ≡ [] }
     ensures ok { OnOk result (IsCreated path.now mode replication caller.now now tree.old writers.old tree.new writers.new) }
+    ensures blocks { OnOk result (blocks.new ≡ all_removed blocks.old replaced.now) }
     ensures limits { writers.new.leases.limits ≡ writers.old.leases.limits }
     ensures err { OnErr result ((tree.new ≡ tree.old) × IsAlike writers.old writers.new) }
+    ensures err_blocks { OnErr result (blocks.new ≡ blocks.old) }
 {
     writers.files.make_room(caller)?;
     if writers.leases.state(caller, now).is_none() {
-        return create_first(alloc, tree, writers, path, mode, replication, caller, now);
+        return create_first(
+            alloc,
+            tree,
+            blocks,
+            writers,
+            replaced,
+            path,
+            mode,
+            replication,
+            caller,
+            now,
+        );
     }
-    make_file(alloc, tree, path, mode, replication, caller)?;
+    make_file(
+        alloc,
+        tree,
+        blocks,
+        replaced,
+        path,
+        mode,
+        replication,
+        caller,
+    )?;
     let Ok(()) = writers.leases.take(caller, now) else {
         unreachable!()
     };
@@ -143,10 +189,20 @@ fn replaced_holders(
     holders_at(alloc, tree, path)
 }
 
+/// The blocks of what a creation takes the place of. Where nothing has the path, there are none.
+fn replaced_blocks(alloc: Global, tree: &Tree, path: &Path) -> Result<Vec<BlockId>, AllocError>
+    requires { IsNamespace tree.now }
+    ensures blocks { IfOk result (λ blocks. blocks.items ≡ blocks_in (rows_under path.now tree.now)) }
+    ensures new { IfOk result (λ blocks. is_missing path.now tree.now ≡ true → blocks.items ≡ []) }
+{
+    tree.blocks_under(path)
+}
+
 /// Makes a file that the caller has open, in the place of one that has the path.
 fn create(
     alloc: Global,
     tree: &mut Tree,
+    blocks: &mut Blocks,
     writers: &mut Writers,
     open_paths: &mut OpenPaths,
     path: &Path,
@@ -160,12 +216,26 @@ fn create(
     requires free { (users : Users) × IsFree (op.Create path.now mode replication over) caller.now tree.old users }
     requires namespace { IsNamespace tree.old }
     ensures ok { OnOk result (IsEffected (op.Create path.now mode replication over) caller.now now tree.old writers.old tree.new writers.new) }
+    ensures blocks { OnOk result (blocks.new ≡ all_removed blocks.old (blocks_in (rows_under path.now tree.old))) }
     ensures limits { writers.new.leases.limits ≡ writers.old.leases.limits }
     ensures latest { OnOk result (lease.latest_moment writers.new.leases.renewals ≤ now) }
     ensures err { OnErr result ((tree.new ≡ tree.old) × IsAlike writers.old writers.new) }
+    ensures err_blocks { OnErr result (blocks.new ≡ blocks.old) }
 {
     let clients = replaced_holders(alloc, tree, path, over)?;
-    create_open(alloc, tree, writers, path, mode, replication, caller, now)?;
+    let replaced = replaced_blocks(alloc, tree, path)?;
+    create_open(
+        alloc,
+        tree,
+        blocks,
+        writers,
+        &replaced,
+        path,
+        mode,
+        replication,
+        caller,
+        now,
+    )?;
     writers.close_each(&clients);
     open_paths.delete(path, &clients);
     open_paths.open(path, caller);
@@ -255,25 +325,66 @@ fn append(
     Ok(())
 }
 
-/// Deletes what has a path, with all that is beneath it.
+/// Deletes what has a path, with all that is beneath it: its blocks are known no more.
 fn delete(
     alloc: Global,
     tree: &mut Tree,
+    blocks: &mut Blocks,
     writers: &mut Writers,
     open_paths: &mut OpenPaths,
     path: &Path,
 ) -> Result<(), AllocError>
     requires { not (is_root path.now) ≡ true }
+    ensures blocks { OnOk result (blocks.new ≡ all_removed blocks.old (blocks_in (rows_under path.now tree.old))) }
+    ensures err_blocks { OnErr result (blocks.new ≡ blocks.old) }
     ensures ok { (recursive : Bool) (caller : List ℕ) (now : ℕ) → OnOk result (IsEffected (op.Delete path.now recursive) caller now tree.old writers.old tree.new writers.new) }
     ensures limits { writers.new.leases.limits ≡ writers.old.leases.limits }
     ensures latest { lease.latest_moment writers.new.leases.renewals ≤ lease.latest_moment writers.old.leases.renewals }
     ensures err { OnErr result ((tree.new ≡ tree.old) × IsAlike writers.old writers.new) }
 {
     let clients = holders_at(alloc, tree, path)?;
+    let deleted = tree.blocks_under(path)?;
+    blocks.remove_all(&deleted)?;
     writers.close_each(&clients);
     tree.remove(path);
     open_paths.delete(path, &clients);
     Ok(())
+}
+
+/// Closes a file that the caller has open, with the length of its last block, if he names one.
+fn complete(
+    tree: &mut Tree,
+    blocks: &mut Blocks,
+    writers: &mut Writers,
+    open_paths: &mut OpenPaths,
+    path: &Path,
+    last: Option<LastBlock>,
+    caller: &Who,
+) -> Result<(), AllocError>
+    requires held { holder_at (row_at path.now tree.old) ≡ Some caller.now }
+    requires namespace { IsNamespace tree.old }
+    requires reported { refused_end blocks.old last ≡ None }
+    ensures tree { OnOk result (tree.new ≡ ended_at path.now last tree.old) }
+    ensures blocks { OnOk result (blocks.new ≡ ended last blocks.old) }
+    ensures exact { OnOk result ((last : List ℕ → Option ℕ) → IsExact last tree.old writers.old → IsExact last tree.new writers.new) }
+    ensures limits { writers.new.leases.limits ≡ writers.old.leases.limits }
+    ensures latest { lease.latest_moment writers.new.leases.renewals ≤ lease.latest_moment writers.old.leases.renewals }
+    ensures err { OnErr result ((tree.new ≡ tree.old) × IsAlike writers.old writers.new) }
+    ensures err_blocks { OnErr result (blocks.new ≡ blocks.old) }
+{
+    let Some(last) = last else {
+        release(tree, writers, open_paths, path, caller);
+        return Ok(());
+    };
+    match blocks.commit(last.block, last.length) {
+        Ok(()) => {
+            release(tree, writers, open_paths, path, caller);
+            tree.commit_block(path, last.block, last.length);
+            Ok(())
+        }
+        Err(BlockFault::OutOfMemory) => Err(AllocError),
+        Err(BlockFault::Refused(_)) => unreachable!(),
+    }
 }
 
 /// Does a verb that writes a file, or a deletion, where nothing refuses it.
@@ -283,6 +394,7 @@ fn delete(
 pub fn effect(
     alloc: Global,
     tree: &mut Tree,
+    blocks: &mut Blocks,
     writers: &mut Writers,
     open_paths: &mut OpenPaths,
     write: &Write<'_>,
@@ -291,16 +403,20 @@ pub fn effect(
 ) -> Result<(), AllocError>
     requires latest { lease.latest_moment writers.old.leases.renewals ≤ now }
     requires free { (users : Users) × IsFree (write_op write.now) caller.now tree.old users }
+    requires reported { refused_end_of (write_op write.now) blocks.old ≡ None }
     requires namespace { IsNamespace tree.old }
     ensures ok { OnOk result (IsEffected (write_op write.now) caller.now now tree.old writers.old tree.new writers.new) }
+    ensures blocks { OnOk result (blocks.new ≡ blocks_after (write_op write.now) caller.now now tree.old blocks.old) }
     ensures limits { writers.new.leases.limits ≡ writers.old.leases.limits }
     ensures latest { OnOk result (lease.latest_moment writers.new.leases.renewals ≤ now) }
     ensures err { OnErr result ((tree.new ≡ tree.old) × IsAlike writers.old writers.new) }
+    ensures err_blocks { OnErr result (blocks.new ≡ blocks.old) }
 {
     match write {
         Write::Create(path, mode, replication, over) => create(
             alloc,
             tree,
+            blocks,
             writers,
             open_paths,
             path,
@@ -311,11 +427,9 @@ pub fn effect(
             now,
         ),
         Write::Append(path) => append(tree, writers, open_paths, path, caller, now),
-        Write::AddBlock(_, _) => Ok(()),
-        Write::Complete(path, _) => {
-            release(tree, writers, open_paths, path, caller);
-            Ok(())
+        Write::Complete(path, last) => {
+            complete(tree, blocks, writers, open_paths, path, *last, caller)
         }
-        Write::Delete(path, _) => delete(alloc, tree, writers, open_paths, path),
+        Write::Delete(path, _) => delete(alloc, tree, blocks, writers, open_paths, path),
     }
 }

@@ -2,6 +2,7 @@
 //! nothing refuses it.
 #![tactic(auto)]
 
+pub mod blocks;
 pub mod effect;
 pub mod expiry;
 pub mod make;

@@ -1,15 +1,18 @@
-ghost use Rattle.std.specs.Prelude.{◌≡◌, Bool, true, false, None, Some, IfOk, OnOk, OnErr};
+ghost use Rattle.std.specs.Prelude.{◌≡◌, Bool, [], true, false, None, Some, IfOk, OnOk, OnErr};
 ghost use Rattle.flat_rows.specs.FileOutcome.{directory_there};
 ghost use Rattle.flat_rows.specs.Facts.{Facts};
 ghost use Rattle.flat_rows.specs.Outcome as spec;
 ghost use Rattle.namespace_rows.specs.Rows.{row_at, is_missing, file_above, ancestor};
 ghost use Rattle.hdfs_types.specs.declared.op.Op.TheVariants as op;
 ghost use Rattle.acl_entries.specs.Acl.{suits_file};
+ghost use Rattle.block_map.specs.BlockEffects.{all_removed};
 ghost use Rattle.file_effects.specs.Inheriting.{IsInherited};
 
 use acl_entries::acl::Acl;
+use block_map::blocks::Blocks;
 use default_acl::inherit::inherit;
 use hdfs_types::reply::ObjectKind;
+use hdfs_values::ids::BlockId;
 use hdfs_values::path::Path;
 use hdfs_values::replication::Repl;
 use hdfs_values::who::Who;
@@ -52,10 +55,13 @@ fn taken_over(
     Ok(Inherited { owner, group, acl })
 }
 
-/// Puts a file in the place of another, with what it inherits from the directory that holds it.
+/// Puts a file in the place of another, with what it inherits from the directory that holds it; the blocks of the other are known no
+/// more.
 fn replace_file(
     alloc: Global,
     tree: &mut Tree,
+    blocks: &mut Blocks,
+    replaced: &[BlockId],
     path: &Path,
     mode: Mode,
     file: FileRow,
@@ -64,23 +70,33 @@ fn replace_file(
     requires there { is_missing path.now tree.old ≡ false }
     requires file { directory_there (row_at path.now tree.old) ≡ None }
     ensures ok { OnOk result (tree.new ≡ spec.with_new path.now mode (Some file) owner.now (ancestor path.now tree.old) tree.old) }
-    ensures err { OnErr result (tree.new ≡ tree.old) }
+    ensures blocks { OnOk result (blocks.new ≡ all_removed blocks.old replaced.now) }
+    ensures err { OnErr result ((tree.new ≡ tree.old) × (blocks.new ≡ blocks.old)) }
 {
     let Ok(parts) = taken_over(alloc, tree, path, mode, owner) else {
         drop(file);
         return Err(AllocError);
     };
-    tree.insert(path, parts.owner, parts.group, parts.acl, Some(file))
+    let Ok(()) = blocks.remove_all(replaced) else {
+        drop(parts);
+        drop(file);
+        return Err(AllocError);
+    };
+    tree.replace(path, parts.owner, parts.group, parts.acl, file);
+    Ok(())
 }
 
 /// Makes a file of a mode and a replication that the caller has open, instead of the file that has the path, and the missing
-/// directories above it. Costs the path (HDFS Architecture, "The File System Namespace").
+/// directories above it. The blocks of the file that has the path are known no more; they are handed in. Costs the path, and what
+/// `Blocks::remove_all` costs (HDFS Architecture, "The File System Namespace").
 ///
 /// # Errors
 /// Out of memory, and nothing has changed.
 pub fn make_file(
     alloc: Global,
     tree: &mut Tree,
+    blocks: &mut Blocks,
+    replaced: &[BlockId],
     path: &Path,
     mode: Mode,
     replication: Repl,
@@ -88,12 +104,14 @@ pub fn make_file(
 ) -> Result<(), AllocError>
     requires clear { file_above path.now tree.old ≡ None }
     requires file { directory_there (row_at path.now tree.old) ≡ None }
+    requires new { is_missing path.now tree.old ≡ true → replaced.now ≡ [] }
     ensures ok { (facts : Facts) (over : Bool) → OnOk result (tree.new ≡ spec.rows_after facts (op.Create path.now mode replication over) caller.now tree.old) }
-    ensures err { OnErr result (tree.new ≡ tree.old) }
+    ensures blocks { OnOk result (blocks.new ≡ all_removed blocks.old replaced.now) }
+    ensures err { OnErr result ((tree.new ≡ tree.old) × (blocks.new ≡ blocks.old)) }
 {
     let file = FileRow::opened(alloc, replication, caller.clone()?);
     if tree.get(path).is_some() {
-        return replace_file(alloc, tree, path, mode, file, caller);
+        return replace_file(alloc, tree, blocks, replaced, path, mode, file, caller);
     }
     tree.make(path, mode, Some(file), caller)
 }

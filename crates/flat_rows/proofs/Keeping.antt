@@ -17,7 +17,7 @@ use Rattle.namespace_rows.specs.declared.file_row.FileRow.{FileRow}
 use Rattle.namespace_rows.specs.declared.row.Change.TheVariants as change
 use Rattle.namespace_rows.specs.Rows.{row_at, is_none, directory_of, ancestor}
 use Rattle.namespace_rows.specs.Namespace.{IsNamespace, is_root}
-use Rattle.flat_rows.specs.Changes.{changed, are_paths}
+use Rattle.flat_rows.specs.Changes.{changed, rewritten, are_paths}
 use Rattle.flat_rows.specs.Denial as denied
 use Rattle.flat_rows.specs.Decision.{decision}
 use Rattle.namespace_rows.specs.Files.{is_open_by, with_replication}
@@ -78,6 +78,10 @@ module _ (client : List ℕ) (rows : List Row) (namespace : IsNamespace rows) wh
       by (Ok acl) = tally_rewritten client path (change.List acl) (λ r. refl) rows
       by (Err refusal) = refl
 
+  -- another replication leaves each client's files open as they were
+  pub kept_replication : (path : List (List ℕ)) (replication : ℕ) → count (rewritten path (change.Replication replication) rows) ≡ count rows
+  kept_replication path replication = tally_rewritten client path (change.Replication replication) (λ row. kept_file client (with_replication replication) (λ file. refl) row.file) rows
+
   module _ (facts : Facts) (users : Users) (caller : List ℕ) where
     kept_done : (what : Op) → keeps_leases what ≡ true → first_refusal facts caller what rows users ≡ None → count (rows_after facts what caller rows) ≡ count rows
     kept_done (op.Mkdirs path mode) k e = kept_made path mode caller (row_at path rows) refl
@@ -89,15 +93,14 @@ module _ (client : List ℕ) (rows : List Row) (namespace : IsNamespace rows) wh
     kept_done (op.SetMode path mode) k e = kept_mode path mode (row_at path rows)
     kept_done (op.SetOwner path owner group) k e = kept_owner path owner group (row_at path rows)
     kept_done (op.SetAcl path form) k e = kept_acl path form (row_at path rows)
-    kept_done (op.SetReplication path replication) k e =
-        tally_rewritten client path (change.Replication replication) (λ row. kept_file client (with_replication replication) (λ file. refl) row.file) rows
     kept_done (op.Stat path) k e = refl
     kept_done (op.List path) k e = refl
     kept_done (op.Summary path) k e = refl
     kept_done (op.GetAcl path) k e = refl
     kept_done (op.AddUser user groups) k e = refl
     kept_done (op.SetGroups user groups) k e = refl
-    kept_done (op.Open path) k e = refl
+    kept_done (op.Open path) k e = cc
+    kept_done (op.SetReplication path replication) k e = cc
     kept_done (op.Create path mode replication over) k e = cc
     kept_done (op.Append path) k e = cc
     kept_done (op.AddBlock path last) k e = cc

@@ -1,5 +1,6 @@
 pub mod NewDirectories
 pub mod Changes
+pub mod Blocks
 pub mod Moves
 pub mod Missing
 pub mod Holders

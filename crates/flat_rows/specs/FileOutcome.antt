@@ -6,11 +6,10 @@ use Rattle.hdfs_values.specs.Text.{same}
 use Rattle.hdfs_types.specs.declared.file.FileState.{FileState}
 use Rattle.hdfs_types.specs.declared.file.FileState.TheVariants.{Closed, Open, Recovering}
 use Rattle.hdfs_types.specs.declared.file.FileDetail.{FileDetail}
-use Rattle.hdfs_types.specs.declared.file.LastBlock.{LastBlock}
 use Rattle.hdfs_types.specs.declared.reply.Reply.{Reply}
 use Rattle.hdfs_types.specs.declared.reply.Reply.TheVariants as reply
 use Rattle.hdfs_types.specs.declared.reply.Refusal.{Refusal}
-use Rattle.hdfs_types.specs.declared.reply.Refusal.TheVariants.{IsDirectory, Exists, LeaseHeld, RecoveryRunning, NoLease, NotOpen, NotYetReplicated, TooFewNodes}
+use Rattle.hdfs_types.specs.declared.reply.Refusal.TheVariants.{IsDirectory, Exists, LeaseHeld, RecoveryRunning, NoLease, NotOpen, TooFewNodes}
 use Rattle.namespace_rows.specs.declared.file_row.FileBlock.{FileBlock}
 use Rattle.namespace_rows.specs.declared.file_row.FileRow.{FileRow}
 use Rattle.namespace_rows.specs.declared.row.Row.{Row}
@@ -71,15 +70,6 @@ refused_by_state caller (Open holder) = if same caller holder then None else Som
 abbrev pub refused_write : List ℕ → FileRow → Option Refusal
 refused_write caller file = refused_by_state caller file.state
 
--- the writer states what he wrote of the last block, where there is one, and a DataNode has reported it so; none reports yet
-abbrev pub refused_last : Option LastBlock → List FileBlock → Option Refusal
-refused_last None [] = None
-refused_last None (block ∷ blocks) = Some NotYetReplicated
-refused_last (Some last) blocks = Some NotYetReplicated
-
-abbrev pub refused_commit : Option LastBlock → FileRow → Option Refusal
-refused_commit last file = refused_last last file.blocks
-
 -- ---- replies
 
 abbrev pub detail_of : FileRow → FileDetail
@@ -92,10 +82,6 @@ detail_of_row (Some file) = Some (detail_of file)
 abbrev pub bytes_of : Option FileRow → ℕ
 bytes_of None = 0
 bytes_of (Some file) = length_of file.blocks
-
-abbrev pub bytes_at : Option Row → ℕ
-bytes_at None = 0
-bytes_at (Some row) = bytes_of row.file
 
 -- who appends to a closed file (no holder; one whose last block is recovered was refused) has it open; one that another had open
 -- is released

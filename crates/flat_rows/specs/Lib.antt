@@ -8,4 +8,5 @@ pub mod Verdicts
 pub mod FileOutcome
 pub mod Facts
 pub mod NodeOutcome
+pub mod BlockOutcome
 pub mod Outcome

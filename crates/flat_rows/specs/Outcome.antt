@@ -17,7 +17,7 @@ use Rattle.hdfs_types.specs.declared.file.FileState.TheVariants.{Closed}
 use Rattle.hdfs_types.specs.declared.reply.Reply.{Reply}
 use Rattle.hdfs_types.specs.declared.reply.Reply.TheVariants as reply
 use Rattle.hdfs_types.specs.declared.reply.Refusal.{Refusal}
-use Rattle.hdfs_types.specs.declared.reply.Refusal.TheVariants.{BadPath, NotFound, NotDirectory, Exists, NotEmpty, IsRoot, UnderItself, NoLease, TooFewNodes, Spent}
+use Rattle.hdfs_types.specs.declared.reply.Refusal.TheVariants.{BadPath, NotFound, NotDirectory, Exists, NotEmpty, IsRoot, UnderItself, NoLease, Spent}
 use Rattle.hdfs_types.specs.declared.reply.Counter.TheVariants.{Serial}
 use Rattle.acl_entries.specs.Acl.{Acl, shown_mode, has_acl, entries}
 use Rattle.permission_specs.specs.SpecText.{spec_text}
@@ -34,9 +34,10 @@ use Rattle.namespace_rows.specs.declared.file_row.FileRow.{FileRow}
 use Rattle.namespace_rows.specs.declared.row.Change.TheVariants as change
 use Rattle.flat_rows.specs.Changes.{rows_under, child_names, last_name, without, moved_row, moved, rewritten, are_paths}
 use Rattle.namespace_rows.specs.Files.{new_file, has_open_file}
-use Rattle.flat_rows.specs.FileOutcome.{directory_there, file_there, of_file, refused_takeover, refused_write, refused_commit, detail_of_row, bytes_of, bytes_at, appended_reply, holder_at, state_after_append, is_expired, closed_where_expired}
+use Rattle.flat_rows.specs.FileOutcome.{directory_there, file_there, of_file, refused_takeover, refused_write, detail_of_row, bytes_of, appended_reply, holder_at, state_after_append, is_expired, closed_where_expired}
 use Rattle.flat_rows.specs.Facts.{Facts}
 use Rattle.flat_rows.specs.NodeOutcome.{heartbeat_reply}
+use Rattle.flat_rows.specs.BlockOutcome.{replication_at, refused_last, refused_new, refused_end, added_to, opened, blocks_at, bytes_behind_at, with_block_at, ended_at}
 use Rattle.flat_rows.specs.Denial as denied
 use Rattle.flat_rows.specs.Decision.{decision}
 
@@ -122,9 +123,9 @@ first_refusal facts caller (op.Create path mode replication over) rows users =
     first_some (beneath_file path rows ∷ directory_there (row_at path rows) ∷ file_there over (row_at path rows) ∷ [])
 first_refusal facts caller (op.Append path) rows users = first_some (refusals_of_file path rows ++ of_file (refused_takeover facts.leases caller) (row_at path rows) ∷ [])
 first_refusal facts caller (op.AddBlock path last) rows users = first_some (
-    refusals_of_file path rows ++ of_file (refused_write caller) (row_at path rows) ∷ of_file (refused_commit last) (row_at path rows) ∷ Some TooFewNodes ∷ [])
+    refusals_of_file path rows ++ of_file (refused_write caller) (row_at path rows) ∷ of_file (refused_last last) (row_at path rows) ∷ refused_new facts.blocks last facts.now ∷ [])
 first_refusal facts caller (op.Complete path last) rows users = first_some (
-    refusals_of_file path rows ++ of_file (refused_write caller) (row_at path rows) ∷ of_file (refused_commit last) (row_at path rows) ∷ [])
+    refusals_of_file path rows ++ of_file (refused_write caller) (row_at path rows) ∷ of_file (refused_last last) (row_at path rows) ∷ refused_end facts.blocks last ∷ [])
 first_refusal facts caller (op.Open path) rows users = first_some (refusals_of_file path rows)
 first_refusal facts caller (op.SetReplication path replication) rows users = first_some (refusals_of_file path rows)
 first_refusal facts caller (op.RollKey key) rows users = refused_roll facts.next_serial
@@ -173,8 +174,9 @@ reply_of facts caller (op.Summary path) rows = summary_of (rows_under path rows)
 reply_of facts caller (op.Delete path recursive) rows = reply.Deleted (length (rows_under path rows))
 reply_of facts caller (op.GetAcl path) rows = acl_status_of (row_at path rows)
 reply_of facts caller (op.Append path) rows = appended_reply (holder_at (row_at path rows))
-reply_of facts caller (op.Complete path last) rows = reply.Closed (bytes_at (row_at path rows))
-reply_of facts caller (op.Open path) rows = reply.Opened (bytes_at (row_at path rows))
+reply_of facts caller (op.AddBlock path last) rows = added_to facts.token caller facts.blocks last facts.now (replication_at (row_at path rows))
+reply_of facts caller (op.Complete path last) rows = reply.Closed (bytes_behind_at last (row_at path rows))
+reply_of facts caller (op.Open path) rows = opened facts.token caller facts.blocks (blocks_at (row_at path rows))
 reply_of facts caller (op.RollKey key) rows = serial_reply facts.next_serial
 reply_of facts caller op.Tick rows = reply.Expired (record { closed = length (filter (is_expired facts.leases) rows); recovering = 0 })
 reply_of facts caller op.Heartbeat rows = heartbeat_reply facts caller (node_of caller)
@@ -246,7 +248,8 @@ rows_after facts (op.SetOwner path owner group) caller rows = with_owner_at path
 rows_after facts (op.SetAcl path change) caller rows = with_acl_at path change (row_at path rows) rows
 rows_after facts (op.Create path mode replication over) caller rows = with_new path mode (Some (new_file replication caller)) caller (ancestor path rows) rows
 rows_after facts (op.Append path) caller rows = rewritten path (change.State (state_after_append caller (holder_at (row_at path rows)))) rows
-rows_after facts (op.Complete path last) caller rows = rewritten path (change.State Closed) rows
+rows_after facts (op.AddBlock path last) caller rows = with_block_at path last facts.blocks.known.next_block rows
+rows_after facts (op.Complete path last) caller rows = ended_at path last rows
 rows_after facts (op.SetReplication path replication) caller rows = rewritten path (change.Replication replication) rows
 rows_after facts op.Tick caller rows = map (closed_where_expired facts.leases) rows
 rows_after facts _ caller rows = rows

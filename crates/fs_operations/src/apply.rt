@@ -25,8 +25,8 @@ pub fn needs<'a>(alloc: Global, op: &'a Op) -> Result<Needs<'a>, AllocError>
     needs_of(alloc, op)
 }
 
-/// Decides a request that leaves leases and keys as they are, and does it where no need fails and nothing refuses it, as `answer`
-/// and `apply_update` do.
+/// Decides a request that leaves leases, blocks and keys as they are and grants nothing, and does it where no need fails and nothing
+/// refuses it, as `answer` and `apply_update` do.
 ///
 /// # Errors
 /// Out of memory, and nothing has changed.
@@ -47,10 +47,11 @@ pub fn apply(
             apply_update(alloc, tree, users, &request.caller, &needs, &update)
         }
         Verb::Write(_)
+        | Verb::Grant(_)
+        | Verb::SetReplication(_, _)
         | Verb::RollKey(_)
         | Verb::Renew
         | Verb::Tick
-        | Verb::Heartbeat
         | Verb::Reported(_) => { unreachable!() }
     }
 }

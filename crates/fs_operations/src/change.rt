@@ -348,12 +348,30 @@ pub fn apply_update(
             set_owner(alloc, tree, &asking, needs, path, owner, group)
         }
         Update::SetAcl(path, change) => set_acl(alloc, tree, &asking, needs, path, change),
-        Update::SetReplication(path, replication) => {
-            set_replication(alloc, tree, &asking, needs, path, *replication)
-        }
         Update::AddUser(user, groups) => add_user(alloc, tree, users, caller, needs, user, groups),
         Update::SetGroups(user, groups) => {
             set_groups(alloc, tree, users, caller, needs, user, groups)
         }
     }
+}
+
+/// Decides with its needs a request to give a file another replication, and does it where no need fails and nothing refuses it: only the
+/// rows are changed, and not what is known of the blocks. Costs the path.
+///
+/// # Errors
+/// Out of memory, and nothing has changed.
+pub fn apply_replication(
+    alloc: Global,
+    tree: &mut Tree,
+    users: &Users,
+    caller: &Who,
+    needs: &Needs,
+    path: &Path,
+    replication: Repl,
+) -> Result<Verdict, AllocError>
+    requires { needs.now ≡ required_rights (Op.SetReplication path.now replication) }
+    ensures ok { (facts : Facts) → IfOk result (λ verdict. record { verdict = verdict; rows = tree.new; users = users.now } ≡ spec.step facts tree.old users.now caller.now (Op.SetReplication path.now replication)) }
+    ensures err { OnErr result (tree.new ≡ tree.old) }
+{
+    set_replication(alloc, tree, &users.caller(caller), needs, path, replication)
 }

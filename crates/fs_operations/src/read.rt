@@ -24,7 +24,7 @@ use hdfs_values::who::Who;
 use inode_tree::tree::Tree;
 use namespace_rows::file_row::FileRow;
 use perm_walk::component::Component;
-use perm_walk::found::{Found, FoundFile, counts_at, length_told, standing, standing_file};
+use perm_walk::found::{Found, counts_at, length_told, standing};
 use perm_walk::walk::{Walked, walk_along};
 use principals::caller::Caller;
 use principals::users::Users;
@@ -208,30 +208,9 @@ fn summary(
     Ok(Verdict::Done(Reply::Summary(content_at(tree, path)?)))
 }
 
-/// Opens a file to read it. Costs also its blocks.
-fn open(
-    alloc: Global,
-    tree: &Tree,
-    caller: &Caller,
-    needs: &Needs,
-    path: &Path,
-) -> Result<Verdict, AllocError>
-    requires { AreOn path.now needs.now }
-    ensures { (facts : Facts) (users : Users) → IfOk result (λ verdict. record { verdict = verdict; rows = tree.now; users = users } ≡ judged_step facts tree.now users caller.now needs.now (Op.Open path.now)) }
-{
-    let reach = match walk_along(alloc, tree, caller, needs, path)? {
-        Walked::Denied(denial) => return Ok(Verdict::Denied(denial)),
-        Walked::Reached(reach) => reach,
-    };
-    match standing_file(alloc, reach)? {
-        FoundFile::There(file) => Ok(Verdict::Done(Reply::Opened(length_told(file)?))),
-        FoundFile::Refused(refusal) => Ok(Verdict::Refused(refusal)),
-    }
-}
-
 /// Answers a verb that changes nothing, with its needs, over what is lent: first the first need that fails, then the first refusal
-/// of the operation's list, then what it asks for. Costs the path that it names, one look-up in a map for each name; `stat` and
-/// `open` also the blocks of the file, `ls` what is listed, and `du` the sub-tree with its blocks (HDFS Architecture, "The File
+/// of the operation's list, then what it asks for. Costs the path that it names, one look-up in a map for each name; `stat`
+/// also the blocks of the file, `ls` what is listed, and `du` the sub-tree with its blocks (HDFS Architecture, "The File
 /// System Namespace"; HDFS Permissions Guide, "Permission Checks").
 ///
 /// # Errors
@@ -253,6 +232,5 @@ pub fn answer(
         Read::List(path) => list(alloc, tree, &asking, needs, path),
         Read::Summary(path) => summary(alloc, tree, &asking, needs, path),
         Read::GetAcl(path) => get_acl(alloc, tree, &asking, needs, path),
-        Read::Open(path) => open(alloc, tree, &asking, needs, path),
     }
 }

@@ -6,6 +6,9 @@ use std::alloc::AllocError;
 /// How many clients write files, by turns.
 const WRITERS: u32 = 100;
 
+/// How many DataNodes there are.
+const NODES: u32 = 10;
+
 /// A number below the bound, the same in each run, which jumps about from turn to turn (the mixing steps of SplitMix64).
 fn jumping(turn: u32, bound: u32) -> u32
     requires { 0 < bound }
@@ -89,9 +92,17 @@ fn push_writer(text: &mut String, number: u32) -> Result<(), AllocError> {
     write!(text, "u{number:02}")
 }
 
+fn push_node(text: &mut String, number: u32) -> Result<(), AllocError> {
+    let node = number % NODES + 1;
+    write!(text, "{node}")
+}
+
 fn push_mark(text: &mut String, mark: &str, turn: Turn) -> Result<(), AllocError> {
     if mark == "writer" {
         return push_writer(text, turn.number);
+    }
+    if mark == "node" {
+        return push_node(text, turn.number);
     }
     push_path(text, number_at(mark, turn), names_at(mark))
 }

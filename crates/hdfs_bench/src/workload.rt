@@ -17,7 +17,8 @@ pub struct Workload {
 ///   directory that holds `{any}`;
 /// - `{earlier}` is the path of a number below the turn's, and `{behind}` that of the turn's number counted on from the size;
 /// - `{level4}` is the turn's directory at depth 4 above the paths, and so on;
-/// - `{writer}` is the client who writes `{path}`, one of a hundred by turns.
+/// - `{writer}` is the client who writes `{path}`, one of a hundred by turns;
+/// - `{node}` is the id of a DataNode, one of ten by turns.
 #[derive(Clone, Copy)]
 pub struct Block {
     pub turns: Turns,
@@ -209,6 +210,30 @@ const LATE_TICK: Block = Block {
     lines: "2000000 hdfs tick\n",
 };
 
+/// Ten DataNodes are heard of.
+const NODES: Block = Block {
+    turns: Fixed(10),
+    lines: "0 dn-{node} heartbeat\n",
+};
+
+/// The writer of each file asks for its first block, on three of the nodes.
+const FIRST_BLOCKS: Block = Block {
+    turns: Size,
+    lines: "0 {writer} addblock {path}\n",
+};
+
+/// The reader opens files as often. The length of no block is committed, since no node reports one here, so none is told.
+const OPENINGS: Block = Block {
+    turns: Size,
+    lines: "0 bob open {any}\n",
+};
+
+/// The nodes are heard of again and again.
+const HEARTBEATS: Block = Block {
+    turns: Fixed(20_000),
+    lines: "0 dn-{node} heartbeat\n",
+};
+
 /// A directory that all may write to.
 const SHARED: Block = Block {
     turns: Fixed(1),
@@ -222,7 +247,7 @@ const MIX: Block = Block {
 };
 
 /// All that can be timed as scripts.
-pub static WORKLOADS: [Workload; 13] = [
+pub static WORKLOADS: [Workload; 16] = [
     // Directories are made, one a line, in a namespace that is empty at first.
     Workload {
         name: "mkdirs",
@@ -319,6 +344,27 @@ pub static WORKLOADS: [Workload; 13] = [
         before: &[OPEN, WRITERS, OLDER_FILES, LATE_FILES],
         timed: &[LATE_TICK],
         operations: Operations::Fixed(1000),
+    },
+    // Each file gets its first block: its nodes are chosen, and the writer is granted a token.
+    Workload {
+        name: "addblock",
+        before: &[OPEN, WRITERS, NODES, CREATIONS],
+        timed: &[FIRST_BLOCKS],
+        operations: Operations::Lines,
+    },
+    // A caller opens files, among as many whose one block isn't committed. Nothing is granted.
+    Workload {
+        name: "open",
+        before: &[OPEN, WRITERS, NODES, CREATIONS, FIRST_BLOCKS],
+        timed: &[OPENINGS],
+        operations: Operations::Lines,
+    },
+    // DataNodes are heard of, among as many blocks, when none of them is to be told anything. An operation is one heartbeat.
+    Workload {
+        name: "heartbeat_idle",
+        before: &[OPEN, WRITERS, NODES, CREATIONS, FIRST_BLOCKS],
+        timed: &[HEARTBEATS],
+        operations: Operations::Lines,
     },
     // A caller asks as often what has a path, among as many closed files.
     Workload {

@@ -1,7 +1,9 @@
 pub mod KeyList
 pub mod Commands
+pub mod LocatedBlocks
 pub mod Request
 pub mod File
 pub mod Reply
+pub mod BlockRefusals
 pub mod AclStatus
 pub mod Verb

@@ -15,7 +15,7 @@ use Rattle.hdfs_types.specs.declared.reply.ContentSummary.{ContentSummary}
 use Rattle.hdfs_types.specs.declared.reply.Counter.{Counter}
 use Rattle.hdfs_types.specs.declared.reply.Counter.TheVariants as counter
 use Rattle.hdfs_types.specs.declared.reply.Refusal.{Refusal}
-use Rattle.hdfs_types.specs.declared.reply.Refusal.TheVariants.{BadPath, NotFound, NotDirectory, IsDirectory, Exists, NotEmpty, IsRoot, UnderItself, BadAcl, TooManyEntries, LeaseHeld, RecoveryRunning, NoLease, NotOpen, NotYetReplicated, TooFewNodes, Spent, BadName}
+use Rattle.hdfs_types.specs.declared.reply.Refusal.TheVariants.{BadPath, NotFound, NotDirectory, IsDirectory, Exists, NotEmpty, IsRoot, UnderItself, BadAcl, TooManyEntries, LeaseHeld, RecoveryRunning, NoLease, NotOpen, NotYetReplicated, TooFewNodes, StaleStamp, Spent, BadName}
 
 abbrev pub object_kind_text : ObjectKind → List ℕ
 object_kind_text File = codes "file"
@@ -66,6 +66,7 @@ refusal_code NoLease = 13
 refusal_code NotOpen = 14
 refusal_code NotYetReplicated = 15
 refusal_code TooFewNodes = 16
+refusal_code (StaleStamp newest) = 17
 refusal_code (Spent counter) = 18
 refusal_code BadName = 19
 
@@ -87,6 +88,7 @@ refusal_title NoLease = codes "13 NoLease"
 refusal_title NotOpen = codes "14 NotOpen"
 refusal_title NotYetReplicated = codes "15 NotYetReplicated"
 refusal_title TooFewNodes = codes "16 TooFewNodes"
+refusal_title (StaleStamp newest) = codes "17 StaleStamp"
 refusal_title (Spent counter) = codes "18 Spent"
 refusal_title BadName = codes "19 BadName"
 
@@ -107,5 +109,6 @@ refusal_text NoLease = codes "13 NoLease"
 refusal_text NotOpen = codes "14 NotOpen"
 refusal_text NotYetReplicated = codes "15 NotYetReplicated"
 refusal_text TooFewNodes = codes "16 TooFewNodes"
+refusal_text (StaleStamp newest) = codes "17 StaleStamp " ++ decimal newest
 refusal_text (Spent counter) = codes "18 Spent " ++ counter_text counter
 refusal_text BadName = codes "19 BadName"

@@ -1,7 +1,7 @@
 -- Requests to the NameNode.
 use Rattle.std.specs.Prelude.{Bool, true, false}
 use Rattle.hdfs_types.specs.declared.op.Op.{Op}
-use Rattle.hdfs_types.specs.declared.op.Op.TheVariants.{Stat, List, Summary, GetAcl, Delete, Create, Append, AddBlock, Complete, RollKey, Renew, Tick, Heartbeat, Reported}
+use Rattle.hdfs_types.specs.declared.op.Op.TheVariants.{Stat, List, Summary, GetAcl, Delete, Create, Append, AddBlock, Complete, Open, SetReplication, RollKey, Renew, Tick, Heartbeat, Reported}
 
 -- an operation that changes nothing and grants nothing
 abbrev pub is_look : Op → Bool
@@ -17,14 +17,16 @@ is_for_nodes Heartbeat = true
 is_for_nodes (Reported replica) = true
 is_for_nodes _ = false
 
--- an operation that neither asks who has which file open to write nor changes it, and that leaves the keys and what is known of
--- blocks and DataNodes
+-- an operation that neither asks who has which file open to write nor changes it, that leaves the keys and what is known of blocks and
+-- DataNodes, and that grants nothing
 abbrev pub keeps_leases : Op → Bool
 keeps_leases (Create path mode replication over) = false
 keeps_leases (Append path) = false
 keeps_leases (AddBlock path last) = false
 keeps_leases (Complete path last) = false
 keeps_leases (Delete path recursive) = false
+keeps_leases (Open path) = false
+keeps_leases (SetReplication path replication) = false
 keeps_leases (RollKey key) = false
 keeps_leases Renew = false
 keeps_leases Tick = false

@@ -1,5 +1,6 @@
 ghost use Rattle.std.specs.Prelude.{◌≡◌, Some};
 
+pub use block_records::last_block::LastBlock;
 use hdfs_values::ids::{BlockId, Stamp};
 use hdfs_values::moment::Moment;
 use hdfs_values::replication::Repl;
@@ -80,11 +81,4 @@ impl fmt::Display for FileDetail {
         let state = &self.state;
         write!(f, " {replication} {length} {state}")
     }
-}
-
-/// What a writer states of the last block of a file: which one it is, and the bytes that it has written there.
-#[derive(Clone, Copy, PartialEq, Eq)]
-pub struct LastBlock {
-    pub block: BlockId,
-    pub length: u64,
 }

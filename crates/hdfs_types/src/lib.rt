@@ -7,6 +7,7 @@ pub mod file;
 pub mod given_name;
 pub mod key;
 pub mod key_list;
+pub mod located;
 pub mod op;
 pub mod replica;
 pub mod reply;

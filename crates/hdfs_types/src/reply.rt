@@ -1,10 +1,13 @@
 ghost use Rattle.std.specs.Prelude.{◌≡◌, Some, IfOk};
 ghost use Rattle.std.specs.String.{string_bytes};
+ghost use Rattle.hdfs_types.specs.BlockRefusals as block;
 
 use crate::commands::Commands;
 use crate::file::FileDetail;
+use crate::located::{AddedBlock, OpenedFile};
+use block_records::fault::{self as block_fault, BlockRefusal};
 use hdfs_values::fault::AclFault;
-use hdfs_values::ids::Serial;
+use hdfs_values::ids::{Serial, Stamp};
 use hdfs_values::name::Name;
 use hdfs_values::path::Path;
 use hdfs_values::who::Who;
@@ -338,8 +341,10 @@ pub enum Reply {
     Released,
     /// The file is closed and holds so many bytes.
     Closed(u64),
-    /// The file holds so many bytes.
-    Opened(u64),
+    /// What a reader is told of a file and its blocks.
+    Opened(OpenedFile),
+    /// The new block of a file, and where it is to be written.
+    Added(AddedBlock),
     Expired(Expired),
     /// The serial number of the key under which tokens are issued from now on.
     Serial(Serial),
@@ -360,7 +365,8 @@ impl Clone for Reply {
             Reply::Deleted(count) => Ok(Reply::Deleted(*count)),
             Reply::Released => Ok(Reply::Released),
             Reply::Closed(bytes) => Ok(Reply::Closed(*bytes)),
-            Reply::Opened(bytes) => Ok(Reply::Opened(*bytes)),
+            Reply::Opened(opened) => Ok(Reply::Opened(opened.clone()?)),
+            Reply::Added(added) => Ok(Reply::Added(added.clone()?)),
             Reply::Expired(expired) => Ok(Reply::Expired(*expired)),
             Reply::Serial(serial) => Ok(Reply::Serial(*serial)),
             Reply::Commands(commands) => Ok(Reply::Commands(commands.clone()?)),
@@ -426,6 +432,8 @@ pub enum Refusal {
     NotYetReplicated,
     /// No DataNode is live that could hold the block: code 16.
     TooFewNodes,
+    /// The block has this newer stamp: code 17.
+    StaleStamp(Stamp),
     /// All numbers of that kind are given away: code 18.
     Spent(Counter),
     /// That name is a DataNode's: code 19.
@@ -453,6 +461,7 @@ impl Clone for Refusal {
             Refusal::NotOpen => Ok(Refusal::NotOpen),
             Refusal::NotYetReplicated => Ok(Refusal::NotYetReplicated),
             Refusal::TooFewNodes => Ok(Refusal::TooFewNodes),
+            Refusal::StaleStamp(newest) => Ok(Refusal::StaleStamp(*newest)),
             Refusal::Spent(counter) => Ok(Refusal::Spent(*counter)),
             Refusal::BadName => Ok(Refusal::BadName),
         }
@@ -483,6 +492,7 @@ impl Refusal {
             Refusal::NotOpen => 14,
             Refusal::NotYetReplicated => 15,
             Refusal::TooFewNodes => 16,
+            Refusal::StaleStamp(_) => 17,
             Refusal::Spent(_) => 18,
             Refusal::BadName => 19,
         }
@@ -509,6 +519,7 @@ impl Refusal {
             Refusal::NotOpen => "14 NotOpen",
             Refusal::NotYetReplicated => "15 NotYetReplicated",
             Refusal::TooFewNodes => "16 TooFewNodes",
+            Refusal::StaleStamp(_) => "17 StaleStamp",
             Refusal::Spent(_) => "18 Spent",
             Refusal::BadName => "19 BadName",
         }
@@ -527,8 +538,35 @@ impl fmt::Display for Refusal {
             Refusal::NotDirectory(file) => write!(f, "{title} {file}"),
             Refusal::BadAcl(fault) => write!(f, "{title} {fault}"),
             Refusal::LeaseHeld(client) => write!(f, "{title} {client}"),
+            Refusal::StaleStamp(newest) => write!(f, "{title} {}", newest.get()),
             Refusal::Spent(counter) => write!(f, "{title} {counter}"),
             _ => f.write_str(title),
+        }
+    }
+}
+
+// A counter of blocks or of stamps.
+fn counter_of(counter: block_fault::Counter) -> Counter
+    ensures { result ≡ block.counter_of counter }
+{
+    match counter {
+        block_fault::Counter::BlockId => Counter::BlockId,
+        block_fault::Counter::Stamp => Counter::Stamp,
+    }
+}
+
+impl Refusal {
+    /// What the NameNode answers where the map of blocks refuses. Takes no memory.
+    pub fn of_blocks(refusal: BlockRefusal) -> Refusal
+        ensures { result ≡ block.refusal_of refusal }
+    {
+        match refusal {
+            BlockRefusal::NotFound => Refusal::NotFound,
+            BlockRefusal::NotOpen => Refusal::NotOpen,
+            BlockRefusal::NotYetReplicated => Refusal::NotYetReplicated,
+            BlockRefusal::TooFewNodes => Refusal::TooFewNodes,
+            BlockRefusal::StaleStamp(newest) => Refusal::StaleStamp(newest),
+            BlockRefusal::Spent(counter) => Refusal::Spent(counter_of(counter)),
         }
     }
 }

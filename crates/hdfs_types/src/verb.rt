@@ -13,17 +13,17 @@ use hdfs_values::who::Who;
 use permission_specs::acl_change::AclChange;
 use permission_specs::mode::Mode;
 
-/// A verb that changes nothing: the looks, and to open a file to read it, which is no look, since it grants something.
+/// A verb that changes nothing and grants nothing: a look.
 #[derive(Clone, Copy)]
 pub enum Read<'a> {
     Stat(&'a Path),
     List(&'a Path),
     Summary(&'a Path),
     GetAcl(&'a Path),
-    Open(&'a Path),
 }
 
-/// A verb that changes the namespace or the users, and neither asks who has which file open to write, nor changes it.
+/// A verb that changes the namespace or the users alone: it neither asks who has which file open to write, nor changes that, and leaves
+/// blocks as they are.
 #[derive(Clone, Copy)]
 pub enum Update<'a> {
     Mkdirs(&'a Path, Mode),
@@ -31,7 +31,6 @@ pub enum Update<'a> {
     SetMode(&'a Path, Mode),
     SetOwner(&'a Path, &'a GivenName, &'a GivenName),
     SetAcl(&'a Path, &'a AclChange),
-    SetReplication(&'a Path, Repl),
     AddUser(&'a Who, &'a Groups),
     SetGroups(&'a Who, &'a Groups),
 }
@@ -41,9 +40,16 @@ pub enum Update<'a> {
 pub enum Write<'a> {
     Create(&'a Path, Mode, Repl, bool),
     Append(&'a Path),
-    AddBlock(&'a Path, Option<LastBlock>),
     Complete(&'a Path, Option<LastBlock>),
     Delete(&'a Path, bool),
+}
+
+/// A verb that grants tokens: to open a file to read it, to ask for a new block, and a DataNode's heartbeat.
+#[derive(Clone, Copy)]
+pub enum Grant<'a> {
+    Open(&'a Path),
+    AddBlock(&'a Path, Option<LastBlock>),
+    Heartbeat,
 }
 
 /// The verb of an operation, by what it may change.
@@ -52,10 +58,11 @@ pub enum Verb<'a> {
     Read(Read<'a>),
     Update(Update<'a>),
     Write(Write<'a>),
+    Grant(Grant<'a>),
+    SetReplication(&'a Path, Repl),
     RollKey(Key),
     Renew,
     Tick,
-    Heartbeat,
     Reported(ReportedReplica),
 }
 
@@ -69,7 +76,7 @@ impl Op {
             Op::List(path) => Verb::Read(Read::List(path)),
             Op::Summary(path) => Verb::Read(Read::Summary(path)),
             Op::GetAcl(path) => Verb::Read(Read::GetAcl(path)),
-            Op::Open(path) => Verb::Read(Read::Open(path)),
+            Op::Open(path) => Verb::Grant(Grant::Open(path)),
             Op::Mkdirs(path, mode) => Verb::Update(Update::Mkdirs(path, *mode)),
             Op::Rename(from, to) => Verb::Update(Update::Rename(from, to)),
             Op::SetMode(path, mode) => Verb::Update(Update::SetMode(path, *mode)),
@@ -77,22 +84,20 @@ impl Op {
                 Verb::Update(Update::SetOwner(path, owner, group))
             }
             Op::SetAcl(path, change) => Verb::Update(Update::SetAcl(path, change)),
-            Op::SetReplication(path, replication) => {
-                Verb::Update(Update::SetReplication(path, *replication))
-            }
+            Op::SetReplication(path, replication) => Verb::SetReplication(path, *replication),
             Op::AddUser(user, groups) => Verb::Update(Update::AddUser(user, groups)),
             Op::SetGroups(user, groups) => Verb::Update(Update::SetGroups(user, groups)),
             Op::Create(path, mode, replication, over) => {
                 Verb::Write(Write::Create(path, *mode, *replication, *over))
             }
             Op::Append(path) => Verb::Write(Write::Append(path)),
-            Op::AddBlock(path, last) => Verb::Write(Write::AddBlock(path, *last)),
+            Op::AddBlock(path, last) => Verb::Grant(Grant::AddBlock(path, *last)),
             Op::Complete(path, last) => Verb::Write(Write::Complete(path, *last)),
             Op::Delete(path, recursive) => Verb::Write(Write::Delete(path, *recursive)),
             Op::RollKey(key) => Verb::RollKey(*key),
             Op::Renew => Verb::Renew,
             Op::Tick => Verb::Tick,
-            Op::Heartbeat => Verb::Heartbeat,
+            Op::Heartbeat => Verb::Grant(Grant::Heartbeat),
             Op::Reported(replica) => Verb::Reported(*replica),
         }
     }

@@ -97,3 +97,25 @@ s:1: / -w- from: holder\n\
 s:1: granted, and then refused 2 NotFound\n",
     )
 }
+
+const BLOCKS: &str = "0 hdfs create /f 644 1\n\
+0 hdfs addblock /f\n\
+0 dn-1 heartbeat\n\
+0 hdfs addblock /f\n\
+0 hdfs complete /f\n";
+
+#[test]
+fn refusals_of_blocks_are_said(rt: HostRuntime) -> Result<(), Fail> {
+    let first = hints(rt.alloc(), BLOCKS, 2)?;
+    is_text(
+        first.as_str(),
+        "s:2: granted, and then refused 16 TooFewNodes\n",
+    )?;
+    let second = hints(rt.alloc(), BLOCKS, 4)?;
+    is_text(second.as_str(), "")?;
+    let end = hints(rt.alloc(), BLOCKS, 5)?;
+    is_text(
+        end.as_str(),
+        "s:5: granted, and then refused 15 NotYetReplicated\n",
+    )
+}

@@ -3,3 +3,4 @@ pub mod Unchanged
 pub mod Counting
 pub mod Apart
 pub mod OpenFiles
+pub mod Granted

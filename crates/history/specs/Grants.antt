@@ -6,6 +6,7 @@ use Rattle.permission_specs.specs.declared.modes.Modes.{Modes}
 use Rattle.hdfs_types.specs.Commands.{Commands}
 use Rattle.hdfs_types.specs.declared.commands.Recover.{Recover}
 use Rattle.hdfs_types.specs.declared.commands.CopyOrder.{CopyOrder}
+use Rattle.hdfs_types.specs.declared.located.LocatedBlock.{LocatedBlock}
 use Rattle.hdfs_types.specs.declared.op.Op.{Op}
 use Rattle.hdfs_types.specs.declared.op.Op.TheVariants as op
 use Rattle.hdfs_types.specs.declared.reply.Reply.{Reply}
@@ -34,8 +35,20 @@ abbrev pub granted_to_node : Reply → List Access
 granted_to_node (reply.Commands commands) = granted_with commands
 granted_to_node _ = []
 
--- only the answer to a heartbeat grants something
+-- a writer gets a token to write his new block
+abbrev pub granted_to_writer : Reply → List Access
+granted_to_writer (reply.Added added) = record { block = added.block; modes = modes 2 } ∷ []
+granted_to_writer _ = []
+
+-- a reader gets one to read each block that he is told of
+abbrev pub granted_to_reader : Reply → List Access
+granted_to_reader (reply.Opened opened) = map (λ (block : LocatedBlock). record { block = block.block; modes = modes 1 }) opened.blocks
+granted_to_reader _ = []
+
+-- only these three operations grant something
 abbrev pub granted_by : Op → Reply → List Access
+granted_by (op.AddBlock path last) told = granted_to_writer told
+granted_by (op.Open path) told = granted_to_reader told
 granted_by op.Heartbeat told = granted_to_node told
 granted_by _ told = []
 

@@ -18,7 +18,7 @@ use Rattle.history.specs.declared.entry.HistoryEntry.{HistoryEntry}
 use Rattle.history.specs.Config.{Opening}
 use Rattle.history.specs.ClockAndLease.{last_renewal}
 use Rattle.history.specs.Keys.{ring_of}
-use Rattle.history.specs.Blocks.{blocks_of}
+use Rattle.history.specs.State.{blocks_of}
 use Rattle.history.specs.Grants.{ledger_of}
 use Rattle.history.specs.State.{users_of, rows_of, facts_of}
 use Rattle.history.specs.LegalHistory.{now_at, verdict_of}

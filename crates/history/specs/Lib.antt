@@ -7,3 +7,4 @@ pub mod Grants
 pub mod State
 pub mod LegalHistory
 pub mod Laws
+pub mod GrantLaws

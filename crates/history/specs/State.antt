@@ -1,4 +1,4 @@
--- The users and the namespace that a history gives. A history is a list of entries, the newest first.
+-- The users, the namespace and the blocks that a history gives. A history is a list of entries, the newest first.
 use Rattle.std.specs.Prelude.{ℕ, Bool, List, [], ◌∷◌, codes, Option}
 use Rattle.hdfs_types.specs.declared.op.Op.{Op}
 use Rattle.principals.specs.Users.{Users}
@@ -15,7 +15,7 @@ use Rattle.history.specs.declared.entry.HistoryEntry.{HistoryEntry}
 use Rattle.history.specs.Config.{Opening, limits_of}
 use Rattle.history.specs.ClockAndLease.{clock_of, last_renewal, lease_in, facts_at}
 use Rattle.history.specs.Keys.{ring_of}
-use Rattle.history.specs.Blocks.{blocks_of}
+use Rattle.history.specs.Blocks.{first_blocks, blocks_by}
 use Rattle.lease_manager.specs.Leases.{Limits}
 
 -- ---- users
@@ -54,10 +54,26 @@ rows_by facts op caller (Done told) rows = rows_after facts op caller rows
 rows_by facts op caller (Denied denial) rows = rows
 rows_by facts op caller (Refused refusal) rows = rows
 
+-- the namespace, and what is known of blocks and DataNodes: each is asked for what becomes of the other
+pub record Spaces : Type 0 where
+  pub rows : List Row
+  pub blocks : BlockFacts
+
+abbrev pub spaces_by : Facts → Op → List ℕ → Verdict → Spaces → Spaces
+spaces_by facts op caller verdict before =
+    record { rows = rows_by facts op caller verdict before.rows; blocks = blocks_by op caller verdict facts.now before.rows before.blocks }
+
+abbrev pub spaces_of : Opening → List HistoryEntry → Spaces
+spaces_of opening [] = record { rows = root_row superuser supergroup ∷ []; blocks = first_blocks opening }
+spaces_of opening (entry ∷ earlier) =
+    let before = spaces_of opening earlier in
+    spaces_by (facts_with (limits_of opening.config) (clock_of (entry ∷ earlier)) (lease_in (last_renewal earlier) before.rows) (ring_of opening earlier) before.blocks) entry.request.op entry.request.caller entry.verdict before
+
 abbrev pub rows_of : Opening → List HistoryEntry → List Row
-rows_of opening [] = root_row superuser supergroup ∷ []
-rows_of opening (entry ∷ earlier) =
-    rows_by (facts_with (limits_of opening.config) (clock_of (entry ∷ earlier)) (lease_in (last_renewal earlier) (rows_of opening earlier)) (ring_of opening earlier) (blocks_of opening earlier)) entry.request.op entry.request.caller entry.verdict (rows_of opening earlier)
+rows_of opening entries = (spaces_of opening entries).rows
+
+abbrev pub blocks_of : Opening → List HistoryEntry → BlockFacts
+blocks_of opening entries = (spaces_of opening entries).blocks
 
 -- ---- leases
 

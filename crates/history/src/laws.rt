@@ -1,5 +1,6 @@
 //! Laws about histories. Each function does nothing: what it ensures follows from the definitions.
 
+ghost use Rattle.history.specs.GrantLaws as grant;
 ghost use Rattle.history.specs.Laws as law;
 
 /// No two clients have a file open to write at a time.
@@ -19,4 +20,11 @@ pub fn live_writers_stay()
 pub fn nothing_changes()
     ensures not_done { law.WhatIsNotDoneChangesNothing }
     ensures looks { law.LooksChangeNothing }
+{}
+
+/// Each token in the ledger was granted at the place of an entry to its caller: to write the new block that he was given, to read a block of
+/// the file that he opened, or with the answer to his heartbeat. What was denied or refused granted nothing.
+#[tactic(auto, using(crate::proofs::Granted::grants_were_asked))]
+pub fn grants_were_asked()
+    ensures { grant.GrantsWereAsked }
 {}

@@ -136,7 +136,7 @@ missing_at n ns es o sorted found =
 pub held_there : (path : List (List ℕ)) (i : Inside) (m : BTreeMap (List ℕ) Node) (b : Node) → branch_of i ≡ b → i.held ≡ Directory m → is_missing path b.beneath ≡ false → is_missing path (flatten m.entries) ≡ false
 held_there path i m b seen is h = subst (λ x. is_missing path (rows_in x) ≡ false) is (subst (λ x. is_missing path x.beneath ≡ false) (sym seen) h)
 
-there_within : (ns : List (List ℕ)) (name : List ℕ) (b : Node) → is_missing (ns ++ name ∷ []) (rows b) ≡ false → is_missing (ns ++ name ∷ []) b.beneath ≡ false
+pub there_within : (ns : List (List ℕ)) (name : List ℕ) (b : Node) → is_missing (ns ++ name ∷ []) (rows b) ≡ false → is_missing (ns ++ name ∷ []) b.beneath ≡ false
 there_within [] name b h = h
 there_within (m ∷ ms) name b h = h
 

@@ -1,4 +1,4 @@
-ghost use Rattle.std.specs.Prelude.{ℕ, List, ◌≡◌, ◌==◌, false, [], ◌∷◌, ◌||◌, map, filter, not, None, IsTrue, IfOk, OnOk, OnErr};
+ghost use Rattle.std.specs.Prelude.{ℕ, List, ◌≡◌, ◌==◌, false, [], ◌∷◌, ◌||◌, map, filter, not, None, Some, IsTrue, IfOk, OnOk, OnErr};
 ghost use Rattle.std.specs.Option.{option_map};
 ghost use Rattle.hdfs_values.specs.Path.{is_prefix};
 ghost use Rattle.acl_entries.specs.Acl.{suits_file};
@@ -241,6 +241,20 @@ impl Tree {
         let name = name.clone()?;
         let new = Node::new(self.alloc, owner, group, acl, file);
         self.root.put(above, name, new)
+    }
+
+    /// Puts a file in the place of what stands at a path. Takes no memory.
+    pub fn replace(&mut self, path: &Path, owner: Who, group: Who, acl: Acl, file: FileRow)
+        requires there { is_missing path.now self.old ≡ false }
+        requires parent { IsTrue (has_parent path.now self.old) }
+        requires suits { IsTrue (suits_file acl) }
+        ensures { self.new ≡ with_sub_tree self.old (record { path = path.now; kind = kind_of_new (Some file); owner = owner; group = group; acl = acl; file = Some file } ∷ []) }
+    {
+        let Some((name, above)) = path.names().split_last() else {
+            unreachable!()
+        };
+        let new = Node::new(self.alloc, owner, group, acl, Some(file));
+        self.root.fill(above, name, new);
     }
 
     /// Makes what is missing of a path: the last a file, where what it has is given, else a directory, of this mode; the others

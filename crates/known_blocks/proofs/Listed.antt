@@ -1,14 +1,13 @@
 -- The blocks that are being recovered are listed, so those whose recovery is due are among these.
 use Rattle.std.proofs.Common.{◌≡◌, ℕ, Bool, true, false, ◌&&◌, List, [], ◌∷◌, filter, Option, Some, None, Result, Ok, Err, refl, sym, ap, ◌∙◌, cond, true≢false}
 use Rattle.std.proofs.lemmas.List.Kept.{IsStrictlySortedBy-filter}
-use Rattle.std.proofs.lemmas.Map.{lookup-set_value}
 use Rattle.std.proofs.lemmas.Map.Entries.{lookup-filter-values, option_filter}
 use Rattle.std.proofs.lemmas.Map.Keys.{IsDistinct-from_sorted}
 use Rattle.std.proofs.lemmas.Map.Views.{any-filter_same}
 use Rattle.std.specs.Cmp.{eq_by_cmp_equiv, nat_cmp_total}
 use Rattle.std.specs.List.{list_any}
 use Rattle.std.specs.List.Sorted.{IsStrictlySortedBy}
-use Rattle.std.specs.Map.{keys_of, set_value}
+use Rattle.std.specs.Map.{keys_of}
 use Rattle.std.specs.Option.{is_some}
 use Rattle.std.specs.Result.{OnOk, OnErr}
 use Rattle.std.specs.Ordering.{nat_cmp}
@@ -18,21 +17,11 @@ use Rattle.block_records.proofs.Ascending.{same_ascending, kept_ascending}
 use Rattle.block_records.proofs.Numbers.{number_is}
 use Rattle.block_tables.specs.Changes.{changed, changed_by, with_recovery, with_recovered, with_hand_out, handed_out}
 use Rattle.block_tables.proofs.Held.{has_entry}
+use Rattle.scarce_blocks.proofs.Stays.{put_at, others_stay}
 use Rattle.known_blocks.specs.Kept.{AreListed, is_recovering_by}
 use Rattle.known_blocks.specs.Known.{is_due, is_due_by}
 
 -- ---- a block whose record changes
-
-put_at : (block q : ℕ) (table : List (ℕ × BlockRecord)) (own new : BlockRecord) → entry_at block table ≡ Some own
-    → entry_at q (set_value (is_number block) table new) ≡ cond (is_number block q) (Some new) (entry_at q table)
-put_at block q table own new there =
-    lookup-set_value (eq_by_cmp_equiv nat_cmp_total) (is_number block) (λ x y at. ap (λ n. is_number n y) (number_is block x at)) q new table (ap is_some there)
-
--- other blocks stay as they are
-others_stay : (change : BlockRecord → BlockRecord) (block q : ℕ) (table : List (ℕ × BlockRecord)) (found : Option BlockRecord) → entry_at block table ≡ found → is_number block q ≡ false
-    → entry_at q (changed_by change block found table) ≡ entry_at q table
-others_stay change block q table None there apart = refl
-others_stay change block q table (Some own) there apart = put_at block q table own (change own) there ∙ ap (λ b. cond b (Some (change own)) (entry_at q table)) apart
 
 recovering_still : (change : BlockRecord → BlockRecord) (block q : ℕ) (table : List (ℕ × BlockRecord)) (found : Option BlockRecord) → entry_at block table ≡ found
     → ((own : BlockRecord) → is_some (change own).recovering ≡ is_some own.recovering)

@@ -1,6 +1,6 @@
 -- The blocks that are known, and the numbers that are given next: what can be asked, and what can happen to them.
 -- (HDFS Architecture, "Data Replication"; no number is given twice, and the greatest of its type never.)
-use Rattle.std.specs.Prelude.{ℕ, ◌==◌, ◌+◌, ◌-◌, Bool, false, nat_lt, List, [], filter, if◌then◌else◌, Option, Some, None}
+use Rattle.std.specs.Prelude.{ℕ, ◌==◌, ◌+◌, ◌-◌, Bool, false, nat_lt, List, [], ◌∷◌, length, filter, fold, if◌then◌else◌, Option, Some, None}
 use Rattle.std.specs.BTreeMap.{insert_entry}
 use Rattle.std.specs.Map.{remove_entry, keys_of}
 use Rattle.std.specs.Ordering.{nat_cmp}
@@ -10,6 +10,7 @@ use Rattle.block_records.specs.declared.fault.BlockRefusal.{BlockRefusal}
 use Rattle.block_records.specs.declared.fault.BlockRefusal.TheVariants.{Spent}
 use Rattle.block_records.specs.declared.fault.Counter.TheVariants.{BlockId, Stamp}
 use Rattle.block_tables.specs.Changes.{changed, with_recovery, handed_out, without_blocks}
+use Rattle.recovery_queue.specs.declared.begun.BegunRecovery.{BegunRecovery}
 
 pub record Known : Type 0 where
   -- the numbers that are given next
@@ -48,6 +49,13 @@ refused_new_stamp known = if is_spent known.next_stamp then Some (Spent Stamp) e
 abbrev pub refused_new_block : Known → Option BlockRefusal
 refused_new_block known = if is_spent known.next_block then Some (Spent BlockId) else refused_new_stamp known
 
+-- ---- recoveries that begin
+
+-- of these blocks, each with the node that is to lead its recovery, those for which stamps are left, from this number on
+abbrev pub stamped : ℕ → List (ℕ × ℕ) → List BegunRecovery
+stamped next [] = []
+stamped next (led ∷ more) = if is_spent next then [] else (record { block = led.0; stamp = next; primary = led.1 } ∷ stamped (next + 1) more)
+
 -- ---- effects
 
 -- a new block, which these nodes are to hold
@@ -76,6 +84,13 @@ abbrev pub begun : Known → ℕ → ℕ → Known
 begun known block now = record known {
   next_stamp = known.next_stamp + 1;
   blocks = changed (with_recovery known.next_stamp now) block known.blocks;
+}
+
+-- recoveries of these blocks begin now, under the stamps that they have, which are the next ones
+abbrev pub all_begun : Known → List BegunRecovery → ℕ → Known
+all_begun known recoveries now = record known {
+  next_stamp = known.next_stamp + length recoveries;
+  blocks = fold (λ left own. changed (with_recovery own.stamp now) own.block left) known.blocks recoveries;
 }
 
 -- nodes were told now to copy these blocks

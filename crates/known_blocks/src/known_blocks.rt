@@ -1,28 +1,33 @@
-ghost use Rattle.std.specs.Prelude.{◌≡◌, ◌<◌, [], None, Some, true, is_some, filter, option_copied, OnOk, OnErr, IfOk, IfErr, IfSome};
+ghost use Rattle.std.specs.Prelude.{◌≡◌, ◌<◌, ◌+◌, ℕ, List, [], None, Some, true, is_some, filter, fold, if◌then◌else◌, option_copied, OnOk, OnErr, IfOk, IfErr, IfSome};
+ghost use Rattle.std.specs.List.{list_any};
+ghost use Rattle.block_records.specs.Numbers.{is_number};
 ghost use Rattle.std.specs.List.Sorted.{IsStrictlySortedBy};
 ghost use Rattle.std.specs.Map.{keys_of};
 ghost use Rattle.std.specs.Ordering.{nat_cmp};
 ghost use Rattle.block_records.specs.Marks.{with_marks};
 ghost use Rattle.block_records.specs.Reports.{others_of};
 ghost use Rattle.block_placement.specs.Placement.{targets};
-ghost use Rattle.block_tables.specs.Changes.{with_report, without_report, with_replication, with_length, with_recovered};
-ghost use Rattle.block_tables.specs.Kept.{blocks_of, load};
-ghost use Rattle.recovery_queue.specs.Queue.{put};
+ghost use Rattle.block_tables.specs.Changes.{changed, with_report, without_report, with_replication, with_length, with_recovery, with_recovered};
+ghost use Rattle.block_tables.specs.Kept.{load};
+ghost use Rattle.scarce_blocks.specs.Scarce.{Covers};
+ghost use Rattle.recovery_queue.specs.Queue.{put, all_put};
+ghost use Rattle.known_blocks.specs.Kept.{is_begun};
 ghost use Rattle.known_blocks.specs.Known as spec;
 
-use crate::last_block::LastBlock;
 use block_index::node_blocks::BlockSet;
 use block_records::block_record::BlockRecord;
 use block_records::fault::{BlockRefusal, Counter};
+use block_records::last_block::LastBlock;
 use block_records::mark::{Mark, Marks};
 use block_records::node_set::NodeSet;
 use block_records::reports::Reports;
-use block_tables::block_table::BlockTable;
 use hdfs_values::ids::{BlockId, Stamp};
 use hdfs_values::moment::Moment;
 use hdfs_values::node_id::NodeId;
 use hdfs_values::replication::Repl;
+use recovery_queue::begun::BegunRecovery;
 use recovery_queue::queue::RecoveryQueue;
+use scarce_blocks::watched_table::WatchedTable;
 use std::alloc::{AllocError, Global};
 use std::marker::Model;
 
@@ -32,7 +37,7 @@ use std::marker::Model;
 pub struct KnownBlocks {
     next_block: u64,
     next_stamp: u64,
-    table: BlockTable,
+    table: WatchedTable,
     // the blocks that are being recovered; one stands here too whose recovery could not begin for want of memory
     running: BlockSet,
     alloc: Global,
@@ -49,6 +54,50 @@ impl Model for KnownBlocks {
     ghost invariant = { λ known. AreBelow known.table known.next_block × AreListed known.table known.running };
 }
 
+// Of these blocks, each with the node that is to lead its recovery, those for which stamps are left, from this number on.
+fn stamped(
+    alloc: Global,
+    first: u64,
+    led: &[(BlockId, NodeId)],
+) -> Result<Vec<BegunRecovery>, AllocError>
+    ensures { IfOk result (λ begun. begun.items ≡ spec.stamped first led.now) }
+{
+    let mut begun = Vec::new(alloc);
+    let mut next = first;
+    for (block, primary) in led {
+        if next == u64::MAX {
+            return Ok(begun);
+        }
+        begun.push(BegunRecovery {
+            block: *block,
+            stamp: Stamp::new(next),
+            primary: *primary,
+        })?;
+        next += 1;
+    }
+    Ok(begun)
+}
+
+// Lists blocks among those that are being recovered, up to the first for which there is no memory.
+fn list_each(running: &mut BlockSet, begun: &[BegunRecovery]) -> Result<(), AllocError>
+    ensures ok { OnOk result ((q : ℕ) → list_any (is_number q) running.new ≡ (if is_begun q begun.now then true else list_any (is_number q) running.old)) }
+    ensures more { (q : ℕ) → list_any (is_number q) running.old ≡ true → list_any (is_number q) running.new ≡ true }
+{
+    for own in begun {
+        running.insert(own.block)?;
+    }
+    Ok(())
+}
+
+// Begins recoveries of blocks, under the stamps that they have. Takes no memory.
+fn begin_each(table: &mut WatchedTable, begun: &[BegunRecovery], now: Moment)
+    ensures { table.new ≡ fold (λ left own. changed (with_recovery own.stamp now) own.block left) table.old begun.now }
+{
+    for own in begun {
+        table.begin_recovery(own.block, own.stamp, now);
+    }
+}
+
 impl KnownBlocks {
     /// No block is known; blocks and stamps are given from these numbers on. Takes no memory.
     pub fn new(alloc: Global, first_block: u64, first_stamp: u64) -> KnownBlocks
@@ -57,7 +106,7 @@ impl KnownBlocks {
         KnownBlocks {
             next_block: first_block,
             next_stamp: first_stamp,
-            table: BlockTable::new(alloc),
+            table: WatchedTable::new(alloc),
             running: BlockSet::new(alloc),
             alloc,
         }
@@ -72,15 +121,18 @@ impl KnownBlocks {
         self.table.get(block)
     }
 
-    /// The blocks that a node is to hold or reported, by their ids. Costs them.
+    /// Blocks among which all are that a node holds and that are committed with fewer replicas on these live nodes than there are to be.
+    /// Costs a look-up for each node that holds blocks, and those of this node; but where all nodes that hold blocks are live, at most
+    /// the blocks of which fewer replicas were reported at all.
     ///
     /// # Errors
     /// Out of memory.
-    pub fn blocks_of(&self, node: NodeId) -> Result<Vec<BlockId>, AllocError>
-        ensures blocks { IfOk result (λ blocks. blocks.items ≡ blocks_of self.now.blocks node) }
-        ensures ascending { IsStrictlySortedBy nat_cmp (keys_of self.now.blocks) }
+    pub fn candidates(&self, node: NodeId, live: &NodeSet) -> Result<Vec<BlockId>, AllocError>
+        ensures covers { IfOk result (λ blocks. Covers self.now.blocks live.now node blocks.items) }
+        ensures ascending { IfOk result (λ blocks. IsStrictlySortedBy nat_cmp blocks.items) }
+        ensures known { IsStrictlySortedBy nat_cmp (keys_of self.now.blocks) }
     {
-        self.table.blocks_of(self.alloc, node)
+        self.table.candidates(self.alloc, node, live)
     }
 
     /// So many of these nodes that have the fewest blocks, ties to the lowest id; all of them where there are no more. Costs a sort of
@@ -158,6 +210,20 @@ impl KnownBlocks {
         self.due_among(&running, retry, now)
     }
 
+    /// The id of the next new block, where one is left. Takes no memory.
+    pub fn next_block(&self) -> BlockId
+        ensures { result ≡ self.now.next_block }
+    {
+        BlockId::new(self.next_block)
+    }
+
+    /// The next stamp, where one is left. Takes no memory.
+    pub fn next_stamp(&self) -> Stamp
+        ensures { result ≡ self.now.next_stamp }
+    {
+        Stamp::new(self.next_stamp)
+    }
+
     /// Whether there is a stamp left. Takes no memory.
     ///
     /// # Errors
@@ -200,9 +266,8 @@ impl KnownBlocks {
         replication: Repl,
         marks: &mut Marks,
         more: Vec<Mark>,
-    ) -> Result<(BlockId, Stamp), AllocError>
+    ) -> Result<(), AllocError>
         requires { spec.refused_new_block self.old ≡ None }
-        ensures given { IfOk result (λ new. new ≡ (self.old.next_block, self.old.next_stamp)) }
         ensures added { OnOk result (self.new ≡ spec.added self.old targets replication) }
         ensures marked { OnOk result (marks.new ≡ with_marks marks.old more.items) }
         ensures err { OnErr result ((self.new ≡ self.old) × (marks.new ≡ marks.old)) }
@@ -221,7 +286,7 @@ impl KnownBlocks {
         self.table.insert_with(block, own, marks, more)?;
         self.next_block += 1;
         self.next_stamp += 1;
-        Ok((block, stamp))
+        Ok(())
     }
 
     /// Commits the length of a file's last block, which is known, and makes a new block known as `add` does. The nodes that reported
@@ -237,20 +302,19 @@ impl KnownBlocks {
         replication: Repl,
         marks: &mut Marks,
         more: Vec<Mark>,
-    ) -> Result<(BlockId, Stamp), AllocError>
+    ) -> Result<(), AllocError>
         requires numbers { spec.refused_new_block self.old ≡ None }
         requires known { is_some (spec.block_of self.old last.block) ≡ true }
         requires others { IfSome (spec.block_of self.old last.block) (λ own. others.now ≡ others_of last.length own.reports) }
-        ensures given { IfOk result (λ new. new ≡ (self.old.next_block, self.old.next_stamp)) }
         ensures added { OnOk result (self.new ≡ spec.added (spec.altered (with_length last.length) last.block self.old) targets replication) }
         ensures marked { OnOk result (marks.new ≡ with_marks marks.old more.items) }
         ensures err { OnErr result ((self.new ≡ self.old) × (marks.new ≡ marks.old)) }
     {
         // what is kept tells that the new block is another than the last
         let _table = &self.table;
-        let new = self.add(targets, replication, marks, more)?;
+        self.add(targets, replication, marks, more)?;
         self.commit(last.block, last.length, others);
-        Ok(new)
+        Ok(())
     }
 
     /// Makes a block known no more. Costs a look-up for each node that was to hold it or reported it, and takes no memory.
@@ -308,7 +372,7 @@ impl KnownBlocks {
     }
 
     /// Begins a recovery of a block under the next stamp, which is answered and which nobody has reported, and has it wait for its
-    /// primary in the queue. The nodes that reported the block are handed in. Costs a look-up for each of them.
+    /// primary in the queue. Costs a look-up for each node that reported the block.
     ///
     /// # Errors
     /// Out of memory. Nothing has changed then.
@@ -316,12 +380,10 @@ impl KnownBlocks {
         &mut self,
         block: BlockId,
         now: Moment,
-        reporting: &[NodeId],
         queue: &mut RecoveryQueue,
         primary: NodeId,
     ) -> Result<Stamp, AllocError>
-        requires stamp { spec.refused_new_stamp self.old ≡ None }
-        requires reporting { IfSome (spec.block_of self.old block) (λ own. reporting.now ≡ keys_of own.reports) }
+        requires { spec.refused_new_stamp self.old ≡ None }
         ensures given { IfOk result (λ stamp. stamp ≡ self.old.next_stamp) }
         ensures begun { OnOk result (self.new ≡ spec.begun self.old block now) }
         ensures queued { OnOk result (queue.new ≡ put queue.old block primary) }
@@ -330,9 +392,43 @@ impl KnownBlocks {
         self.running.insert(block)?;
         queue.put(block, primary)?;
         let newest = Stamp::new(self.next_stamp);
-        self.table.begin_recovery(block, newest, now, reporting);
+        self.table.begin_recovery(block, newest, now);
         self.next_stamp += 1;
         Ok(newest)
+    }
+
+    /// The recoveries that can begin of these blocks, each with the node that is to lead it, in this order: under the next stamps, as long
+    /// as there are any. Nothing changes. Costs them.
+    ///
+    /// # Errors
+    /// Out of memory.
+    pub fn stamped(&self, led: &[(BlockId, NodeId)]) -> Result<Vec<BegunRecovery>, AllocError>
+        ensures { IfOk result (λ begun. begun.items ≡ spec.stamped self.now.next_stamp led.now) }
+    {
+        stamped(self.alloc, self.next_stamp, led)
+    }
+
+    /// Begins recoveries, which `stamped` told, all of them or none, and has each wait for its primary in the queue. Costs a copy of what
+    /// waits in the queue, and a look-up for each recovery and for each node that reported such a block.
+    ///
+    /// # Errors
+    /// Out of memory. Nothing has changed then.
+    pub fn begin_all(
+        &mut self,
+        begun: &[BegunRecovery],
+        now: Moment,
+        queue: &mut RecoveryQueue,
+    ) -> Result<(), AllocError>
+        requires { (led : List (ℕ × ℕ)) × (begun.now ≡ spec.stamped self.old.next_stamp led) }
+        ensures begun { OnOk result (self.new ≡ spec.all_begun self.old begun.now now) }
+        ensures queued { OnOk result (queue.new ≡ all_put queue.old begun.now) }
+        ensures err { OnErr result ((self.new ≡ self.old) × (queue.new ≡ queue.old)) }
+    {
+        list_each(&mut self.running, begun)?;
+        queue.put_all(begun)?;
+        begin_each(&mut self.table, begun, now);
+        self.next_stamp += begun.len() as u64;
+        Ok(())
     }
 
     /// Ends the recovery of a block with this length, in which these nodes took part: they are to hold it, and report it, as do those

@@ -2,4 +2,3 @@
 #![tactic(auto)]
 
 pub mod known_blocks;
-pub mod last_block;

@@ -1,8 +1,10 @@
-//! Tests of lines: what request a line makes, how a line is ill-formed, and what is printed of a token.
+//! Tests of lines: what request a line makes, how a line is ill-formed, and what is printed of an answer and of a token.
 #![tactic(auto)]
 
 #[cfg(test)]
 mod acl_lines;
+#[cfg(test)]
+mod answers;
 #[cfg(test)]
 mod file_lines;
 #[cfg(test)]

@@ -12,9 +12,9 @@ use Rattle.history.specs.declared.entry.Answer.{Answer}
 use Rattle.history.specs.Config.{Opening, limits_of}
 use Rattle.history.specs.ClockAndLease.{clock_of, last_renewal, renews, lease_in}
 use Rattle.history.specs.Keys.{ring_of, ring_by}
-use Rattle.history.specs.Blocks.{blocks_of, blocks_by}
+use Rattle.history.specs.Blocks.{blocks_by}
 use Rattle.history.specs.Grants.{rows_granted, ledger_of}
-use Rattle.history.specs.State.{facts_with, rows_of, users_of, rows_by, users_by}
+use Rattle.history.specs.State.{facts_with, rows_of, blocks_of, users_of, rows_by, users_by}
 use Rattle.history.specs.LegalHistory.{IsLegal, verdict_of}
 use Rattle.name_core.specs.declared.namenode.NameCore.TheInside.{Inside}
 use Rattle.name_core.specs.NameCore.{Steps, entry_of}
@@ -30,7 +30,7 @@ pub record Adds (a b : Inside) (e : HistoryEntry) : Type 0 where
   pub clock : b.clock ≡ max a.clock e.request.moment
   pub stepped : record { verdict = e.verdict; rows = b.system.tree; users = b.system.users } ≡ step (facts_in (last_renewal (entries_of a)) b.clock a.system) a.system.tree a.system.users e.request.caller e.request.op
   pub ring : b.system.ring ≡ ring_by e.request.op e.verdict b.clock a.system.ring
-  pub blocks : b.system.blocks ≡ blocks_by e.request.op e.request.caller e.verdict b.clock a.system.blocks
+  pub blocks : b.system.blocks ≡ blocks_by e.request.op e.request.caller e.verdict b.clock a.system.tree a.system.blocks
   pub ledger : b.ledger.rows ≡ a.ledger.rows ++ rows_granted e.place a.system.ring b.clock e.request.caller e.request.op e.verdict
   pub exact : IsExact (renewed_where (renews e.request.op e.verdict) e.request.caller b.clock (last_renewal (entries_of a))) b.system.tree b.system.writers
   pub limits : b.system.writers.leases.limits ≡ a.system.writers.leases.limits
@@ -81,8 +81,9 @@ ring_is a b e k h =
 blocks_are : (a b : Inside) (e : HistoryEntry) → IsKept a → Adds a b e → b.system.blocks ≡ blocks_of (opening_of a) (e ∷ entries_of a)
 blocks_are a b e k h =
     h.blocks
-    ∙ (ap (λ n. blocks_by e.request.op e.request.caller e.verdict n a.system.blocks) (clock_more a b e k h)
-    ∙ ap (λ s. blocks_by e.request.op e.request.caller e.verdict (clock_of (e ∷ entries_of a)) s) k.blocks)
+    ∙ (ap (λ n. blocks_by e.request.op e.request.caller e.verdict n a.system.tree a.system.blocks) (clock_more a b e k h)
+    ∙ (ap (λ rows. blocks_by e.request.op e.request.caller e.verdict (clock_of (e ∷ entries_of a)) rows a.system.blocks) k.tree
+    ∙ ap (λ s. blocks_by e.request.op e.request.caller e.verdict (clock_of (e ∷ entries_of a)) (rows_of (opening_of a) (entries_of a)) s) k.blocks))
 
 ledger_is : (a b : Inside) (e : HistoryEntry) → IsKept a → Adds a b e → b.ledger.rows ≡ ledger_of (opening_of a) (e ∷ entries_of a)
 ledger_is a b e k h =

@@ -1,8 +1,8 @@
 -- Verbs that leave leases, or keys, as they are.
-use Rattle.std.proofs.Common.{◌≡◌, ℕ, true, false, ◌&&◌, List, length, nat_lt, Option, Some, None, refl, sym, ap, ◌∙◌, cond}
+use Rattle.std.proofs.Common.{◌≡◌, ℕ, Bool, true, false, ◌&&◌, List, length, nat_lt, Option, Some, None, refl, sym, ap, ◌∙◌, cond}
 use Rattle.hdfs_values.specs.Text.{same}
 use Rattle.hdfs_types.specs.Request.{keeps_leases}
-use Rattle.hdfs_types.specs.Verb.{read_op, update_op, write_op}
+use Rattle.hdfs_types.specs.Verb.{read_op, update_op}
 use Rattle.hdfs_types.specs.declared.op.Op.{Op}
 use Rattle.hdfs_types.specs.declared.op.Op.TheVariants as op
 use Rattle.hdfs_types.specs.declared.reply.Reply.TheVariants.{Empty}
@@ -20,8 +20,6 @@ use Rattle.flat_rows.specs.Facts.{Facts}
 use Rattle.flat_rows.specs.Outcome.{step, reply_of}
 use Rattle.flat_rows.proofs.Keeping.{kept_open}
 use Rattle.history.specs.ClockAndLease.{renews}
-use Rattle.hdfs_types.specs.declared.verb.Write.{Write}
-use Rattle.hdfs_types.specs.declared.verb.Write.TheVariants as write
 use Rattle.block_tokens.specs.Ring.{Ring}
 use Rattle.block_map.specs.BlockFacts.{BlockFacts}
 use Rattle.history.specs.Keys.{ring_by}
@@ -58,6 +56,10 @@ renews_not op.Heartbeat (Done told) h = cc
 renews_not (op.Reported replica) (Done told) h = cc
 renews_not _ (Done told) h = refl
 
+abbrev pub is_roll : Op → Bool
+is_roll (op.RollKey key) = true
+is_roll _ = false
+
 -- none is a roll of the keys
 pub keys_stay : (what : Op) (verdict : Verdict) (now : ℕ) (ring : Ring) → keeps_leases what ≡ true → ring_by what verdict now ring ≡ ring
 keys_stay what (Denied denial) now ring h = refl
@@ -65,26 +67,25 @@ keys_stay what (Refused refusal) now ring h = refl
 keys_stay (op.RollKey key) (Done told) now ring h = cc
 keys_stay _ (Done told) now ring h = refl
 
--- nor is a verb that writes files
-pub keys_stay_written : (verb : Write) (verdict : Verdict) (now : ℕ) (ring : Ring) → ring_by (write_op verb) verdict now ring ≡ ring
-keys_stay_written verb (Denied denial) now ring = refl
-keys_stay_written verb (Refused refusal) now ring = refl
-keys_stay_written (write.Append path) (Done told) now ring = refl
-keys_stay_written _ (Done told) now ring = refl
+-- nor is one that isn't a roll
+pub keys_stay_unrolled : (what : Op) (verdict : Verdict) (now : ℕ) (ring : Ring) → is_roll what ≡ false → ring_by what verdict now ring ≡ ring
+keys_stay_unrolled what (Denied denial) now ring h = refl
+keys_stay_unrolled what (Refused refusal) now ring h = refl
+keys_stay_unrolled (op.RollKey key) (Done told) now ring h = cc
+keys_stay_unrolled _ (Done told) now ring h = refl
 
--- none is a DataNode's
-pub blocks_stay : (what : Op) (caller : List ℕ) (verdict : Verdict) (now : ℕ) (blocks : BlockFacts) → keeps_leases what ≡ true → blocks_by what caller verdict now blocks ≡ blocks
-blocks_stay what caller (Denied denial) now blocks h = refl
-blocks_stay what caller (Refused refusal) now blocks h = refl
-blocks_stay op.Heartbeat caller (Done told) now blocks h = cc
-blocks_stay (op.Reported replica) caller (Done told) now blocks h = cc
-blocks_stay _ caller (Done told) now blocks h = refl
-
-pub blocks_stay_written : (verb : Write) (caller : List ℕ) (verdict : Verdict) (now : ℕ) (blocks : BlockFacts) → blocks_by (write_op verb) caller verdict now blocks ≡ blocks
-blocks_stay_written verb caller (Denied denial) now blocks = refl
-blocks_stay_written verb caller (Refused refusal) now blocks = refl
-blocks_stay_written (write.Append path) caller (Done told) now blocks = refl
-blocks_stay_written _ caller (Done told) now blocks = refl
+-- none changes what is known of blocks
+pub blocks_stay : (what : Op) (caller : List ℕ) (verdict : Verdict) (now : ℕ) (rows : List Row) (blocks : BlockFacts) → keeps_leases what ≡ true → blocks_by what caller verdict now rows blocks ≡ blocks
+blocks_stay what caller (Denied denial) now rows blocks h = refl
+blocks_stay what caller (Refused refusal) now rows blocks h = refl
+blocks_stay (op.Create path mode replication over) caller (Done told) now rows blocks h = cc
+blocks_stay (op.Delete path recursive) caller (Done told) now rows blocks h = cc
+blocks_stay (op.AddBlock path last) caller (Done told) now rows blocks h = cc
+blocks_stay (op.Complete path last) caller (Done told) now rows blocks h = cc
+blocks_stay (op.SetReplication path replication) caller (Done told) now rows blocks h = cc
+blocks_stay op.Heartbeat caller (Done told) now rows blocks h = cc
+blocks_stay (op.Reported replica) caller (Done told) now rows blocks h = cc
+blocks_stay _ caller (Done told) now rows blocks h = refl
 
 -- each client has as many files open, and the same lease
 pub exact_kept : (last : List ℕ → Option ℕ) (now : ℕ) (facts : Facts) (rows : List Row) (users : Users) (caller : List ℕ) (what : Op) (verdict : Verdict) (left : List Row) (writers : Writers)

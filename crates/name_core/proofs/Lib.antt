@@ -8,4 +8,5 @@ pub mod Deciding
 pub mod Looking
 pub mod Recording
 pub mod Beating
-pub mod Granting
+pub mod GrantRows
+pub mod GrantsPerformed

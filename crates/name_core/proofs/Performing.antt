@@ -15,6 +15,7 @@ use Rattle.hdfs_types.specs.declared.reply.Refusal.{Refusal}
 use Rattle.hdfs_types.specs.declared.reply.Refusal.TheVariants.{NoLease}
 use Rattle.principals.specs.Users.{Users}
 use Rattle.namespace_rows.specs.declared.row.Row.{Row}
+use Rattle.namespace_rows.specs.declared.row.Change.TheVariants as change
 use Rattle.flat_rows.specs.declared.verdict.Verdict.{Verdict}
 use Rattle.flat_rows.specs.declared.verdict.Verdict.TheVariants.{Done, Denied, Refused}
 use Rattle.flat_rows.specs.Denial as denied
@@ -24,13 +25,17 @@ use Rattle.namespace_rows.specs.Rows.{row_at}
 use Rattle.namespace_rows.specs.Namespace.{IsNamespace}
 use Rattle.flat_rows.specs.FileOutcome.{appended_reply, holder_at}
 use Rattle.flat_rows.specs.Facts.{Facts}
-use Rattle.flat_rows.specs.Outcome.{Step, step, first_refusal, denied_or_outcome, refused_or_done, refused_where, reply_of, users_after}
+use Rattle.flat_rows.specs.Changes.{rewritten}
+use Rattle.flat_rows.specs.BlockOutcome.{ids_at}
+use Rattle.flat_rows.specs.Outcome.{Step, step, first_refusal, denied_or_outcome, refused_or_done, refused_where, reply_of, rows_after, users_after}
+use Rattle.flat_rows.proofs.Keeping.{kept_replication}
+use Rattle.flat_rows.proofs.Blocks.{ids_stay}
 use Rattle.history.specs.ClockAndLease.{renews, lease_in}
 use Rattle.flat_rows.specs.Verdicts.{is_done}
 use Rattle.block_tokens.specs.Ring.{Ring}
 use Rattle.block_map.specs.BlockFacts.{BlockFacts}
 use Rattle.history.specs.Keys.{ring_by}
-use Rattle.history.specs.Blocks.{blocks_by}
+use Rattle.history.specs.Blocks.{blocks_by, blocks_after, all_replicated}
 use Rattle.history.specs.State.{rows_by, users_by}
 use Rattle.history.proofs.OpenFiles.{any_counted}
 use Rattle.flat_rows.proofs.AnyFacts.{no_facts}
@@ -41,7 +46,7 @@ use Rattle.name_core.specs.Told.{may_change}
 use Rattle.file_effects.specs.Effected.{IsExact, IsEffected, renewed_where}
 use Rattle.name_core.specs.Performed.{IsPerformed, IsUndone, facts_in}
 use Rattle.name_core.proofs.Stepping.{stepped_rows, stepped_users}
-use Rattle.name_core.proofs.LeasesKept.{exact_kept, update_keeps, empty_reply, keys_stay, keys_stay_written, blocks_stay, blocks_stay_written}
+use Rattle.name_core.proofs.LeasesKept.{exact_kept, update_keeps, empty_reply, is_roll, keys_stay, keys_stay_unrolled, blocks_stay}
 
 -- what holds of each is known together
 pub given_all : {T E L : Type 0} (result : Result T E) (P : L → T → Type 0) (Q : T → Type 0) → ((value : T) → ((l : L) → P l value) → Q value) → ((l : L) → IfOk result (P l)) → IfOk result Q
@@ -102,10 +107,10 @@ not_done_keys what (Done told) now ring h = cc
 not_done_keys what (Denied denial) now ring h = refl
 not_done_keys what (Refused refusal) now ring h = refl
 
-not_done_blocks : (what : Op) (caller : List ℕ) (verdict : Verdict) (now : ℕ) (blocks : BlockFacts) → is_done verdict ≡ false → blocks_by what caller verdict now blocks ≡ blocks
-not_done_blocks what caller (Done told) now blocks h = cc
-not_done_blocks what caller (Denied denial) now blocks h = refl
-not_done_blocks what caller (Refused refusal) now blocks h = refl
+not_done_blocks : (what : Op) (caller : List ℕ) (verdict : Verdict) (now : ℕ) (rows : List Row) (blocks : BlockFacts) → is_done verdict ≡ false → blocks_by what caller verdict now rows blocks ≡ blocks
+not_done_blocks what caller (Done told) now rows blocks h = cc
+not_done_blocks what caller (Denied denial) now rows blocks h = refl
+not_done_blocks what caller (Refused refusal) now rows blocks h = refl
 
 pub undone_same : (system : Namesystem) → IsUndone system system
 undone_same system = record { tree = refl; users = refl; writers = record { leases = refl; files = λ client. refl }; ring = refl; blocks = refl }
@@ -129,7 +134,7 @@ performed_kept last now caller what old new verdict keeps namespace same_writers
     record {
       stepped = applied facts;
       ring = same_ring ∙ sym (keys_stay what verdict now old.ring keeps);
-      blocks = same_blocks ∙ sym (blocks_stay what caller verdict now old.blocks keeps);
+      blocks = same_blocks ∙ sym (blocks_stay what caller verdict now old.tree old.blocks keeps);
       exact = subst (λ w. IsExact (renewed_where (renews what verdict) caller now last) new.tree w) (sym same_writers)
           (exact_kept last now facts old.tree old.users caller what verdict new.tree old.writers keeps namespace (ap (λ (s : Step). s.rows) (applied facts)) exact);
       unchanged = unchanged;
@@ -239,7 +244,7 @@ performed_not_done last now caller what old verdict judged none exact =
     record {
       stepped = step_of done verdict old.tree old.users judged (sym (stepped_rows facts old.tree old.users caller what ∙ stays.0)) (sym (stepped_users facts old.tree old.users caller what ∙ stays.1));
       ring = sym (not_done_keys what verdict now old.ring none);
-      blocks = sym (not_done_blocks what caller verdict now old.blocks none);
+      blocks = sym (not_done_blocks what caller verdict now old.tree old.blocks none);
       exact =
           record {
             files = exact.files;
@@ -248,21 +253,75 @@ performed_not_done last now caller what old verdict judged none exact =
       unchanged = λ h. undone_same old;
     }
 
--- what is done leaves what its effect leaves
-pub performed_write : (last : List ℕ → Option ℕ) (now : ℕ) (caller : List ℕ) (verb : Write) (old new : Namesystem) (verdict : Verdict)
-    → verdict ≡ (step (facts_in last now old) old.tree old.users caller (write_op verb)).verdict → is_done verdict ≡ true
-    → IsEffected (write_op verb) caller now old.tree old.writers new.tree new.writers → new.users ≡ old.users → new.ring ≡ old.ring → new.blocks ≡ old.blocks → IsExact last old.tree old.writers → IsPerformed last now caller (write_op verb) old verdict new
-performed_write last now caller verb old new verdict judged done effected users ring blocks exact =
+-- what is done leaves what the rules give
+pub performed_done : (last : List ℕ → Option ℕ) (now : ℕ) (caller : List ℕ) (what : Op) (old new : Namesystem) (verdict : Verdict)
+    → verdict ≡ (step (facts_in last now old) old.tree old.users caller what).verdict → is_done verdict ≡ true → is_roll what ≡ false → users_after what old.users ≡ old.users
+    → new.tree ≡ rows_after (facts_in last now old) what caller old.tree → new.users ≡ old.users → new.ring ≡ old.ring → new.blocks ≡ blocks_after what caller now old.tree old.blocks
+    → IsExact (renewed_where (renews what (Done (reply_of (facts_in last now old) caller what old.tree))) caller now last) new.tree new.writers
+    → (may_change verdict ≡ false → IsUndone old new) → IsPerformed last now caller what old verdict new
+performed_done last now caller what old new verdict judged done unrolled unnamed tree users ring blocks exact unchanged =
     let facts = facts_in last now old in
-    let after = step facts old.tree old.users caller (write_op verb) in
-    let granted = done_free facts old.tree old.users caller (write_op verb) (ap is_done (sym judged) ∙ done) in
+    let after = step facts old.tree old.users caller what in
+    let granted = done_free facts old.tree old.users caller what (ap is_done (sym judged) ∙ done) in
+    let told : verdict ≡ Done (reply_of facts caller what old.tree) = judged ∙ granted.told in
     record {
       stepped =
           step_of after verdict new.tree new.users judged
-          (effected.tree facts ∙ sym (stepped_rows facts old.tree old.users caller (write_op verb) ∙ ap (λ v. rows_by facts (write_op verb) caller v old.tree) granted.told))
-          (users ∙ (sym (users_stay verb old.users) ∙ sym (stepped_users facts old.tree old.users caller (write_op verb) ∙ ap (λ v. users_by (write_op verb) v old.users) granted.told)));
-      ring = ring ∙ sym (keys_stay_written verb verdict now old.ring);
-      blocks = blocks ∙ sym (blocks_stay_written verb caller verdict now old.blocks);
-      exact = subst (λ v. IsExact (renewed_where (renews (write_op verb) v) caller now last) new.tree new.writers) (sym (judged ∙ granted.told)) (effected.exact facts last exact);
-      unchanged = changing old new verdict (Done (reply_of facts caller (write_op verb) old.tree)) (judged ∙ granted.told) (change_reported facts caller verb old.tree);
+          (tree ∙ sym (stepped_rows facts old.tree old.users caller what ∙ ap (λ v. rows_by facts what caller v old.tree) granted.told))
+          (users ∙ (sym unnamed ∙ sym (stepped_users facts old.tree old.users caller what ∙ ap (λ v. users_by what v old.users) granted.told)));
+      ring = ring ∙ sym (keys_stay_unrolled what verdict now old.ring unrolled);
+      blocks = blocks ∙ sym (ap (λ v. blocks_by what caller v now old.tree old.blocks) told);
+      exact = subst (λ v. IsExact (renewed_where (renews what v) caller now last) new.tree new.writers) (sym told) exact;
+      unchanged = unchanged;
     }
+
+unrolled_write : (verb : Write) → is_roll (write_op verb) ≡ false
+unrolled_write (write.Append path) = refl
+unrolled_write _ = refl
+
+-- what is done leaves what its effect leaves
+pub performed_write : (last : List ℕ → Option ℕ) (now : ℕ) (caller : List ℕ) (verb : Write) (old new : Namesystem) (verdict : Verdict)
+    → verdict ≡ (step (facts_in last now old) old.tree old.users caller (write_op verb)).verdict → is_done verdict ≡ true
+    → IsEffected (write_op verb) caller now old.tree old.writers new.tree new.writers → new.users ≡ old.users → new.ring ≡ old.ring → new.blocks ≡ blocks_after (write_op verb) caller now old.tree old.blocks
+    → IsExact last old.tree old.writers → IsPerformed last now caller (write_op verb) old verdict new
+performed_write last now caller verb old new verdict judged done effected users ring blocks exact =
+    let facts = facts_in last now old in
+    let granted = done_free facts old.tree old.users caller (write_op verb) (ap is_done (sym judged) ∙ done) in
+    performed_done last now caller (write_op verb) old new verdict judged done (unrolled_write verb) (users_stay verb old.users) (effected.tree facts) users ring blocks (effected.exact facts last exact)
+    (changing old new verdict (Done (reply_of facts caller (write_op verb) old.tree)) (judged ∙ granted.told) (change_reported facts caller verb old.tree))
+
+-- ---- another replication
+
+replicated_ring : (path : List (List ℕ)) (replication : ℕ) → is_roll (op.SetReplication path replication) ≡ false
+replicated_ring path replication = refl
+
+pub performed_replication : (last : List ℕ → Option ℕ) (now : ℕ) (caller : List ℕ) (path : List (List ℕ)) (replication : ℕ) (old new : Namesystem) (verdict : Verdict) → IsNamespace old.tree
+    → ((facts : Facts) → record { verdict = verdict; rows = new.tree; users = old.users } ≡ step facts old.tree old.users caller (op.SetReplication path replication)) → is_done verdict ≡ true
+    → new.users ≡ old.users → new.ring ≡ old.ring → new.writers ≡ old.writers → new.blocks ≡ all_replicated replication (ids_at (row_at path new.tree)) old.blocks
+    → IsExact last old.tree old.writers → IsPerformed last now caller (op.SetReplication path replication) old verdict new
+performed_replication last now caller path replication old new verdict namespace applied done users ring writers blocks exact =
+    let facts = facts_in last now old in
+    let what = op.SetReplication path replication in
+    let judged : verdict ≡ (step facts old.tree old.users caller what).verdict = ap (λ (s : Step). s.verdict) (applied facts) in
+    let granted = done_free facts old.tree old.users caller what (ap is_done (sym judged) ∙ done) in
+    let tree : new.tree ≡ rewritten path (change.Replication replication) old.tree =
+    ap (λ (s : Step). s.rows) (applied facts) ∙ (stepped_rows facts old.tree old.users caller what ∙ ap (λ v. rows_by facts what caller v old.tree) granted.told) in
+    performed_done last now caller what old new verdict judged done refl refl tree users ring
+    (blocks ∙ ap (λ ids. all_replicated replication ids old.blocks) (ap (λ rows. ids_at (row_at path rows)) tree ∙ ids_stay path replication old.tree))
+    (record {
+      files = λ client. ap (λ (w : Writers). count_of w.files client) writers ∙ (exact.files client ∙ (sym (kept_replication client old.tree namespace path replication) ∙ ap (λ t. length (open_files client t)) (sym tree)));
+      leased = subst (IsLeased last) (sym writers) exact.leased;
+    })
+    (changing old new verdict (Done reply.Empty) (judged ∙ granted.told) refl)
+
+pub unperformed_replication : (last : List ℕ → Option ℕ) (now : ℕ) (caller : List ℕ) (path : List (List ℕ)) (replication : ℕ) (old new : Namesystem) (verdict : Verdict)
+    → ((facts : Facts) → record { verdict = verdict; rows = new.tree; users = old.users } ≡ step facts old.tree old.users caller (op.SetReplication path replication)) → is_done verdict ≡ false
+    → new ≡ record old { tree = new.tree } → IsExact last old.tree old.writers → IsPerformed last now caller (op.SetReplication path replication) old verdict new
+unperformed_replication last now caller path replication old new verdict applied none only exact =
+    let facts = facts_in last now old in
+    let what = op.SetReplication path replication in
+    let after = step facts old.tree old.users caller what in
+    let judged : verdict ≡ after.verdict = ap (λ (s : Step). s.verdict) (applied facts) in
+    let same : new.tree ≡ old.tree =
+    ap (λ (s : Step). s.rows) (applied facts) ∙ (stepped_rows facts old.tree old.users caller what ∙ (not_done_same what caller facts after.verdict old.tree old.users (ap is_done (sym judged) ∙ none)).0) in
+    subst (IsPerformed last now caller what old verdict) (sym (only ∙ ap (λ t. record old { tree = t }) same)) (performed_not_done last now caller what old verdict judged none exact)

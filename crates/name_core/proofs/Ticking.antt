@@ -45,7 +45,7 @@ performed_tick last now caller old new verdict past closed granted past_is disti
           (is ∙ ap (λ n. Done (reply.Expired (record { closed = n; recovering = 0 }))) number) (left ∙ same_closed (tree.past_hard past) facts.leases agree old.tree) users
           ∙ sym done;
       ring = ring ∙ sym (ap (λ v. ring_by op.Tick v now old.ring) is);
-      blocks = blocks ∙ sym (ap (λ v. blocks_by op.Tick caller v now old.blocks) is);
+      blocks = blocks ∙ sym (ap (λ v. blocks_by op.Tick caller v now old.tree old.blocks) is);
       exact = subst (λ b. IsExact (renewed_where b caller now last) new.tree new.writers) (sym (ap (renews op.Tick) is)) left_exact;
       unchanged = changing old new verdict (Done (reply.Expired (record { closed = closed; recovering = 0 }))) is refl;
     }

@@ -5,7 +5,7 @@ use Rattle.history.specs.declared.entry.HistoryEntry.{HistoryEntry}
 use Rattle.history.specs.Config.{Opening, limits_of}
 use Rattle.history.specs.ClockAndLease.{clock_of, last_renewal}
 use Rattle.history.specs.Keys.{ring_of}
-use Rattle.history.specs.Blocks.{blocks_of}
+use Rattle.history.specs.State.{blocks_of}
 use Rattle.history.specs.Grants.{ledger_of}
 use Rattle.history.specs.State.{rows_of, users_of}
 use Rattle.history.specs.LegalHistory.{IsLegal}

@@ -29,6 +29,6 @@ pub record IsUndone (old new : Namesystem) : Type 0 where
 pub record IsPerformed (last : List ℕ → Option ℕ) (now : ℕ) (caller : List ℕ) (op : Op) (old : Namesystem) (verdict : Verdict) (new : Namesystem) : Type 0 where
   pub stepped : record { verdict = verdict; rows = new.tree; users = new.users } ≡ step (facts_in last now old) old.tree old.users caller op
   pub ring : new.ring ≡ ring_by op verdict now old.ring
-  pub blocks : new.blocks ≡ blocks_by op caller verdict now old.blocks
+  pub blocks : new.blocks ≡ blocks_by op caller verdict now old.tree old.blocks
   pub exact : IsExact (renewed_where (renews op verdict) caller now last) new.tree new.writers
   pub unchanged : may_change verdict ≡ false → IsUndone old new

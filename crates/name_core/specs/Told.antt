@@ -1,7 +1,7 @@
 -- The verdicts that may come with a change, and a verdict with a copy of it.
 use Rattle.std.specs.Prelude.{◌≡◌, Bool, true, false}
 use Rattle.hdfs_types.specs.declared.reply.Reply.{Reply}
-use Rattle.hdfs_types.specs.declared.reply.Reply.TheVariants.{Empty, Deleted, Released, Closed, Expired, Serial, Commands}
+use Rattle.hdfs_types.specs.declared.reply.Reply.TheVariants.{Empty, Deleted, Released, Closed, Expired, Serial, Added, Opened, Commands}
 use Rattle.flat_rows.specs.declared.verdict.Verdict.{Verdict}
 use Rattle.flat_rows.specs.declared.verdict.Verdict.TheVariants.{Done, Denied, Refused}
 use Rattle.name_core.specs.declared.told.Told.{Told}
@@ -14,6 +14,7 @@ reports_change Released = true
 reports_change (Closed bytes) = true
 reports_change (Expired files) = true
 reports_change (Serial serial) = true
+reports_change (Added added) = true
 reports_change (Commands commands) = true
 reports_change _ = false
 
@@ -23,8 +24,10 @@ may_change (Done reply) = reports_change reply
 may_change (Denied denial) = false
 may_change (Refused refusal) = false
 
--- a list, of which a copy takes memory, so that it is made before anything changes
+-- what grants tokens: a copy of it takes memory, so that it is made before anything changes
 abbrev pub is_list : Reply → Bool
+is_list (Added added) = true
+is_list (Opened opened) = true
 is_list (Commands commands) = true
 is_list _ = false
 

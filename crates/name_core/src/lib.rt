@@ -1,6 +1,7 @@
 //! The NameNode's core: its history is legal, and its state is what the history gives.
 #![tactic(auto)]
 
+pub mod granting;
 pub mod laws;
 pub mod namenode;
 pub mod namesystem;

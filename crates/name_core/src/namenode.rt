@@ -3,7 +3,7 @@ ghost use Rattle.std.specs.Option.{option_copied};
 ghost use Rattle.hdfs_types.specs.Request.{is_look};
 ghost use Rattle.hdfs_values.specs.Who.{IsWho};
 ghost use Rattle.history.specs.LegalHistory.{IsLegal};
-ghost use Rattle.history.specs.Blocks.{blocks_of};
+ghost use Rattle.history.specs.State.{blocks_of};
 ghost use Rattle.history.specs.Grants.{ledger_of};
 ghost use Rattle.history.specs.State.{rows_of, users_of};
 ghost use Rattle.name_core.specs.NameCore.{Steps, Looks, stepped};

@@ -1,4 +1,4 @@
-ghost use Rattle.std.specs.Prelude.{◌≡◌, ◌≤◌, ◌++◌, ℕ, List, Option, true, IfOk, OnOk, OnErr};
+ghost use Rattle.std.specs.Prelude.{◌≡◌, ◌≤◌, ◌++◌, ℕ, List, Option, None, true, IfOk, OnOk, OnErr};
 ghost use Rattle.hdfs_types.specs.Verb.{read_op, update_op, write_op};
 ghost use Rattle.hdfs_types.specs.declared.op.Op.TheVariants as op;
 ghost use Rattle.hdfs_types.specs.declared.reply.Reply.TheVariants as reply;
@@ -14,32 +14,35 @@ ghost use Rattle.flat_rows.specs.Verdicts.{is_done};
 ghost use Rattle.lease_manager.specs.Leases as lease;
 ghost use Rattle.lease_manager.specs.Leases.{latest_moment};
 ghost use Rattle.lease_manager.specs.Writers.{moment_of};
-ghost use Rattle.file_effects.specs.Effected.{IsExact, IsFree};
+ghost use Rattle.file_effects.specs.Effected.{IsExact, IsFree, refused_end_of};
 ghost use Rattle.name_core.specs.Performed.{IsPerformed, IsUndone, facts_in};
 
+use crate::granting::perform_grant;
 use crate::told::{Told, is_done, verdict_of, with_copy};
 use block_map::blocks::Blocks;
 use block_tokens::ring::{KeyRing, RollFault};
+use file_effects::blocks::replicate;
 use file_effects::effect::effect;
 use file_effects::expiry::expire;
 use flat_rows::verdict::Verdict;
 use fs_operations::apply::needs;
-use fs_operations::change::apply_update;
+use fs_operations::change::{apply_replication, apply_update};
 use fs_operations::read::answer;
 use grant_ledger::ledger::Ledger;
 use hdfs_types::key::Key;
-use hdfs_types::op::{Op, Request};
+use hdfs_types::op::Request;
 use hdfs_types::replica::ReportedReplica;
 use hdfs_types::reply::{Counter, Expired, ObjectKind, Refusal, Reply};
 use hdfs_types::verb::{Read, Update, Verb, Write};
 use hdfs_values::moment::Moment;
 use hdfs_values::node_id::node_of;
+use hdfs_values::path::Path;
+use hdfs_values::replication::Repl;
 use hdfs_values::who::Who;
 use inode_tree::tree::Tree;
 use lease_manager::leases::LeaseState;
 use lease_manager::open_paths::OpenPaths;
 use lease_manager::writers::Writers;
-use node_commands::commands::granted_commands;
 use principals::users::Users;
 use required_rights::demand::Needs;
 use std::alloc::{AllocError, Global};
@@ -121,6 +124,36 @@ fn perform_update(
     Ok(verdict)
 }
 
+/// A request to give a file another replication: its blocks get it too.
+fn perform_replication(
+    alloc: Global,
+    system: &mut Namesystem,
+    caller: &Who,
+    needs: &Needs,
+    path: &Path,
+    replication: Repl,
+) -> Result<Verdict, AllocError>
+    requires needs { needs.now ≡ required_rights (op.SetReplication path.now replication) }
+    requires namespace { IsNamespace system.old.tree }
+    ensures ok { (last : List ℕ → Option ℕ) (now : ℕ) → IsExact last system.old.tree system.old.writers → IfOk result (λ verdict. IsPerformed last now caller.now (op.SetReplication path.now replication) system.old verdict system.new) }
+    ensures writers { system.new.writers ≡ system.old.writers }
+    ensures err { OnErr result (IsUndone system.old system.new) }
+{
+    let verdict = apply_replication(
+        alloc,
+        &mut system.tree,
+        &system.users,
+        caller,
+        needs,
+        path,
+        replication,
+    )?;
+    if is_done(&verdict) {
+        replicate(&system.tree, &mut system.blocks, path, replication);
+    }
+    Ok(verdict)
+}
+
 // ---- renewals
 
 /// A renewal of the caller's lease.
@@ -179,10 +212,20 @@ fn decide(
     now: Moment,
 ) -> Result<Verdict, AllocError>
     requires { needs.now ≡ required_rights (write_op write.now) }
+    ensures reported { IfOk result (λ verdict. is_done verdict ≡ true → refused_end_of (write_op write.now) system.now.blocks ≡ None) }
     ensures free { IfOk result (λ verdict. is_done verdict ≡ true → IsFree (write_op write.now) caller.now system.now.tree system.now.users) }
     ensures verdict { (last : List ℕ → Option ℕ) → IsExact last system.now.tree system.now.writers → IfOk result (λ verdict. verdict ≡ (step (facts_in last now system.now) system.now.tree system.now.users caller.now (write_op write.now)).verdict) }
 {
-    match judge(alloc, &system.tree, &system.users, caller, needs, write)? {
+    let judged = judge(
+        alloc,
+        &system.tree,
+        &system.users,
+        &system.blocks,
+        caller,
+        needs,
+        write,
+    )?;
+    match judged {
         Judged::Verdict(verdict) => Ok(verdict),
         Judged::Held {
             holder,
@@ -219,6 +262,7 @@ fn perform_write(
     let Ok(()) = effect(
         alloc,
         &mut system.tree,
+        &mut system.blocks,
         &mut system.writers,
         open_paths,
         write,
@@ -318,47 +362,6 @@ fn perform_roll(
 
 // ---- DataNodes
 
-/// A heartbeat: the DataNode whose principal the caller is lives, and is told what waits for it. A copy of the verdict is made before
-/// anything changes, since it takes memory. Costs what `Blocks::instructions` costs, and a code for each token.
-fn perform_heartbeat(
-    alloc: Global,
-    system: &mut Namesystem,
-    ledger: &mut Ledger,
-    place: u64,
-    caller: &Who,
-    needs: &Needs,
-    now: Moment,
-) -> Result<Told, AllocError>
-    requires { needs.now ≡ required_rights op.Heartbeat }
-    ensures ok { (last : List ℕ → Option ℕ) → IsExact last system.old.tree system.old.writers → IfOk result (λ told. IsPerformed last now caller.now op.Heartbeat system.old told.verdict system.new) }
-    ensures copy { IfOk result (λ told. told.copy ≡ told.verdict) }
-    ensures ledger { IfOk result (λ told. ledger.new.rows ≡ ledger.old.rows ++ rows_granted place system.old.ring now caller.now op.Heartbeat told.verdict) }
-    ensures writers { system.new.writers ≡ system.old.writers }
-    ensures err { OnErr result (IsUndone system.old system.new) }
-    ensures err_ledger { OnErr result (ledger.new.rows ≡ ledger.old.rows) }
-{
-    if let Some(denial) = judge_node(alloc, &system.tree, &system.users, caller, needs)? {
-        return with_copy(Verdict::Denied(denial));
-    }
-    let Some(node) = node_of(caller) else {
-        return with_copy(Verdict::Done(Reply::Empty));
-    };
-    let told = system.blocks.instructions(node, now)?;
-    let granted = granted_commands(alloc, &system.ring, place, now, caller, &told)?;
-    let copy = granted.commands.clone()?;
-    let before = ledger.len();
-    ledger.enter(granted.rows)?;
-    if system.blocks.hand_out(node, now, &told).is_err() {
-        ledger.take_back(before);
-        drop(copy);
-        return Err(AllocError);
-    }
-    Ok(Told {
-        verdict: Verdict::Done(Reply::Commands(granted.commands)),
-        copy: Verdict::Done(Reply::Commands(copy)),
-    })
-}
-
 /// A report of a replica by the DataNode whose principal the caller is. Costs a look-up of the block, and one among its nodes.
 fn perform_report(
     alloc: Global,
@@ -418,9 +421,12 @@ pub fn perform(
         Verb::RollKey(key) => perform_roll(alloc, system, caller, &needs, key, now),
         Verb::Renew => perform_renewal(system, caller, now),
         Verb::Tick => perform_tick(alloc, system, open_paths, caller, &needs, now),
-        Verb::Heartbeat => {
-            let told = perform_heartbeat(alloc, system, ledger, place, caller, &needs, now)?;
+        Verb::Grant(grant) => {
+            let told = perform_grant(alloc, system, ledger, place, caller, &needs, &grant, now)?;
             Ok(verdict_of(told))
+        }
+        Verb::SetReplication(path, replication) => {
+            perform_replication(alloc, system, caller, &needs, path, replication)
         }
         Verb::Reported(replica) => perform_report(alloc, system, caller, &needs, replica, now),
     }
@@ -449,15 +455,16 @@ pub fn perform_with_copy(
     ensures err { (last : List ℕ → Option ℕ) → IsExact last system.old.tree system.old.writers → OnErr result (IsUndone system.old system.new) }
     ensures err_ledger { OnErr result (ledger.new.rows ≡ ledger.old.rows) }
 {
-    if let Op::Heartbeat = request.op {
+    if let Verb::Grant(grant) = request.op.verb() {
         let required = needs(alloc, &request.op)?;
-        return perform_heartbeat(
+        return perform_grant(
             alloc,
             system,
             ledger,
             place,
             &request.caller,
             &required,
+            &grant,
             now,
         );
     }

@@ -1,4 +1,4 @@
-ghost use Rattle.std.specs.Prelude.{◌≡◌, ◌<◌, ◌^◌, false, [], ◌∷◌, ◌++◌, None, IfOk, map, IsTrue, OnOk, OnErr, MatchOption};
+ghost use Rattle.std.specs.Prelude.{◌≡◌, ◌+◌, ◌<◌, ◌^◌, false, [], ◌∷◌, ◌++◌, None, IfOk, map, IsTrue, OnOk, OnErr, MatchOption};
 ghost use Rattle.std.specs.List.{list_any};
 ghost use Rattle.std.specs.Option.{option_copied};
 ghost use Rattle.namespace_rows.specs.Files as spec;
@@ -54,6 +54,18 @@ impl FileBlocks {
         ensures { result ≡ spec.told_length (spec.length_of self.now) }
     {
         length_of(&self.list)
+    }
+
+    /// The bytes of the blocks whose length is committed, once that of the last block is this one; `None` where their sum doesn't fit in
+    /// 64 bits. Costs the blocks.
+    pub fn length_behind_last(&self, bytes: u64) -> Option<u64>
+        ensures { result ≡ spec.told_length (spec.length_of (spec.but_last self.now) + bytes) }
+    {
+        let front = match self.list.split_last() {
+            Some((_, front)) => front,
+            None => &[],
+        };
+        length_of(front)?.checked_add(bytes)
     }
 
     /// Whether the length of the last block isn't committed.

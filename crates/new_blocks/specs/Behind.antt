@@ -13,8 +13,8 @@ use Rattle.block_records.specs.declared.mark.Mark.{Mark}
 use Rattle.block_placement.specs.Placement.{targets}
 use Rattle.block_tables.specs.Changes.{with_length}
 use Rattle.block_tables.specs.Kept.{load}
-use Rattle.known_blocks.specs.Known.{Known, block_of, altered, added, refused_new_block}
-use Rattle.known_blocks.specs.declared.last_block.LastBlock.{LastBlock}
+use Rattle.known_blocks.specs.Known.{Known, block_of, altered, refused_new_block}
+use Rattle.block_records.specs.declared.last_block.LastBlock.{LastBlock}
 use Rattle.new_blocks.specs.declared.behind.NewBlock.{NewBlock}
 
 -- ---- marks
@@ -46,9 +46,6 @@ targets_behind last known count live = targets (load (with_last last known).bloc
 
 abbrev pub given_behind : Option LastBlock → Known → ℕ → List ℕ → NewBlock
 given_behind last known count live = record { block = known.next_block; stamp = known.next_stamp; targets = targets_behind last known count live }
-
-abbrev pub added_behind : Option LastBlock → Known → ℕ → List ℕ → Known
-added_behind last known count live = added (with_last last known) (targets_behind last known count live) count
 
 -- ---- refusals
 

@@ -1,17 +1,18 @@
 ghost use Rattle.std.specs.Prelude.{◌≡◌, None, Some, true, is_some, OnOk, OnErr, IfOk, IfErr, IfSome};
 ghost use Rattle.block_records.specs.Marks.{with_marks};
 ghost use Rattle.block_records.specs.Reports.{others_of};
-ghost use Rattle.known_blocks.specs.Known.{block_of, refused_new_block};
+ghost use Rattle.known_blocks.specs.Known.{block_of, added, altered, refused_new_block};
+ghost use Rattle.block_tables.specs.Changes.{with_length};
 ghost use Rattle.new_blocks.specs.Behind as spec;
 
 use block_records::fault::{BlockFault, BlockRefusal};
+use block_records::last_block::LastBlock;
 use block_records::mark::{Mark, Marks};
 use block_records::node_set::NodeSet;
 use hdfs_values::ids::{BlockId, Stamp};
 use hdfs_values::node_id::NodeId;
 use hdfs_values::replication::Repl;
 use known_blocks::known_blocks::KnownBlocks;
-use known_blocks::last_block::LastBlock;
 use std::alloc::{AllocError, Global};
 
 /// A new block, its generation stamp, and the DataNodes that are to hold it.
@@ -110,29 +111,76 @@ fn marks_of_others(
     Ok(marks)
 }
 
-// Adds the first block of a file.
-fn add_first(
+// The nodes that are to hold a new block.
+fn targets_behind(
+    known: &KnownBlocks,
+    live: &NodeSet,
+    last: &Option<LastBlock>,
+    replication: Repl,
+) -> Result<NodeSet, AllocError>
+    ensures { IfOk result (λ targets. targets ≡ spec.targets_behind last.now known.now replication live.now) }
+{
+    let count = usize::from(replication.get());
+    match last {
+        Some(last) => known.targets_behind(*last, live, count),
+        None => known.targets(live, count),
+    }
+}
+
+/// What a new block of a file would be, and nothing changes: where the file's last block is named, its length would be committed, so
+/// that each node that reported another length of it lost its replica; of the live nodes, which are handed in, those that have the
+/// fewest blocks then would hold the new block, ties to the lowest id, as many as there are to be replicas, or all. It would get the
+/// next id and the next stamp. Costs a sort of the live nodes, two look-ups for each, and the reports of the last block for each.
+///
+/// # Errors
+/// `NotYetReplicated` where no node reported that length, `TooFewNodes` where no node is live, `Spent` of block ids, and then of stamps,
+/// or out of memory.
+pub fn plan_behind(
+    known: &KnownBlocks,
+    live: &NodeSet,
+    last: &Option<LastBlock>,
+    replication: Repl,
+) -> Result<NewBlock, BlockFault>
+    ensures allowed { OnOk result (spec.refused_behind last.now known.now live.now ≡ None) }
+    ensures given { IfOk result (λ new. new ≡ spec.given_behind last.now known.now replication live.now) }
+    ensures fault { IfErr result (spec.IsFaultOf (spec.refused_behind last.now known.now live.now)) }
+{
+    if let Err(refusal) = check(known, live, last) {
+        return Err(BlockFault::Refused(refusal));
+    }
+    let targets = targets_behind(known, live, last, replication)?;
+    Ok(NewBlock {
+        block: known.next_block(),
+        stamp: known.next_stamp(),
+        targets,
+    })
+}
+
+/// Commits the length of a file's last block: each node that reported another length of it is to remove its replica. A committed block may
+/// be committed with its own length again. Costs the reports of the block.
+///
+/// # Errors
+/// `NotYetReplicated` where no node reported that length, or out of memory. Nothing has changed then.
+pub fn commit(
     alloc: Global,
     known: &mut KnownBlocks,
     marks: &mut Marks,
-    live: &NodeSet,
-    replication: Repl,
-) -> Result<NewBlock, AllocError>
-    requires { refused_new_block known.old ≡ None }
-    ensures given { IfOk result (λ new. new ≡ spec.given_behind None known.old replication live.now) }
-    ensures added { OnOk result (known.new ≡ spec.added_behind None known.old replication live.now) }
-    ensures marked { OnOk result (marks.new ≡ marks.old) }
+    last: &LastBlock,
+) -> Result<(), BlockFault>
+    ensures reported { OnOk result (spec.refused_length (block_of known.old last.now.block) last.now.length ≡ None) }
+    ensures ok { OnOk result (known.new ≡ altered (with_length last.now.length) last.now.block known.old) }
+    ensures marked { OnOk result (marks.new ≡ with_marks marks.old (spec.marks_of_others last.now.block last.now.length (block_of known.old last.now.block))) }
+    ensures fault { IfErr result (spec.IsFaultOf (spec.refused_length (block_of known.old last.now.block) last.now.length)) }
     ensures err { OnErr result ((known.new ≡ known.old) × (marks.new ≡ marks.old)) }
 {
-    let count = usize::from(replication.get());
-    let targets = known.targets(live, count)?;
-    let own = targets.clone()?;
-    let (block, stamp) = known.add(own, replication, marks, Vec::new(alloc))?;
-    Ok(NewBlock {
-        block,
-        stamp,
-        targets,
-    })
+    if let Err(refusal) = check_last(known, *last) {
+        return Err(BlockFault::Refused(refusal));
+    }
+    let others = others_of(alloc, known, *last)?;
+    let left = marks_of_others(alloc, known, *last, &others)?;
+    marks.add_all(left)?;
+    known.commit(last.block, last.length, &others);
+    Ok(())
 }
 
 // Adds a block behind a file's last one, which is known.
@@ -140,58 +188,44 @@ fn add_next(
     alloc: Global,
     known: &mut KnownBlocks,
     marks: &mut Marks,
-    live: &NodeSet,
     last: &LastBlock,
+    targets: NodeSet,
     replication: Repl,
-) -> Result<NewBlock, AllocError>
+) -> Result<(), AllocError>
     requires numbers { refused_new_block known.old ≡ None }
     requires known { is_some (block_of known.old last.now.block) ≡ true }
-    ensures given { IfOk result (λ new. new ≡ spec.given_behind (Some last.now) known.old replication live.now) }
-    ensures added { OnOk result (known.new ≡ spec.added_behind (Some last.now) known.old replication live.now) }
-    ensures marked { OnOk result (marks.new ≡ with_marks marks.old (spec.marks_behind (Some last.now) known.old)) }
+    ensures added { OnOk result (known.new ≡ added (altered (with_length last.now.length) last.now.block known.old) targets replication) }
+    ensures marked { OnOk result (marks.new ≡ with_marks marks.old (spec.marks_of_others last.now.block last.now.length (block_of known.old last.now.block))) }
     ensures err { OnErr result ((known.new ≡ known.old) × (marks.new ≡ marks.old)) }
 {
-    let count = usize::from(replication.get());
-    let targets = known.targets_behind(*last, live, count)?;
-    let own = targets.clone()?;
     let others = others_of(alloc, known, *last)?;
     let more = marks_of_others(alloc, known, *last, &others)?;
-    let (block, stamp) = known.add_behind(*last, &others, own, replication, marks, more)?;
-    Ok(NewBlock {
-        block,
-        stamp,
-        targets,
-    })
+    known.add_behind(*last, &others, targets, replication, marks, more)
 }
 
-/// Adds a block to a file: the length of the file's last block is committed, where one is named, and each node that reported another
-/// length of it is to remove its replica; behind that the live nodes with the fewest blocks are chosen to hold the new block, as many as
-/// there are to be replicas, or all. It gets the next id and the next stamp. The live nodes are handed in. Costs a sort of them, and
-/// three look-ups for each; the reports of the last block for each; and the marks.
+/// Adds a new block that these nodes are to hold, under the next id and the next stamp: the length of the file's last block is
+/// committed, where one is named, and each node that reported another length of it is to remove its replica. `plan_behind` tells
+/// whether it may be added, and which nodes those are. Costs a look-up for each of these nodes, the reports of the last block, and
+/// the marks.
 ///
 /// # Errors
-/// `NotYetReplicated` where no node reported that length, `TooFewNodes` where no node is live, `Spent` of block ids, and then of stamps,
-/// or out of memory. Nothing has changed then.
-pub fn add_behind(
+/// Out of memory. Nothing has changed then.
+pub fn add_planned(
     alloc: Global,
     known: &mut KnownBlocks,
     marks: &mut Marks,
-    live: &NodeSet,
-    last: Option<LastBlock>,
+    last: &Option<LastBlock>,
+    targets: NodeSet,
     replication: Repl,
-) -> Result<NewBlock, BlockFault>
-    ensures allowed { OnOk result (spec.refused_behind last known.old live.now ≡ None) }
-    ensures given { IfOk result (λ new. new ≡ spec.given_behind last known.old replication live.now) }
-    ensures added { OnOk result (known.new ≡ spec.added_behind last known.old replication live.now) }
-    ensures marked { OnOk result (marks.new ≡ with_marks marks.old (spec.marks_behind last known.old)) }
-    ensures fault { IfErr result (spec.IsFaultOf (spec.refused_behind last known.old live.now)) }
+) -> Result<(), AllocError>
+    requires numbers { refused_new_block known.old ≡ None }
+    requires last { spec.refused_last last.now known.old ≡ None }
+    ensures added { OnOk result (known.new ≡ added (spec.with_last last.now known.old) targets replication) }
+    ensures marked { OnOk result (marks.new ≡ with_marks marks.old (spec.marks_behind last.now known.old)) }
     ensures err { OnErr result ((known.new ≡ known.old) × (marks.new ≡ marks.old)) }
 {
-    if let Err(refusal) = check(known, live, &last) {
-        return Err(BlockFault::Refused(refusal));
-    }
-    match &last {
-        Some(last) => Ok(add_next(alloc, known, marks, live, last, replication)?),
-        None => Ok(add_first(alloc, known, marks, live, replication)?),
+    match last {
+        Some(last) => add_next(alloc, known, marks, last, targets, replication),
+        None => known.add(targets, replication, marks, Vec::new(alloc)),
     }
 }

@@ -26,8 +26,11 @@ pub struct GrantedCommands {
     pub rows: Vec<LedgerRow>,
 }
 
-// The row of a token that the node is granted for a block.
-fn granted(
+/// The row of a token that a user is granted now for some modes of a block. Costs a code.
+///
+/// # Errors
+/// Out of memory.
+pub fn granted_row(
     alloc: Global,
     ring: &KeyRing,
     place: u64,
@@ -65,7 +68,7 @@ fn recover_commands(
 {
     let mut commands = Vec::new(alloc);
     for recovery in recoveries {
-        let row = granted(
+        let row = granted_row(
             alloc,
             ring,
             place,
@@ -101,7 +104,7 @@ fn copy_commands(
 {
     let mut commands = Vec::new(alloc);
     for copy in copies {
-        let row = granted(alloc, ring, place, now, principal, copy.block, both())?;
+        let row = granted_row(alloc, ring, place, now, principal, copy.block, both())?;
         let command = CopyOrder {
             block: copy.block,
             stamp: copy.stamp,

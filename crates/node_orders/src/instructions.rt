@@ -81,8 +81,9 @@ fn recoveries_for(
 }
 
 /// What a DataNode is to be told: the recoveries that wait for it, the replicas that it is to remove, and the copies that are due. Costs a
-/// look-up for each recovery and each replica, a step for each replica that was marked since marks were last told, the live nodes for
-/// each block that the node is to hold or reported, and a sort of them for each copy.
+/// look-up for each recovery and each replica, a step for each replica that was marked since marks were last told, a look-up for each node
+/// that holds blocks, the live nodes for each block of this node, and a sort of them for each copy; but where all nodes that hold blocks
+/// are live, only blocks are looked at of which fewer replicas were reported than there are to be.
 ///
 /// # Errors
 /// Out of memory.

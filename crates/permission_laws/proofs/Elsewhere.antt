@@ -10,6 +10,7 @@ use Rattle.hdfs_values.specs.PathOrder.{same_path}
 use Rattle.hdfs_types.specs.declared.op.Op.{Op}
 use Rattle.hdfs_types.specs.declared.op.Op.TheVariants as op
 use Rattle.hdfs_types.specs.declared.file.FileState.TheVariants.{Closed}
+use Rattle.block_records.specs.declared.last_block.LastBlock.{LastBlock}
 use Rattle.hdfs_types.specs.declared.reply.Refusal.{Refusal}
 use Rattle.hdfs_types.specs.declared.reply.Refusal.TheVariants.{IsDirectory}
 use Rattle.acl_entries.specs.Acl.{Acl}
@@ -19,13 +20,14 @@ use Rattle.namespace_rows.specs.declared.file_row.FileRow.{FileRow}
 use Rattle.namespace_rows.specs.declared.row.Row.{Row}
 use Rattle.namespace_rows.specs.declared.row.Change.{Change}
 use Rattle.namespace_rows.specs.declared.row.Change.TheVariants as change
-use Rattle.namespace_rows.specs.Files.{new_file}
+use Rattle.namespace_rows.specs.Files.{new_file, with_block}
 use Rattle.namespace_rows.specs.Rows.{is_directory, is_missing, is_none, row_at, ancestor, with_sub_tree}
 use Rattle.namespace_rows.specs.Namespace.{IsNamespace, is_child, has_parent, is_root}
 use Rattle.namespace_rows.proofs.Namespaces.{namespace_tests, ascending_filter}
 use Rattle.namespace_rows.proofs.PathOrders.{same_path_is}
 use Rattle.namespace_rows.proofs.Tests.{both, and}
-use Rattle.flat_rows.specs.Changes.{without, moved, moved_row, rows_under, changed, rewritten}
+use Rattle.flat_rows.specs.BlockOutcome.{last_committed, with_block_at, ended_at}
+use Rattle.flat_rows.specs.Changes.{without, moved, moved_row, rows_under, changed, edited, rewritten, block_added}
 use Rattle.flat_rows.specs.FileOutcome.{directory_there, file_there, holder_at, state_after_append}
 use Rattle.flat_rows.specs.Facts.{Facts}
 use Rattle.flat_rows.specs.Outcome.{first_refusal, first_some, beneath_file, rows_after, with_new, made_at, new_row, new_rows, mode_of_new, file_of_new, with_mode_at, with_owner_at, with_acl_at, with_list_at}
@@ -211,38 +213,58 @@ module _ (owner : List ℕ) (mode : ℕ) (file : Option FileRow) where
 
 -- ---- of each operation
 
-module _ (rows : List Row) (other : List (List ℕ)) where
-  -- another row than that of the path
-  abbrev anew_at : List (List ℕ) → Change → Row → Row
-  anew_at path given row = cond (same_path path row.path) (changed given row) row
+-- the row of a path is given anew, with its path
+module _ (other path : List (List ℕ)) (given : Row → Row) (paths : (row : Row) → (given row).path ≡ row.path) where
+  abbrev anew_at : Row → Row
+  anew_at row = cond (same_path path row.path) (given row) row
 
-  pub rewritten_elsewhere : (path : List (List ℕ)) (given : Change) → (same_path other path || false) ≡ false → row_at other (rewritten path given rows) ≡ row_at other rows
-  rewritten_elsewhere path given apart = at_map_same other (anew_at path given) keeps stays rows
+  given_elsewhere : (rows : List Row) → (same_path other path || false) ≡ false → row_at other (map anew_at rows) ≡ row_at other rows
+  given_elsewhere rows apart = at_map_same other anew_at keeps stays rows
     where
-      keeps : (row : Row) → (anew_at path given row).path ≡ row.path
+      keeps : (row : Row) → (anew_at row).path ≡ row.path
       keeps row = by (same_path path row.path)
         where
-          by : (b : Bool) → (cond b (changed given row) row).path ≡ row.path
-          by true = changed_path given row
+          by : (b : Bool) → (cond b (given row) row).path ≡ row.path
+          by true = paths row
           by false = refl
 
-      stays : (row : Row) → same_path other row.path ≡ true → anew_at path given row ≡ row
-      stays row e = ap (λ b. cond b (changed given row) row) (ap (same_path path) (sym (same_path_is other row.path e)) ∙ same_back other path (left_false (same_path other path) false apart))
+      stays : (row : Row) → same_path other row.path ≡ true → anew_at row ≡ row
+      stays row e = ap (λ b. cond b (given row) row) (ap (same_path path) (sym (same_path_is other row.path e)) ∙ same_back other path (left_false (same_path other path) false apart))
 
+module _ (rows : List Row) (other : List (List ℕ)) where
+  pub rewritten_elsewhere : (path : List (List ℕ)) (given : Change) → (same_path other path || false) ≡ false → row_at other (rewritten path given rows) ≡ row_at other rows
+  rewritten_elsewhere path given apart = given_elsewhere other path (changed given) (changed_path given) rows apart
+
+  added_elsewhere : (path : List (List ℕ)) (block : ℕ) → (same_path other path || false) ≡ false → row_at other (block_added path block rows) ≡ row_at other rows
+  added_elsewhere path block apart = given_elsewhere other path (edited (with_block block)) (λ row. refl) rows apart
+
+  committed_elsewhere : (path : List (List ℕ)) (last : Option LastBlock) → (same_path other path || false) ≡ false → row_at other (last_committed path last rows) ≡ row_at other rows
+  committed_elsewhere path None apart = refl
+  committed_elsewhere path (Some last) apart = rewritten_elsewhere path (change.Committed last.block last.length) apart
+
+-- the rows with a block more, and those with a file ended
+module _ (rows : List Row) (other path : List (List ℕ)) (last : Option LastBlock) (apart : (same_path other path || false) ≡ false) where
+  with_block_elsewhere : (block : ℕ) → row_at other (with_block_at path last block rows) ≡ row_at other rows
+  with_block_elsewhere block = committed_elsewhere (block_added path block rows) other path last apart ∙ added_elsewhere rows other path block apart
+
+  ended_elsewhere : row_at other (ended_at path last rows) ≡ row_at other rows
+  ended_elsewhere = committed_elsewhere (rewritten path (change.State Closed) rows) other path last apart ∙ rewritten_elsewhere rows other path (change.State Closed) apart
+
+module _ (rows : List Row) (other : List (List ℕ)) where
   mode_elsewhere : (path : List (List ℕ)) (mode : ℕ) (o : Option Row) → (same_path other path || false) ≡ false → row_at other (with_mode_at path mode o rows) ≡ row_at other rows
   mode_elsewhere path mode None apart = refl
-  mode_elsewhere path mode (Some row) apart = rewritten_elsewhere path (change.List (with_mode mode row.kind row.acl)) apart
+  mode_elsewhere path mode (Some row) apart = rewritten_elsewhere rows other path (change.List (with_mode mode row.kind row.acl)) apart
 
   owner_elsewhere : (path : List (List ℕ)) (owner group : Option (List ℕ)) (o : Option Row) → (same_path other path || false) ≡ false → row_at other (with_owner_at path owner group o rows) ≡ row_at other rows
   owner_elsewhere path owner group None apart = refl
-  owner_elsewhere path owner group (Some row) apart = rewritten_elsewhere path (change.Owner (unwrap_or owner row.owner) (unwrap_or group row.group)) apart
+  owner_elsewhere path owner group (Some row) apart = rewritten_elsewhere rows other path (change.Owner (unwrap_or owner row.owner) (unwrap_or group row.group)) apart
 
   acl_elsewhere : (path : List (List ℕ)) (form : AclChange) (o : Option Row) → (same_path other path || false) ≡ false → row_at other (with_acl_at path form o rows) ≡ row_at other rows
   acl_elsewhere path form None apart = refl
   acl_elsewhere path form (Some row) apart = by (acl_change form row.kind row.acl)
     where
       by : (made : Result Acl Refusal) → row_at other (with_list_at path made rows) ≡ row_at other rows
-      by (Ok acl) = rewritten_elsewhere path (change.List acl) apart
+      by (Ok acl) = rewritten_elsewhere rows other path (change.List acl) apart
       by (Err refusal) = refl
 
   pub without_elsewhere : (path : List (List ℕ)) → is_prefix path other ≡ false → row_at other (without path rows) ≡ row_at other rows
@@ -289,9 +311,10 @@ module _ (rows : List Row) (other : List (List ℕ)) where
     stays (op.SetMode path mode) row h apart there = mode_elsewhere path mode (row_at path rows) apart ∙ there
     stays (op.SetOwner path owner group) row h apart there = owner_elsewhere path owner group (row_at path rows) apart ∙ there
     stays (op.SetAcl path form) row h apart there = acl_elsewhere path form (row_at path rows) apart ∙ there
-    stays (op.Append path) row h apart there = rewritten_elsewhere path (change.State (state_after_append name (holder_at (row_at path rows)))) apart ∙ there
-    stays (op.Complete path last) row h apart there = rewritten_elsewhere path (change.State Closed) apart ∙ there
-    stays (op.SetReplication path replication) row h apart there = rewritten_elsewhere path (change.Replication replication) apart ∙ there
+    stays (op.Append path) row h apart there = rewritten_elsewhere rows other path (change.State (state_after_append name (holder_at (row_at path rows)))) apart ∙ there
+    stays (op.AddBlock path last) row h apart there = with_block_elsewhere rows other path last apart facts.blocks.known.next_block ∙ there
+    stays (op.Complete path last) row h apart there = ended_elsewhere rows other path last apart ∙ there
+    stays (op.SetReplication path replication) row h apart there = rewritten_elsewhere rows other path (change.Replication replication) apart ∙ there
     stays op.Tick row h apart there = cc
     stays _ row h apart there = there
 
@@ -308,9 +331,10 @@ module _ (rows : List Row) (other : List (List ℕ)) where
     appears_nowhere_else (op.SetMode path mode) apart not_above there = mode_elsewhere path mode (row_at path rows) apart ∙ there
     appears_nowhere_else (op.SetOwner path owner group) apart not_above there = owner_elsewhere path owner group (row_at path rows) apart ∙ there
     appears_nowhere_else (op.SetAcl path form) apart not_above there = acl_elsewhere path form (row_at path rows) apart ∙ there
-    appears_nowhere_else (op.Append path) apart not_above there = rewritten_elsewhere path (change.State (state_after_append name (holder_at (row_at path rows)))) apart ∙ there
-    appears_nowhere_else (op.Complete path last) apart not_above there = rewritten_elsewhere path (change.State Closed) apart ∙ there
-    appears_nowhere_else (op.SetReplication path replication) apart not_above there = rewritten_elsewhere path (change.Replication replication) apart ∙ there
+    appears_nowhere_else (op.Append path) apart not_above there = rewritten_elsewhere rows other path (change.State (state_after_append name (holder_at (row_at path rows)))) apart ∙ there
+    appears_nowhere_else (op.AddBlock path last) apart not_above there = with_block_elsewhere rows other path last apart facts.blocks.known.next_block ∙ there
+    appears_nowhere_else (op.Complete path last) apart not_above there = ended_elsewhere rows other path last apart ∙ there
+    appears_nowhere_else (op.SetReplication path replication) apart not_above there = rewritten_elsewhere rows other path (change.Replication replication) apart ∙ there
     appears_nowhere_else op.Tick apart not_above there = cc
     appears_nowhere_else _ apart not_above there = there
 

@@ -16,7 +16,7 @@ use Rattle.hdfs_types.specs.declared.op.Op.TheVariants as op
 use Rattle.hdfs_types.specs.declared.file.FileState.{FileState}
 use Rattle.hdfs_types.specs.declared.file.FileState.TheVariants.{Closed, Open, Recovering}
 use Rattle.hdfs_types.specs.declared.reply.Refusal.{Refusal}
-use Rattle.hdfs_types.specs.declared.reply.Refusal.TheVariants.{IsDirectory, NoLease, TooFewNodes}
+use Rattle.hdfs_types.specs.declared.reply.Refusal.TheVariants.{IsDirectory, NoLease}
 use Rattle.principals.specs.Users.{Users, Caller, caller_of, groups_of, is_super}
 use Rattle.acl_entries.specs.Acl.{Acl}
 use Rattle.namespace_rows.specs.declared.file_row.FileRow.{FileRow}
@@ -32,7 +32,8 @@ use Rattle.required_rights.specs.declared.need.Need.TheVariants.{Rights, Sticky,
 use Rattle.required_rights.specs.RequiredRights.{Demand, traversal, strict_traversal, sticky_bit, creation, write_above, removal, access, overwriting, over_demands, listing, sub_tree, ownership, giving_away, membership, owner_demands, group_demands, administration, node_principal}
 use Rattle.flat_rows.specs.Denial.{Denial}
 use Rattle.flat_rows.specs.Decision.{ask_at, asks_of, denial_of, denial_among, decision, ranked}
-use Rattle.flat_rows.specs.FileOutcome.{directory_there, if_some_file, of_file, refused_by_state, refused_write, refused_commit, holder_at}
+use Rattle.flat_rows.specs.FileOutcome.{directory_there, if_some_file, of_file, refused_by_state, refused_write, holder_at}
+use Rattle.flat_rows.specs.BlockOutcome.{refused_last, refused_new, refused_end}
 use Rattle.flat_rows.specs.Facts.{Facts}
 use Rattle.flat_rows.specs.Outcome.{beneath_file, nothing_at, first_some, first_refusal}
 use Rattle.flat_rows.proofs.Firsts.{first_passes}
@@ -308,7 +309,7 @@ module _ (name : List ℕ) where
 
     pub writer_held : (what : Op) (path : List (List ℕ)) → first_refusal facts name what rows users ≡ None → written what ≡ Some path → holder_at (row_at path rows) ≡ Some name
     writer_held (op.AddBlock top last) path h t =
-        ap (λ p. holder_at (row_at p rows)) (sym (the_same top path t)) ∙ fourth top (of_file (refused_commit last) (row_at top rows) ∷ Some TooFewNodes ∷ []) h
+        ap (λ p. holder_at (row_at p rows)) (sym (the_same top path t)) ∙ fourth top (of_file (refused_last last) (row_at top rows) ∷ refused_new facts.blocks last facts.now ∷ []) h
     writer_held (op.Complete top last) path h t =
-        ap (λ p. holder_at (row_at p rows)) (sym (the_same top path t)) ∙ fourth top (of_file (refused_commit last) (row_at top rows) ∷ []) h
+        ap (λ p. holder_at (row_at p rows)) (sym (the_same top path t)) ∙ fourth top (of_file (refused_last last) (row_at top rows) ∷ refused_end facts.blocks last ∷ []) h
     writer_held _ path h t = cc

@@ -6,6 +6,7 @@ use Rattle.hdfs_values.specs.PathOrder.{same_path}
 use Rattle.hdfs_types.specs.declared.op.Op.{Op}
 use Rattle.hdfs_types.specs.declared.op.Op.TheVariants as op
 use Rattle.hdfs_types.specs.declared.file.FileState.TheVariants.{Closed}
+use Rattle.block_records.specs.declared.last_block.LastBlock.{LastBlock}
 use Rattle.hdfs_types.specs.declared.reply.Refusal.{Refusal}
 use Rattle.acl_entries.specs.Acl.{Acl}
 use Rattle.partial_acl.specs.AclChange.{acl_change, with_mode}
@@ -13,7 +14,9 @@ use Rattle.namespace_rows.specs.declared.row.Row.{Row}
 use Rattle.namespace_rows.specs.declared.row.Change.{Change}
 use Rattle.namespace_rows.specs.declared.row.Change.TheVariants as change
 use Rattle.namespace_rows.specs.Rows.{row_at}
-use Rattle.flat_rows.specs.Changes.{changed, rewritten}
+use Rattle.namespace_rows.specs.Files.{with_block}
+use Rattle.flat_rows.specs.BlockOutcome.{last_committed, with_block_at, ended_at}
+use Rattle.flat_rows.specs.Changes.{changed, edited, rewritten, block_added}
 use Rattle.flat_rows.specs.FileOutcome.{holder_at, state_after_append, is_expired, closed_where_expired}
 use Rattle.flat_rows.specs.Facts.{Facts}
 use Rattle.flat_rows.specs.Outcome.{rows_after, with_mode_at, with_owner_at, with_acl_at, with_list_at}
@@ -32,6 +35,62 @@ with_list_of row later = record later { acl = row.acl }
 
 abbrev pub with_owner_of : Row → Row → Row
 with_owner_of row later = record later { owner = row.owner; group = row.group }
+
+-- ---- nothing but the files' own parts
+
+abbrev EditsFiles : (Row → Row) → Type 0
+EditsFiles f = (row : Row) → f row ≡ record row { file = (f row).file }
+
+-- so does a change of one row
+edits_one : (top : List (List ℕ)) (f : Row → Row) → EditsFiles f → EditsFiles (λ row. cond (same_path top row.path) (f row) row)
+edits_one top f edits row = by (same_path top row.path)
+  where
+    by : (b : Bool) → cond b (f row) row ≡ record row { file = (cond b (f row) row).file }
+    by true = edits row
+    by false = refl
+
+-- what stands at a path in the rows before is what stands there in those after, but for the file
+pub record FilesAlone (path : List (List ℕ)) (rows after : List Row) : Type 0 where
+  pub alone : (row later : Row) → row_at path rows ≡ Some row → row_at path after ≡ Some later → with_file_of row later ≡ row
+  pub stands : (row : Row) → row_at path rows ≡ Some row → (later : Row) × (row_at path after ≡ Some later)
+
+edited_alone : (path : List (List ℕ)) (rows : List Row) (f : Row → Row) → EditsFiles f → FilesAlone path rows (map f rows)
+edited_alone path rows f edits = record {
+  alone = λ row later there after.
+      let is : f row ≡ later = one (f row) later (sym (stands row there) ∙ after) in
+      ap (with_file_of row) (sym is) ∙ ap (with_file_of row) (edits row);
+  stands = λ row there. (f row, stands row there);
+}
+  where
+    stands : (row : Row) → row_at path rows ≡ Some row → row_at path (map f rows) ≡ Some (f row)
+    stands row there = at_map path f (λ r. ap (λ (x : Row). x.path) (edits r)) rows ∙ ap (option_map f) there
+
+same_files : (path : List (List ℕ)) (rows : List Row) → FilesAlone path rows rows
+same_files path rows = record { alone = λ row later there after. ap (with_file_of row) (one later row (sym after ∙ there)); stands = λ row there. (row, there) }
+
+both_alone : (path : List (List ℕ)) (rows next after : List Row) → FilesAlone path rows next → FilesAlone path next after → FilesAlone path rows after
+both_alone path rows next after p q = record {
+  alone = λ row later there last.
+      let mid = p.stands row there in
+      ap (with_file_of row) (q.alone mid.0 later mid.1 last) ∙ p.alone row mid.0 there mid.1;
+  stands = λ row there. let mid = p.stands row there in q.stands mid.0 mid.1;
+}
+
+committed_alone : (path top : List (List ℕ)) (last : Option LastBlock) (rows : List Row) → FilesAlone path rows (last_committed top last rows)
+committed_alone path top None rows = same_files path rows
+committed_alone path top (Some last) rows = edited_alone path rows _ (edits_one top (changed (change.Committed last.block last.length)) (λ row. refl))
+
+added_alone : (path top : List (List ℕ)) (last : Option LastBlock) (block : ℕ) (rows : List Row) → FilesAlone path rows (with_block_at top last block rows)
+added_alone path top last block rows =
+    both_alone path rows (block_added top block rows) (with_block_at top last block rows)
+    (edited_alone path rows _ (edits_one top (edited (with_block block)) (λ row. refl))) (committed_alone path top last (block_added top block rows))
+
+ended_alone : (path top : List (List ℕ)) (last : Option LastBlock) (rows : List Row) → FilesAlone path rows (ended_at top last rows)
+ended_alone path top last rows =
+    both_alone path rows (rewritten top (change.State Closed) rows) (ended_at top last rows)
+    (edited_alone path rows _ (edits_one top (changed (change.State Closed)) (λ row. refl))) (committed_alone path top last (rewritten top (change.State Closed) rows))
+
+-- ---- any part
 
 module _ (rows : List Row) (path : List (List ℕ)) (row later : Row) (there : row_at path rows ≡ Some row) where
   -- rows that are given anew, each with its path, and with one part alone changed
@@ -64,7 +123,8 @@ module _ (rows : List Row) (path : List (List ℕ)) (row later : Row) (there : r
   module _ (facts : Facts) (name : List ℕ) where
     pub files_alone : (what : Op) → is_about_files what ≡ true → row_at path (rows_after facts what name rows) ≡ Some later → with_file_of row later ≡ row
     files_alone (op.Append top) h after = where_same with_file_of top (change.State (state_after_append name (holder_at (row_at top rows)))) (λ r. refl) (λ r. refl) (λ r. refl) after
-    files_alone (op.Complete top last) h after = where_same with_file_of top (change.State Closed) (λ r. refl) (λ r. refl) (λ r. refl) after
+    files_alone (op.AddBlock top last) h after = (added_alone path top last facts.blocks.known.next_block rows).alone row later there after
+    files_alone (op.Complete top last) h after = (ended_alone path top last rows).alone row later there after
     files_alone (op.SetReplication top replication) h after = where_same with_file_of top (change.Replication replication) (λ r. refl) (λ r. refl) (λ r. refl) after
     files_alone op.Tick h after = mapped with_file_of (closed_where_expired facts.leases) keeps stays after
       where

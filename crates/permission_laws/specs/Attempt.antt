@@ -131,6 +131,7 @@ altered _ = None
 -- an operation on what stands is about files' own parts: their replication, their blocks and who writes them
 abbrev pub is_about_files : Op → Bool
 is_about_files (op.Append path) = true
+is_about_files (op.AddBlock path last) = true
 is_about_files (op.Complete path last) = true
 is_about_files (op.SetReplication path replication) = true
 is_about_files op.Tick = true

@@ -6,10 +6,15 @@ use Rattle.std.specs.Map.{keys_of, remove_entry}
 use Rattle.std.specs.Ordering.{nat_cmp}
 use Rattle.block_records.specs.Numbers.{is_number}
 use Rattle.block_index.specs.Relation.{IsIndexBy}
+use Rattle.recovery_queue.specs.declared.begun.BegunRecovery.{BegunRecovery}
 
 -- a recovery of the block that waits for another node isn't told any more
 abbrev pub put : List (ℕ × ℕ) → ℕ → ℕ → List (ℕ × ℕ)
 put queue block primary = insert_entry nat_cmp queue block primary
+
+-- the same of many blocks, in this order
+abbrev pub all_put : List (ℕ × ℕ) → List BegunRecovery → List (ℕ × ℕ)
+all_put queue begun = fold (λ left own. put left own.block own.primary) queue begun
 
 abbrev pub forgotten : List (ℕ × ℕ) → ℕ → List (ℕ × ℕ)
 forgotten queue block = remove_entry (is_number block) queue

@@ -1,6 +1,7 @@
 ghost use Rattle.std.specs.Prelude.{◌≡◌, [], IfOk, OnOk, OnErr};
-ghost use Rattle.recovery_queue.specs.Queue.{put, forgotten, without_each, led_by, told};
+ghost use Rattle.recovery_queue.specs.Queue.{put, all_put, forgotten, without_each, led_by, told};
 
+use crate::begun::BegunRecovery;
 use block_index::node_blocks::NodeBlocks;
 use hdfs_values::ids::BlockId;
 use hdfs_values::node_id::NodeId;
@@ -60,6 +61,34 @@ impl RecoveryQueue {
         Ok(())
     }
 
+    // Has these recoveries wait, up to the first for which there is no memory.
+    fn put_each(&mut self, begun: &[BegunRecovery]) -> Result<(), AllocError>
+        ensures { OnOk result (self.new ≡ all_put self.old begun.now) }
+    {
+        for own in begun {
+            self.put(own.block, own.primary)?;
+        }
+        Ok(())
+    }
+
+    /// Has these recoveries wait, each for its primary, all of them or none; one of the same block that waits isn't told any more. Where
+    /// there are some, costs a copy of what waits, and a look-up for each.
+    ///
+    /// # Errors
+    /// Out of memory. Nothing has changed then.
+    pub fn put_all(&mut self, begun: &[BegunRecovery]) -> Result<(), AllocError>
+        ensures ok { OnOk result (self.new ≡ all_put self.old begun.now) }
+        ensures err { OnErr result (self.new ≡ self.old) }
+    {
+        if begun.is_empty() {
+            return Ok(());
+        }
+        let mut more = self.clone()?;
+        more.put_each(begun)?;
+        *self = more;
+        Ok(())
+    }
+
     /// Ends the waiting of a block's recovery, if it waits. Costs a look-up, and takes no memory.
     pub fn forget(&mut self, block: BlockId)
         ensures { self.new ≡ forgotten self.old block }
@@ -98,5 +127,16 @@ impl RecoveryQueue {
         let _count = self.primaries.len();
         let blocks = self.blocks.take(node);
         blocks.remove_from(&mut self.primaries);
+    }
+}
+
+impl Clone for RecoveryQueue {
+    ghost is_clone = { λ queue copy. copy ≡ queue };
+
+    fn clone(&self) -> Result<RecoveryQueue, AllocError> {
+        Ok(RecoveryQueue {
+            primaries: self.primaries.clone()?,
+            blocks: self.blocks.clone()?,
+        })
     }
 }

@@ -4,6 +4,7 @@
 pub mod acls;
 pub mod commands;
 pub mod denials;
+mod located;
 pub mod names;
 pub mod refusals;
 pub mod replies;

@@ -6,13 +6,13 @@ use Rattle.hdfs_values.specs.declared.fault.IllFormed.{IllFormed}
 use Rattle.hdfs_types.specs.declared.op.Request.{Request}
 use Rattle.history.specs.declared.entry.HistoryEntry.{HistoryEntry}
 use Rattle.history.specs.Config.{Opening, standard}
+use Rattle.history.specs.Grants.{ledger_of}
 use Rattle.history.specs.LegalHistory.{verdict_of}
-use Rattle.flat_rows.specs.declared.verdict.Verdict.{Verdict}
 use Rattle.script_runs.specs.declared.script.Status.{Status}
 use Rattle.script_runs.specs.declared.script.Status.TheVariants as status
 use Rattle.script_words.specs.Words.{lines_of, without_return, is_skipped, words_of}
 use Rattle.script_text.specs.Script.{request_of}
-use Rattle.script_text.specs.AnswerText.{answer_line, is_bad}
+use Rattle.script_text.specs.AnswerText.{Ruling, answer_line, is_bad}
 
 -- what the NameNode of a script opens with: the limits that HDFS has by default, and a key of twenty bytes 11
 abbrev pub script_opening : Opening
@@ -21,7 +21,7 @@ script_opening = record { config = standard; key = replicate 20 11 }
 -- an answer behind the number of its line
 pub record Numbered : Type 0 where
   pub number : ℕ
-  pub answer : Result Verdict IllFormed
+  pub answer : Result Ruling IllFormed
 
 -- the lines so far: how many, the entries that their requests make, the newest first, and their answers
 pub record State : Type 0 where
@@ -31,7 +31,7 @@ pub record State : Type 0 where
 
 -- the answer to a line, and the entries after it
 pub record Answered : Type 0 where
-  pub answer : Result Verdict IllFormed
+  pub answer : Result Ruling IllFormed
   pub entries : List HistoryEntry
 
 -- the entry that a request makes behind these. A script is one pass, so the index is the number of entries before it.
@@ -39,10 +39,14 @@ abbrev pub entry_behind : Opening → List HistoryEntry → Request → HistoryE
 entry_behind opening earlier request =
     record { place = length earlier + 1; pass = 0; index = length earlier; request = request; verdict = verdict_of opening earlier request }
 
+-- the verdict on a request behind these entries, and how many tokens were granted before it
+abbrev pub ruling_behind : Opening → List HistoryEntry → Request → Ruling
+ruling_behind opening earlier request = record { rows = length (ledger_of opening earlier); verdict = verdict_of opening earlier request }
+
 -- an ill-formed line makes none
 abbrev pub answered : Opening → List HistoryEntry → Result Request IllFormed → Answered
 answered opening entries (Err fault) = record { answer = Err fault; entries = entries }
-answered opening entries (Ok request) = record { answer = Ok (verdict_of opening entries request); entries = entry_behind opening entries request ∷ entries }
+answered opening entries (Ok request) = record { answer = Ok (ruling_behind opening entries request); entries = entry_behind opening entries request ∷ entries }
 
 abbrev pub after_answer : State → Answered → State
 after_answer state a = record {

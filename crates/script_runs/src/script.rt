@@ -72,18 +72,22 @@ fn print_answer(
     out.push_str(line.as_str())
 }
 
-/// Adds the verdict of a core's last entry behind the number of its line.
+/// Adds the verdict of a core's last entry behind the number of its line, where the ledger had so many rows before.
 fn print_last(
     number: usize,
+    rows: usize,
     core: &NameCore,
     line: &mut String,
     out: &mut String,
 ) -> Result<(), AllocError>
-    ensures ok { IfSome (slice_get core.now.entries 0) (λ entry. OnOk result (string_bytes out.new ≡ string_bytes out.old ++ answer_line number (Ok entry.verdict))) }
+    ensures ok { IfSome (slice_get core.now.entries 0) (λ entry. OnOk result (string_bytes out.new ≡ string_bytes out.old ++ answer_line number (Ok (record { rows = rows; verdict = entry.verdict })))) }
     ensures err { OnErr result (string_bytes out.new ≡ string_bytes out.old) }
 {
     match core.last() {
-        Some(entry) => print_answer(number, Answer::Given(&entry.verdict), line, out),
+        Some(entry) => {
+            let verdict = &entry.verdict;
+            print_answer(number, Answer::Given { rows, verdict }, line, out)
+        }
         None => Ok(()),
     }
 }
@@ -143,9 +147,11 @@ impl Session {
         ensures err { OnErr result (KeepsLines self.old self.new) }
     {
         let index = self.core.place();
+        let rows = self.core.ledger().len();
         self.core.append(0, index, request)?;
-        print_last(self.number + 1, &self.core, &mut self.line, &mut self.out)?;
-        self.number += 1;
+        let number = self.number + 1;
+        print_last(number, rows, &self.core, &mut self.line, &mut self.out)?;
+        self.number = number;
         Ok(())
     }
 

@@ -1,3 +1,4 @@
 pub mod TokenVectors
 pub mod Counts
 pub mod LineVectors
+pub mod BlockTexts

@@ -1,9 +1,9 @@
-ghost use Rattle.std.specs.Prelude.{◌≡◌, ◌++◌, Some};
+ghost use Rattle.std.specs.Prelude.{◌≡◌, ◌++◌, Some, codes};
 ghost use Rattle.std.specs.Fmt.{DisplaysOnOk};
 ghost use Rattle.std.specs.Option.{option_map};
-ghost use Rattle.hdfs_types.specs.declared.reply.Reply.TheVariants as reply;
 ghost use Rattle.script_text.specs.AnswerText as spec;
 
+use crate::blocks::{AddedBehind, OpenedBehind};
 use flat_rows::verdict::Verdict;
 use hdfs_types::reply::{Expired, Reply};
 use hdfs_values::fault::IllFormed;
@@ -14,8 +14,9 @@ use std::fmt;
 pub enum Answer<'a> {
     /// The line is no request.
     Bad(IllFormed),
-    /// What the NameNode answered.
-    Given(&'a Verdict),
+    /// What the NameNode answered, and how many rows the ledger of granted tokens had before: the tokens of the answer are numbered by
+    /// their rows.
+    Given { rows: usize, verdict: &'a Verdict },
 }
 
 impl fmt::Display for Answer<'_> {
@@ -26,23 +27,27 @@ impl fmt::Display for Answer<'_> {
     fn fmt<W: fmt::Write>(&self, f: &mut fmt::Formatter<W>) -> fmt::Result {
         match self {
             Answer::Bad(fault) => write!(f, "bad {fault}"),
-            Answer::Given(verdict) => print_verdict(verdict, f),
+            Answer::Given { rows, verdict } => print_verdict(*rows, verdict, f),
         }
     }
 }
 
-fn print_verdict<W: fmt::Write>(verdict: &Verdict, f: &mut fmt::Formatter<W>) -> fmt::Result
-    ensures { DisplaysOnOk W.write_str_gives f.old result (Some (spec.verdict_text verdict.now)) f.new }
+fn print_verdict<W: fmt::Write>(
+    rows: usize,
+    verdict: &Verdict,
+    f: &mut fmt::Formatter<W>,
+) -> fmt::Result
+    ensures { DisplaysOnOk W.write_str_gives f.old result (Some (spec.verdict_text rows verdict.now)) f.new }
 {
     match verdict {
-        Verdict::Done(reply) => print_reply(reply, f),
+        Verdict::Done(reply) => print_reply(rows, reply, f),
         Verdict::Denied(denial) => write!(f, "denied {denial}"),
         Verdict::Refused(refusal) => write!(f, "refused {refusal}"),
     }
 }
 
-fn print_reply<W: fmt::Write>(reply: &Reply, f: &mut fmt::Formatter<W>) -> fmt::Result
-    ensures { DisplaysOnOk W.write_str_gives f.old result (Some (spec.reply_text reply.now)) f.new }
+fn print_reply<W: fmt::Write>(rows: usize, reply: &Reply, f: &mut fmt::Formatter<W>) -> fmt::Result
+    ensures { DisplaysOnOk W.write_str_gives f.old result (Some (spec.reply_text rows reply.now)) f.new }
 {
     match reply {
         Reply::Empty => f.write_str("ok"),
@@ -53,7 +58,8 @@ fn print_reply<W: fmt::Write>(reply: &Reply, f: &mut fmt::Formatter<W>) -> fmt::
         Reply::Deleted(count) => print_behind("ok deleted ", count, f),
         Reply::Released => f.write_str("ok released"),
         Reply::Closed(bytes) => print_behind("ok closed ", bytes, f),
-        Reply::Opened(bytes) => print_behind("ok open ", bytes, f),
+        Reply::Opened(opened) => print_behind("ok open ", &OpenedBehind { rows, opened }, f),
+        Reply::Added(added) => print_behind("ok block ", &AddedBehind { rows, added }, f),
         Reply::Expired(files) => print_expired(files, f),
         Reply::Serial(serial) => print_behind("ok serial ", &serial.get(), f),
         Reply::Commands(_) => f.write_str("ok heartbeat"),
@@ -73,7 +79,7 @@ fn print_behind<T: fmt::Display, W: fmt::Write>(
 
 /// How many files a tick closed, and of how many the last block is recovered.
 fn print_expired<W: fmt::Write>(files: &Expired, f: &mut fmt::Formatter<W>) -> fmt::Result
-    ensures { DisplaysOnOk W.write_str_gives f.old result (Some (spec.reply_text (reply.Expired files.now))) f.new }
+    ensures { DisplaysOnOk W.write_str_gives f.old result (Some (codes "ok " ++ spec.expired_text files.now)) f.new }
 {
     let closed = files.closed;
     let recovering = files.recovering;

@@ -2,5 +2,6 @@
 #![tactic(auto)]
 
 pub mod answer;
+mod blocks;
 pub mod line;
 pub mod token;

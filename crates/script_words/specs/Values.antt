@@ -12,7 +12,7 @@ use Rattle.permission_specs.specs.Mode.{mode_of}
 use Rattle.hdfs_values.specs.Replication.{is_replication}
 use Rattle.hdfs_values.specs.declared.fault.IllFormed.{IllFormed}
 use Rattle.hdfs_values.specs.declared.fault.IllFormed.TheVariants.{BadLine, BadPath, BadName, BadMode, BadAcl}
-use Rattle.hdfs_types.specs.declared.file.LastBlock.{LastBlock}
+use Rattle.block_records.specs.declared.last_block.LastBlock.{LastBlock}
 use Rattle.permission_specs.specs.declared.entry.Entry.{Entry}
 use Rattle.hdfs_values.specs.declared.fault.AclFault.{AclFault}
 use Rattle.permission_specs.specs.declared.acl_change.AclChange.{AclChange}

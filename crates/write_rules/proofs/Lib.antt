@@ -1,2 +1,3 @@
 pub mod Deleting
 pub mod Writing
+pub mod LastLength

@@ -2,14 +2,20 @@
 use Rattle.std.proofs.Common.{◌≡◌, ℕ, List, [], ◌∷◌, ◌++◌, Option, Some, None, refl, sym, ap, ◌∙◌}
 use Rattle.std.specs.Option.{option_or}
 use Rattle.hdfs_types.specs.declared.op.Op.{Op}
-use Rattle.hdfs_types.specs.declared.op.Op.TheVariants.{Append}
+use Rattle.hdfs_types.specs.declared.op.Op.TheVariants.{Append, AddBlock, Complete, Open}
+use Rattle.hdfs_types.specs.declared.reply.Reply.{Reply}
+use Rattle.hdfs_types.specs.declared.reply.Reply.TheVariants as replies
+use Rattle.block_records.specs.declared.last_block.LastBlock.{LastBlock}
+use Rattle.block_map.specs.BlockEffects.{given_behind}
+use Rattle.flat_rows.specs.declared.verdict.Verdict.TheVariants.{Done}
 use Rattle.hdfs_types.specs.declared.reply.Refusal.{Refusal}
 use Rattle.principals.specs.Users.{Users, Caller}
 use Rattle.namespace_rows.specs.declared.file_row.FileRow.{FileRow}
 use Rattle.namespace_rows.specs.declared.row.Row.{Row}
 use Rattle.namespace_rows.specs.Rows.{row_at}
 use Rattle.namespace_rows.specs.Files.{holder_of, holder_of_file}
-use Rattle.flat_rows.specs.FileOutcome.{directory_there, of_file, if_some_file, refused_takeover, appended_reply, holder_at}
+use Rattle.flat_rows.specs.FileOutcome.{directory_there, of_file, if_some_file, refused_takeover, refused_write, appended_reply, holder_at}
+use Rattle.flat_rows.specs.BlockOutcome.{replication_of, replication_at, refused_last, refused_new, refused_end, added, added_to, opened, blocks_of, blocks_at, bytes_behind, bytes_behind_at}
 use Rattle.flat_rows.specs.Facts.{Facts}
 use Rattle.required_rights.specs.RequiredRights.{Demand, required_rights}
 use Rattle.flat_rows.specs.Decision.{asking, denial_among}
@@ -57,6 +63,64 @@ append_verdict facts path rows users caller needs file there granted =
     ∙ ap (λ holder. refused_or (appended_reply holder) (first_refusal facts caller.name (Append path) rows users)) (sym (holder_of_this (row_at path rows) file there.at))
     ∙ verdict_is facts rows users caller.name (Append path) (first_refusal facts caller.name (Append path) rows users)
     ∙ ap (λ denied. (denied_or_outcome facts rows users caller.name (Append path) denied).verdict) (sym granted)
+
+-- ---- the blocks of a file
+
+bytes_of_this : (last : Option LastBlock) (at : Option Row) (file : FileRow) → file_at_row at ≡ Some file → bytes_behind_at last at ≡ bytes_behind last (Some file)
+bytes_of_this last None file h = cc
+bytes_of_this last (Some row) file h = ap (bytes_behind last) h
+
+pub replication_of_this : (at : Option Row) (file : FileRow) → file_at_row at ≡ Some file → replication_at at ≡ Some file.replication
+replication_of_this None file h = cc
+replication_of_this (Some row) file h = ap replication_of h
+
+blocks_of_this : (at : Option Row) (file : FileRow) → file_at_row at ≡ Some file → blocks_at at ≡ file.blocks
+blocks_of_this None file h = cc
+blocks_of_this (Some row) file h = ap blocks_of h
+
+-- what stands against a writer, and behind that what the map of blocks refuses
+abbrev pub against : List ℕ → Option LastBlock → FileRow → Option Refusal → Option Refusal
+against client last file behind = option_or (refused_write client file) (option_or (refused_last last file) behind)
+
+pub against_none : (client : List ℕ) (last : Option LastBlock) (file : FileRow) (behind : Option Refusal) → option_or (refused_write client file) (refused_last last file) ≡ None → against client last file behind ≡ behind
+against_none client last file behind h = by (refused_write client file) (refused_last last file) h
+  where
+    by : (a b : Option Refusal) → option_or a b ≡ None → option_or a (option_or b behind) ≡ behind
+    by (Some r) b k = cc
+    by None (Some r) k = cc
+    by None None k = refl
+
+against_is : (path : List (List ℕ)) (rows : List Row) (client : List ℕ) (last : Option LastBlock) (file : FileRow) (behind : Option Refusal) → IsFileThere path rows file
+    → first_some (refusals_of_file path rows ++ of_file (refused_write client) (row_at path rows) ∷ of_file (refused_last last) (row_at path rows) ∷ behind ∷ []) ≡ against client last file behind
+against_is path rows client last file behind there =
+    free_at_file path rows (of_file (refused_write client) (row_at path rows) ∷ of_file (refused_last last) (row_at path rows) ∷ behind ∷ []) there.free
+    ∙ (ap (λ a. option_or a (option_or (of_file (refused_last last) (row_at path rows)) (option_or behind None))) (of_this (refused_write client) (row_at path rows) file there.at)
+    ∙ (ap (λ b. option_or (refused_write client file) (option_or b (option_or behind None))) (of_this (refused_last last) (row_at path rows) file there.at)
+    ∙ ap (λ c. option_or (refused_write client file) (option_or (refused_last last file) c)) (or_none behind)))
+
+module _ (facts : Facts) (path : List (List ℕ)) (rows : List Row) (users : Users) (caller : Caller) (needs : List Demand) (file : FileRow) (there : IsFileThere path rows file) (granted : denial_among rows caller needs ≡ None) where
+  judged_of : (what : Op) (reply : Reply) (refusal : Option Refusal) → reply ≡ reply_of facts caller.name what rows → refusal ≡ first_refusal facts caller.name what rows users → refused_or reply refusal ≡ (judged_step facts rows users caller needs what).verdict
+  judged_of what reply refusal told is =
+      ap (λ r. refused_or r refusal) told
+      ∙ (ap (refused_or (reply_of facts caller.name what rows)) is
+      ∙ (verdict_is facts rows users caller.name what (first_refusal facts caller.name what rows users)
+      ∙ ap (λ denied. (denied_or_outcome facts rows users caller.name what denied).verdict) (sym granted)))
+
+  pub complete_verdict : (last : Option LastBlock) → refused_or (replies.Closed (bytes_behind last (Some file))) (against caller.name last file (refused_end facts.blocks last)) ≡ (judged_step facts rows users caller needs (Complete path last)).verdict
+  complete_verdict last =
+      judged_of (Complete path last) (replies.Closed (bytes_behind last (Some file))) (against caller.name last file (refused_end facts.blocks last))
+      (ap replies.Closed (sym (bytes_of_this last (row_at path rows) file there.at))) (sym (against_is path rows caller.name last file (refused_end facts.blocks last) there))
+
+  pub add_block_verdict : (last : Option LastBlock)
+      → refused_or (added facts.token caller.name (given_behind facts.blocks last facts.now file.replication)) (against caller.name last file (refused_new facts.blocks last facts.now)) ≡ (judged_step facts rows users caller needs (AddBlock path last)).verdict
+  add_block_verdict last =
+      judged_of (AddBlock path last) (added facts.token caller.name (given_behind facts.blocks last facts.now file.replication)) (against caller.name last file (refused_new facts.blocks last facts.now))
+      (ap (added_to facts.token caller.name facts.blocks last facts.now) (sym (replication_of_this (row_at path rows) file there.at))) (sym (against_is path rows caller.name last file (refused_new facts.blocks last facts.now) there))
+
+  pub open_verdict : Done (opened facts.token caller.name facts.blocks file.blocks) ≡ (judged_step facts rows users caller needs (Open path)).verdict
+  open_verdict =
+      judged_of (Open path) (opened facts.token caller.name facts.blocks file.blocks) None
+      (ap (opened facts.token caller.name facts.blocks) (sym (blocks_of_this (row_at path rows) file there.at))) (sym there.free)
 
 -- the verdict on what is judged with its needs is that of the step
 pub as_judged : (facts : Facts) (rows : List Row) (users : Users) (caller : List ℕ) (who : Caller) (needs : List Demand) (what taken : Op) → who ≡ asking users caller taken → needs ≡ required_rights what → what ≡ taken

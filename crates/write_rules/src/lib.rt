@@ -3,4 +3,6 @@
 //! of another client is left open, and nothing changes.
 #![tactic(auto)]
 
+pub mod blocks;
+pub mod ends;
 pub mod write;

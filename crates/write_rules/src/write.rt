@@ -5,7 +5,7 @@ ghost use Rattle.principals.specs.Users.{Users};
 ghost use Rattle.namespace_rows.specs.declared.row.Row.{Row};
 ghost use Rattle.required_rights.specs.RequiredRights.{required_rights};
 ghost use Rattle.flat_rows.specs.Decision.{decision};
-ghost use Rattle.flat_rows.specs.FileOutcome.{LeaseFacts, refused_write, refused_commit, refused_takeover, appended_reply};
+ghost use Rattle.flat_rows.specs.FileOutcome.{LeaseFacts, refused_takeover, appended_reply};
 ghost use Rattle.flat_rows.specs.Facts.{Facts};
 ghost use Rattle.namespace_rows.specs.Files.{holder_of};
 ghost use Rattle.flat_rows.specs.Outcome as spec;
@@ -18,6 +18,8 @@ ghost use Rattle.perm_walk.specs.JudgedStep.{judged_step};
 ghost use Rattle.hdfs_types.specs.Verb.{write_op};
 ghost use Rattle.write_rules.specs.Judged.{refused_or, verdict_under, IsJudged};
 
+use crate::ends::completed;
+use block_map::blocks::Blocks;
 use flat_rows::denial::Denial;
 use flat_rows::verdict::Verdict;
 use hdfs_types::file::{FileState, LastBlock};
@@ -28,7 +30,7 @@ use hdfs_values::path::Path;
 use hdfs_values::who::Who;
 use inode_tree::tree::Tree;
 use namespace_rows::file_row::FileRow;
-use perm_walk::found::{Found, FoundFile, counts_at, length_told, standing, standing_file};
+use perm_walk::found::{Found, FoundFile, counts_at, standing, standing_file};
 use perm_walk::reach::Reach;
 use perm_walk::walk::{Walked, walk, walk_along};
 use principals::caller::Caller;
@@ -94,91 +96,25 @@ pub fn judge_create(
     }
 }
 
-// ---- writing
+// ---- closing
 
-/// Why a client may not write a file, where he may not: only the one who has it open writes it.
-fn refusal_of_writer(client: &Who, file: &FileRow) -> Option<Refusal>
-    ensures { result ≡ refused_write client.now file.now }
-{
-    match &file.state {
-        FileState::Closed => Some(Refusal::NotOpen),
-        FileState::Recovering(_, _, _) => Some(Refusal::RecoveryRunning),
-        FileState::Open(holder) => {
-            if client == holder {
-                None
-            } else {
-                Some(Refusal::NoLease)
-            }
-        }
-    }
-}
-
-/// Why what a writer states of the last block of a file isn't committed, where it isn't: no DataNode has reported a block yet.
-fn refusal_of_last(last: Option<LastBlock>, file: &FileRow) -> Option<Refusal>
-    ensures { result ≡ refused_commit last file.now }
-{
-    if last.is_some() || !file.blocks.as_slice().is_empty() {
-        return Some(Refusal::NotYetReplicated);
-    }
-    None
-}
-
-/// Why a client may not go on behind the last block of a file, where he may not.
-fn refusal_of_write(client: &Who, last: Option<LastBlock>, file: &FileRow) -> Option<Refusal>
-    ensures { result ≡ option_or (refused_write client.now file.now) (refused_commit last file.now) }
-{
-    let refusal = refusal_of_writer(client, file);
-    if refusal.is_some() {
-        return refusal;
-    }
-    refusal_of_last(last, file)
-}
-
-/// Judges by its needs whether a new block can stand at the end of a file, over what is lent: no DataNode is live yet that could
-/// hold it. One descent along the path; takes memory only for a denial and a refusal.
-///
-/// # Errors
-/// Out of memory.
-pub fn judge_add_block(
-    alloc: Global,
-    tree: &Tree,
-    caller: &Caller,
-    needs: &Needs,
-    path: &Path,
-    last: Option<LastBlock>,
-) -> Result<Verdict, AllocError>
-    requires { AreOn path.now needs.now }
-    ensures { (facts : Facts) (users : Users) → IfOk result (λ verdict. verdict ≡ (judged_step facts tree.now users caller.now needs.now (Op.AddBlock path.now last)).verdict) }
-{
-    let reach = match walk_along(alloc, tree, caller, needs, path)? {
-        Walked::Denied(denial) => return Ok(Verdict::Denied(denial)),
-        Walked::Reached(reach) => reach,
-    };
-    let file = match standing_file(alloc, reach)? {
-        FoundFile::There(file) => file,
-        FoundFile::Refused(refusal) => return Ok(Verdict::Refused(refusal)),
-    };
-    match refusal_of_write(caller.name(), last, file) {
-        Some(refusal) => Ok(Verdict::Refused(refusal)),
-        None => Ok(Verdict::Refused(Refusal::TooFewNodes)),
-    }
-}
-
-/// Judges by its needs whether a file can be closed by the caller, over what is lent. One descent along the path, and the blocks of
-/// the file; takes memory only for a denial and a refusal.
+/// Judges by its needs whether a file can be closed by the caller, over what is lent: he has it open, names its last block, and a
+/// DataNode has reported that so. One descent along the path, the reports of the block, and the blocks of the file; takes memory only for
+/// a denial and a refusal.
 ///
 /// # Errors
 /// Out of memory.
 pub fn judge_complete(
     alloc: Global,
     tree: &Tree,
+    blocks: &Blocks,
     caller: &Caller,
     needs: &Needs,
     path: &Path,
     last: Option<LastBlock>,
 ) -> Result<Verdict, AllocError>
     requires { AreOn path.now needs.now }
-    ensures { (facts : Facts) (users : Users) → IfOk result (λ verdict. verdict ≡ (judged_step facts tree.now users caller.now needs.now (Op.Complete path.now last)).verdict) }
+    ensures { (facts : Facts) (users : Users) → facts.blocks ≡ blocks.now → IfOk result (λ verdict. verdict ≡ (judged_step facts tree.now users caller.now needs.now (Op.Complete path.now last)).verdict) }
 {
     let reach = match walk_along(alloc, tree, caller, needs, path)? {
         Walked::Denied(denial) => return Ok(Verdict::Denied(denial)),
@@ -188,10 +124,7 @@ pub fn judge_complete(
         FoundFile::There(file) => file,
         FoundFile::Refused(refusal) => return Ok(Verdict::Refused(refusal)),
     };
-    match refusal_of_write(caller.name(), last, file) {
-        Some(refusal) => Ok(Verdict::Refused(refusal)),
-        None => Ok(Verdict::Done(Reply::Closed(length_told(file)?))),
-    }
+    completed(caller.name(), blocks, last, file)
 }
 
 // ---- appending
@@ -298,7 +231,7 @@ pub fn judge_delete(
 
 /// Judges with its needs a verb that writes a file, or a deletion, and changes nothing: first the first need that fails, then the
 /// first refusal of the operation's list, then done; what hangs on the lease of another client is left open. Costs the path, one
-/// look-up in a map for each name; `complete` also the blocks of the file, and a recursive `delete` the sub-tree (HDFS
+/// look-up in a map for each name; `complete` also the reports of the last block and the blocks of the file, and a recursive `delete` the sub-tree (HDFS
 /// Architecture, "The File System Namespace"; HDFS Permissions Guide, "Permission Checks").
 ///
 /// # Errors
@@ -307,12 +240,13 @@ pub fn judge(
     alloc: Global,
     tree: &Tree,
     users: &Users,
+    blocks: &Blocks,
     caller: &Who,
     needs: &Needs,
     write: &Write<'_>,
 ) -> Result<Judged, AllocError>
     requires { needs.now ≡ required_rights (write_op write.now) }
-    ensures { (facts : Facts) → IfOk result (IsJudged facts tree.now users.now caller.now (write_op write.now)) }
+    ensures { (facts : Facts) → facts.blocks ≡ blocks.now → IfOk result (IsJudged facts tree.now users.now caller.now (write_op write.now)) }
 {
     let asking = users.caller(caller);
     match write {
@@ -320,11 +254,8 @@ pub fn judge(
             alloc, tree, &asking, needs, path, *over,
         )?)),
         Write::Append(path) => judge_append(alloc, tree, &asking, needs, path),
-        Write::AddBlock(path, last) => Ok(Judged::Verdict(judge_add_block(
-            alloc, tree, &asking, needs, path, *last,
-        )?)),
         Write::Complete(path, last) => Ok(Judged::Verdict(judge_complete(
-            alloc, tree, &asking, needs, path, *last,
+            alloc, tree, blocks, &asking, needs, path, *last,
         )?)),
         Write::Delete(path, recursive) => Ok(Judged::Verdict(judge_delete(
             alloc, tree, &asking, needs, path, *recursive,

@@ -6,7 +6,7 @@ use Rattle.file_effects.proofs.effect.create_first.Goals as goal
 
 pub returns-in_default-clause-err : goal.returns-in_default-clause-err
 returns-in_default-clause-err c =
-    (c.in_default.ensures.err, undone_leases c.args.writers.now.leases c.take.new.self c.release.new.self c.args.caller.now c.args.now c.in_ok-take.ensures.ok c.release.ensures.released c.requires.absent, refl)
+    (c.in_default.ensures.err.0, undone_leases c.args.writers.now.leases c.take.new.self c.release.new.self c.args.caller.now c.args.now c.in_ok-take.ensures.ok c.release.ensures.released c.requires.absent, refl)
 
 pub returns-clause-ok : goal.returns-clause-ok
 returns-clause-ok c =

@@ -30,11 +30,6 @@ returns-in-SetAcl-clause-ok c = λ facts.
     as_stepped facts c.args.tree.now c.set_acl.new.tree c.args.users.now c.args.users.now c.args.caller.now c.caller-asking.result c.args.needs.now (update_op c.args.update.now) (op.SetAcl c.in-SetAcl.path.now c.in-SetAcl.change.now) c.set_acl.result
     c.caller-asking.ensures c.requires (ap update_op c.in-SetAcl.is) (c.set_acl.ensures.ok facts c.args.users.now)
 
-pub returns-in-SetReplication-clause-ok : goal.returns-in-SetReplication-clause-ok
-returns-in-SetReplication-clause-ok c = λ facts.
-    as_stepped facts c.args.tree.now c.set_replication.new.tree c.args.users.now c.args.users.now c.args.caller.now c.caller-asking.result c.args.needs.now (update_op c.args.update.now) (op.SetReplication c.in-SetReplication.path.now c.in-SetReplication.replication) c.set_replication.result
-    c.caller-asking.ensures c.requires (ap update_op c.in-SetReplication.is) (c.set_replication.ensures.ok facts c.args.users.now)
-
 pub returns-in-AddUser-clause-ok : goal.returns-in-AddUser-clause-ok
 returns-in-AddUser-clause-ok c = λ facts.
     as_stepped facts c.args.tree.now c.args.tree.now c.args.users.now c.add_user.new.users c.args.caller.now (caller_of c.args.users.now c.args.caller.now) c.args.needs.now (update_op c.args.update.now) (op.AddUser c.in-AddUser.user.now c.in-AddUser.groups.now) c.add_user.result

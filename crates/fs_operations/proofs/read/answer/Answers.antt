@@ -23,8 +23,3 @@ pub returns-in-GetAcl : goal.returns-in-GetAcl
 returns-in-GetAcl c = λ facts.
     as_stepped facts c.args.tree.now c.args.tree.now c.args.users.now c.args.users.now c.args.caller.now c.caller-asking.result c.args.needs.now (read_op c.args.read) (op.GetAcl c.in-GetAcl.path.now) c.get_acl.result
     c.caller-asking.ensures c.requires (ap read_op c.in-GetAcl.is) (c.get_acl.ensures facts c.args.users.now)
-
-pub returns-in-Open : goal.returns-in-Open
-returns-in-Open c = λ facts.
-    as_stepped facts c.args.tree.now c.args.tree.now c.args.users.now c.args.users.now c.args.caller.now c.caller-asking.result c.args.needs.now (read_op c.args.read) (op.Open c.in-Open.path.now) c.open.result
-    c.caller-asking.ensures c.requires (ap read_op c.in-Open.is) (c.open.ensures facts c.args.users.now)

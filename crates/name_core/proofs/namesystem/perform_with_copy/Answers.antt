@@ -1,11 +1,14 @@
 use Rattle.std.proofs.Common.{◌≡◌, false, ◌++◌, sym, ap, ◌∙◌, subst}
 use Rattle.std.proofs.lemmas.List.{append-nil}
+use Rattle.std.specs.Result.{IfOk}
+use Rattle.hdfs_types.specs.Verb.{op_of}
+use Rattle.required_rights.specs.RequiredRights.{required_rights}
 use Rattle.flat_rows.specs.Outcome.{Step}
 use Rattle.history.specs.Grants.{rows_granted}
 use Rattle.name_core.specs.Told.{is_told_before}
 use Rattle.name_core.specs.Performed.{IsPerformed, facts_in}
 use Rattle.name_core.proofs.Performing.{on_err}
-use Rattle.name_core.proofs.Granting.{is_beat, other_than_beat, no_rows, told_behind}
+use Rattle.name_core.proofs.GrantRows.{is_grant, no_grant, no_rows, told_behind}
 use Rattle.name_core.proofs.namesystem.perform_with_copy.Goals as goal
 
 pub returns-clause-ok : goal.returns-clause-ok
@@ -21,8 +24,8 @@ returns-clause-ledger c =
     ∙ ap (λ verdict. c.args.ledger.now.rows ++ rows_granted c.args.place c.args.system.now.ring c.args.now c.args.request.now.caller c.args.request.now.op verdict) (sym c.in_ok-told.ensures.ok.verdict_is)
 
 -- a verdict that can't be copied tells no list
-behind : (c : goal.After-from_residual-in_err-told) → is_beat c.args.request.now.op ≡ false
-behind c = other_than_beat c.args.request.now.op c.in_default.not-Heartbeat
+behind : (c : goal.After-from_residual-in_err-told) → is_grant c.args.request.now.op ≡ false
+behind c = ap is_grant (sym c.verb.ensures) ∙ no_grant c.verb.result c.in_default.not-Grant
 
 pub returns-in_err-told-clause-err : goal.returns-in_err-told-clause-err
 returns-in_err-told-clause-err c = λ last exact.
@@ -38,3 +41,14 @@ returns-in_err-told-clause-err_ledger c =
     (c.in_ok-verdict.ensures.ledger
     ∙ (ap (λ rows. c.args.ledger.now.rows ++ rows) (no_rows c.args.place c.args.system.now.ring c.args.now c.args.request.now.caller c.args.request.now.op c.in_ok-verdict.verdict (behind c))
     ∙ append-nil c.args.ledger.now.rows))
+
+pub perform_grant-requires : goal.perform_grant-requires
+perform_grant-requires c = c.in_ok-required.ensures ∙ ap required_rights (sym c.verb.ensures ∙ ap op_of c.in-Grant.is)
+
+pub returns-in-Grant-clause-ok : goal.returns-in-Grant-clause-ok
+returns-in-Grant-clause-ok c = λ last exact.
+    subst (λ what. IfOk c.perform_grant.result (λ told. IsPerformed last c.args.now c.args.request.now.caller what c.args.system.now told.verdict c.perform_grant.new.system)) (sym (ap op_of c.in-Grant.is) ∙ c.verb.ensures) (c.perform_grant.ensures.ok last exact)
+
+pub returns-in-Grant-clause-ledger : goal.returns-in-Grant-clause-ledger
+returns-in-Grant-clause-ledger c =
+    subst (λ what. IfOk c.perform_grant.result (λ told. c.perform_grant.new.ledger.rows ≡ c.args.ledger.now.rows ++ rows_granted c.args.place c.args.system.now.ring c.args.now c.args.request.now.caller what told.verdict)) (sym (ap op_of c.in-Grant.is) ∙ c.verb.ensures) c.perform_grant.ensures.ledger

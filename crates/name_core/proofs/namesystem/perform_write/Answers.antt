@@ -9,5 +9,5 @@ returns-then-not-is_done-clause-ok c = λ last exact.
 
 pub returns-clause-ok : goal.returns-clause-ok
 returns-clause-ok c = λ last exact.
-    performed_write last c.args.now c.args.caller.now c.args.write.now c.args.system.now (record (c.args.system.now) { tree = c.effect.new.tree; writers = c.effect.new.writers }) c.in_ok-verdict.verdict
-    (c.in_ok-verdict.ensures.verdict last exact) (sym c.is_done.ensures ∙ c.if-not-is_done.false) c.in-Ok.ensures.ok refl refl refl exact
+    performed_write last c.args.now c.args.caller.now c.args.write.now c.args.system.now (record (c.args.system.now) { tree = c.effect.new.tree; writers = c.effect.new.writers; blocks = c.effect.new.blocks }) c.in_ok-verdict.verdict
+    (c.in_ok-verdict.ensures.verdict last exact) (sym c.is_done.ensures ∙ c.if-not-is_done.false) c.in-Ok.ensures.ok refl refl c.in-Ok.ensures.blocks exact

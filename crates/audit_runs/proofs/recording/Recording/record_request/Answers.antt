@@ -1,10 +1,9 @@
 use Rattle.std.proofs.Common.{◌≡◌, ◌+◌, Bool, true, false, ◌||◌, [], ◌∷◌, Ok, refl, sym, ap, ◌∙◌}
 use Rattle.std.specs.List.{list_any}
 use Rattle.std.proofs.lemmas.List.Folds.{list_any-append}
-use Rattle.history.specs.LegalHistory.{verdict_of}
 use Rattle.name_core.specs.NameCore.{NameCore, entry_of}
 use Rattle.script_text.specs.AnswerText.{is_bad}
-use Rattle.script_runs.specs.Output.{Numbered, script_opening, entry_behind}
+use Rattle.script_runs.specs.Output.{Numbered, script_opening, entry_behind, ruling_behind}
 use Rattle.audit_runs.proofs.Writing.{ok_then}
 use Rattle.audit_runs.proofs.recording.Recording.record_request.Goals as goal
 
@@ -17,7 +16,7 @@ pub returns-clause-ok : goal.returns-clause-ok
 returns-clause-ok c state holds =
     let old = c.args.self.now in
     let request = c.args.request in
-    let answer : Numbered = record { number = state.number + 1; answer = Ok (verdict_of script_opening state.entries request) } in
+    let answer : Numbered = record { number = state.number + 1; answer = Ok (ruling_behind script_opening state.entries request) } in
     ok_then c.append.result
     (λ stepped.
     record {

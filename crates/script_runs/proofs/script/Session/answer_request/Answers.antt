@@ -1,4 +1,4 @@
-use Rattle.std.proofs.Common.{◌≡◌, ℕ, ◌+◌, Bool, true, false, ◌||◌, List, [], ◌∷◌, ◌++◌, Ok, refl, sym, ap, ◌∙◌, subst, append-nil}
+use Rattle.std.proofs.Common.{◌≡◌, ℕ, ◌+◌, Bool, true, false, ◌||◌, List, [], ◌∷◌, ◌++◌, length, Ok, refl, sym, ap, ◌∙◌, subst, append-nil}
 use Rattle.std.specs.Prelude.{IfSome, slice_get}
 use Rattle.std.specs.List.{list_any}
 use Rattle.std.specs.String.{string_bytes}
@@ -6,10 +6,10 @@ use Rattle.std.proofs.lemmas.List.Concat.{flat_map-append}
 use Rattle.std.proofs.lemmas.List.Folds.{list_any-append}
 use Rattle.history.specs.declared.entry.HistoryEntry.{HistoryEntry}
 use Rattle.history.specs.Config.{Opening}
-use Rattle.history.specs.LegalHistory.{verdict_of}
+use Rattle.history.specs.Grants.{ledger_of}
 use Rattle.name_core.specs.NameCore.{NameCore, entry_of}
-use Rattle.script_text.specs.AnswerText.{answer_line, is_bad}
-use Rattle.script_runs.specs.Output.{Numbered, script_opening, entry_behind, text_of}
+use Rattle.script_text.specs.AnswerText.{Ruling, answer_line, is_bad}
+use Rattle.script_runs.specs.Output.{Numbered, script_opening, entry_behind, ruling_behind, text_of}
 use Rattle.script_runs.proofs.script.Session.answer_request.Goals as goal
 
 or_false : (b : Bool) → (b || false) ≡ b
@@ -21,11 +21,14 @@ pub returns-clause-ok : goal.returns-clause-ok
 returns-clause-ok c state shows =
     let old = c.args.self.now in
     let request = c.args.request in
-    let line : ℕ → Opening → List HistoryEntry → List ℕ = λ n opening entries. answer_line (n + 1) (Ok (verdict_of opening entries request)) in
+    let line : ℕ → Opening → List HistoryEntry → List ℕ = λ n opening entries. answer_line (n + 1) (Ok (ruling_behind opening entries request)) in
     let front = text_of state.answers in
-    let answer : Numbered = record { number = state.number + 1; answer = Ok (verdict_of script_opening state.entries request) } in
+    let answer : Numbered = record { number = state.number + 1; answer = Ok (ruling_behind script_opening state.entries request) } in
+    let told : ℕ → HistoryEntry → List ℕ = λ rows entry. answer_line (old.number + 1) (Ok (record { rows = rows; verdict = entry.verdict })) in
+    let appended : string_bytes c.print_last.new.out ≡ string_bytes old.out ++ told c.len-rows.result (entry_of old.core 0 c.place-index.result request) =
+    subst (λ (core : NameCore). IfSome (slice_get core.entries 0) (λ entry. string_bytes c.print_last.new.out ≡ string_bytes old.out ++ told c.len-rows.result entry)) c.in_ok-append.ensures.ok c.in_ok-print_last.ensures.ok in
     let printed : string_bytes c.print_last.new.out ≡ string_bytes old.out ++ line old.number old.core.opening old.core.entries =
-    subst (λ (core : NameCore). IfSome (slice_get core.entries 0) (λ entry. string_bytes c.print_last.new.out ≡ string_bytes old.out ++ answer_line (old.number + 1) (Ok entry.verdict))) c.in_ok-append.ensures.ok c.in_ok-print_last.ensures.ok in
+    appended ∙ ap (λ rows. string_bytes old.out ++ told rows (entry_of old.core 0 c.place-index.result request)) (c.len-rows.ensures ∙ ap length c.ledger.ensures) in
     record {
       number = ap (λ n. n + 1) shows.number;
       opening = ap (λ (core : NameCore). core.opening) c.in_ok-append.ensures.ok ∙ shows.opening;

@@ -1,0 +1,110 @@
+-- What comes of calls and deliveries.
+use Rattle.std.proofs.Common.{◌≡◌, ℕ, ◌+◌, true, false, cond, List, length, reverse, refl, ap, ◌∙◌, Option, Some, None, Result, Ok, Err}
+use Rattle.std.specs.Prelude.{OnOk, IfOk, option_map, option_copied}
+use denote.Ref.{Bor}
+use Rattle.block_records.specs.Numbers.{entry_at}
+use Rattle.hdfs_types.specs.declared.op.Request.{Request}
+use Rattle.name_core.specs.NameCore as core
+use Rattle.node_calls.specs.declared.call.NodeCall.{NodeCall}
+use Rattle.node_calls.specs.declared.message.Message.{Message}
+use Rattle.node_calls.specs.declared.message.Message.TheVariants as message
+use Rattle.datanode.specs.NodeStep.{Node, node_answer}
+use Rattle.datanode.specs.declared.answered.Answered.{Answered}
+use Rattle.cluster_trace.specs.Trace.{State, lost, named, reporting, called, called_at, delivered, is_from_outside, happened, outcome_of}
+use Rattle.cluster_trace.specs.declared.event.Event.TheVariants.{Name}
+use Rattle.cluster_trace.specs.declared.outcome.ClusterRefusal.{ClusterRefusal}
+use Rattle.cluster_trace.specs.declared.outcome.ClusterRefusal.TheVariants.{NoMessage, NoNode, NotFromOutside}
+use Rattle.cluster_trace.specs.declared.outcome.EventAnswer.TheVariants.{Called, Lost}
+use Rattle.cluster_parts.specs.Carried.{seen, found_message, carried_out, nodes_carried}
+use Rattle.cluster_parts.specs.Nodes.{answer_at}
+use Rattle.cluster_parts.specs.Sent.{messages_of, AreLaid}
+use Rattle.cluster_parts.specs.declared.carried.Carried.TheVariants as carried
+use Rattle.cluster_parts.specs.declared.found.Found.{Found}
+use Rattle.cluster_parts.specs.declared.sent.Batch.{Batch}
+use Rattle.cluster_core.specs.Cluster.{answer_outcome}
+use Rattle.cluster_core.proofs.Naming.{state_with, sent_count}
+
+-- ---- results
+
+pub on_ok : {A E P Q : Type 0} (r : Result A E) → (P → Q) → OnOk r P → OnOk r Q
+on_ok (Ok x) f h = f h
+on_ok (Err e) f h = tt
+
+pub if_ok : {A E : Type 0} (P Q : A → Type 0) (r : Result A E) → ((x : A) → P x → Q x) → IfOk r P → IfOk r Q
+if_ok P Q (Ok x) f h = f x h
+if_ok P Q (Err e) f h = tt
+
+-- ---- outcomes
+
+module _ (own : core.NameCore) (nodes : List (ℕ × Node)) (batches : List Batch) (count : ℕ) (laid : AreLaid (reverse own.entries) 0 batches count) where
+  abbrev state : State
+  state = state_with own nodes batches
+
+  many : count ≡ length (messages_of (reverse own.entries) batches)
+  many = sent_count own batches count laid
+
+  pub lost_outcome : (refusal : ClusterRefusal) → record { answer = Lost refusal; first = count + 1; count = 0 } ≡ outcome_of state (lost state refusal)
+  lost_outcome refusal = ap (λ (n : ℕ). record { answer = Lost refusal; first = n + 1; count = 0 }) many
+
+  pub called_outcome : (id now : ℕ) (asked : NodeCall) → answer_outcome count (answer_at id now asked nodes) ≡ outcome_of state (called state id now asked)
+  called_outcome id now asked = by (entry_at id nodes)
+    where
+      by : (found : Option Node) → answer_outcome count (option_map (λ (node : Node). node_answer node now asked) found) ≡ outcome_of state (called_at state id now asked found)
+      by None = lost_outcome NoNode
+      by (Some node) = ap (λ (n : ℕ). record { answer = Called (node_answer node now asked).result; first = n + 1; count = length (node_answer node now asked).messages }) many
+
+  pub nowhere_outcome : (now : ℕ) (found : Option Message) → carried_out nodes now found ≡ carried.Nowhere → record { answer = Lost NoMessage; first = count + 1; count = 0 } ≡ outcome_of state (delivered state now found)
+  nowhere_outcome now None e = lost_outcome NoMessage
+  nowhere_outcome now (Some (message.Node node asked)) e = cc
+  nowhere_outcome now (Some (message.Plan node asked)) e = lost_outcome NoMessage
+  nowhere_outcome now (Some (message.Reported node block stamp bytes)) e = cc
+  nowhere_outcome now (Some (message.CommitRecovery node block stamp bytes others)) e = lost_outcome NoMessage
+
+  pub carried_outcome : (now : ℕ) (found : Option Message) (answered : Option Answered) → carried_out nodes now found ≡ carried.Called answered → answer_outcome count answered ≡ outcome_of state (delivered state now found)
+  carried_outcome now None answered e = cc
+  carried_outcome now (Some (message.Node node asked)) answered e =
+      let is : answered ≡ answer_at node now asked nodes = cc in
+      ap (answer_outcome count) is ∙ called_outcome node now asked
+  carried_outcome now (Some (message.Plan node asked)) answered e = cc
+  carried_outcome now (Some (message.Reported node block stamp bytes)) answered e = cc
+  carried_outcome now (Some (message.CommitRecovery node block stamp bytes others)) answered e = cc
+
+-- ---- reports
+
+pub reports : (state : State) (now : ℕ) (found : Option Message) (node block stamp bytes : ℕ) → carried_out state.nodes now found ≡ carried.Report node block stamp bytes
+    → named state (reporting node now block stamp bytes) ≡ delivered state now found
+reports state now None node block stamp bytes e = cc
+reports state now (Some (message.Node id asked)) node block stamp bytes e = cc
+reports state now (Some (message.Plan id asked)) node block stamp bytes e = cc
+reports state now (Some (message.Reported id own at count)) node block stamp bytes e =
+    let a : node ≡ id = cc in
+    let b : block ≡ own = cc in
+    let d : stamp ≡ at = cc in
+    let f : bytes ≡ count = cc in
+    ap (λ n. named state (reporting n now block stamp bytes)) a
+    ∙ ap (λ n. named state (reporting id now n stamp bytes)) b
+    ∙ ap (λ n. named state (reporting id now own n bytes)) d
+    ∙ ap (λ n. named state (reporting id now own at n)) f
+reports state now (Some (message.CommitRecovery id own at count others)) node block stamp bytes e = cc
+
+-- no node has changed
+pub reports_stay : (nodes : List (ℕ × Node)) (now : ℕ) (found : Option Message) (node block stamp bytes : ℕ) → carried_out nodes now found ≡ carried.Report node block stamp bytes → nodes_carried nodes now found ≡ nodes
+reports_stay nodes now None node block stamp bytes e = refl
+reports_stay nodes now (Some (message.Node id asked)) node block stamp bytes e = cc
+reports_stay nodes now (Some (message.Plan id asked)) node block stamp bytes e = refl
+reports_stay nodes now (Some (message.Reported id own at count)) node block stamp bytes e = refl
+reports_stay nodes now (Some (message.CommitRecovery id own at count others)) node block stamp bytes e = refl
+
+-- ---- requests from outside
+
+pub taken : (state : State) (request : Request) → is_from_outside request.op ≡ true → happened state (Name request) ≡ named state request
+taken state request e = ap (λ b. cond b (named state request) (lost state NotFromOutside)) e
+
+pub not_taken : (state : State) (request : Request) → is_from_outside request.op ≡ false → happened state (Name request) ≡ lost state NotFromOutside
+not_taken state request e = ap (λ b. cond b (named state request) (lost state NotFromOutside)) e
+
+-- ---- what was found, lent
+
+pub lent : (found : Option (Bor Found)) → option_map seen (option_copied found) ≡ found_message found
+lent None = refl
+lent (Some own) = refl

@@ -1,0 +1,35 @@
+-- What steps leave of a world, and how it is kept.
+use Rattle.std.specs.Prelude.{◌≡◌, List, [], ◌∷◌, reverse}
+use Rattle.cluster_trace.specs.Trace.{State, after, outcome}
+use Rattle.cluster_trace.specs.Typed.{GrantsFit, AreTyped}
+use Rattle.cluster_trace.specs.declared.event.Event.{Event}
+use Rattle.cluster_trace.specs.declared.outcome.Outcome.{Outcome}
+use Rattle.cluster_core.specs.Past.{Past}
+use Rattle.cluster_core.specs.declared.world.World.TheInside.{Inside}
+
+abbrev pub state_after : Past → State
+state_after past = after past.opening past.events
+
+abbrev pub stepped : Past → Event → Past
+stepped past event = record { opening = past.opening; events = event ∷ past.events }
+
+-- ---- several events, the oldest first
+
+abbrev pub run_past : Past → List Event → Past
+run_past past [] = past
+run_past past (event ∷ events) = run_past (stepped past event) events
+
+abbrev pub run_outcomes : Past → List Event → List Outcome
+run_outcomes past [] = []
+run_outcomes past (event ∷ events) = outcome (state_after past) event ∷ run_outcomes (stepped past event) events
+
+-- ---- how a world is kept
+
+abbrev pub past_of : Inside → Past
+past_of world = record { opening = record { name = world.cluster.opening; nodes = world.ids.items }; events = reverse world.events.items }
+
+-- its events lead from its opening to its state, and all values fit their types
+pub record IsReached (world : Inside) : Type 0 where
+  pub state : world.cluster ≡ state_after (past_of world)
+  pub typed : AreTyped (past_of world).opening (past_of world).events
+  pub fits : GrantsFit world.cluster

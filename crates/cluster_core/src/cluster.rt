@@ -1,0 +1,240 @@
+ghost use Rattle.std.specs.Prelude.{◌≡◌, ◌+◌, ◌<◌, ◌≤◌, ◌^◌, ◌++◌, List, length, slice_get, IfOk, IfSome, OnOk, OnErr, option_copied, vec_len, vec_capacity};
+ghost use Rattle.history.specs.declared.entry.HistoryEntry.{HistoryEntry};
+ghost use Rattle.block_records.specs.Numbers.{entry_at};
+ghost use Rattle.cluster_trace.specs.Trace as spec;
+ghost use Rattle.cluster_trace.specs.Trace.{start, named, called, delivered, message_at, left_by, happens, outcome_of};
+ghost use Rattle.cluster_trace.specs.declared.event.Event.TheVariants as event;
+ghost use Rattle.cluster_trace.specs.Provenance.{call_brought, call_of};
+ghost use Rattle.cluster_trace.specs.Typed.{GrantsFit, PresentsBytes, CallFits};
+ghost use Rattle.cluster_core.specs.Cluster.{answer_outcome, answer_messages};
+ghost use Rattle.cluster_parts.specs.Sent.{messages_of, AreLaid};
+
+use cluster_parts::carried::{Carried, carry_out, report};
+use cluster_parts::found::{entry_count, find};
+use cluster_parts::nodes::Nodes;
+use cluster_parts::ranges::{read_call, read_rows};
+use cluster_parts::sent::{Sent, Source};
+use cluster_trace::event::Event;
+use cluster_trace::outcome::{ClusterRefusal, EventAnswer, Outcome};
+use datanode::answered::Answered;
+use datanode::datanode::DataNode;
+use hdfs_types::key::Key;
+use hdfs_types::op::{Op, Request};
+use hdfs_values::moment::Moment;
+use hdfs_values::node_id::NodeId;
+use history::config::Config;
+use name_core::namenode::NameCore;
+use node_calls::call::NodeCall;
+use std::alloc::{AllocError, Global};
+use std::marker::Model;
+
+// How many messages the last entry sends.
+fn last_count(core: &NameCore) -> u64
+    ensures count { IfSome (slice_get core.now.entries 0) (λ entry. result ≡ length (spec.entry_messages entry)) }
+    ensures small { result < 2 ^ 63 }
+{
+    match core.last() {
+        Some(entry) => entry_count(entry),
+        None => 0,
+    }
+}
+
+// Whether a request may come without a message.
+fn is_from_outside(op: &Op) -> bool
+    ensures { result ≡ spec.is_from_outside op.now }
+{
+    !matches!(op, Op::Reported(_))
+}
+
+fn copy_of(request: &Request) -> Result<Request, AllocError>
+    ensures { IfOk result (λ copy. copy ≡ request.now) }
+{
+    request.clone()
+}
+
+// What comes of an event that does nothing.
+fn note_nothing(sent: &Sent, refusal: ClusterRefusal) -> Outcome
+    requires { sent.now.count ≤ 2 ^ 62 }
+    ensures { result ≡ record { answer = EventAnswer.Lost refusal; first = sent.now.count + 1; count = 0 } }
+{
+    Outcome {
+        answer: EventAnswer::Lost(refusal),
+        first: sent.next(),
+        count: 0,
+    }
+}
+
+// What comes of a call of a DataNode, whose messages are noted.
+fn note_answer(sent: &mut Sent, answered: Option<Answered>) -> Outcome
+    requires room { vec_len sent.old.batches < vec_capacity sent.old.batches }
+    requires small { sent.old.count ≤ 2 ^ 62 }
+    ensures outcome { result ≡ answer_outcome sent.old.count answered }
+    ensures messages { (history : List HistoryEntry) → messages_of history sent.new.batches.items ≡ messages_of history sent.old.batches.items ++ answer_messages answered }
+    ensures laid { (history : List HistoryEntry) → AreLaid history 0 sent.old.batches.items sent.old.count → AreLaid history 0 sent.new.batches.items sent.new.count }
+{
+    let Some(answered) = answered else {
+        return note_nothing(sent, ClusterRefusal::NoNode);
+    };
+    let count = answered.messages.as_slice().len() as u64;
+    Outcome {
+        answer: EventAnswer::Called(answered.result),
+        first: sent.add(Source::Own(answered.messages), count),
+        count,
+    }
+}
+
+/// A NameNode, DataNodes, and the messages that were sent.
+#[derive(Drop)]
+pub(crate) struct Cluster {
+    core: NameCore,
+    nodes: Nodes,
+    sent: Sent,
+    alloc: Global,
+}
+
+impl Model for Cluster {
+    ghost use Rattle.cluster_trace.specs.Trace.{State};
+
+    ghost Value = { State };
+
+    ghost use Rattle.cluster_core.specs.Cluster.{state_of, IsLaid};
+
+    ghost view = { state_of };
+
+    ghost invariant = { IsLaid };
+}
+
+impl Cluster {
+    pub(crate) fn open(
+        alloc: Global,
+        config: Config,
+        key: Key,
+        ids: &[NodeId],
+    ) -> Result<Cluster, AllocError>
+        ensures { IfOk result (λ own. own ≡ start (record { name = record { config = config; key = key }; nodes = ids.now })) }
+    {
+        let nodes = Nodes::of(alloc, ids, config.replica_limit())?;
+        Ok(Cluster {
+            core: NameCore::open(alloc, config, key)?,
+            nodes,
+            sent: Sent::new(alloc),
+            alloc,
+        })
+    }
+
+    pub(crate) fn core(&self) -> &NameCore
+        ensures { result.now ≡ record { opening = self.now.opening; entries = self.now.entries } }
+    {
+        &self.core
+    }
+
+    pub(crate) fn node(&self, id: NodeId) -> Option<&DataNode>
+        ensures { option_copied result ≡ entry_at id self.now.nodes }
+    {
+        self.nodes.get(id)
+    }
+
+    /// A request to the NameNode, which makes the next entry.
+    ///
+    /// # Errors
+    /// Out of memory. Nothing has changed then.
+    pub(crate) fn name(&mut self, request: Request) -> Result<Outcome, AllocError>
+        ensures ok { OnOk result (self.new ≡ left_by self.old (named self.old request)) }
+        ensures outcome { IfOk result (λ outcome. outcome ≡ outcome_of self.old (named self.old request)) }
+        ensures fits { OnOk result (GrantsFit self.old → GrantsFit self.new) }
+        ensures err { OnErr result (self.new ≡ self.old) }
+    {
+        let index = self.core.place();
+        let granted = self.core.ledger().len();
+        if self.sent.make_room().is_err() {
+            drop(request);
+            return Err(AllocError);
+        }
+        self.core.append(0, index, request)?;
+        read_rows(self.core.ledger().as_slice(), granted);
+        let count = last_count(&self.core);
+        let first = self.sent.add(Source::Entry(index as usize), count);
+        Ok(Outcome {
+            answer: EventAnswer::Named(self.core.place()),
+            first,
+            count,
+        })
+    }
+
+    /// A call of a DataNode.
+    ///
+    /// # Errors
+    /// Out of memory. Nothing has changed then.
+    pub(crate) fn call(
+        &mut self,
+        node: NodeId,
+        now: Moment,
+        call: &NodeCall,
+    ) -> Result<Outcome, AllocError>
+        ensures ok { OnOk result (self.new ≡ left_by self.old (called self.old node now call.now)) }
+        ensures outcome { IfOk result (λ outcome. outcome ≡ outcome_of self.old (called self.old node now call.now)) }
+        ensures bytes { OnOk result (PresentsBytes call.now) }
+        ensures err { OnErr result (self.new ≡ self.old) }
+    {
+        self.sent.make_room()?;
+        read_call(call);
+        let answered = self.nodes.call(node, now, call)?;
+        Ok(note_answer(&mut self.sent, answered))
+    }
+
+    /// The delivery of the message with a number.
+    ///
+    /// # Errors
+    /// Out of memory. Nothing has changed then.
+    pub(crate) fn deliver(&mut self, number: u64, now: Moment) -> Result<Outcome, AllocError>
+        ensures ok { OnOk result (self.new ≡ left_by self.old (delivered self.old now (message_at number self.old.messages))) }
+        ensures outcome { IfOk result (λ outcome. outcome ≡ outcome_of self.old (delivered self.old now (message_at number self.old.messages))) }
+        ensures fits { OnOk result (GrantsFit self.old → GrantsFit self.new) }
+        ensures bytes { OnOk result (CallFits (call_brought now (message_at number self.old.messages))) }
+        ensures err { OnErr result (self.new ≡ self.old) }
+    {
+        self.sent.make_room()?;
+        let found = find(&self.sent, self.core.history(), number);
+        match carry_out(self.alloc, &mut self.nodes, now, found.as_ref())? {
+            Carried::Nowhere => Ok(note_nothing(&self.sent, ClusterRefusal::NoMessage)),
+            Carried::Called(answered) => Ok(note_answer(&mut self.sent, answered)),
+            Carried::Report(node, block, stamp, length) => {
+                let request = report(self.alloc, node, now, block, stamp, length)?;
+                self.name(request)
+            }
+        }
+    }
+
+    // A request from outside.
+    fn ask(&mut self, request: &Request) -> Result<Outcome, AllocError>
+        ensures ok { OnOk result (self.new ≡ happens self.old (event.Name request.now)) }
+        ensures outcome { IfOk result (λ outcome. outcome ≡ spec.outcome self.old (event.Name request.now)) }
+        ensures fits { OnOk result (GrantsFit self.old → GrantsFit self.new) }
+        ensures err { OnErr result (self.new ≡ self.old) }
+    {
+        if is_from_outside(&request.op) {
+            let copy = copy_of(request)?;
+            return self.name(copy);
+        }
+        self.sent.make_room()?;
+        Ok(note_nothing(&self.sent, ClusterRefusal::NotFromOutside))
+    }
+
+    /// An event.
+    ///
+    /// # Errors
+    /// Out of memory. Nothing has changed then.
+    pub(crate) fn happen(&mut self, event: &Event) -> Result<Outcome, AllocError>
+        ensures ok { OnOk result (self.new ≡ happens self.old event.now) }
+        ensures outcome { IfOk result (λ outcome. outcome ≡ spec.outcome self.old event.now) }
+        ensures fits { OnOk result (GrantsFit self.old → GrantsFit self.new) }
+        ensures bytes { OnOk result (CallFits (call_of self.old event.now)) }
+        ensures err { OnErr result (self.new ≡ self.old) }
+    {
+        match event {
+            Event::Name(request) => self.ask(request),
+            Event::Deliver(number, now) => self.deliver(*number, *now),
+            Event::Data(node, now, call) => self.call(*node, *now, call.as_node_call()),
+        }
+    }
+}

@@ -1,0 +1,143 @@
+ghost use Rattle.std.specs.Prelude.{◌≡◌, ◌++◌, [], List, IfOk, OnOk, OnErr, option_copied};
+ghost use Rattle.block_records.specs.Numbers.{entry_at};
+ghost use Rattle.cluster_trace.specs.Trace as trace;
+ghost use Rattle.cluster_trace.specs.Provenance.{AllRight};
+ghost use Rattle.cluster_trace.specs.Typed.{AreTyped};
+ghost use Rattle.cluster_trace.specs.declared.event.Event.{Event};
+ghost use Rattle.cluster_core.specs.World.{state_after, stepped, run_past, run_outcomes};
+
+use crate::cluster::Cluster;
+use cluster_trace::event::Event;
+use cluster_trace::outcome::Outcome;
+use datanode::datanode::DataNode;
+use hdfs_types::key::Key;
+use hdfs_values::node_id::NodeId;
+use history::config::Config;
+use name_core::namenode::NameCore;
+use std::alloc::{AllocError, Global};
+use std::collections::VecDeque;
+use std::marker::Model;
+
+/// A cluster in one process: a NameNode, DataNodes, and the messages between them. It is what its events lead to from its opening,
+/// whatever messages are lost, repeated or delivered out of order.
+#[derive(Drop)]
+pub struct World {
+    ids: Vec<NodeId>,
+    cluster: Cluster,
+    // the oldest first
+    events: Vec<Event>,
+}
+
+impl Model for World {
+    ghost use Rattle.cluster_core.specs.Past.{Past};
+
+    ghost Value = { Past };
+
+    ghost use Rattle.cluster_core.specs.World.{past_of, IsReached};
+
+    ghost view = { past_of };
+
+    ghost invariant = { IsReached };
+}
+
+impl World {
+    /// A cluster in which nothing has happened: a NameNode that opens with this configuration and this key, and DataNodes with these ids,
+    /// without replicas and without keys. An id that is named twice is one DataNode.
+    ///
+    /// # Errors
+    /// Out of memory.
+    pub fn new(
+        alloc: Global,
+        config: Config,
+        key: Key,
+        nodes: &[NodeId],
+    ) -> Result<World, AllocError>
+        ensures { IfOk result (λ world. world ≡ record { opening = record { name = record { config = config; key = key }; nodes = nodes.now }; events = [] }) }
+    {
+        let ids = Vec::from_slice(alloc, nodes)?;
+        Ok(World {
+            ids,
+            cluster: Cluster::open(alloc, config, key, nodes)?,
+            events: Vec::new(alloc),
+        })
+    }
+
+    /// The NameNode as it is now. Takes no memory.
+    pub fn core(&self) -> &NameCore
+        ensures { result.now ≡ record { opening = self.now.opening.name; entries = (state_after self.now).entries } }
+    {
+        self.cluster.core()
+    }
+
+    /// The DataNode with an id as it is now. Costs a look-up, and takes no memory.
+    pub fn node(&self, id: NodeId) -> Option<&DataNode>
+        ensures { option_copied result ≡ entry_at id (state_after self.now).nodes }
+    {
+        self.cluster.node(id)
+    }
+
+    /// Every request to the NameNode was answered by the written rules on the entries before it, and every call of a DataNode that
+    /// presented a token and was served, presented a token that the NameNode had granted for it, or a forged one; and all values fit
+    /// their types, so that the laws about clusters hold of these events. Does nothing.
+    pub fn is_right(&self)
+        ensures right { AllRight self.now.opening self.now.events }
+        ensures typed { AreTyped self.now.opening self.now.events }
+    {
+        let _events = &self.events;
+    }
+
+    /// Steps an event, and keeps it. A request makes the next entry of the NameNode's history, which `core().last()` lends with its
+    /// verdict; where it was refused as `NoMessage`, `NoNode` or `NotFromOutside` nothing else has changed, and no clock. Costs what the
+    /// addressee's call costs, and to find a message a step for each time that the number of events that sent some can be halved.
+    ///
+    /// # Errors
+    /// Out of memory. Nothing has changed then, and the event isn't kept.
+    pub fn step(&mut self, event: Event) -> Result<Outcome, AllocError>
+        ensures world { OnOk result (self.new ≡ stepped self.old event) }
+        ensures outcome { IfOk result (λ outcome. outcome ≡ trace.outcome (state_after self.old) event) }
+        ensures right { OnOk result (AllRight self.new.opening self.new.events) }
+        ensures err { OnErr result (self.new ≡ self.old) }
+    {
+        if self.events.reserve(1).is_err() {
+            drop(event);
+            return Err(AllocError);
+        }
+        let Ok(outcome) = self.cluster.happen(&event) else {
+            drop(event);
+            return Err(AllocError);
+        };
+        self.events.push_reserved(event);
+        Ok(outcome)
+    }
+}
+
+/// A world, and what came of the events that were stepped.
+#[derive(Drop)]
+pub struct Trace {
+    pub world: World,
+    /// The oldest first.
+    pub outcomes: Vec<Outcome>,
+}
+
+/// Steps events in their order, up to the first for which there is no memory, and keeps what came of those before it.
+pub fn run(alloc: Global, world: World, events: VecDeque<Event>) -> Trace
+    ensures outcomes { (rest : List Event) × (result.outcomes.items ++ run_outcomes result.world rest ≡ run_outcomes world events.items)
+        × (run_past result.world rest ≡ run_past world events.items) }
+    ensures right { AllRight result.world.opening result.world.events }
+{
+    let mut world = world;
+    let mut events = events;
+    let mut outcomes = Vec::new(alloc);
+    while let Some(event) = events.pop_front() {
+        if outcomes.reserve(1).is_err() {
+            drop(event);
+            break;
+        }
+        let Ok(outcome) = world.step(event) else {
+            break;
+        };
+        outcomes.push_reserved(outcome);
+    }
+    world.is_right();
+    Trace { world, outcomes }
+}

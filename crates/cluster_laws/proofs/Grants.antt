@@ -1,0 +1,97 @@
+-- How long a grant serves.
+use Rattle.std.proofs.Common.{◌≡◌, ℕ, ◌≤◌, Bool, true, false, cond, ◌⊎◌, inl, inr, List, [], ◌∷◌, ◌++◌, refl, sym, ap, ◌∙◌, subst, Option, Some, None, Ok, arith}
+use Rattle.std.specs.List.{AllByRecursion}
+use Rattle.block_records.specs.Numbers.{entry_at}
+use Rattle.block_tokens.specs.TokenText.{Body, TokenText}
+use Rattle.block_tokens.proofs.Taking.{parts_told}
+use Rattle.grant_ledger.specs.declared.ledger.LedgerRow.{LedgerRow}
+use Rattle.node_calls.specs.declared.call.NodeCall.{NodeCall}
+use Rattle.node_calls.specs.declared.call.NodeCall.TheVariants.{Presenting}
+use Rattle.node_calls.specs.declared.call.TokenCall.{TokenCall}
+use Rattle.node_calls.specs.declared.presented.Presented.{Presented}
+use Rattle.node_calls.specs.declared.reply.NodeReply.{NodeReply}
+use Rattle.node_replies.specs.Asking.{asked_by, sends_copy}
+use Rattle.hdfs_values.specs.NodeId.{node_principal}
+use Rattle.hdfs_types.specs.declared.op.Request.{Request}
+use Rattle.datanode.specs.NodeStep.{Node, clock_with}
+use Rattle.cluster_trace.specs.DataCall.{DataCall, node_call}
+use Rattle.cluster_trace.specs.Provenance.{IsIn, granted, IsForged, IsGranted, IsCovered, IsCoveredWhere, CallAt, call_of, IsServedRightly}
+use Rattle.cluster_trace.specs.Trace.{State, Opening, lost, named, called_at, is_from_outside, happened, after}
+use Rattle.cluster_trace.specs.Typed.{GrantFits, AreTyped}
+use Rattle.cluster_trace.specs.declared.event.Event.{Event}
+use Rattle.cluster_trace.specs.declared.event.Event.TheVariants.{Name, Deliver, Data}
+use Rattle.cluster_trace.specs.declared.outcome.ClusterRefusal.TheVariants.{NotFromOutside}
+use Rattle.cluster_trace.specs.declared.outcome.EventAnswer.{EventAnswer}
+use Rattle.cluster_trace.specs.declared.outcome.EventAnswer.TheVariants.{Called}
+use Rattle.cluster_trace.proofs.Each.{each_in}
+use Rattle.cluster_trace.proofs.Right.{all_right}
+use Rattle.cluster_trace.proofs.Tokens.{RowIssued, TellsItself, parts_of, issued_tells, all_issued}
+use Rattle.cluster_laws.specs.Laws.{AreRequests}
+
+-- ---- rights that are gone
+
+request_leaves : (state : State) (b : Bool) (request : Request) → (cond b (named state request) (lost state NotFromOutside)).nodes ≡ state.nodes
+request_leaves state true request = refl
+request_leaves state false request = refl
+
+same_nodes : (opening : Opening) (requests earlier : List Event) → AreRequests requests → (after opening (requests ++ earlier)).nodes ≡ (after opening earlier).nodes
+same_nodes opening [] earlier all = refl
+same_nodes opening (Name request ∷ requests) earlier all = request_leaves (after opening (requests ++ earlier)) (is_from_outside request.op) request ∙ same_nodes opening requests earlier all
+same_nodes opening (Deliver number now ∷ requests) earlier all = absurd all
+same_nodes opening (Data node now asked ∷ requests) earlier all = absurd all
+
+answer_by : (state other : State) (id now : ℕ) (asked : NodeCall) (found : Option Node) → (called_at state id now asked found).answer ≡ (called_at other id now asked found).answer
+answer_by state other id now asked None = refl
+answer_by state other id now asked (Some node) = refl
+
+pub outlive : (opening : Opening) (requests earlier : List Event) (node now : ℕ) (asked : DataCall) → AreRequests requests
+    → (happened (after opening (requests ++ earlier)) (Data node now asked)).answer ≡ (happened (after opening earlier) (Data node now asked)).answer
+outlive opening requests earlier node now asked all =
+    let state = after opening (requests ++ earlier) in
+    let other = after opening earlier in
+    ap (λ nodes. (called_at state node now (node_call asked) (entry_at node nodes)).answer) (same_nodes opening requests earlier all)
+    ∙ answer_by state other node now (node_call asked) (entry_at node other.nodes)
+
+-- ---- expiries
+
+tells_in : (rows : List LedgerRow) (row : LedgerRow) → AllByRecursion RowIssued rows → AllByRecursion (λ (own : LedgerRow). GrantFits own.grant) rows → IsIn row rows → TellsItself row.grant
+tells_in rows row issued fits i = issued_tells row.grant (each_in RowIssued rows row issued i) (each_in (λ (own : LedgerRow). GrantFits own.grant) rows row fits i)
+
+-- rows with one token have one expiry
+same_expiry : (row other : LedgerRow) → TellsItself row.grant → TellsItself other.grant → row.grant.token ≡ other.grant.token → row.grant.expiry ≡ other.grant.expiry
+same_expiry row other tells others is =
+    ap (λ (parts : Body). parts.expiry)
+    (parts_told other.grant.token (parts_of row.grant tells.0) (parts_of other.grant others.0) (subst (λ token. TokenText token (parts_of row.grant tells.0)) is tells.1) others.1)
+
+served_in : (state : State) (asked : CallAt) (presented : Presented) (call : TokenCall) (node : Node) (answer : EventAnswer) (told : NodeReply) → IsServedRightly state (Some asked) answer → answer ≡ Called (Ok told)
+    → asked.call ≡ Presenting presented call → entry_at asked.node state.nodes ≡ Some node → IsGranted state (clock_with node asked.now) (asked_by node.id presented call) call ⊎ IsForged state presented.token
+served_in state asked presented call node answer told served is calls at =
+    let a : IsCovered state asked.now (entry_at asked.node state.nodes) asked.call = subst (λ own. IsCoveredWhere state asked.now (entry_at asked.node state.nodes) asked.call own) is served in
+    let b : IsCovered state asked.now (Some node) asked.call = subst (λ found. IsCovered state asked.now found asked.call) at a in
+    subst (λ own. IsCovered state asked.now (Some node) own) calls b
+
+own_token : (b : Bool) (given : Presented) (principal : List ℕ) → (cond b (record given { caller = principal }) given).token ≡ given.token
+own_token true given principal = refl
+own_token false given principal = refl
+
+same_token : (node : Node) (presented : Presented) (call : TokenCall) → (asked_by node.id presented call).token ≡ presented.token
+same_token node presented call = own_token (sends_copy call) presented (node_principal node.id)
+
+pub end : (opening : Opening) (events : List Event) (event : Event) (row : LedgerRow) (asked : CallAt) (presented : Presented) (call : TokenCall) (node : Node) (told : NodeReply)
+    → AreTyped opening (event ∷ events) → call_of (after opening events) event ≡ Some asked → asked.call ≡ Presenting presented call → entry_at asked.node (after opening events).nodes ≡ Some node
+    → IsIn row (granted (after opening events)) → row.grant.token ≡ presented.token → row.grant.expiry ≤ clock_with node asked.now
+    → (happened (after opening events) event).answer ≡ Called (Ok told) → ⊥
+end opening events event row asked presented call node told typed called calls at stands token expired served =
+    by (served_in (after opening events) asked presented call node (happened (after opening events) event).answer told
+    (subst (λ found. IsServedRightly (after opening events) found (happened (after opening events) event).answer) called (all_right opening (event ∷ events) typed).0.served) served calls at)
+  where
+    tells : (own : LedgerRow) → IsIn own (granted (after opening events)) → TellsItself own.grant
+    tells own i = tells_in (granted (after opening events)) own (all_issued (after opening events).opening (after opening events).entries) typed.0.grants i
+
+    by : IsGranted (after opening events) (clock_with node asked.now) (asked_by node.id presented call) call ⊎ IsForged (after opening events) presented.token → ⊥
+    by (inl grant) =
+        let other : LedgerRow = grant.0 in
+        let same : row.grant.token ≡ other.grant.token = token ∙ sym (same_token node presented call) ∙ sym grant.2.token in
+        let expiry : row.grant.expiry ≡ other.grant.expiry = same_expiry row other (tells row stands) (tells other grant.1) same in
+        absurd (omega (arith, grant.2.in_time, expiry, expired))
+    by (inr forged) = forged.not_granted row stands token

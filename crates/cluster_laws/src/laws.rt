@@ -1,0 +1,19 @@
+//! Laws about clusters in an operator's words. Each function does nothing: what it ensures follows from the definitions.
+
+ghost use Rattle.cluster_laws.specs.Laws as law;
+
+/// As long as no event presents a forged token, each record in the log of any DataNode rests on a grant of the NameNode: with that token,
+/// to that caller, for that block, with a mode that allows it, and not expired. So whoever was never granted a block never reads or
+/// writes a byte of it, at any DataNode, whatever messages are lost, repeated or delivered out of order (HADOOP-4359).
+pub fn strangers_reach_nothing()
+    ensures noted { law.ServedCallsAreNoted }
+    ensures rest { law.RecordsRest }
+    ensures strangers { law.StrangersReachNothing }
+{}
+
+/// A DataNode asks nobody: whatever the NameNode is asked in between, a call is answered as it would have been before. So a grant outlives
+/// the right by which it was given; but no call is served by it once its expiry has come at the DataNode (HADOOP-4359).
+pub fn grants_outlive_rights_until_they_expire()
+    ensures outlive { law.GrantsOutliveRights }
+    ensures end { law.GrantsEnd }
+{}

@@ -1,0 +1,6 @@
+pub mod Gets
+pub mod Laying
+pub mod Finding
+pub mod Commands
+pub mod Tables
+pub mod Rows

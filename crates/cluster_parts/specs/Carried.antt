@@ -1,0 +1,62 @@
+-- A message as it is found, and what carrying it out leaves.
+use Rattle.std.specs.Prelude.{ℕ, List, Option, Some, None, option_map}
+use denote.Ref.{Bor}
+use Rattle.hdfs_values.specs.NodeId.{node_of}
+use Rattle.hdfs_types.specs.Commands.{Commands}
+use Rattle.hdfs_types.specs.declared.reply.Reply.{Reply}
+use Rattle.hdfs_types.specs.declared.reply.Reply.TheVariants as reply
+use Rattle.flat_rows.specs.declared.verdict.Verdict.{Verdict}
+use Rattle.flat_rows.specs.declared.verdict.Verdict.TheVariants.{Done, Denied, Refused}
+use Rattle.history.specs.declared.entry.HistoryEntry.{HistoryEntry}
+use Rattle.node_calls.specs.declared.call.NodeCall.TheVariants.{Keys}
+use Rattle.node_calls.specs.declared.message.Message.{Message}
+use Rattle.node_calls.specs.declared.message.Message.TheVariants as message
+use Rattle.datanode.specs.NodeStep.{Node}
+use Rattle.cluster_trace.specs.Trace.{recover_message, removal_message, copy_message}
+use Rattle.cluster_parts.specs.Nodes.{nodes_after, answer_at}
+use Rattle.cluster_parts.specs.declared.found.Found.{Found}
+use Rattle.cluster_parts.specs.declared.found.Found.TheVariants as found
+use Rattle.cluster_parts.specs.declared.carried.Carried.{Carried}
+use Rattle.cluster_parts.specs.declared.carried.Carried.TheVariants as carried
+
+-- the message that was found
+abbrev pub seen : Found → Message
+seen (found.Kept own) = own.now
+seen (found.Keys node keys) = message.Node node (Keys keys.now)
+seen (found.Recovery node own) = recover_message node own.now
+seen (found.Removal node own) = removal_message node own
+seen (found.Copy node own) = copy_message node own.now
+
+abbrev pub found_message : Option (Bor Found) → Option Message
+found_message found = option_map (λ (own : Bor Found). seen own.now) found
+
+-- the commands in an entry, and the DataNode that they are for
+abbrev pub told_for : Option ℕ → Reply → Option (ℕ × Commands)
+told_for (Some node) (reply.Commands commands) = Some (node, commands)
+told_for _ told = None
+
+abbrev pub verdict_for : Option ℕ → Verdict → Option (ℕ × Commands)
+verdict_for caller (Done told) = told_for caller told
+verdict_for caller (Denied denial) = None
+verdict_for caller (Refused refusal) = None
+
+abbrev pub commands_for : HistoryEntry → Option (ℕ × Commands)
+commands_for entry = verdict_for (node_of entry.request.caller) entry.verdict
+
+abbrev pub commands_seen : Option (ℕ × Bor Commands) → Option (ℕ × Commands)
+commands_seen found = option_map (λ (own : ℕ × Bor Commands). (own.0, own.1.now)) found
+
+-- what comes of it: a DataNode is called, or a report is to be told
+abbrev pub carried_out : List (ℕ × Node) → ℕ → Option Message → Carried
+carried_out nodes now None = carried.Nowhere
+carried_out nodes now (Some (message.Node node asked)) = carried.Called (answer_at node now asked nodes)
+carried_out nodes now (Some (message.Plan node asked)) = carried.Nowhere
+carried_out nodes now (Some (message.Reported node block stamp bytes)) = carried.Report node block stamp bytes
+carried_out nodes now (Some (message.CommitRecovery node block stamp bytes others)) = carried.Nowhere
+
+abbrev pub nodes_carried : List (ℕ × Node) → ℕ → Option Message → List (ℕ × Node)
+nodes_carried nodes now None = nodes
+nodes_carried nodes now (Some (message.Node node asked)) = nodes_after node now asked nodes
+nodes_carried nodes now (Some (message.Plan node asked)) = nodes
+nodes_carried nodes now (Some (message.Reported node block stamp bytes)) = nodes
+nodes_carried nodes now (Some (message.CommitRecovery node block stamp bytes others)) = nodes

@@ -1,0 +1,3 @@
+pub mod Nodes
+pub mod Sent
+pub mod Carried

@@ -1,0 +1,210 @@
+ghost use Rattle.std.specs.Prelude.{◌≡◌, IfOk, OnOk, OnErr, Some};
+ghost use Rattle.hdfs_values.specs.NodeId.{node_principal};
+ghost use Rattle.node_calls.specs.declared.call.NodeCall.TheVariants as asked;
+ghost use Rattle.datanode.specs.NodeStep.{copying};
+ghost use Rattle.cluster_trace.specs.Trace.{reporting};
+ghost use Rattle.cluster_trace.specs.Typed.{PresentsBytes, CallFits};
+ghost use Rattle.cluster_trace.specs.Provenance.{call_brought};
+ghost use Rattle.cluster_parts.specs.Carried.{seen, found_message, carried_out, nodes_carried};
+ghost use Rattle.cluster_parts.specs.Nodes.{nodes_after, answer_at};
+
+use crate::found::Found;
+use crate::nodes::Nodes;
+use crate::ranges::read_call;
+use datanode::answered::Answered;
+use hdfs_types::commands::{CopyOrder, Removal};
+use hdfs_types::key_list::KeyList;
+use hdfs_types::op::{Op, Request};
+use hdfs_types::replica::ReportedReplica;
+use hdfs_values::ids::{BlockId, Stamp};
+use hdfs_values::moment::Moment;
+use hdfs_values::node_id::NodeId;
+use hdfs_values::who::Who;
+use node_calls::call::{NodeCall, TokenCall};
+use node_calls::message::Message;
+use node_calls::presented::{Presented, PresentedToken};
+use std::alloc::{AllocError, Global};
+
+/// What comes of a message that is delivered.
+#[derive(Drop)]
+pub enum Carried {
+    /// There is none, or nobody takes it.
+    Nowhere,
+    /// What a DataNode answers; nothing where there is no such node.
+    Called(Option<Answered>),
+    /// A DataNode's report is to be told to the NameNode.
+    Report(NodeId, BlockId, Stamp, u64),
+}
+
+// The name of a node.
+fn principal_of(alloc: Global, node: NodeId) -> Result<Who, AllocError>
+    ensures { IfOk result (λ who. who ≡ node_principal node) }
+{
+    let text = format!(in alloc; "dn-{}", node.get())?;
+    // it is a name, so that only memory can lack
+    match Who::parse(alloc, text.as_str()) {
+        Ok(who) => Ok(who),
+        Err(_) => Err(AllocError),
+    }
+}
+
+/// The request that a report is, in the node's own name.
+///
+/// # Errors
+/// Out of memory.
+pub fn report(
+    alloc: Global,
+    node: NodeId,
+    now: Moment,
+    block: BlockId,
+    stamp: Stamp,
+    length: u64,
+) -> Result<Request, AllocError>
+    ensures { IfOk result (λ request. request ≡ reporting node now block stamp length) }
+{
+    Ok(Request {
+        caller: principal_of(alloc, node)?,
+        moment: now,
+        op: Op::Reported(ReportedReplica {
+            block,
+            stamp,
+            length,
+        }),
+    })
+}
+
+// The call by which a node is told to send a copy.
+fn copy_call(alloc: Global, node: NodeId, copy: &CopyOrder) -> Result<NodeCall, AllocError>
+    ensures { IfOk result (λ call. call ≡ copying node copy.now.block copy.now.stamp copy.now.token copy.now.target) }
+{
+    let presented = Presented {
+        caller: principal_of(alloc, node)?,
+        block: copy.block,
+        stamp: copy.stamp,
+        token: PresentedToken::copied(alloc, copy.token.as_bytes())?,
+    };
+    Ok(NodeCall::Presenting(presented, TokenCall::SendCopy(copy.target)))
+}
+
+// Calls a DataNode.
+fn call(
+    nodes: &mut Nodes,
+    node: NodeId,
+    now: Moment,
+    call: &NodeCall,
+) -> Result<Carried, AllocError>
+    ensures ok { OnOk result (nodes.new ≡ nodes_after node now call.now nodes.old) }
+    ensures carried { IfOk result (λ carried. carried ≡ Carried.Called (answer_at node now call.now nodes.old)) }
+    ensures bytes { OnOk result (PresentsBytes call.now) }
+    ensures err { OnErr result (nodes.new ≡ nodes.old) }
+{
+    read_call(call);
+    let answered = nodes.call(node, now, call)?;
+    Ok(Carried::Called(answered))
+}
+
+// Carries out a message that is kept on its own.
+fn carry_message(nodes: &mut Nodes, now: Moment, message: &Message) -> Result<Carried, AllocError>
+    ensures ok { OnOk result (nodes.new ≡ nodes_carried nodes.old now (Some message.now)) }
+    ensures carried { IfOk result (λ carried. carried ≡ carried_out nodes.old now (Some message.now)) }
+    ensures bytes { OnOk result (CallFits (call_brought now (Some message.now))) }
+    ensures err { OnErr result (nodes.new ≡ nodes.old) }
+{
+    match message {
+        Message::Node(node, asked) => call(nodes, *node, now, asked),
+        Message::Plan(_, _) => Ok(Carried::Nowhere),
+        Message::Reported(node, block, stamp, length) => {
+            Ok(Carried::Report(*node, *block, *stamp, *length))
+        }
+        Message::CommitRecovery(_, _, _, _, _) => Ok(Carried::Nowhere),
+    }
+}
+
+// Brings a DataNode keys.
+fn carry_keys(
+    nodes: &mut Nodes,
+    node: NodeId,
+    now: Moment,
+    keys: &KeyList,
+) -> Result<Carried, AllocError>
+    ensures ok { OnOk result (nodes.new ≡ nodes_after node now (asked.Keys keys.now) nodes.old) }
+    ensures carried { IfOk result (λ carried. carried ≡ Carried.Called (answer_at node now (asked.Keys keys.now) nodes.old)) }
+    ensures err { OnErr result (nodes.new ≡ nodes.old) }
+{
+    let made = NodeCall::Keys(keys.clone()?);
+    call(nodes, node, now, &made)
+}
+
+// Tells a DataNode to remove a replica.
+fn carry_removal(
+    nodes: &mut Nodes,
+    node: NodeId,
+    now: Moment,
+    own: Removal,
+) -> Result<Carried, AllocError>
+    ensures ok { OnOk result (nodes.new ≡ nodes_after node now (asked.Invalidate own.block own.stamp) nodes.old) }
+    ensures carried { IfOk result (λ carried. carried ≡ Carried.Called (answer_at node now (asked.Invalidate own.block own.stamp) nodes.old)) }
+    ensures err { OnErr result (nodes.new ≡ nodes.old) }
+{
+    let made = NodeCall::Invalidate(own.block, own.stamp);
+    call(nodes, node, now, &made)
+}
+
+// Tells a DataNode to send a copy.
+fn carry_copy(
+    alloc: Global,
+    nodes: &mut Nodes,
+    node: NodeId,
+    now: Moment,
+    copy: &CopyOrder,
+) -> Result<Carried, AllocError>
+    ensures ok { OnOk result (nodes.new ≡ nodes_after node now (copying node copy.now.block copy.now.stamp copy.now.token copy.now.target) nodes.old) }
+    ensures carried { IfOk result (λ carried. carried ≡ Carried.Called (answer_at node now (copying node copy.now.block copy.now.stamp copy.now.token copy.now.target) nodes.old)) }
+    ensures bytes { OnOk result (PresentsBytes (copying node copy.now.block copy.now.stamp copy.now.token copy.now.target)) }
+    ensures err { OnErr result (nodes.new ≡ nodes.old) }
+{
+    let made = copy_call(alloc, node, copy)?;
+    call(nodes, node, now, &made)
+}
+
+// Carries out a message as it was found.
+fn carry_found(
+    alloc: Global,
+    nodes: &mut Nodes,
+    now: Moment,
+    found: &Found<'_>,
+) -> Result<Carried, AllocError>
+    ensures ok { OnOk result (nodes.new ≡ nodes_carried nodes.old now (Some (seen found.now))) }
+    ensures carried { IfOk result (λ carried. carried ≡ carried_out nodes.old now (Some (seen found.now))) }
+    ensures bytes { OnOk result (CallFits (call_brought now (Some (seen found.now)))) }
+    ensures err { OnErr result (nodes.new ≡ nodes.old) }
+{
+    match found {
+        Found::Kept(message) => carry_message(nodes, now, message),
+        Found::Keys(node, keys) => carry_keys(nodes, *node, now, keys),
+        Found::Recovery(_, _) => Ok(Carried::Nowhere),
+        Found::Removal(node, own) => carry_removal(nodes, *node, now, *own),
+        Found::Copy(node, copy) => carry_copy(alloc, nodes, *node, now, copy),
+    }
+}
+
+/// Carries out a message as it was found, if one was.
+///
+/// # Errors
+/// Out of memory. Nothing has changed then.
+pub fn carry_out(
+    alloc: Global,
+    nodes: &mut Nodes,
+    now: Moment,
+    found: Option<&Found<'_>>,
+) -> Result<Carried, AllocError>
+    ensures ok { OnOk result (nodes.new ≡ nodes_carried nodes.old now (found_message found.entry)) }
+    ensures carried { IfOk result (λ carried. carried ≡ carried_out nodes.old now (found_message found.entry)) }
+    ensures bytes { OnOk result (CallFits (call_brought now (found_message found.entry))) }
+    ensures err { OnErr result (nodes.new ≡ nodes.old) }
+{
+    match found {
+        Some(found) => carry_found(alloc, nodes, now, found),
+        None => Ok(Carried::Nowhere),
+    }
+}

@@ -1,0 +1,8 @@
+//! The parts of a cluster: its DataNodes by their ids, its messages as they are kept, and what carrying one out leaves.
+#![tactic(auto)]
+
+pub mod carried;
+pub mod found;
+pub mod nodes;
+pub mod ranges;
+pub mod sent;

@@ -1,0 +1,107 @@
+ghost use Rattle.std.specs.Prelude.{◌≡◌, ℕ, ◌+◌, ◌<◌, ◌≤◌, ◌^◌, ◌++◌, List, [], length, slice_get, OnOk, vec_len, vec_capacity};
+ghost use Rattle.history.specs.declared.entry.HistoryEntry.{HistoryEntry};
+ghost use Rattle.cluster_parts.specs.Sent.{source_messages, messages_of, IsWithin, AreLaid};
+ghost use Rattle.cluster_parts.specs.declared.sent.Batch.{Batch};
+
+use node_calls::message::Messages;
+use std::alloc::{AllocError, Global};
+
+/// Where the messages of one event are.
+#[derive(Drop)]
+pub enum Source {
+    /// They are the commands in the entry with this index of the NameNode's history.
+    Entry(usize),
+    Own(Messages),
+}
+
+/// The messages of one event that sends some.
+#[derive(Drop)]
+pub struct Batch {
+    /// The number of the first.
+    pub first: u64,
+    pub source: Source,
+}
+
+/// All messages that were ever sent, in batches, each of one event.
+#[derive(Drop)]
+pub struct Sent {
+    pub batches: Vec<Batch>,
+    pub count: u64,
+}
+
+// More messages than this aren't numbered: that much memory there is nowhere.
+const MOST: u64 = 1 << 62;
+
+impl Sent {
+    /// No message. Takes no memory.
+    pub fn new(alloc: Global) -> Sent
+        ensures batches { result.batches.items ≡ [] }
+        ensures count { result.count ≡ 0 }
+    {
+        Sent {
+            batches: Vec::new(alloc),
+            count: 0,
+        }
+    }
+
+    /// Makes room for the messages of one event. The messages are as before.
+    ///
+    /// # Errors
+    /// Out of memory.
+    pub fn make_room(&mut self) -> Result<(), AllocError>
+        ensures batches { self.new.batches.items ≡ self.old.batches.items }
+        ensures count { self.new.count ≡ self.old.count }
+        ensures room { OnOk result (vec_len self.new.batches < vec_capacity self.new.batches) }
+        ensures small { OnOk result (self.new.count ≤ 2 ^ 62) }
+    {
+        if self.count > MOST {
+            return Err(AllocError);
+        }
+        self.batches.reserve(1)
+    }
+
+    /// Notes the messages of an event behind the others, for which there is room: so many. Tells the number of the first, or that which
+    /// comes next where there are none. Takes no memory.
+    pub fn add(&mut self, source: Source, count: u64) -> u64
+        requires room { vec_len self.old.batches < vec_capacity self.old.batches }
+        requires small { self.old.count ≤ 2 ^ 62 }
+        requires few { count < 2 ^ 63 }
+        ensures first { result ≡ self.old.count + 1 }
+        ensures messages { (history : List HistoryEntry) → length (source_messages history source) ≡ count → messages_of history self.new.batches.items ≡ messages_of history self.old.batches.items ++ source_messages history source }
+        ensures laid { (history : List HistoryEntry) → AreLaid history 0 self.old.batches.items self.old.count → IsWithin history source → length (source_messages history source) ≡ count → AreLaid history 0 self.new.batches.items self.new.count }
+    {
+        let first = self.count + 1;
+        if count > 0 {
+            self.batches.push_reserved(Batch { first, source });
+            self.count += count;
+        }
+        first
+    }
+
+    /// The number that the next message has. Takes no memory.
+    pub fn next(&self) -> u64
+        requires { self.now.count ≤ 2 ^ 62 }
+        ensures { result ≡ self.now.count + 1 }
+    {
+        self.count + 1
+    }
+}
+
+/// How many batches begin at or below a number, where their first numbers ascend: the last of them may hold the message of that number.
+pub fn begun_by(batches: &[Batch], number: u64) -> usize
+    ensures within { result ≤ length batches.now }
+    ensures below { (index : ℕ) (batch : Batch) → result ≡ index + 1 → slice_get batches.now index ≡ Some batch → batch.first ≤ number }
+    ensures above { (batch : Batch) → slice_get batches.now result ≡ Some batch → number < batch.first }
+{
+    let mut low = 0;
+    let mut high = batches.len();
+    while low < high {
+        let middle = low + (high - low) / 2;
+        if batches[middle].first <= number {
+            low = middle + 1;
+        } else {
+            high = middle;
+        }
+    }
+    low
+}

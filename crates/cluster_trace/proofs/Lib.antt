@@ -1,0 +1,7 @@
+pub mod Each
+pub mod Keys
+pub mod Commands
+pub mod Tokens
+pub mod Sound
+pub mod Right
+pub mod Vectors

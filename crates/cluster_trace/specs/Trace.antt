@@ -1,0 +1,189 @@
+-- A cluster, over every list of events: a NameNode, DataNodes, and all messages that were ever sent. A message may be delivered once or
+-- often, in any order, or never. Lists of events and of entries have the newest first.
+-- (HDFS Architecture, "The Communication Protocols": clients and DataNodes call the NameNode, which calls nobody, and answers heartbeats
+-- with commands.)
+use Rattle.std.specs.Prelude.{ℕ, zero, suc, ◌+◌, Bool, true, false, if◌then◌else◌, List, [], ◌∷◌, ◌++◌, map, fold, length, Option, Some, None, slice_get}
+use Rattle.std.specs.BTreeMap.{insert_entry}
+use Rattle.std.specs.Map.{set_value}
+use Rattle.std.specs.Ordering.{nat_cmp}
+use Rattle.block_records.specs.Numbers.{is_number, entry_at}
+use Rattle.hdfs_values.specs.NodeId.{node_of, node_principal}
+use Rattle.hdfs_types.specs.Commands.{Commands}
+use Rattle.hdfs_types.specs.declared.commands.CopyOrder.{CopyOrder}
+use Rattle.hdfs_types.specs.declared.commands.Recover.{Recover}
+use Rattle.hdfs_types.specs.declared.commands.Removal.{Removal}
+use Rattle.hdfs_types.specs.declared.op.Op.{Op}
+use Rattle.hdfs_types.specs.declared.op.Op.TheVariants as op
+use Rattle.hdfs_types.specs.declared.op.Request.{Request}
+use Rattle.hdfs_types.specs.declared.reply.Reply.{Reply}
+use Rattle.hdfs_types.specs.declared.reply.Reply.TheVariants as reply
+use Rattle.flat_rows.specs.declared.verdict.Verdict.{Verdict}
+use Rattle.flat_rows.specs.declared.verdict.Verdict.TheVariants.{Done, Denied, Refused}
+use Rattle.history.specs.Config as name
+use Rattle.history.specs.LegalHistory.{verdict_of}
+use Rattle.history.specs.declared.entry.HistoryEntry.{HistoryEntry}
+use Rattle.node_calls.specs.declared.call.NodeCall.{NodeCall}
+use Rattle.node_calls.specs.declared.call.NodeCall.TheVariants.{Invalidate, Keys}
+use Rattle.node_calls.specs.declared.call.PlanCall.TheVariants as plan
+use Rattle.node_calls.specs.declared.message.Message.{Message}
+use Rattle.node_calls.specs.declared.message.Message.TheVariants as message
+use Rattle.datanode.specs.NodeStep.{Node, node_after, node_answer, copying}
+use Rattle.datanode.specs.declared.answered.Answered.{Answered}
+use Rattle.cluster_trace.specs.DataCall.{node_call}
+use Rattle.cluster_trace.specs.declared.event.Event.{Event}
+use Rattle.cluster_trace.specs.declared.event.Event.TheVariants.{Name, Deliver, Data}
+use Rattle.cluster_trace.specs.declared.outcome.ClusterRefusal.{ClusterRefusal}
+use Rattle.cluster_trace.specs.declared.outcome.ClusterRefusal.TheVariants.{NoMessage, NoNode, NotFromOutside}
+use Rattle.cluster_trace.specs.declared.outcome.EventAnswer.{EventAnswer}
+use Rattle.cluster_trace.specs.declared.outcome.EventAnswer.TheVariants.{Named, Called, Lost}
+use Rattle.cluster_trace.specs.declared.outcome.Outcome.{Outcome}
+
+pub record State : Type 0 where
+  -- of the NameNode: what it opened with, and its history
+  pub opening : name.Opening
+  pub entries : List HistoryEntry
+  -- the DataNodes by their ids
+  pub nodes : List (ℕ × Node)
+  -- in the order in which they were sent
+  pub messages : List Message
+
+-- ---- how a cluster begins
+
+pub record Opening : Type 0 where
+  pub name : name.Opening
+  -- the ids of the DataNodes
+  pub nodes : List ℕ
+
+-- without a replica and without a key
+abbrev pub new_node : ℕ → ℕ → Node
+new_node limit id = record { id = id; limit = limit; clock = 0; keys = []; blocks = []; log = [] }
+
+abbrev pub with_new_node : ℕ → List (ℕ × Node) → ℕ → List (ℕ × Node)
+with_new_node limit nodes id = insert_entry nat_cmp nodes id (new_node limit id)
+
+abbrev pub start : Opening → State
+start opening = record { opening = opening.name; entries = []; nodes = fold (with_new_node opening.name.config.replica_limit) [] opening.nodes; messages = [] }
+
+-- ---- what an event does
+
+-- what is answered and sent, and what is left of the NameNode's history and of the DataNodes
+pub record Happened : Type 0 where
+  pub answer : EventAnswer
+  pub sent : List Message
+  pub entries : List HistoryEntry
+  pub nodes : List (ℕ × Node)
+
+abbrev pub lost : State → ClusterRefusal → Happened
+lost state refusal = record { answer = Lost refusal; sent = []; entries = state.entries; nodes = state.nodes }
+
+-- ---- requests to the NameNode
+
+-- the next entry, with the verdict that those before it give
+abbrev pub entry_of : State → Request → HistoryEntry
+entry_of state request =
+    record { place = length state.entries + 1; pass = 0; index = length state.entries; request = request; verdict = verdict_of state.opening state.entries request }
+
+-- a command is carried out by the message that brings it
+abbrev pub recover_message : ℕ → Recover → Message
+recover_message node own = message.Plan node (plan.Recover own.block own.stamp own.nodes own.token)
+
+abbrev pub removal_message : ℕ → Removal → Message
+removal_message node own = message.Node node (Invalidate own.block own.stamp)
+
+abbrev pub copy_message : ℕ → CopyOrder → Message
+copy_message node own = message.Node node (copying node own.block own.stamp own.token own.target)
+
+abbrev pub command_messages : ℕ → Commands → List Message
+command_messages node commands =
+    (message.Node node (Keys commands.keys) ∷ map (recover_message node) commands.recoveries)
+    ++ (map (removal_message node) commands.removals ++ map (copy_message node) commands.copies)
+
+-- to the node whose principal sent the heartbeat
+abbrev pub told_messages : Option ℕ → Reply → List Message
+told_messages (Some node) (reply.Commands commands) = command_messages node commands
+told_messages _ told = []
+
+abbrev pub sent_by : Option ℕ → Verdict → List Message
+sent_by caller (Done told) = told_messages caller told
+sent_by caller (Denied denial) = []
+sent_by caller (Refused refusal) = []
+
+abbrev pub entry_messages : HistoryEntry → List Message
+entry_messages entry = sent_by (node_of entry.request.caller) entry.verdict
+
+-- a request makes the next entry, whatever the verdict, and is answered by it
+abbrev pub named : State → Request → Happened
+named state request = record {
+  answer = Named (entry_of state request).place;
+  sent = entry_messages (entry_of state request);
+  entries = entry_of state request ∷ state.entries;
+  nodes = state.nodes;
+}
+
+-- messages alone bring what DataNodes report
+abbrev pub is_from_outside : Op → Bool
+is_from_outside (op.Reported replica) = false
+is_from_outside _ = true
+
+-- ---- calls of a DataNode
+
+abbrev pub answered : State → ℕ → Node → Answered → Happened
+answered state id left own = record { answer = Called own.result; sent = own.messages; entries = state.entries; nodes = set_value (is_number id) state.nodes left }
+
+abbrev pub called_at : State → ℕ → ℕ → NodeCall → Option Node → Happened
+called_at state id now asked None = lost state NoNode
+called_at state id now asked (Some node) = answered state id (node_after node now asked) (node_answer node now asked)
+
+abbrev pub called : State → ℕ → ℕ → NodeCall → Happened
+called state id now asked = called_at state id now asked (entry_at id state.nodes)
+
+-- ---- messages
+
+-- the first has the number 1
+abbrev pub message_at : ℕ → List Message → Option Message
+message_at zero messages = None
+message_at (suc before) messages = slice_get messages before
+
+-- a node's report is a request in its own name
+abbrev pub reporting : ℕ → ℕ → ℕ → ℕ → ℕ → Request
+reporting node now block stamp bytes =
+    record { caller = node_principal node; moment = now; op = op.Reported (record { block = block; stamp = stamp; length = bytes }) }
+
+-- nobody leads a recovery yet, and the NameNode is told of none
+abbrev pub delivered : State → ℕ → Option Message → Happened
+delivered state now None = lost state NoMessage
+delivered state now (Some (message.Node node asked)) = called state node now asked
+delivered state now (Some (message.Plan node asked)) = lost state NoMessage
+delivered state now (Some (message.Reported node block stamp bytes)) = named state (reporting node now block stamp bytes)
+delivered state now (Some (message.CommitRecovery node block stamp bytes nodes)) = lost state NoMessage
+
+-- ---- events
+
+abbrev pub happened : State → Event → Happened
+happened state (Name request) = if is_from_outside request.op then named state request else lost state NotFromOutside
+happened state (Deliver number now) = delivered state now (message_at number state.messages)
+happened state (Data node now asked) = called state node now (node_call asked)
+
+-- the numbers of what it sends go on from those before
+abbrev pub outcome_of : State → Happened → Outcome
+outcome_of state what = record { answer = what.answer; first = length state.messages + 1; count = length what.sent }
+
+abbrev pub outcome : State → Event → Outcome
+outcome state event = outcome_of state (happened state event)
+
+abbrev pub left_by : State → Happened → State
+left_by state what = record { opening = state.opening; entries = what.entries; nodes = what.nodes; messages = state.messages ++ what.sent }
+
+abbrev pub happens : State → Event → State
+happens state event = left_by state (happened state event)
+
+-- ---- traces
+
+abbrev pub after : Opening → List Event → State
+after opening [] = start opening
+after opening (event ∷ earlier) = happens (after opening earlier) event
+
+-- what comes of the events, the oldest first
+abbrev pub outcomes : Opening → List Event → List Outcome
+outcomes opening [] = []
+outcomes opening (event ∷ earlier) = outcomes opening earlier ++ outcome (after opening earlier) event ∷ []

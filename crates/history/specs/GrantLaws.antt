@@ -1,0 +1,50 @@
+-- Laws about grants over histories.
+use Rattle.std.specs.Prelude.{◌≡◌, ℕ, List, [], ◌∷◌, ◌⊎◌}
+use Rattle.std.specs.List.{AllByRecursion}
+use Rattle.permission_specs.specs.Modes.{modes}
+use Rattle.permission_specs.specs.declared.modes.Modes.{Modes}
+use Rattle.hdfs_types.specs.declared.located.LocatedBlock.{LocatedBlock}
+use Rattle.hdfs_types.specs.declared.op.Op.{Op}
+use Rattle.hdfs_types.specs.declared.op.Op.TheVariants as op
+use Rattle.hdfs_types.specs.declared.reply.Reply.{Reply}
+use Rattle.hdfs_types.specs.declared.reply.Reply.TheVariants as reply
+use Rattle.grant_ledger.specs.declared.ledger.LedgerRow.{LedgerRow}
+use Rattle.flat_rows.specs.declared.verdict.Verdict.{Verdict}
+use Rattle.flat_rows.specs.declared.verdict.Verdict.TheVariants.{Done, Denied, Refused}
+use Rattle.history.specs.declared.entry.HistoryEntry.{HistoryEntry}
+use Rattle.history.specs.Config.{Opening}
+use Rattle.history.specs.Grants.{ledger_of}
+
+-- ---- who was granted what
+
+-- a reader was told of the block
+abbrev pub IsTold : ℕ → List LocatedBlock → Type 0
+IsTold block [] = ⊥
+IsTold block (own ∷ others) = (block ≡ own.block) ⊎ IsTold block others
+
+-- what an operation with this reply lets its caller do: one who asked for a new block writes it, one who opened a file reads its blocks,
+-- and a DataNode does what its heartbeat was answered
+abbrev pub Lets : Op → Reply → ℕ → Modes → Type 0
+Lets (op.AddBlock path last) (reply.Added added) block granted = (block ≡ added.block) × (granted ≡ modes 2)
+Lets (op.Open path) (reply.Opened opened) block granted = IsTold block opened.blocks × (granted ≡ modes 1)
+Lets op.Heartbeat (reply.Commands commands) block granted = Unit {0}
+Lets _ told block granted = ⊥
+
+abbrev pub LetsBy : Op → Verdict → ℕ → Modes → Type 0
+LetsBy what (Done told) block granted = Lets what told block granted
+LetsBy what (Denied denial) block granted = ⊥
+LetsBy what (Refused refusal) block granted = ⊥
+
+-- the row stands for what this entry granted
+pub record IsGrantOf (entry : HistoryEntry) (row : LedgerRow) : Type 0 where
+  pub place : row.place ≡ entry.place
+  pub user : row.grant.user ≡ entry.request.caller
+  pub let_by : LetsBy entry.request.op entry.verdict row.grant.block row.grant.modes
+
+abbrev pub IsGranted : List HistoryEntry → LedgerRow → Type 0
+IsGranted [] row = ⊥
+IsGranted (entry ∷ earlier) row = IsGrantOf entry row ⊎ IsGranted earlier row
+
+-- each token was granted to the caller of an entry at that place, for what that entry let him do
+abbrev pub GrantsWereAsked : Type 0
+GrantsWereAsked = (opening : Opening) (entries : List HistoryEntry) → AllByRecursion (IsGranted entries) (ledger_of opening entries)

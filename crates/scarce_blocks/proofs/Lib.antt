@@ -1,0 +1,3 @@
+pub mod Stays
+pub mod Ample
+pub mod Covering

@@ -1,0 +1,6 @@
+use Rattle.block_tables.specs.Changes.{with_report}
+use Rattle.scarce_blocks.proofs.Ample.{others_changed}
+use Rattle.scarce_blocks.proofs.watched_table.WatchedTable.hold.Goals as goal
+
+pub watch-requires : goal.watch-requires
+watch-requires c = λ complete. others_changed (with_report c.args.node c.args.bytes) c.args.block c.self.inside.table c.hold.new.self c.self.inside.scarce c.in_ok-hold.ensures.ok (c.self.invariant complete)

@@ -1,0 +1,14 @@
+use Rattle.std.proofs.Common.{◌∙◌, refl, sym, ap}
+use Rattle.std.proofs.lemmas.Result.{IfOk-weaker}
+use Rattle.hdfs_types.specs.declared.op.Op.TheVariants as op
+use Rattle.principals.specs.Users.{Caller}
+use Rattle.write_rules.specs.JudgedBlocks.{verdict_of_new}
+use Rattle.write_rules.proofs.Writing.{as_judged}
+use Rattle.write_rules.proofs.blocks.judge_add_block.Goals as goal
+
+pub returns-clause-verdict : goal.returns-clause-verdict
+returns-clause-verdict c = λ facts blocks now.
+    let what = op.AddBlock c.args.path.now c.args.last in
+    IfOk-weaker c.add_block_judged.result _ _
+    (λ judged is. ap (λ who. verdict_of_new facts.token who judged) (sym (ap (λ (u : Caller). u.name) c.caller.ensures)) ∙ is ∙ as_judged facts c.args.tree.now c.args.users.now c.args.caller.now c.caller.result c.args.needs.now what what c.caller.ensures c.requires refl)
+    (c.add_block_judged.ensures.verdict facts c.args.users.now blocks now)
