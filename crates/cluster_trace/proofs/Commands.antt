@@ -10,6 +10,7 @@ use Rattle.hdfs_types.specs.declared.commands.CopyOrder.{CopyOrder}
 use Rattle.hdfs_types.specs.declared.commands.Recover.{Recover}
 use Rattle.hdfs_types.specs.declared.commands.Removal.{Removal}
 use Rattle.hdfs_types.specs.declared.key_list.HeldKey.{HeldKey}
+use Rattle.block_records.specs.declared.last_block.LastBlock.{LastBlock}
 use Rattle.hdfs_types.specs.declared.op.Op.{Op}
 use Rattle.hdfs_types.specs.declared.op.Op.TheVariants as op
 use Rattle.hdfs_types.specs.declared.op.Request.{Request}
@@ -18,6 +19,7 @@ use Rattle.hdfs_types.specs.declared.reply.Reply.{Reply}
 use Rattle.hdfs_types.specs.declared.reply.Reply.TheVariants as reply
 use Rattle.namespace_rows.specs.declared.row.Row.{Row}
 use Rattle.namespace_rows.specs.Rows.{row_at}
+use Rattle.flat_rows.specs.BlockOutcome.{added_to, replication_at}
 use Rattle.flat_rows.specs.Decision.{decision}
 use Rattle.flat_rows.specs.Denial as denied
 use Rattle.flat_rows.specs.Facts.{Facts}
@@ -103,6 +105,10 @@ module _ (P : KeyList → Type 0) where
   serial_tells None = tt
   serial_tells (Some serial) = tt
 
+  added_tells : (facts : Facts) (caller : List ℕ) (last : Option LastBlock) (replication : Option ℕ) → TellsKeys P (added_to facts.token caller facts.blocks last facts.now replication)
+  added_tells facts caller last None = tt
+  added_tells facts caller last (Some replication) = tt
+
   heartbeat_tells : (facts : Facts) (principal : List ℕ) (node : Option ℕ) → P facts.keys → TellsKeys P (heartbeat_reply facts principal node)
   heartbeat_tells facts principal None h = tt
   heartbeat_tells facts principal (Some node) h = h
@@ -111,6 +117,7 @@ module _ (P : KeyList → Type 0) where
   reply_tells facts caller (op.Stat path) rows h = status_tells (row_at path rows)
   reply_tells facts caller (op.GetAcl path) rows h = acl_tells (row_at path rows)
   reply_tells facts caller (op.Append path) rows h = append_tells (holder_at (row_at path rows))
+  reply_tells facts caller (op.AddBlock path last) rows h = added_tells facts caller last (replication_at (row_at path rows))
   reply_tells facts caller (op.RollKey key) rows h = serial_tells facts.next_serial
   reply_tells facts caller op.Heartbeat rows h = heartbeat_tells facts caller (node_of caller) h
   reply_tells facts caller _ rows h = tt

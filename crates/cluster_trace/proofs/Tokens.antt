@@ -8,6 +8,7 @@ use Rattle.permission_specs.specs.Modes.{is_modes, modes}
 use Rattle.permission_specs.specs.declared.modes.Modes.{Modes}
 use Rattle.hdfs_types.specs.declared.commands.CopyOrder.{CopyOrder}
 use Rattle.hdfs_types.specs.declared.commands.Recover.{Recover}
+use Rattle.hdfs_types.specs.declared.located.LocatedBlock.{LocatedBlock}
 use Rattle.hdfs_types.specs.declared.op.Op.{Op}
 use Rattle.hdfs_types.specs.declared.op.Op.TheVariants as op
 use Rattle.hdfs_types.specs.declared.reply.Reply.{Reply}
@@ -22,7 +23,7 @@ use Rattle.flat_rows.specs.declared.verdict.Verdict.{Verdict}
 use Rattle.flat_rows.specs.declared.verdict.Verdict.TheVariants.{Done, Denied, Refused}
 use Rattle.history.specs.Config as name
 use Rattle.history.specs.ClockAndLease.{clock_of}
-use Rattle.history.specs.Grants.{Access, granted_to_node, granted_by, row_of, rows_granted, ledger_of}
+use Rattle.history.specs.Grants.{Access, granted_to_node, granted_to_writer, granted_to_reader, granted_by, row_of, rows_granted, ledger_of}
 use Rattle.history.specs.Keys.{ring_of}
 use Rattle.history.specs.declared.entry.HistoryEntry.{HistoryEntry}
 use Rattle.cluster_trace.specs.Typed.{GrantFits}
@@ -94,7 +95,18 @@ to_node_allow (reply.Commands commands) =
     (each_map Allows (λ (copy : CopyOrder). record { block = copy.block; modes = modes 3 }) (λ copy. refl) commands.copies)
 to_node_allow _ = tt
 
+to_writer_allow : (told : Reply) → AllByRecursion Allows (granted_to_writer told)
+to_writer_allow (reply.Added added) = (refl, tt)
+to_writer_allow _ = tt
+
+to_reader_allow : (told : Reply) → AllByRecursion Allows (granted_to_reader told)
+to_reader_allow (reply.Opened opened) =
+    each_map Allows (λ (block : LocatedBlock). record { block = block.block; modes = modes 1 }) (λ block. refl) opened.blocks
+to_reader_allow _ = tt
+
 granted_allow : (what : Op) (told : Reply) → AllByRecursion Allows (granted_by what told)
+granted_allow (op.AddBlock path last) told = to_writer_allow told
+granted_allow (op.Open path) told = to_reader_allow told
 granted_allow op.Heartbeat told = to_node_allow told
 granted_allow _ told = tt
 
