@@ -1,0 +1,4 @@
+//! What a replay of a history's requests tells of its entries and of kept answers.
+#![tactic(auto)]
+
+pub mod replay;
