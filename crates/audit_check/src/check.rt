@@ -51,11 +51,12 @@ fn find_in_place(
     if lost.is_some() {
         return lost;
     }
-    let misplaced = find_misplaced(begun.len(), history, passes);
+    let count = begun.len();
+    let misplaced = find_misplaced(count, history, passes);
     if misplaced.is_some() {
         return misplaced;
     }
-    find_unreceived(begun.len(), history, passes)
+    find_unreceived(count, history, passes)
 }
 
 // A pair that doesn't agree: by its place, or else by the verdict of its entry or of its look.

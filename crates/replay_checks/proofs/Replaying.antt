@@ -1,8 +1,9 @@
 -- The replay of a history's requests.
-use Rattle.std.proofs.Common.{◌≡◌, ℕ, ◌+◌, ◌<◌, ◌≤◌, ◌==◌, ◌∙◌, Bool, true, false, ◌&&◌, ◌||◌, suc, List, [], ◌∷◌, ◌++◌, length, take, reverse, get_or, Option, Some, None, refl, sym, ap, subst, arith, slice_get, slice_index_or}
+use Rattle.std.proofs.Common.{◌≡◌, ℕ, ◌+◌, ◌<◌, ◌≤◌, ◌==◌, ◌∙◌, Bool, true, false, ◌&&◌, ◌||◌, suc, List, [], ◌∷◌, ◌++◌, length, take, reverse, get_or, Option, Some, None, Result, Ok, Err, refl, sym, ap, subst, arith, slice_get, slice_index_or}
 use Rattle.std.specs.Bool.{Decides}
 use Rattle.std.specs.List.{list_any}
 use Rattle.std.specs.Option.{option_and_then, is_some}
+use Rattle.std.specs.Result.{IfOk}
 use Rattle.std.proofs.lemmas.Bool.Decides.{Decides-eqb}
 use Rattle.std.proofs.lemmas.List.{take_more, reverse-append, length-reverse, length-take-le}
 use Rattle.std.proofs.lemmas.List.Folds.{list_any_more}
@@ -88,6 +89,38 @@ told_iff opening entries passes pass index answer told at look place d =
   where
     one : (other : Answer) → receipt_of passes pass index ≡ Some other → answer ≡ other
     one other there = let e : Some answer ≡ Some other = sym at ∙ there in cc
+
+-- and so does the search for it
+ok_also : {E : Type 0} (P Q : Bool → Type 0) (found : Result Bool E) → ((told : Bool) → P told → Q told) → IfOk found P → IfOk found Q
+ok_also P Q (Ok told) more says = more told says
+ok_also P Q (Err e) more says = says
+
+pub told_here : {E : Type 0} (opening : Opening) (entries : List HistoryEntry) (passes : List (List Answer)) (pass index : ℕ) (answer : Answer) (found : Result Bool E) → receipt_of passes pass index ≡ Some answer
+    → (is_look answer.request.op ≡ true) × (answer.place ≡ length entries) → IfOk found (λ told. Decides told (answer.verdict ≡ verdict_of opening entries answer.request))
+    → IfOk found (λ told. Decides told (ToldHere opening entries passes pass index))
+told_here opening entries passes pass index answer found at here says =
+    ok_also (λ told. Decides told (answer.verdict ≡ verdict_of opening entries answer.request)) (λ told. Decides told (ToldHere opening entries passes pass index)) found
+    (λ told d. told_iff opening entries passes pass index answer told at here.0 here.1 d) says
+
+-- what isn't listed is as it should be
+pub other_here : (opening : Opening) (entries : List HistoryEntry) (passes : List (List Answer)) (pass index : ℕ) (answer : Answer) → receipt_of passes pass index ≡ Some answer
+    → ((is_look answer.request.op ≡ true) × (answer.place ≡ length entries) → ⊥) → Decides true (ToldHere opening entries passes pass index)
+other_here opening entries passes pass index answer at none = (
+  λ yes other there look place.
+      let e : Some other ≡ Some answer = sym there ∙ at in
+      let same : other ≡ answer = cc in
+      absurd (none (subst (λ (x : Answer). (is_look x.request.op ≡ true) × (x.place ≡ length entries)) same (look, place))),
+  λ all. refl,
+)
+
+pub no_receipt : (opening : Opening) (entries : List HistoryEntry) (passes : List (List Answer)) (pass index : ℕ) → receipt_of passes pass index ≡ None → Decides true (ToldHere opening entries passes pass index)
+no_receipt opening entries passes pass index none = (
+  λ yes other there look place. absurd (apart (sym none ∙ there)),
+  λ all. refl,
+)
+  where
+    apart : {A : Type 0} {x : A} → None ≡ Some x → ⊥
+    apart e = cc
 
 pub untold_step : (holds : ℕ → ℕ → Type 0) (pairs : List Pair) (i : ℕ) (item : Pair) → i < length pairs → item ≡ get_or pairs i item → holds item.pass item.index
     → ((pass index : ℕ) → list_any (is_pair pass index) (take i pairs) ≡ true → holds pass index) → (pass index : ℕ) → list_any (is_pair pass index) (take (i + 1) pairs) ≡ true → holds pass index

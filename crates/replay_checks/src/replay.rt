@@ -28,19 +28,24 @@ fn is_told(core: &NameCore, answer: &Answer) -> Result<bool, AllocError>
     Ok(told)
 }
 
+// Whether an answer is to a look that rests on all entries of the core.
+fn is_look_here(core: &NameCore, answer: &Answer) -> bool
+    ensures { Decides result ((is_look answer.now.request.op ≡ true) × (answer.now.place ≡ length core.now.entries)) }
+{
+    is_look(&answer.request.op) && answer.place == core.place()
+}
+
 // Whether a pair's receipt, if it is of a look that rests on all entries of the core, has the verdict that the core gives.
 fn is_told_here(core: &NameCore, passes: &[Receipts], pair: Pair) -> Result<bool, AllocError>
     ensures { IfOk result (λ told. Decides told (ToldHere core.now.opening core.now.entries passes.now pair.pass pair.index)) }
 {
-    match receipt_of(passes, pair.pass, pair.index) {
-        Some(answer) => {
-            if is_look(&answer.request.op) && answer.place == core.place() {
-                return is_told(core, answer);
-            }
-            Ok(true)
-        }
-        None => Ok(true),
+    let Some(answer) = receipt_of(passes, pair.pass, pair.index) else {
+        return Ok(true);
+    };
+    if !is_look_here(core, answer) {
+        return Ok(true);
     }
+    is_told(core, answer)
 }
 
 // Of these pairs one whose look has another verdict than the core gives.
