@@ -165,7 +165,7 @@ module _ (opening : Opening) (begun : ℕ) (history : List HistoryEntry) (passes
 
   -- a look that doesn't is one of a pair that fails
   pub untold_fails : (pair : Pair) → (ToldHere core.opening core.entries passes pair.pass pair.index → ⊥) → Replayed opening begun history passes pair.pass pair.index → ⊥
-  untold_fails pair no all = no
+  untold_fails pair fails all = fails
       (λ answer at look place.
       let here : answer.place ≡ i = place ∙ count in
       let less : answer.place ≤ length history = omega arith in
