@@ -90,20 +90,25 @@ same_front begun history kept (suc n) within =
     (take_more_same begun history n entry less (slice_get_within history n entry stays) (same_front begun history kept n (omega arith))
     (get_or_from_slice_get begun n entry entry at ∙ sym (get_or_from_slice_get history n entry entry stays))))
 
+stays : (claims : Claims) → ((pass index : ℕ) → Agrees claims pass index) → (n : ℕ) (entry : HistoryEntry) → slice_get claims.begun n ≡ Some entry → slice_get claims.history n ≡ Some entry
+stays claims agree n entry stood = (agree entry.pass entry.index).opened n entry stood (refl, refl)
+
+pub agreed_front : (claims : Claims) → ((pass index : ℕ) → Agrees claims pass index) → take (length claims.begun) claims.history ≡ claims.begun
+agreed_front claims agree =
+    let whole : length claims.begun ≤ length claims.begun = omega arith in
+    sym (same_front claims.begun claims.history (stays claims agree) (length claims.begun) whole) ∙ take_all (length claims.begun) claims.begun whole
+
 agreed_at : (claims : Claims) → ((pass index : ℕ) → Agrees claims pass index) → IsLegal claims.opening (reverse claims.begun)
     → (n : ℕ) (entry : HistoryEntry) → slice_get claims.history n ≡ Some entry → IsLegalAt claims.opening claims.history n entry
 agreed_at claims agree legal n entry at = by (slice_get_cases claims.begun n).1
   where
-    kept : (m : ℕ) (own : HistoryEntry) → slice_get claims.begun m ≡ Some own → slice_get claims.history m ≡ Some own
-    kept m own stood = (agree own.pass own.index).opened m own stood (refl, refl)
-
     by : (((own : HistoryEntry) × (n < length claims.begun) × (slice_get claims.begun n ≡ Some own) × (get_or claims.begun n own ≡ own)) ⊎ ((length claims.begun ≤ n) × (slice_get claims.begun n ≡ None)))
         → IsLegalAt claims.opening claims.history n entry
     by (inl (own, less, stood, is)) =
-        let same : own ≡ entry = let e : Some own ≡ Some entry = sym (kept n own stood) ∙ at in cc in
+        let same : own ≡ entry = let e : Some own ≡ Some entry = sym (stays claims agree n own stood) ∙ at in cc in
         let here : IsLegalAt claims.opening claims.begun n own = legal_at claims.opening claims.begun n own legal stood in
         subst (λ (x : HistoryEntry). IsLegalAt claims.opening claims.history n x) same
-        (here.0, here.1 ∙ ap (λ (front : List HistoryEntry). verdict_of claims.opening (replayed claims.opening (reverse front)) own.request) (same_front claims.begun claims.history kept n (omega arith)))
+        (here.0, here.1 ∙ ap (λ (front : List HistoryEntry). verdict_of claims.opening (replayed claims.opening (reverse front)) own.request) (same_front claims.begun claims.history (stays claims agree) n (omega arith)))
     by (inr (since, none)) = (agree entry.pass entry.index).legal n entry since at (refl, refl)
 
 pub agreed_legal : (claims : Claims) → ((pass index : ℕ) → Agrees claims pass index) → IsLegal claims.opening (reverse claims.begun) → IsLegal claims.opening (reverse claims.history)

@@ -73,8 +73,14 @@ fn find_disagreement(
     if found.is_some() {
         return Ok(found);
     }
-    let (config, key) = (opening.config, opening.first_key);
-    find_in_replay(alloc, config, key, begun.len(), history, passes)
+    find_in_replay(
+        alloc,
+        opening.config,
+        opening.first_key,
+        begun.len(),
+        history,
+        passes,
+    )
 }
 
 fn disagreement(pair: Pair) -> CheckFault

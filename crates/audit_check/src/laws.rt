@@ -11,3 +11,8 @@ pub fn legal_entries_make_a_legal_history()
 pub fn what_agrees_is_legal()
     ensures { law.WhatAgreesIsLegal }
 {}
+
+/// A history that agrees with the answers that were kept begins with the entries from before the passes.
+pub fn what_agrees_goes_on_from_the_opening()
+    ensures { law.WhatAgreesGoesOnFromTheOpening }
+{}
