@@ -7,7 +7,7 @@ use Rattle.std.specs.Result.{IfOk}
 use Rattle.std.proofs.lemmas.Bool.Decides.{Decides-eqb}
 use Rattle.std.proofs.lemmas.List.{take_more, reverse-append, length-reverse, length-take-le}
 use Rattle.std.proofs.lemmas.List.Folds.{list_any_more}
-use Rattle.std.proofs.lemmas.Option.{slice_get_within, get_or_from_slice_get}
+use Rattle.std.proofs.lemmas.Option.{slice_get_within, slice_get_read, get_or_from_slice_get}
 use Rattle.hdfs_types.specs.Request.{is_look}
 use Rattle.history.specs.declared.entry.HistoryEntry.{HistoryEntry}
 use Rattle.history.specs.declared.entry.Answer.{Answer}
@@ -122,10 +122,10 @@ no_receipt opening entries passes pass index none = (
     apart : {A : Type 0} {x : A} → None ≡ Some x → ⊥
     apart e = cc
 
-pub untold_step : (holds : ℕ → ℕ → Type 0) (pairs : List Pair) (i : ℕ) (item : Pair) → i < length pairs → item ≡ get_or pairs i item → holds item.pass item.index
+pub untold_step : (holds : ℕ → ℕ → Type 0) (pairs : List Pair) (i : ℕ) (default : Pair) → i < length pairs → holds (get_or pairs i default).pass (get_or pairs i default).index
     → ((pass index : ℕ) → list_any (is_pair pass index) (take i pairs) ≡ true → holds pass index) → (pass index : ℕ) → list_any (is_pair pass index) (take (i + 1) pairs) ≡ true → holds pass index
-untold_step holds pairs i item below is here earlier pass index any =
-    by (list_any (is_pair pass index) (take i pairs)) refl (sym (list_any_more (is_pair pass index) pairs i item below) ∙ any)
+untold_step holds pairs i default below here earlier pass index any =
+    by (list_any (is_pair pass index) (take i pairs)) refl (sym (list_any_more (is_pair pass index) pairs i default below) ∙ any)
   where
     first : (x y : Bool) → (x && y) ≡ true → x ≡ true
     first true y e = refl
@@ -138,14 +138,14 @@ untold_step holds pairs i item below is here earlier pass index any =
         apart : false ≡ true → ⊥
         apart h = cc
 
-    this : is_pair pass index item ≡ true → holds pass index
-    this e =
+    this : (item : Pair) → holds item.pass item.index → is_pair pass index item ≡ true → holds pass index
+    this item own e =
         subst (λ (n : ℕ). holds pass n) ((Decides-eqb item.index index).0 (second (item.pass == pass) (item.index == index) e))
-        (subst (λ (n : ℕ). holds n item.index) ((Decides-eqb item.pass pass).0 (first (item.pass == pass) (item.index == index) e)) here)
+        (subst (λ (n : ℕ). holds n item.index) ((Decides-eqb item.pass pass).0 (first (item.pass == pass) (item.index == index) e)) own)
 
-    by : (x : Bool) → list_any (is_pair pass index) (take i pairs) ≡ x → (x || is_pair pass index (get_or pairs i item)) ≡ true → holds pass index
+    by : (x : Bool) → list_any (is_pair pass index) (take i pairs) ≡ x → (x || is_pair pass index (get_or pairs i default)) ≡ true → holds pass index
     by true at e = earlier pass index at
-    by false at e = this (ap (is_pair pass index) is ∙ e)
+    by false at e = this (get_or pairs i default) here e
 
 module _ (opening : Opening) (begun : ℕ) (history : List HistoryEntry) (passes : List (List Answer)) (i : ℕ) (core : NameCore) (within : i ≤ length history) (o : core.opening ≡ opening) (e : core.entries ≡ given_by opening history i) where
   count : length core.entries ≡ i
@@ -198,3 +198,22 @@ module _ (opening : Opening) (begun : ℕ) (history : List HistoryEntry) (passes
         below_step (TellsAt opening history passes) i told (tells_here looks len has says) answer.place (omega arith) pass index answer at look refl;
   }
   finished looks len has end legal told (Some pair) says = untold_fails pair says
+
+  pub ended : {E : Type 0} (looks : List (List Pair)) → length looks ≡ length history + 1 → HasAllLooks looks passes → i ≡ length history
+      → ((before : ℕ) → before < i → LegalFrom opening begun history before) → ((place : ℕ) → place < i → TellsAt opening history passes place)
+      → (found : Result (Option Pair) E) → IfOk found (FindsAmong (slice_index_or looks i []) (ToldHere core.opening core.entries passes)) → IfOk found (Finds (Replayed opening begun history passes))
+  ended looks len has end legal told (Ok found) says = finished looks len has end legal told found says
+  ended looks len has end legal told (Err fault) says = says
+
+-- an entry that isn't legal is one of a pair that fails
+pub illegal_fails : (opening : Opening) (begun : ℕ) (history : List HistoryEntry) (passes : List (List Answer)) (i : ℕ) (item own : HistoryEntry) (legal : Bool) (pair : Pair)
+    → i < length history → item ≡ get_or history i item → own ≡ get_or history i own → pair.pass ≡ own.pass → pair.index ≡ own.index
+    → Decides legal (IsLegalAt opening history i item) → (begun ≤ i) × (legal ≡ false) → Replayed opening begun history passes pair.pass pair.index → ⊥
+illegal_fails opening begun history passes i item own legal pair below is own_is pass index d fault all =
+    let at : slice_get history i ≡ Some own = slice_get_read history (length history) i own refl below own_is in
+    let same : own ≡ item = sym (is ∙ get_or_from_slice_get history i own item at) in
+    let here : IsLegalAt opening history i own = all.legal i own fault.0 at (sym pass, sym index) in
+    apart (sym fault.1 ∙ d.1 (subst (λ (x : HistoryEntry). IsLegalAt opening history i x) same here))
+  where
+    apart : false ≡ true → ⊥
+    apart h = cc

@@ -8,7 +8,8 @@ use Rattle.replay_checks.proofs.replay.find_untold.Goals as goal
 
 pub loop-pair-preserved : goal.loop-pair-preserved
 loop-pair-preserved c =
-    untold_step (ToldHere c.args.core.now.opening c.args.core.now.entries c.args.passes.now) c.args.pairs.now c.loop-pair.pair-index c.pair-item.result (omega arith) c.pair-item.is (c.in_ok-told.ensures.0 c.if-not-told.false) c.loop-pair.invariant
+    untold_step (ToldHere c.args.core.now.opening c.args.core.now.entries c.args.passes.now) c.args.pairs.now c.loop-pair.pair-index (record { pass = 0; index = 0 }) (omega arith) (c.in_ok-told.ensures.0 c.if-not-told.false)
+    c.loop-pair.invariant
 
 pub returns : goal.returns
 returns c = λ pass index any.
