@@ -5,10 +5,10 @@ ghost use Rattle.receipt_checks.specs.Looking.{Replayed, HasAllLooks};
 use hdfs_types::key::Key;
 use history::config::Config;
 use history::entry::HistoryEntry;
-use name_core::namenode::NameCore;
 use receipt_checks::looks::Looks;
 use receipt_checks::pair::Pair;
 use receipt_checks::receipts::Receipts;
+use replay_checks::namenode::NameCore;
 use replay_checks::replay::find_on;
 use std::alloc::{AllocError, Global};
 

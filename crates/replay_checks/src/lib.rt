@@ -2,3 +2,5 @@
 #![tactic(auto)]
 
 pub mod replay;
+
+pub use name_core::namenode;
