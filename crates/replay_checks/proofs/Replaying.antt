@@ -44,6 +44,9 @@ given_next opening history i item below is =
 core_is : (core : NameCore) (opening : Opening) (entries : List HistoryEntry) → core.opening ≡ opening → core.entries ≡ entries → core ≡ record { opening = opening; entries = entries }
 core_is core opening entries o e = ap (λ (x : Opening). record { opening = x; entries = core.entries }) o ∙ ap (λ (x : List HistoryEntry). record { opening = opening; entries = x }) e
 
+pub opened_with : (core : NameCore) (opening : Opening) → core ≡ record { opening = opening; entries = [] } → core.opening ≡ opening
+opened_with core opening is = ap (λ (own : NameCore). own.opening) is
+
 pub advanced : (opening : Opening) (history : List HistoryEntry) (i : ℕ) (item : HistoryEntry) (old new : NameCore) → i < length history → item ≡ get_or history i item
     → old.opening ≡ opening → old.entries ≡ given_by opening history i → new ≡ stepped old item.pass item.index item.request
     → (new.opening ≡ opening) × (new.entries ≡ given_by opening history (i + 1))
