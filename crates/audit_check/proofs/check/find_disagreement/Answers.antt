@@ -21,7 +21,7 @@ returns c =
     (sym c.is_some.ensures ∙ c.if-is_some.false) in
     last_searched (Replayed (opening_of c.args.opening.now) (length c.args.opening.now.entries.items) c.args.history.now c.args.passes.now) (Agrees (claims_of c.args.opening.now c.args.history.now c.args.passes.now))
     c.find_in_replay.result
-    (subst (λ (count : ℕ). IfOk c.find_in_replay.result (Finds (Replayed (opening_of c.args.opening.now) count c.args.history.now c.args.passes.now))) (c.len.ensures ∙ ap length c.as_slice-begun.ensures.value) c.find_in_replay.ensures)
+    (subst (λ (count : ℕ). IfOk c.find_in_replay.result (Finds (Replayed (opening_of c.args.opening.now) count c.args.history.now c.args.passes.now))) (ap length c.as_slice-begun.ensures.value) c.find_in_replay.ensures)
     (λ pass index all. record { legal = all.legal; told = all.told })
     (λ pass index replayed. record {
       placed = (place pass index).placed;
