@@ -1,4 +1,4 @@
-use Rattle.std.proofs.Common.{◌≡◌, ◌∙◌, ℕ, sym, length}
+use Rattle.std.proofs.Common.{◌∙◌, sym, length}
 use Rattle.receipt_checks.specs.Agreement.{Placed, Received, Opened}
 use Rattle.audit_check.specs.Checking.{Standing}
 use Rattle.audit_check.proofs.Finding.{none_found, last_found}

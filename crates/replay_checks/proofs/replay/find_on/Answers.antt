@@ -1,4 +1,4 @@
-use Rattle.std.proofs.Common.{◌≡◌, ◌≤◌, ◌∙◌, ℕ, [], List, Option, refl, sym, ap, subst, arith, slice_index_or, length}
+use Rattle.std.proofs.Common.{◌≡◌, ◌∙◌, ℕ, [], List, refl, sym, ap, subst, arith, slice_index_or, length}
 use Rattle.receipt_checks.specs.declared.pair.Pair.{Pair}
 use Rattle.receipt_checks.specs.Looking.{FindsAmong, ToldHere}
 use Rattle.std.specs.Result.{IfOk}

@@ -1,4 +1,4 @@
-use Rattle.std.proofs.Common.{◌≡◌, ◌≤◌, ℕ, List, length, sym, subst, arith, take, true}
+use Rattle.std.proofs.Common.{◌≡◌, List, sym, subst, arith, true}
 use Rattle.std.specs.List.{list_any}
 use Rattle.std.proofs.lemmas.List.{take_all}
 use Rattle.receipt_checks.specs.declared.pair.Pair.{Pair}

@@ -1,5 +1,5 @@
 use Rattle.std.proofs.Common.{sym}
-use Rattle.replay_checks.proofs.Replaying.{told_here, other_here, no_receipt}
+use Rattle.replay_checks.proofs.Replaying.{told_here}
 use Rattle.replay_checks.proofs.replay.is_told_here.Goals as goal
 
 pub returns : goal.returns
