@@ -1,0 +1,5 @@
+//! Whether a history and the answers that callers kept of it agree.
+#![tactic(auto)]
+
+pub mod check;
+pub mod laws;
