@@ -149,18 +149,20 @@ fn open(alloc: Global) -> Result<NameCore, Fail> {
     Ok(NameCore::open(alloc, Config::standard(), Key::new([1; 20]))?)
 }
 
+fn all_blocks(core: &mut NameCore, text: &mut String, alloc: Global) -> Result<(), Fail> {
+    first_block(core, text, alloc)?;
+    second_block(core, text, alloc)?;
+    gone_blocks(core, text, alloc)
+}
+
 #[test]
 fn blocks_are_given_committed_told_and_removed(rt: HostRuntime) -> Result<(), Fail> {
     let mut text = String::new(rt.alloc());
     let mut core = open(rt.alloc())?;
-    let first = first_block(&mut core, &mut text, rt.alloc());
-    let second = second_block(&mut core, &mut text, rt.alloc());
-    let gone = gone_blocks(&mut core, &mut text, rt.alloc());
+    let told = all_blocks(&mut core, &mut text, rt.alloc());
     let granted = core.ledger().len();
     drop(core);
-    first?;
-    second?;
-    gone?;
+    told?;
     assert_eq!(rt; granted, 7);
     assert_eq!(rt;
         text.as_str(),
