@@ -38,7 +38,7 @@ struct Asked {
     told: Told,
 }
 
-const fn asked(pass: u64, place: u64, line: &'static str, told: Told) -> Asked {
+fn asked(pass: u64, place: u64, line: &'static str, told: Told) -> Asked {
     Asked {
         pass,
         place,
