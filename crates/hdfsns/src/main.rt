@@ -16,7 +16,7 @@ use std::process::ExitCode;
 use std::{env, fs, io};
 
 /// The program's version, and the one line that `rt version` prints of the kit that proves and builds it.
-const VERSION: &str = "1.0.0 (rattle-kit-13b)";
+const VERSION: &str = "1.0.0 (rattle-kit-13f)";
 
 /// The exit status where a line of the script, or the token, was ill-formed.
 const ILL_FORMED: u8 = 1;
