@@ -38,7 +38,7 @@ struct Asked {
     told: Told,
 }
 
-fn asked(pass: u64, place: u64, line: &'static str, told: Told) -> Asked {
+fn ask(pass: u64, place: u64, line: &'static str, told: Told) -> Asked {
     Asked {
         pass,
         place,
@@ -117,25 +117,25 @@ fn tell(alloc: Global, story: &mut Story) -> Result<(), Fail> {
     add_before(
         alloc,
         story,
-        asked(0, 1, "0 hdfs mkdirs /d 777", Told::Done),
+        ask(0, 1, "0 hdfs mkdirs /d 777", Told::Done),
         0,
     )?;
     add_before(
         alloc,
         story,
-        asked(0, 2, "0 hdfs mkdirs /e 700", Told::Done),
+        ask(0, 2, "0 hdfs mkdirs /e 700", Told::Done),
         1,
     )?;
     let passes = [
-        asked(0, 3, "1 alice create /d/a 644 1", Told::Done),
-        asked(1, 3, "1 bob du /d", Told::Counted(1, 1)),
-        asked(1, 4, "2 bob mkdirs /d/b 755", Told::Done),
-        asked(0, 4, "3 alice du /d", Told::Counted(2, 1)),
-        asked(0, 5, "3 alice complete /d/a", Told::Closed),
-        asked(1, 5, "3 bob stat /d/c", Told::NotFound),
-        asked(1, 6, "4 bob delete /d/a", Told::Deleted),
-        asked(0, 7, "5 alice append /d/a", Told::NotFound),
-        asked(0, 7, "5 alice du /d", Told::Counted(2, 0)),
+        ask(0, 3, "1 alice create /d/a 644 1", Told::Done),
+        ask(1, 3, "1 bob du /d", Told::Counted(1, 1)),
+        ask(1, 4, "2 bob mkdirs /d/b 755", Told::Done),
+        ask(0, 4, "3 alice du /d", Told::Counted(2, 1)),
+        ask(0, 5, "3 alice complete /d/a", Told::Closed),
+        ask(1, 5, "3 bob stat /d/c", Told::NotFound),
+        ask(1, 6, "4 bob delete /d/a", Told::Deleted),
+        ask(0, 7, "5 alice append /d/a", Told::NotFound),
+        ask(0, 7, "5 alice du /d", Told::Counted(2, 0)),
     ];
     for one in passes {
         add(alloc, story, one)?;
