@@ -1,0 +1,145 @@
+-- What keeps all that is sound: one block more, one record given anew, one block less, and one such step after another.
+use Rattle.std.proofs.Common.{◌≡◌, ℕ, ◌<◌, ◌≤◌, ◌+◌, Bool, true, false, List, Option, Some, None, refl, sym, ap, ◌∙◌, subst, cond, arith}
+use Rattle.std.specs.Option.{option_map}
+use Rattle.block_records.specs.Numbers.{is_number}
+use Rattle.block_records.specs.declared.block_record.BlockRecord.{BlockRecord}
+use Rattle.block_records.proofs.Numbers.{number_is}
+use Rattle.known_blocks.specs.Known.{Known, block_of}
+use Rattle.block_effect_laws.specs.Laws.{AgreeOn, IsSoundAt, IsSound, GoesOn, Becomes, IsKept}
+use Rattle.block_effect_laws.proofs.Orders.{AreInOrder}
+
+one : (own other : BlockRecord) → Some own ≡ Some other → own ≡ other
+one own other e = cc
+
+stays : (own : BlockRecord) → GoesOn own own
+stays own = record { stamp = omega arith; committed = λ length is. is }
+
+pub becomes_itself : (before : Known) (block : ℕ) (found : Option BlockRecord) → Becomes before block found found
+becomes_itself before block None = tt
+becomes_itself before block (Some own) = stays own
+
+pub kept_same : (known : Known) → IsSound known → IsKept known known
+kept_same known sound = record { sound = sound; next_block = omega arith; next_stamp = omega arith; blocks = λ block. becomes_itself known block (block_of known block) }
+
+-- ---- one step after another
+
+goes_on : (own between later : BlockRecord) → GoesOn own between → GoesOn between later → GoesOn own later
+goes_on own between later first second = record { stamp = omega (arith, first.stamp, second.stamp); committed = λ length is. second.committed length (first.committed length is) }
+
+module _ (before between later : Known) (sound : IsSound before) (first : IsKept before between) (second : IsKept between later) where
+  in_turn : (block : ℕ) (a b c : Option BlockRecord) → block_of before block ≡ a → block_of between block ≡ b → block_of later block ≡ c
+      → Becomes before block a b → Becomes between block b c → Becomes before block a c
+  in_turn block None None None x y z f s = tt
+  in_turn block None None (Some own) x y z f s = (omega (arith, s.0, first.next_block), omega (arith, s.1, first.next_stamp))
+  in_turn block None (Some own) None x y z f s = tt
+  in_turn block None (Some own) (Some late) x y z f s = (f.0, omega (arith, f.1, s.stamp))
+  in_turn block (Some own) b None x y z f s = tt
+  in_turn block (Some own) None (Some late) x y z f s = absurd (omega (arith, (sound.each block own x).given, s.0, first.next_block))
+  in_turn block (Some own) (Some mid) (Some late) x y z f s = goes_on own mid late f s
+
+  pub kept_in_turn : IsKept before later
+  kept_in_turn = record {
+    sound = second.sound;
+    next_block = omega (arith, first.next_block, second.next_block);
+    next_stamp = omega (arith, first.next_stamp, second.next_stamp);
+    blocks = λ block. in_turn block (block_of before block) (block_of between block) (block_of later block) refl refl refl (first.blocks block) (second.blocks block);
+  }
+
+-- ---- one step
+
+module _ (before later : Known) (sound : IsSound before) (up : AreInOrder later.blocks) (block : ℕ) where
+  -- a record given anew
+  pub record IsAllowed (own new : BlockRecord) : Type 0 where
+    pub goes_on : GoesOn own new
+    pub stamped : new.stamp < later.next_stamp
+    pub agreed : AgreeOn new.committed new.reports
+
+  pub kept_changed : (change : BlockRecord → BlockRecord) → before.next_block ≤ later.next_block → before.next_stamp ≤ later.next_stamp
+      → ((q : ℕ) → block_of later q ≡ cond (is_number block q) (option_map change (block_of before block)) (block_of before q))
+      → ((own : BlockRecord) → block_of before block ≡ Some own → IsSoundAt before block own → IsAllowed own (change own)) → IsKept before later
+  kept_changed change blocks stamps at allowed = record {
+    sound = record { once = up; each = λ q own there. sound_by q own (is_number block q) refl (sym (at q) ∙ there) };
+    next_block = blocks;
+    next_stamp = stamps;
+    blocks = λ q. subst (λ found. Becomes before q (block_of before q) found) (sym (at q)) (becomes_by q (is_number block q) refl);
+  }
+    where
+      sound_found : (own : BlockRecord) (found : Option BlockRecord) → block_of before block ≡ found → option_map change found ≡ Some own → IsSoundAt later block own
+      sound_found own None is there = cc
+      sound_found own (Some old) is there =
+          let was = sound.each block old is in
+          let may = allowed old is was in
+          subst (λ new. IsSoundAt later block new) (one (change old) own there) (record { given = omega (arith, was.given, blocks); stamped = may.stamped; agreed = may.agreed })
+
+      sound_by : (q : ℕ) (own : BlockRecord) (b : Bool) → is_number block q ≡ b → cond b (option_map change (block_of before block)) (block_of before q) ≡ Some own → IsSoundAt later q own
+      sound_by q own false apart there =
+          let was = sound.each q own there in
+          record { given = omega (arith, was.given, blocks); stamped = omega (arith, was.stamped, stamps); agreed = was.agreed }
+      sound_by q own true same there = subst (λ n. IsSoundAt later n own) (number_is block q same) (sound_found own (block_of before block) refl there)
+
+      becomes_found : (q : ℕ) (found : Option BlockRecord) → block_of before block ≡ found → Becomes before q found (option_map change found)
+      becomes_found q None is = tt
+      becomes_found q (Some old) is = (allowed old is (sound.each block old is)).goes_on
+
+      becomes_by : (q : ℕ) (b : Bool) → is_number block q ≡ b → Becomes before q (block_of before q) (cond b (option_map change (block_of before block)) (block_of before q))
+      becomes_by q false apart = becomes_itself before q (block_of before q)
+      becomes_by q true same =
+          subst (λ n. Becomes before q (block_of before n) (option_map change (block_of before block))) (number_is block q same) (becomes_found q (block_of before block) refl)
+
+  -- a block goes
+  pub kept_removed : before.next_block ≤ later.next_block → before.next_stamp ≤ later.next_stamp → ((q : ℕ) → block_of later q ≡ cond (is_number block q) None (block_of before q)) → IsKept before later
+  kept_removed blocks stamps at = record {
+    sound = record { once = up; each = λ q own there. sound_by q own (is_number block q) (sym (at q) ∙ there) };
+    next_block = blocks;
+    next_stamp = stamps;
+    blocks = λ q. subst (λ found. Becomes before q (block_of before q) found) (sym (at q)) (becomes_by q (is_number block q));
+  }
+    where
+      sound_by : (q : ℕ) (own : BlockRecord) (b : Bool) → cond b None (block_of before q) ≡ Some own → IsSoundAt later q own
+      sound_by q own true there = cc
+      sound_by q own false there =
+          let was = sound.each q own there in
+          record { given = omega (arith, was.given, blocks); stamped = omega (arith, was.stamped, stamps); agreed = was.agreed }
+
+      gone : (q : ℕ) (found : Option BlockRecord) → Becomes before q found None
+      gone q None = tt
+      gone q (Some own) = tt
+
+      becomes_by : (q : ℕ) (b : Bool) → Becomes before q (block_of before q) (cond b None (block_of before q))
+      becomes_by q true = gone q (block_of before q)
+      becomes_by q false = becomes_itself before q (block_of before q)
+
+-- a block comes
+module _ (before later : Known) (sound : IsSound before) (up : AreInOrder later.blocks) (new : BlockRecord) where
+  -- the number that was the next is that of no block
+  unknown : (found : Option BlockRecord) → block_of before before.next_block ≡ found → found ≡ None
+  unknown None is = refl
+  unknown (Some own) is = absurd (omega (arith, (sound.each before.next_block own is).given))
+
+  pub kept_added : later.next_block ≡ before.next_block + 1 → before.next_stamp ≤ later.next_stamp
+      → ((q : ℕ) → block_of later q ≡ cond (is_number before.next_block q) (Some new) (block_of before q))
+      → before.next_stamp ≤ new.stamp → new.stamp < later.next_stamp → AgreeOn new.committed new.reports → IsKept before later
+  kept_added blocks stamps at fresh stamped agreed = record {
+    sound = record { once = up; each = λ q own there. sound_by q own (is_number before.next_block q) refl (sym (at q) ∙ there) };
+    next_block = omega (arith, blocks);
+    next_stamp = stamps;
+    blocks = λ q. subst (λ found. Becomes before q (block_of before q) found) (sym (at q)) (becomes_by q (is_number before.next_block q) refl);
+  }
+    where
+      sound_by : (q : ℕ) (own : BlockRecord) (b : Bool) → is_number before.next_block q ≡ b → cond b (Some new) (block_of before q) ≡ Some own → IsSoundAt later q own
+      sound_by q own true is there =
+          let same : before.next_block ≡ q = number_is before.next_block q is in
+          subst (λ own. IsSoundAt later q own) (one new own there) (record { given = omega (arith, blocks, same); stamped = stamped; agreed = agreed })
+      sound_by q own false is there =
+          let was = sound.each q own there in
+          record { given = omega (arith, was.given, blocks); stamped = omega (arith, was.stamped, stamps); agreed = was.agreed }
+
+      fresh_at : (found : Option BlockRecord) → found ≡ None → Becomes before before.next_block found (Some new)
+      fresh_at None none = (omega arith, fresh)
+      fresh_at (Some own) none = cc
+
+      becomes_by : (q : ℕ) (b : Bool) → is_number before.next_block q ≡ b → Becomes before q (block_of before q) (cond b (Some new) (block_of before q))
+      becomes_by q true is =
+          subst (λ n. Becomes before n (block_of before n) (Some new)) (number_is before.next_block q is)
+          (fresh_at (block_of before before.next_block) (unknown (block_of before before.next_block) refl))
+      becomes_by q false is = becomes_itself before q (block_of before q)
