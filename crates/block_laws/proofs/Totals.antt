@@ -219,12 +219,15 @@ module _ (gone : List ℕ) where
       less : (a b c : ℕ) → a + (b + c) ≤ 1 → a + c ≤ 1
       less a b c k = omega (arith, k)
 
+      none : (n : ℕ) → n ≡ 0 → 0 + n ≡ 0
+      none n k = omega (arith, k)
+
       twice : (a b c : ℕ) → 1 ≤ a → b ≡ 1 → a + (b + c) ≤ 1 → ⊥
       twice a b c i j k = omega (arith, i, j, k)
 
       by : (b : Bool) → has_number block.id gone ≡ b → times block.id gone + total (has block.id) (block ∷ blocks) ≤ 1 → total went blocks ≡ 0 → bit b + total went blocks ≡ 0
       by true e k rest = absurd (twice (times block.id gone) (has block.id block) (total (has block.id) blocks) (times_some block.id gone e) (ap bit (itself block.id)) k)
-      by false e k rest = rest
+      by false e k rest = none (total went blocks) rest
 
   pub rows_apart : (rows : List Row) → ((number : ℕ) → times number gone + in_rows (has number) rows ≤ 1) → in_rows went rows ≡ 0
   rows_apart [] h = refl

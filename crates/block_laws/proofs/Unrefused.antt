@@ -8,7 +8,7 @@ use Rattle.hdfs_types.specs.declared.op.Op.{Op}
 use Rattle.hdfs_types.specs.declared.op.Op.TheVariants as op
 use Rattle.hdfs_types.specs.declared.reply.Reply.{Reply}
 use Rattle.hdfs_types.specs.declared.reply.Refusal.{Refusal}
-use Rattle.hdfs_types.specs.declared.reply.Refusal.TheVariants.{IsDirectory, NotYetReplicated}
+use Rattle.hdfs_types.specs.declared.reply.Refusal.TheVariants.{IsDirectory, NotDirectory, NotYetReplicated}
 use Rattle.hdfs_values.specs.Path.{is_prefix}
 use Rattle.block_map.specs.BlockFacts.{BlockFacts, refused_commit, refused_targets}
 use Rattle.block_map.specs.BlockEffects as effect
@@ -64,12 +64,12 @@ pub unless : (b : Bool) (refusal : Refusal) → refused_where b refusal ≡ None
 unless true refusal h = cc
 unless false refusal h = refl
 
-pub no_file_above : (path : List (List ℕ)) (rows : List Row) → beneath_file path rows ≡ None → file_above path rows ≡ None
-no_file_above path rows h = by (file_above path rows) h
-  where
-    by : (o : Option Row) → option_map _ o ≡ None → o ≡ None
-    by None h = refl
-    by (Some row) h = cc
+none_mapped : {X Y : Type 0} (f : X → Y) (o : Option X) → option_map f o ≡ None → o ≡ None
+none_mapped f None h = refl
+none_mapped f (Some x) h = cc
+
+no_file_above : (path : List (List ℕ)) (rows : List Row) → beneath_file path rows ≡ None → file_above path rows ≡ None
+no_file_above path rows h = none_mapped (λ (row : Row). NotDirectory row.path) (file_above path rows) h
 
 some_there : (o : Option Row) → nothing_at o ≡ None → (row : Row) × (o ≡ Some row)
 some_there None h = cc
