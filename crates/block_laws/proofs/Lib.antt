@@ -6,3 +6,5 @@ pub mod Changes
 pub mod Told
 pub mod Standing
 pub mod Operations
+pub mod Steps
+pub mod Histories
