@@ -1,17 +1,14 @@
 -- Each effect keeps what is sound.
-use Rattle.std.proofs.Common.{◌≡◌, ℕ, ◌<◌, ◌≤◌, ◌+◌, ◌==◌, ◌&&◌, Bool, true, false, List, [], ◌∷◌, map, fold, nat_lt, is_some, Option, Some, None, refl, sym, ap, ◌∙◌, subst, cond, arith}
-use Rattle.std.specs.Map.{remove_entry}
-use Rattle.std.specs.Option.{option_map, option_and_then}
-use Rattle.block_records.specs.Numbers.{is_number, entry_at}
-use Rattle.block_records.specs.Reports.{is_reported, agreeing, with_reports_of}
+use Rattle.std.proofs.Common.{◌≡◌, ℕ, ◌==◌, ◌&&◌, Bool, true, false, List, [], ◌∷◌, map, fold, nat_lt, is_some, inl, inr, Option, Some, None, refl, sym, ap, ◌∙◌, subst, cond, arith}
+use Rattle.std.specs.Option.{option_and_then}
+use Rattle.block_records.specs.Numbers.{is_number}
+use Rattle.block_records.specs.Reports.{is_reported, agreeing}
 use Rattle.block_records.specs.Verdicts.{agrees, verdict_by}
 use Rattle.block_records.specs.declared.block_record.BlockRecord.{BlockRecord}
-use Rattle.block_records.specs.declared.fault.BlockRefusal.{BlockRefusal}
 use Rattle.block_records.specs.declared.fault.BlockRefusal.TheVariants.{NotYetReplicated}
-use Rattle.block_records.specs.declared.last_block.LastBlock.{LastBlock}
 use Rattle.block_records.specs.declared.report.ReportVerdict.{ReportVerdict}
 use Rattle.block_records.specs.declared.report.ReportVerdict.TheVariants.{Superseded, Invalid, Valid}
-use Rattle.block_tables.specs.Changes.{changed, with_report, without_report, with_replication, with_length, with_recovery, with_recovered, with_hand_out}
+use Rattle.block_tables.specs.Changes.{with_report, without_report, with_replication, with_length, with_recovery, with_recovered, with_hand_out}
 use Rattle.recovery_queue.specs.declared.begun.BegunRecovery.{BegunRecovery}
 use Rattle.new_blocks.specs.Behind.{refused_length}
 use Rattle.known_blocks.specs.Known as known
@@ -23,16 +20,17 @@ use Rattle.block_effect_laws.specs.Laws.{AgreeOn, IsSoundAt, IsSound, GoesOn, Is
 use Rattle.block_effect_laws.proofs.Orders.{put_in_order, taken_in_order, changed_in_order}
 use Rattle.block_effect_laws.proofs.Reports.{agreeing_have, reported_is, more_have, agree_on_put, agree_on_left, agree_on_none}
 use Rattle.block_effect_laws.proofs.Looking.{added_at, changed_at, removed_at}
-use Rattle.block_effect_laws.proofs.Turning.{kept_same, kept_in_turn, IsAllowed, kept_changed, kept_removed, kept_added}
+use Rattle.block_effect_laws.proofs.Turning.{kept_same, kept_in_turn, kept_changed, kept_removed, kept_added}
 
-goes : (own later : BlockRecord) → own.stamp ≤ later.stamp → later.committed ≡ own.committed → GoesOn own later
-goes own later stamp committed = record { stamp = stamp; committed = λ length is. committed ∙ is }
+-- the stamp stays, and what is committed
+goes : (before : Known) (own later : BlockRecord) → later.stamp ≡ own.stamp → later.committed ≡ own.committed → GoesOn before own later
+goes before own later stamp committed = record { stamp = inl stamp; committed = λ length is. committed ∙ is }
 
 -- ---- a record given anew
 
 -- the numbers that are given next stay
 module _ (change : BlockRecord → BlockRecord) (block : ℕ) (before : Known) (sound : IsSound before) where
-  pub altered_keeps : ((own : BlockRecord) → block_of before block ≡ Some own → IsSoundAt before block own → GoesOn own (change own))
+  pub altered_keeps : ((own : BlockRecord) → block_of before block ≡ Some own → IsSoundAt before block own → GoesOn before own (change own))
       → ((own : BlockRecord) → IsSoundAt before block own → (change own).stamp ≡ own.stamp)
       → ((own : BlockRecord) → block_of before block ≡ Some own → IsSoundAt before block own → AgreeOn (change own).committed (change own).reports) → IsKept before (altered change block before)
   altered_keeps goes_on stamp agreed =
@@ -63,7 +61,7 @@ removals_keep facts blocks sound = removals facts.known blocks sound
 
 pub replication_keeps : ReplicationKeeps
 replication_keeps facts block replication sound =
-    altered_keeps (with_replication replication) block facts.known sound (λ own is was. goes own (with_replication replication own) (omega arith) refl) (λ own was. refl) (λ own is was. was.agreed)
+    altered_keeps (with_replication replication) block facts.known sound (λ own is was. goes facts.known own (with_replication replication own) refl refl) (λ own was. refl) (λ own is was. was.agreed)
 
 -- ---- lengths
 
@@ -86,7 +84,7 @@ committed_is (Some committed) own length reports agreed some is = ap (λ l. Some
 pub commit_keeps : CommitKeeps
 commit_keeps facts block length allowed sound =
     altered_keeps (with_length length) block facts.known sound
-    (λ own is was. record { stamp = omega arith; committed = λ bytes before. committed_is own.committed bytes length own.reports was.agreed (allowed_length (block_of facts.known block) own length is allowed) before })
+    (λ own is was. record { stamp = inl refl; committed = λ bytes before. committed_is own.committed bytes length own.reports was.agreed (allowed_length (block_of facts.known block) own length is allowed) before })
     (λ own was. refl) (λ own is was. agreeing_have length own.reports)
 
 pub request_keeps : RequestKeeps
@@ -104,7 +102,7 @@ begin_keeps facts block now sound =
     let before = facts.known in
     kept_changed before (known.begun before block now) sound (changed_in_order (with_recovery before.next_stamp now) block before.blocks sound.once) block (with_recovery before.next_stamp now)
     (omega arith) (omega arith) (changed_at (with_recovery before.next_stamp now) block before.blocks)
-    (λ own is was. record { goes_on = goes own (with_recovery before.next_stamp now own) (omega (arith, was.stamped)) refl; stamped = omega arith; agreed = agree_on_none own.committed })
+    (λ own is was. record { goes_on = record { stamp = inr (omega arith); committed = λ length committed. committed }; stamped = omega arith; agreed = agree_on_none own.committed })
 
 begun_in_turn : (facts : BlockFacts) (recoveries : List BegunRecovery) (now : ℕ) → IsSound facts.known → IsKept facts.known (fold (λ left (own : BegunRecovery). begun left own.block now) facts recoveries).known
 begun_in_turn facts [] now sound = kept_same facts.known sound
@@ -130,7 +128,7 @@ never (Some other) length {A} none some = cc
 pub recovery_keeps : RecoveryKeeps
 recovery_keeps facts block length nodes none sound =
     altered_keeps (with_recovered length nodes) block facts.known sound
-    (λ own is was. record { stamp = omega arith; committed = λ bytes before. never own.committed bytes (uncommitted (block_of facts.known block) own is none) before })
+    (λ own is was. record { stamp = inl refl; committed = λ bytes before. never own.committed bytes (uncommitted (block_of facts.known block) own is none) before })
     (λ own was. refl) (λ own is was. more_have length nodes (agreeing length own.reports) (agreeing_have length own.reports))
 
 -- ---- nodes
@@ -139,7 +137,7 @@ told_in_turn : (before : Known) (blocks : List ℕ) (now : ℕ) → IsSound befo
 told_in_turn before [] now sound = kept_same before sound
 told_in_turn before (block ∷ blocks) now sound =
     let between = altered (with_hand_out now) block before in
-    let first = altered_keeps (with_hand_out now) block before sound (λ own is was. goes own (with_hand_out now own) (omega arith) refl) (λ own was. refl) (λ own is was. was.agreed) in
+    let first = altered_keeps (with_hand_out now) block before sound (λ own is was. goes before own (with_hand_out now own) refl refl) (λ own was. refl) (λ own is was. was.agreed) in
     kept_in_turn before between (known.told between blocks now) sound first (told_in_turn between blocks now first.sound)
 
 pub heartbeat_keeps : HeartbeatKeeps
@@ -153,7 +151,7 @@ unreported (Some newest) stamp node block before sound = by (newest == stamp)
   where
     by : (b : Bool) → IsKept before (cond b (altered (without_report node) block before) before)
     by true =
-        altered_keeps (without_report node) block before sound (λ own is was. goes own (without_report node own) (omega arith) refl) (λ own was. refl)
+        altered_keeps (without_report node) block before sound (λ own is was. goes before own (without_report node own) refl refl) (λ own was. refl)
         (λ own is was. agree_on_left own.committed (is_number node) own.reports was.agreed)
     by false = kept_same before sound
 
@@ -176,7 +174,7 @@ by_verdict : (facts : BlockFacts) (node block stamp length : ℕ) (verdict : Rep
 by_verdict facts node block stamp length Superseded is sound = kept_same facts.known sound
 by_verdict facts node block stamp length Invalid is sound = unreported (newest_stamp facts block) stamp node block facts.known sound
 by_verdict facts node block stamp length Valid valid sound =
-    altered_keeps (with_report node length) block facts.known sound (λ own is was. goes own (with_report node length own) (omega arith) refl) (λ own was. refl)
+    altered_keeps (with_report node length) block facts.known sound (λ own is was. goes facts.known own (with_report node length own) refl refl) (λ own was. refl)
     (λ own is was. agree_on_put own.committed length node own.reports (valid_agrees (block_of facts.known block) own stamp length is valid) was.agreed)
 
 pub report_keeps : ReportKeeps

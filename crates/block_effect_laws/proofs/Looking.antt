@@ -14,7 +14,7 @@ use Rattle.block_records.specs.declared.block_record.BlockRecord.{BlockRecord}
 use Rattle.block_records.proofs.Numbers.{number_is}
 use Rattle.block_tables.specs.Changes.{changed, changed_by}
 use Rattle.scarce_blocks.proofs.Stays.{put_at}
-use Rattle.known_blocks.specs.Known.{Known, block_of, altered, added, removed, new_record}
+use Rattle.known_blocks.specs.Known.{Known, block_of, added, new_record}
 use Rattle.known_blocks.proofs.Behind.{same_entry}
 use Rattle.block_effect_laws.proofs.Orders.{AreInOrder}
 

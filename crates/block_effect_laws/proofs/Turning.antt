@@ -1,5 +1,5 @@
 -- What keeps all that is sound: one block more, one record given anew, one block less, and one such step after another.
-use Rattle.std.proofs.Common.{◌≡◌, ℕ, ◌<◌, ◌≤◌, ◌+◌, Bool, true, false, List, Option, Some, None, refl, sym, ap, ◌∙◌, subst, cond, arith}
+use Rattle.std.proofs.Common.{◌≡◌, ℕ, ◌<◌, ◌≤◌, ◌+◌, Bool, true, false, ◌⊎◌, inl, inr, Option, Some, None, refl, sym, ◌∙◌, subst, cond, arith}
 use Rattle.std.specs.Option.{option_map}
 use Rattle.block_records.specs.Numbers.{is_number}
 use Rattle.block_records.specs.declared.block_record.BlockRecord.{BlockRecord}
@@ -11,20 +11,27 @@ use Rattle.block_effect_laws.proofs.Orders.{AreInOrder}
 one : (own other : BlockRecord) → Some own ≡ Some other → own ≡ other
 one own other e = cc
 
-stays : (own : BlockRecord) → GoesOn own own
-stays own = record { stamp = omega arith; committed = λ length is. is }
+stays : (before : Known) (own : BlockRecord) → GoesOn before own own
+stays before own = record { stamp = inl refl; committed = λ length is. is }
 
 pub becomes_itself : (before : Known) (block : ℕ) (found : Option BlockRecord) → Becomes before block found found
 becomes_itself before block None = tt
-becomes_itself before block (Some own) = stays own
+becomes_itself before block (Some own) = stays before own
 
 pub kept_same : (known : Known) → IsSound known → IsKept known known
 kept_same known sound = record { sound = sound; next_block = omega arith; next_stamp = omega arith; blocks = λ block. becomes_itself known block (block_of known block) }
 
 -- ---- one step after another
 
-goes_on : (own between later : BlockRecord) → GoesOn own between → GoesOn between later → GoesOn own later
-goes_on own between later first second = record { stamp = omega (arith, first.stamp, second.stamp); committed = λ length is. second.committed length (first.committed length is) }
+-- a stamp that stays, or is new, twice
+stamp_on : (own mid late first second : ℕ) → (mid ≡ own) ⊎ (first ≤ mid) → (late ≡ mid) ⊎ (second ≤ late) → first ≤ second → (late ≡ own) ⊎ (first ≤ late)
+stamp_on own mid late first second (inl h) (inl k) le = inl (k ∙ h)
+stamp_on own mid late first second (inr h) (inl k) le = inr (omega (arith, h, k))
+stamp_on own mid late first second h (inr k) le = inr (omega (arith, k, le))
+
+new_still : (mid late first second : ℕ) → first ≤ mid → (late ≡ mid) ⊎ (second ≤ late) → first ≤ second → first ≤ late
+new_still mid late first second h (inl k) le = omega (arith, h, k)
+new_still mid late first second h (inr k) le = omega (arith, k, le)
 
 module _ (before between later : Known) (sound : IsSound before) (first : IsKept before between) (second : IsKept between later) where
   in_turn : (block : ℕ) (a b c : Option BlockRecord) → block_of before block ≡ a → block_of between block ≡ b → block_of later block ≡ c
@@ -32,10 +39,13 @@ module _ (before between later : Known) (sound : IsSound before) (first : IsKept
   in_turn block None None None x y z f s = tt
   in_turn block None None (Some own) x y z f s = (omega (arith, s.0, first.next_block), omega (arith, s.1, first.next_stamp))
   in_turn block None (Some own) None x y z f s = tt
-  in_turn block None (Some own) (Some late) x y z f s = (f.0, omega (arith, f.1, s.stamp))
+  in_turn block None (Some own) (Some late) x y z f s = (f.0, new_still own.stamp late.stamp before.next_stamp between.next_stamp f.1 s.stamp first.next_stamp)
   in_turn block (Some own) b None x y z f s = tt
   in_turn block (Some own) None (Some late) x y z f s = absurd (omega (arith, (sound.each block own x).given, s.0, first.next_block))
-  in_turn block (Some own) (Some mid) (Some late) x y z f s = goes_on own mid late f s
+  in_turn block (Some own) (Some mid) (Some late) x y z f s = record {
+    stamp = stamp_on own.stamp mid.stamp late.stamp before.next_stamp between.next_stamp f.stamp s.stamp first.next_stamp;
+    committed = λ length is. s.committed length (f.committed length is);
+  }
 
   pub kept_in_turn : IsKept before later
   kept_in_turn = record {
@@ -50,7 +60,7 @@ module _ (before between later : Known) (sound : IsSound before) (first : IsKept
 module _ (before later : Known) (sound : IsSound before) (up : AreInOrder later.blocks) (block : ℕ) where
   -- a record given anew
   pub record IsAllowed (own new : BlockRecord) : Type 0 where
-    pub goes_on : GoesOn own new
+    pub goes_on : GoesOn before own new
     pub stamped : new.stamp < later.next_stamp
     pub agreed : AgreeOn new.committed new.reports
 

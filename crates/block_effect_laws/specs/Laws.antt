@@ -1,6 +1,6 @@
--- What each effect on the map of blocks keeps: numbers are given once, no newest stamp falls, and a committed length stays.
+-- What each effect on the map of blocks keeps: ids and stamps are given once, and a committed length stays.
 -- (HDFS Architecture, "Data Replication"; HDFS-265 for generation stamps and recoveries.)
-use Rattle.std.specs.Prelude.{◌≡◌, ℕ, ◌<◌, ◌≤◌, List, Option, Some, None}
+use Rattle.std.specs.Prelude.{◌≡◌, ℕ, ◌<◌, ◌≤◌, ◌⊎◌, List, Option, Some, None}
 use Rattle.std.specs.Bool.{⊤}
 use Rattle.std.specs.List.{AllByRecursion}
 use Rattle.std.specs.List.Sorted.{IsStrictlySortedBy}
@@ -32,9 +32,9 @@ pub record IsSound (known : Known) : Type 0 where
 
 -- ---- what becomes of it
 
--- the newest stamp doesn't fall, and a committed length stays
-pub record GoesOn (own later : BlockRecord) : Type 0 where
-  pub stamp : own.stamp ≤ later.stamp
+-- the newest stamp stays, or is one that wasn't given before; and a committed length stays
+pub record GoesOn (before : Known) (own later : BlockRecord) : Type 0 where
+  pub stamp : (later.stamp ≡ own.stamp) ⊎ (before.next_stamp ≤ later.stamp)
   pub committed : (length : ℕ) → own.committed ≡ Some length → later.committed ≡ Some length
 
 -- a block may go; one that comes has a number and a stamp that weren't given before
@@ -42,7 +42,7 @@ abbrev pub Becomes : Known → ℕ → Option BlockRecord → Option BlockRecord
 Becomes before block None None = ⊤
 Becomes before block None (Some later) = (before.next_block ≤ block) × (before.next_stamp ≤ later.stamp)
 Becomes before block (Some own) None = ⊤
-Becomes before block (Some own) (Some later) = GoesOn own later
+Becomes before block (Some own) (Some later) = GoesOn before own later
 
 pub record IsKept (before later : Known) : Type 0 where
   pub sound : IsSound later

@@ -1,5 +1,5 @@
 -- The laws over every legal history.
-use Rattle.std.proofs.Common.{◌≡◌, ℕ, ◌+◌, ◌<◌, ◌≤◌, ◌==◌, Bool, true, false, ◌||◌, not, List, [], ◌∷◌, ◌++◌, map, is_some, Option, Some, None, refl, sym, ap, ◌∙◌, subst, cond, append-nil, arith}
+use Rattle.std.proofs.Common.{◌≡◌, ℕ, ◌+◌, ◌<◌, ◌≤◌, ◌==◌, Bool, true, false, ◌||◌, not, List, [], ◌∷◌, ◌++◌, map, is_some, ◌⊎◌, inl, inr, Option, Some, None, refl, sym, ap, ◌∙◌, subst, cond, append-nil, arith}
 use Rattle.std.proofs.lemmas.Bool.{eq-eqb, eqb-true}
 use Rattle.std.proofs.lemmas.Map.Keys.{sorted_head, sorted_tail, IsStrictlyIncreasing-from_sorted}
 use Rattle.std.specs.Cmp.{nat_cmp_total, ranks}
@@ -186,22 +186,24 @@ known_were_given opening (entry ∷ earlier) block legal there =
     given_now (known_behind opening earlier) (known_behind opening (entry ∷ earlier)) (blocks_by entry.verdict) (new_blocks earlier) block turn.kept turn.gives
     (λ was. known_were_given opening earlier block legal.2 was) there
 
-stamp_stays : (before : Known) (block stamp later : ℕ) (a b : Option BlockRecord) → Becomes before block a b → option_map (λ (own : BlockRecord). own.stamp) a ≡ Some stamp
-    → option_map (λ (own : BlockRecord). own.stamp) b ≡ Some later → stamp ≤ later
-stamp_stays before block stamp later None b turn x y = cc
-stamp_stays before block stamp later (Some old) None turn x y = cc
-stamp_stays before block stamp later (Some old) (Some own) turn x y = order (one old.stamp stamp x) (one own.stamp later y) turn.stamp
+stamp_stays : (before : Known) (block stamp later : ℕ) (a b : Option BlockRecord) → ((own : BlockRecord) → a ≡ Some own → own.stamp < before.next_stamp) → Becomes before block a b
+    → option_map (λ (own : BlockRecord). own.stamp) a ≡ Some stamp → option_map (λ (own : BlockRecord). own.stamp) b ≡ Some later → stamp ≤ later
+stamp_stays before block stamp later None b given turn x y = cc
+stamp_stays before block stamp later (Some old) None given turn x y = cc
+stamp_stays before block stamp later (Some old) (Some own) given turn x y = order (one old.stamp stamp x) (one own.stamp later y) (given old refl) turn.stamp
   where
     one : (m n : ℕ) → Some m ≡ Some n → m ≡ n
     one m n e = cc
 
-    order : old.stamp ≡ stamp → own.stamp ≡ later → old.stamp ≤ own.stamp → stamp ≤ later
-    order h k l = omega (arith, h, k, l)
+    order : old.stamp ≡ stamp → own.stamp ≡ later → old.stamp < before.next_stamp → (own.stamp ≡ old.stamp) ⊎ (before.next_stamp ≤ own.stamp) → stamp ≤ later
+    order h k l (inl m) = omega (arith, h, k, m)
+    order h k l (inr m) = omega (arith, h, k, l, m)
 
 pub stamps_never_fall : StampsNeverFall
 stamps_never_fall opening entry earlier block stamp later legal x y =
     let turn = turns opening entry earlier legal in
-    stamp_stays (known_behind opening earlier) block stamp later (block_of (known_behind opening earlier) block) (block_of (known_behind opening (entry ∷ earlier)) block) (turn.kept.blocks block) x y
+    stamp_stays (known_behind opening earlier) block stamp later (block_of (known_behind opening earlier) block) (block_of (known_behind opening (entry ∷ earlier)) block)
+    (λ own is. ((stands opening earlier legal.2).sound.each block own is).stamped) (turn.kept.blocks block) x y
 
 length_stays : (before : Known) (block length : ℕ) (a b : Option BlockRecord) → Becomes before block a b → option_and_then (λ (own : BlockRecord). own.committed) a ≡ Some length
     → is_some b ≡ true → option_and_then (λ (own : BlockRecord). own.committed) b ≡ Some length
