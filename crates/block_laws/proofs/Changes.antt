@@ -1,7 +1,6 @@
 -- What each change of the rows leaves of the blocks of files: their sums.
-use Rattle.std.proofs.Common.{◌≡◌, ℕ, zero, suc, ◌+◌, ◌-◌, ◌<◌, ◌≤◌, ◌==◌, Bool, true, false, ◌&&◌, ◌||◌, not, List, [], ◌∷◌, ◌++◌, map, filter, length, drop, cond, Option, Some, None, Result, Ok, Err, slice_get, refl, sym, ap, ◌∙◌, subst, arith}
-use Rattle.std.specs.Prelude.{unwrap_or}
-use Rattle.std.proofs.lemmas.Bool.{eq-eqb, eqb-true}
+use Rattle.std.proofs.Common.{◌≡◌, ℕ, zero, suc, ◌+◌, ◌≤◌, Bool, true, false, ◌&&◌, ◌||◌, not, List, [], ◌∷◌, ◌++◌, map, filter, length, drop, cond, Option, Some, None, slice_get, refl, sym, ap, ◌∙◌, subst, arith}
+use Rattle.std.proofs.lemmas.Bool.{eq-eqb}
 use Rattle.std.proofs.lemmas.List.{take-append-drop}
 use Rattle.std.specs.List.{list_any}
 use Rattle.std.specs.Option.{option_map}
@@ -17,11 +16,10 @@ use Rattle.namespace_rows.specs.declared.row.Change.{Change}
 use Rattle.namespace_rows.specs.declared.row.Change.TheVariants as change
 use Rattle.namespace_rows.specs.First.{first}
 use Rattle.namespace_rows.specs.Files.{with_state, with_replication, with_block, with_length, has_id, new_block, committed_in, committed_at}
-use Rattle.namespace_rows.specs.Rows.{is_missing, row_at, ancestor, with_sub_tree, replaced}
+use Rattle.namespace_rows.specs.Rows.{is_missing, row_at, ancestor, replaced}
 use Rattle.namespace_rows.specs.Namespace.{IsNamespace, is_ascending, is_before_all}
 use Rattle.namespace_rows.proofs.Tests.{both, all_kept}
 use Rattle.namespace_rows.proofs.PathOrders.{same_path_is, less_is}
-use Rattle.namespace_rows.proofs.Namespaces.{namespace_tests}
 use Rattle.flat_rows.specs.BlockOutcome as file
 use Rattle.flat_rows.specs.Changes.{rows_under, without, moved_row, moved, changed, edited, rewritten, block_added}
 use Rattle.flat_rows.specs.FileOutcome.{LeaseFacts, is_expired, closed_where_expired}

@@ -2,8 +2,8 @@
 use Rattle.std.proofs.Common.{◌≡◌, ℕ, ◌+◌, ◌<◌, ◌≤◌, ◌==◌, Bool, true, false, ◌||◌, not, List, [], ◌∷◌, ◌++◌, map, is_some, ◌⊎◌, inl, inr, Option, Some, None, refl, sym, ap, ◌∙◌, subst, cond, append-nil, arith}
 use Rattle.std.proofs.lemmas.Bool.{eq-eqb, eqb-true}
 use Rattle.std.proofs.lemmas.Map.Keys.{sorted_head, sorted_tail, IsStrictlyIncreasing-from_sorted}
-use Rattle.std.specs.Cmp.{nat_cmp_total, ranks}
-use Rattle.std.specs.List.{AllByRecursion, list_any}
+use Rattle.std.specs.Cmp.{ranks}
+use Rattle.std.specs.List.{AllByRecursion}
 use Rattle.std.specs.List.Sorted.{IsStrictlySortedBy}
 use Rattle.std.specs.Option.{option_map, option_and_then}
 use Rattle.std.specs.Ordering.{nat_cmp, MatchOrdering}
@@ -14,16 +14,14 @@ use Rattle.block_records.specs.Numbers.{has_number}
 use Rattle.block_records.specs.declared.block_record.BlockRecord.{BlockRecord}
 use Rattle.known_blocks.specs.Known.{Known, block_of}
 use Rattle.block_map.specs.BlockFacts.{BlockFacts}
-use Rattle.block_effect_laws.specs.Laws.{GoesOn, Becomes, IsKept}
+use Rattle.block_effect_laws.specs.Laws.{Becomes, IsKept}
 use Rattle.namespace_rows.specs.declared.file_row.FileBlock.{FileBlock}
 use Rattle.namespace_rows.specs.declared.row.Row.{Row}
-use Rattle.flat_rows.specs.BlockOutcome as file
-use Rattle.flat_rows.specs.Outcome.{step}
 use Rattle.history.specs.declared.entry.HistoryEntry.{HistoryEntry}
 use Rattle.history.specs.Config.{Opening}
 use Rattle.history.specs.LegalHistory.{now_at, IsLegal}
 use Rattle.history.specs.State.{users_of, rows_of, blocks_of, facts_of}
-use Rattle.block_laws.specs.Laws.{blocks_by, new_blocks, ids_given, stamps_given, is_known, times, LengthsAre, IdsAscend, StampsAscend, KnownBlocksWereGiven, StampsNeverFall, LengthsStay, BlocksStandOnce, BlocksAreBelow, FilesTellLengths, RowsAreNamespace}
+use Rattle.block_laws.specs.Laws.{blocks_by, new_blocks, ids_given, stamps_given, LengthsAre, IdsAscend, StampsAscend, KnownBlocksWereGiven, StampsNeverFall, LengthsStay, BlocksStandOnce, BlocksAreBelow, FilesTellLengths, RowsAreNamespace}
 use Rattle.block_laws.proofs.Totals.{bit, total, own, in_rows, times_in}
 use Rattle.block_laws.proofs.Told.{told_by, told}
 use Rattle.block_laws.proofs.Standing.{same_length, length_told, wrong}

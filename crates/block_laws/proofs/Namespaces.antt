@@ -1,5 +1,5 @@
 -- The rows that an operation leaves are a namespace where those before it are.
-use Rattle.std.proofs.Common.{◌≡◌, ℕ, Bool, true, false, ◌||◌, ◌&&◌, List, [], ◌∷◌, length, take, drop, filter, Option, Some, None, Result, Ok, Err, refl, sym, ap, ◌∙◌, subst, cond}
+use Rattle.std.proofs.Common.{◌≡◌, ℕ, Bool, true, false, ◌||◌, ◌&&◌, List, [], ◌∷◌, length, take, drop, filter, Option, Some, None, Result, Ok, Err, refl, sym, ap, ◌∙◌, cond}
 use Rattle.std.specs.Prelude.{unwrap_or}
 use Rattle.hdfs_values.specs.PathOrder.{same_path}
 use Rattle.hdfs_values.proofs.Texts.{same_self}
@@ -23,7 +23,7 @@ use Rattle.namespace_rows.specs.Namespace.{IsNamespace, is_child, has_parent, su
 use Rattle.namespace_rows.proofs.Tests.{or_right}
 use Rattle.namespace_rows.proofs.PathOrders.{same_path_is}
 use Rattle.namespace_rows.proofs.Namespaces.{namespace_tests, with_sub_tree_namespace}
-use Rattle.flat_rows.specs.BlockOutcome.{last_committed, with_block_at, ended_at}
+use Rattle.flat_rows.specs.BlockOutcome.{last_committed}
 use Rattle.flat_rows.specs.Changes.{rewritten, suits_change, block_added}
 use Rattle.flat_rows.specs.FileOutcome.{is_expired, directory_there, file_there, state_after_append, holder_at}
 use Rattle.flat_rows.specs.Facts.{Facts}

@@ -1,5 +1,5 @@
 -- What an operation that is done leaves of blocks: what was sound is, and files and block facts agree.
-use Rattle.std.proofs.Common.{◌≡◌, ℕ, ◌+◌, ◌-◌, ◌≤◌, ◌==◌, Bool, true, false, ◌&&◌, List, [], ◌∷◌, ◌++◌, map, length, fold, is_some, slice_get, Option, Some, None, Result, Ok, Err, refl, sym, ap, ◌∙◌, subst, cond, arith}
+use Rattle.std.proofs.Common.{◌≡◌, ℕ, ◌+◌, ◌-◌, ◌≤◌, Bool, true, false, List, [], ◌∷◌, map, length, is_some, Option, Some, None, Result, Ok, Err, refl, sym, ap, ◌∙◌, subst, cond, arith}
 use Rattle.std.specs.Prelude.{unwrap_or}
 use Rattle.std.proofs.lemmas.Bool.{eqb-true}
 use Rattle.std.specs.Option.{option_map}
@@ -27,13 +27,11 @@ use Rattle.block_effect_laws.proofs.Turning.{kept_same, kept_in_turn}
 use Rattle.block_effect_laws.proofs.Effects.{removals, replication_keeps, commit_keeps, request_keeps, heartbeat_keeps, report_keeps}
 use Rattle.principals.specs.Users.{Users}
 use Rattle.namespace_rows.specs.declared.file_row.FileBlock.{FileBlock}
-use Rattle.namespace_rows.specs.declared.file_row.FileRow.{FileRow}
 use Rattle.namespace_rows.specs.declared.row.Row.{Row}
-use Rattle.namespace_rows.specs.declared.row.Change.{Change}
 use Rattle.namespace_rows.specs.declared.row.Change.TheVariants as change
 use Rattle.namespace_rows.specs.Files.{blocks_in, with_block, new_file, new_block, last_of}
 use Rattle.namespace_rows.specs.Namespace.{IsNamespace}
-use Rattle.namespace_rows.specs.Rows.{is_none, is_missing, row_at, ancestor}
+use Rattle.namespace_rows.specs.Rows.{is_none, row_at, ancestor}
 use Rattle.namespace_rows.proofs.Namespaces.{namespace_tests}
 use Rattle.flat_rows.specs.BlockOutcome as file
 use Rattle.flat_rows.specs.BlockOutcome.{is_last, is_named, replication_of, replication_at, ids_at, with_block_at, ended_at}
@@ -44,11 +42,11 @@ use Rattle.flat_rows.specs.Outcome.{first_refusal, rows_after, with_new, made_at
 use Rattle.flat_rows.proofs.Blocks.{row_at_map}
 use Rattle.history.specs.Blocks.{heard_of, reported_of, extended, ended, all_replicated, blocks_after}
 use Rattle.history.proofs.Apart.{missing_apart, none_under, no_ancestor}
-use Rattle.block_laws.proofs.Totals.{bit, Weight, total, own, in_rows, has, total_append, rows_without}
-use Rattle.block_laws.proofs.Changes.{KeepsBlocks, owner_blocks, state_blocks, replication_blocks, rows_rewritten, rows_closed, rows_new, rows_moved, rows_added, rows_committed, counted}
+use Rattle.block_laws.proofs.Totals.{Weight, total, own, in_rows, has, total_append, rows_without}
+use Rattle.block_laws.proofs.Changes.{owner_blocks, state_blocks, replication_blocks, rows_rewritten, rows_closed, rows_new, rows_moved, rows_added, rows_committed, counted}
 use Rattle.block_laws.proofs.Told.{told, TellTheSame, same_replicated, same_told_node, same_reported, told_added, told_committed, last_known, added_first, told_removed}
 use Rattle.block_laws.proofs.Standing.{Agree, bit_few, agree_same, agree_taken, agree_added, agree_committed}
-use Rattle.block_laws.proofs.Unrefused.{IsFileAt, IsWritten, created_on_no_directory, renamed_to_free, block_asked, file_completed}
+use Rattle.block_laws.proofs.Unrefused.{IsFileAt, created_on_no_directory, renamed_to_free, block_asked, file_completed}
 
 -- ---- block facts
 

@@ -10,7 +10,7 @@ use Rattle.namespace_rows.specs.declared.row.Row.{Row}
 use Rattle.namespace_rows.specs.Files.{blocks_in, has_id, with_length, new_block}
 use Rattle.block_laws.specs.Laws.{times}
 use Rattle.block_laws.proofs.Totals.{bit, Weight, in_rows, has, rows_same, rows_less, rows_where, rows_apart, is_gone, times_in, times_some, times_none}
-use Rattle.block_laws.proofs.Changes.{with_bytes, committed}
+use Rattle.block_laws.proofs.Changes.{committed}
 use Rattle.block_laws.proofs.Told.{number_equal}
 
 abbrev pub Tells : Type 0

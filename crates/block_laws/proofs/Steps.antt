@@ -1,5 +1,5 @@
 -- What a step leaves of what stands, and which numbers it gives.
-use Rattle.std.proofs.Common.{◌≡◌, ℕ, ◌+◌, ◌≤◌, ◌==◌, Bool, true, false, List, [], ◌∷◌, fold, Option, Some, None, refl, sym, ap, ◌∙◌, subst, cond, arith}
+use Rattle.std.proofs.Common.{◌≡◌, ℕ, ◌+◌, ◌≤◌, ◌==◌, Bool, true, false, List, [], ◌∷◌, Option, Some, None, refl, sym, subst, cond, arith}
 use Rattle.hdfs_values.specs.NodeId.{node_of}
 use Rattle.hdfs_types.specs.LocatedBlocks.{AddedBlock}
 use Rattle.hdfs_types.specs.declared.op.Op.{Op}
@@ -26,7 +26,7 @@ use Rattle.flat_rows.specs.declared.verdict.Verdict.TheVariants.{Done, Denied, R
 use Rattle.flat_rows.specs.FileOutcome.{appended_reply, holder_at}
 use Rattle.flat_rows.specs.NodeOutcome.{heartbeat_reply}
 use Rattle.flat_rows.specs.Facts.{Facts}
-use Rattle.flat_rows.specs.Outcome.{step, first_refusal, reply_of, status_of, acl_status_of, serial_reply, rows_after}
+use Rattle.flat_rows.specs.Outcome.{step, reply_of, status_of, acl_status_of, serial_reply}
 use Rattle.history.specs.Blocks.{heard_of, reported_of, extended, ended, all_replicated, blocks_after, blocks_by}
 use Rattle.history.specs.State.{rows_by}
 use Rattle.block_laws.specs.Laws as law

@@ -1,5 +1,5 @@
 -- What stands at a path keeps a list that suits it when its list is changed.
-use Rattle.std.proofs.Common.{◌≡◌, ℕ, Bool, true, false, ◌||◌, not, List, cond, Option, Some, None, Result, Ok, Err, refl, ap, ◌∙◌, subst}
+use Rattle.std.proofs.Common.{◌≡◌, ℕ, Bool, true, false, ◌||◌, not, cond, Option, Some, None, Ok, Err, refl, subst}
 use Rattle.std.specs.Prelude.{if◌then◌else◌}
 use Rattle.std.specs.Option.{is_none}
 use Rattle.permission_specs.specs.declared.acl_change.AclChange.{AclChange}
@@ -9,7 +9,6 @@ use Rattle.hdfs_values.specs.declared.fault.AclFault.{AclFault}
 use Rattle.hdfs_values.specs.declared.fault.AclFault.TheVariants.{DefaultOnFile, NoBase, BaseRemoved, MaskRemoved}
 use Rattle.hdfs_types.specs.declared.reply.ObjectKind.{ObjectKind}
 use Rattle.hdfs_types.specs.declared.reply.ObjectKind.TheVariants.{File, Directory}
-use Rattle.hdfs_types.specs.declared.reply.Refusal.{Refusal}
 use Rattle.hdfs_types.specs.declared.reply.Refusal.TheVariants.{TooManyEntries}
 use Rattle.acl_entries.specs.Acl.{Acl, EntryList, suits_file}
 use Rattle.partial_acl.specs.AclChange.{acl_change, acl_after, unless_fault, first_acl_fault, lacks_base, removes_base, removes_mask, touches, spec_in, default_after, access_after, with_mode}

@@ -1,17 +1,14 @@
 -- What the block facts tell of a number behind an effect: nothing, or that it is known, and with which length.
-use Rattle.std.proofs.Common.{◌≡◌, ℕ, ◌<◌, ◌+◌, ◌==◌, Bool, true, false, ◌&&◌, ◌||◌, List, [], ◌∷◌, map, fold, is_some, Option, Some, None, refl, sym, ap, ◌∙◌, subst, cond, arith}
+use Rattle.std.proofs.Common.{◌≡◌, ℕ, ◌<◌, ◌==◌, Bool, true, false, ◌||◌, List, [], ◌∷◌, map, fold, is_some, Option, Some, None, refl, sym, ap, ◌∙◌, cond, arith}
 use Rattle.std.proofs.lemmas.Bool.{ne_eqb, eq-eqb}
 use Rattle.std.specs.Cmp.{ranked}
-use Rattle.std.specs.Map.{remove_entry}
-use Rattle.std.specs.Option.{option_map, option_and_then}
+use Rattle.std.specs.Option.{option_map}
 use Rattle.std.specs.Ordering.{is_eq, nat_cmp}
 use Rattle.std.specs.declared.cmp.Ordering.{Ordering}
 use Rattle.std.specs.declared.cmp.Ordering.TheVariants.{Less, Equal, Greater}
 use Rattle.block_records.specs.Numbers.{is_number, has_number, entry_at}
-use Rattle.block_records.specs.Reports.{is_reported}
 use Rattle.block_records.specs.Verdicts.{verdict_by}
 use Rattle.block_records.specs.declared.block_record.BlockRecord.{BlockRecord}
-use Rattle.block_records.specs.declared.fault.BlockRefusal.TheVariants.{NotYetReplicated}
 use Rattle.block_records.specs.declared.last_block.LastBlock.{LastBlock}
 use Rattle.block_records.specs.declared.report.ReportVerdict.{ReportVerdict}
 use Rattle.block_records.specs.declared.report.ReportVerdict.TheVariants.{Superseded, Invalid, Valid}

@@ -1,16 +1,15 @@
 -- What an operation that is done had: no refusal of its list applied.
-use Rattle.std.proofs.Common.{◌≡◌, ℕ, Bool, true, false, ◌||◌, ◌&&◌, not, List, [], ◌∷◌, ◌++◌, Option, Some, None, refl, sym, ap, ◌∙◌, subst, cond}
+use Rattle.std.proofs.Common.{◌≡◌, ℕ, Bool, true, false, List, [], ◌∷◌, ◌++◌, Option, Some, None, refl, sym, ap, ◌∙◌, subst, cond}
 use Rattle.std.specs.Option.{option_map, option_or}
 use Rattle.block_records.specs.declared.last_block.LastBlock.{LastBlock}
 use Rattle.block_records.specs.declared.fault.BlockRefusal.{BlockRefusal}
-use Rattle.hdfs_types.specs.BlockRefusals.{refusal_of}
 use Rattle.hdfs_types.specs.declared.op.Op.{Op}
 use Rattle.hdfs_types.specs.declared.op.Op.TheVariants as op
 use Rattle.hdfs_types.specs.declared.reply.Reply.{Reply}
 use Rattle.hdfs_types.specs.declared.reply.Refusal.{Refusal}
 use Rattle.hdfs_types.specs.declared.reply.Refusal.TheVariants.{IsDirectory, NotDirectory, NotYetReplicated}
 use Rattle.hdfs_values.specs.Path.{is_prefix}
-use Rattle.block_map.specs.BlockFacts.{BlockFacts, refused_commit, refused_targets}
+use Rattle.block_map.specs.BlockFacts.{refused_commit, refused_targets}
 use Rattle.block_map.specs.BlockEffects as effect
 use Rattle.known_blocks.specs.Known.{refused_new_block}
 use Rattle.principals.specs.Users.{Users}
@@ -19,15 +18,13 @@ use Rattle.namespace_rows.specs.declared.row.Row.{Row}
 use Rattle.namespace_rows.specs.Namespace.{IsNamespace, is_root, suits_parts, suits_kind}
 use Rattle.namespace_rows.specs.Rows.{is_directory, is_none, is_missing, row_at, file_above, directory_of}
 use Rattle.namespace_rows.proofs.Namespaces.{namespace_tests}
-use Rattle.flat_rows.specs.declared.verdict.Verdict.{Verdict}
-use Rattle.flat_rows.specs.declared.verdict.Verdict.TheVariants.{Done, Denied, Refused}
+use Rattle.flat_rows.specs.declared.verdict.Verdict.TheVariants.{Done}
 use Rattle.flat_rows.specs.Denial as denied
 use Rattle.flat_rows.specs.Decision.{decision}
-use Rattle.flat_rows.specs.Changes.{are_paths}
 use Rattle.flat_rows.specs.Facts.{Facts}
 use Rattle.flat_rows.specs.BlockOutcome.{is_last, refused_last, refused_by, refused_new, refused_end}
-use Rattle.flat_rows.specs.FileOutcome.{directory_there, file_there, of_file, if_some_file, refused_write}
-use Rattle.flat_rows.specs.Outcome.{step, denied_or_outcome, refused_or_done, first_refusal, first_some, refusals_of_file, refused_where, nothing_at, something_at, beneath_file, rows_moved, reply_of}
+use Rattle.flat_rows.specs.FileOutcome.{directory_there, of_file, if_some_file, refused_write}
+use Rattle.flat_rows.specs.Outcome.{step, denied_or_outcome, refused_or_done, first_refusal, first_some, refusals_of_file, refused_where, nothing_at, something_at, beneath_file, reply_of}
 use Rattle.flat_rows.proofs.Firsts.{first_passes}
 
 pub neither : {X : Type 0} (a b : Option X) → option_or a b ≡ None → (a ≡ None) × (b ≡ None)

@@ -1,7 +1,7 @@
 -- What holds of blocks in every history: a number is given once, a newest stamp doesn't fall, a committed length stays, and no block stands
 -- in two places.
 -- (HDFS Architecture, "The File System Namespace" and "Data Replication"; HDFS-265 for generation stamps.)
-use Rattle.std.specs.Prelude.{◌≡◌, ℕ, ◌<◌, ◌≤◌, ◌==◌, Bool, true, List, [], ◌∷◌, ◌++◌, map, filter, length, is_some, if◌then◌else◌, Option, Some, None}
+use Rattle.std.specs.Prelude.{◌≡◌, ℕ, ◌<◌, ◌≤◌, ◌==◌, Bool, true, List, [], ◌∷◌, ◌++◌, map, filter, length, is_some, if◌then◌else◌, Some}
 use Rattle.std.specs.List.{AllByRecursion}
 use Rattle.std.specs.List.Sorted.{IsStrictlyIncreasing}
 use Rattle.hdfs_types.specs.LocatedBlocks.{AddedBlock}
