@@ -5,7 +5,7 @@ use Rattle.block_records.specs.Numbers.{is_number}
 use Rattle.block_records.specs.declared.block_record.BlockRecord.{BlockRecord}
 use Rattle.block_records.proofs.Numbers.{number_is}
 use Rattle.known_blocks.specs.Known.{Known, block_of}
-use Rattle.block_effect_laws.specs.Laws.{AgreeOn, IsSoundAt, IsSound, GoesOn, Becomes, IsKept}
+use Rattle.block_effect_laws.specs.Laws.{AgreeOn, IsSoundAt, AreApart, IsSound, GoesOn, Becomes, IsKept}
 use Rattle.block_effect_laws.proofs.Orders.{AreInOrder}
 
 one : (own other : BlockRecord) → Some own ≡ Some other → own ≡ other
@@ -55,6 +55,39 @@ module _ (before between later : Known) (sound : IsSound before) (first : IsKept
     blocks = λ block. in_turn block (block_of before block) (block_of between block) (block_of later block) refl refl refl (first.blocks block) (second.blocks block);
   }
 
+-- ---- stamps
+
+-- where one block at most gets a stamp that wasn't given before, no two have one
+module _ (before later : Known) (sound : IsSound before) (blocks : (q : ℕ) → Becomes before q (block_of before q) (block_of later q)) (only : ℕ)
+    (new : (q : ℕ) (own : BlockRecord) → block_of later q ≡ Some own → (only ≡ q) ⊎ (own.stamp < before.next_stamp)) where
+  -- a block that had this stamp before
+  abbrev HadIt : ℕ → BlockRecord → Type 0
+  HadIt q own = (old : BlockRecord) × (block_of before q ≡ Some old) × (old.stamp ≡ own.stamp)
+
+  had_or_new : (q : ℕ) (own : BlockRecord) → block_of later q ≡ Some own → HadIt q own ⊎ (before.next_stamp ≤ own.stamp)
+  had_or_new q own there = by (block_of before q) refl (subst (λ found. Becomes before q (block_of before q) found) there (blocks q))
+    where
+      kept : (old : BlockRecord) → block_of before q ≡ Some old → (own.stamp ≡ old.stamp) ⊎ (before.next_stamp ≤ own.stamp) → HadIt q own ⊎ (before.next_stamp ≤ own.stamp)
+      kept old is (inl same) = inl (old, is, sym same)
+      kept old is (inr fresh) = inr fresh
+
+      by : (found : Option BlockRecord) → block_of before q ≡ found → Becomes before q found (Some own) → HadIt q own ⊎ (before.next_stamp ≤ own.stamp)
+      by None is turn = inr turn.1
+      by (Some old) is turn = kept old is turn.stamp
+
+  is_only : (q : ℕ) (own : BlockRecord) → before.next_stamp ≤ own.stamp → (only ≡ q) ⊎ (own.stamp < before.next_stamp) → only ≡ q
+  is_only q own fresh (inl is) = is
+  is_only q own fresh (inr less) = absurd (omega (arith, fresh, less))
+
+  pub apart_later : AreApart later
+  apart_later p q own also here there same = by (had_or_new p own here) (had_or_new q also there)
+    where
+      by : HadIt p own ⊎ (before.next_stamp ≤ own.stamp) → HadIt q also ⊎ (before.next_stamp ≤ also.stamp) → p ≡ q
+      by (inl a) (inl b) = sound.apart p q a.0 b.0 a.1 b.1 (a.2 ∙ (same ∙ sym b.2))
+      by (inl a) (inr fresh) = let was = (sound.each p a.0 a.1).stamped in let old = a.2 in absurd (omega (arith, was, old, same, fresh))
+      by (inr fresh) (inl b) = let was = (sound.each q b.0 b.1).stamped in let old = b.2 in absurd (omega (arith, was, old, same, fresh))
+      by (inr first) (inr second) = sym (is_only p own first (new p own here)) ∙ is_only q also second (new q also there)
+
 -- ---- one step
 
 module _ (before later : Known) (sound : IsSound before) (up : AreInOrder later.blocks) (block : ℕ) where
@@ -68,10 +101,14 @@ module _ (before later : Known) (sound : IsSound before) (up : AreInOrder later.
       → ((q : ℕ) → block_of later q ≡ cond (is_number block q) (option_map change (block_of before block)) (block_of before q))
       → ((own : BlockRecord) → block_of before block ≡ Some own → IsSoundAt before block own → IsAllowed own (change own)) → IsKept before later
   kept_changed change blocks stamps at allowed = record {
-    sound = record { once = up; each = λ q own there. sound_by q own (is_number block q) refl (sym (at q) ∙ there) };
+    sound = record {
+      once = up;
+      each = λ q own there. sound_by q own (is_number block q) refl (sym (at q) ∙ there);
+      apart = apart_later before later sound turns block (λ q own there. new_by q own (is_number block q) refl (sym (at q) ∙ there));
+    };
     next_block = blocks;
     next_stamp = stamps;
-    blocks = λ q. subst (λ found. Becomes before q (block_of before q) found) (sym (at q)) (becomes_by q (is_number block q) refl);
+    blocks = turns;
   }
     where
       sound_found : (own : BlockRecord) (found : Option BlockRecord) → block_of before block ≡ found → option_map change found ≡ Some own → IsSoundAt later block own
@@ -96,13 +133,24 @@ module _ (before later : Known) (sound : IsSound before) (up : AreInOrder later.
       becomes_by q true same =
           subst (λ n. Becomes before q (block_of before n) (option_map change (block_of before block))) (number_is block q same) (becomes_found q (block_of before block) refl)
 
+      turns : (q : ℕ) → Becomes before q (block_of before q) (block_of later q)
+      turns q = subst (λ found. Becomes before q (block_of before q) found) (sym (at q)) (becomes_by q (is_number block q) refl)
+
+      new_by : (q : ℕ) (own : BlockRecord) (b : Bool) → is_number block q ≡ b → cond b (option_map change (block_of before block)) (block_of before q) ≡ Some own → (block ≡ q) ⊎ (own.stamp < before.next_stamp)
+      new_by q own true same there = inl (number_is block q same)
+      new_by q own false apart there = inr (sound.each q own there).stamped
+
   -- a block goes
   pub kept_removed : before.next_block ≤ later.next_block → before.next_stamp ≤ later.next_stamp → ((q : ℕ) → block_of later q ≡ cond (is_number block q) None (block_of before q)) → IsKept before later
   kept_removed blocks stamps at = record {
-    sound = record { once = up; each = λ q own there. sound_by q own (is_number block q) (sym (at q) ∙ there) };
+    sound = record {
+      once = up;
+      each = λ q own there. sound_by q own (is_number block q) (sym (at q) ∙ there);
+      apart = apart_later before later sound turns block (λ q own there. new_by q own (is_number block q) (sym (at q) ∙ there));
+    };
     next_block = blocks;
     next_stamp = stamps;
-    blocks = λ q. subst (λ found. Becomes before q (block_of before q) found) (sym (at q)) (becomes_by q (is_number block q));
+    blocks = turns;
   }
     where
       sound_by : (q : ℕ) (own : BlockRecord) (b : Bool) → cond b None (block_of before q) ≡ Some own → IsSoundAt later q own
@@ -119,6 +167,13 @@ module _ (before later : Known) (sound : IsSound before) (up : AreInOrder later.
       becomes_by q true = gone q (block_of before q)
       becomes_by q false = becomes_itself before q (block_of before q)
 
+      turns : (q : ℕ) → Becomes before q (block_of before q) (block_of later q)
+      turns q = subst (λ found. Becomes before q (block_of before q) found) (sym (at q)) (becomes_by q (is_number block q))
+
+      new_by : (q : ℕ) (own : BlockRecord) (b : Bool) → cond b None (block_of before q) ≡ Some own → (block ≡ q) ⊎ (own.stamp < before.next_stamp)
+      new_by q own true there = cc
+      new_by q own false there = inr (sound.each q own there).stamped
+
 -- a block comes
 module _ (before later : Known) (sound : IsSound before) (up : AreInOrder later.blocks) (new : BlockRecord) where
   -- the number that was the next is that of no block
@@ -130,10 +185,14 @@ module _ (before later : Known) (sound : IsSound before) (up : AreInOrder later.
       → ((q : ℕ) → block_of later q ≡ cond (is_number before.next_block q) (Some new) (block_of before q))
       → before.next_stamp ≤ new.stamp → new.stamp < later.next_stamp → AgreeOn new.committed new.reports → IsKept before later
   kept_added blocks stamps at fresh stamped agreed = record {
-    sound = record { once = up; each = λ q own there. sound_by q own (is_number before.next_block q) refl (sym (at q) ∙ there) };
+    sound = record {
+      once = up;
+      each = λ q own there. sound_by q own (is_number before.next_block q) refl (sym (at q) ∙ there);
+      apart = apart_later before later sound turns before.next_block (λ q own there. new_by q own (is_number before.next_block q) refl (sym (at q) ∙ there));
+    };
     next_block = omega (arith, blocks);
     next_stamp = stamps;
-    blocks = λ q. subst (λ found. Becomes before q (block_of before q) found) (sym (at q)) (becomes_by q (is_number before.next_block q) refl);
+    blocks = turns;
   }
     where
       sound_by : (q : ℕ) (own : BlockRecord) (b : Bool) → is_number before.next_block q ≡ b → cond b (Some new) (block_of before q) ≡ Some own → IsSoundAt later q own
@@ -153,3 +212,10 @@ module _ (before later : Known) (sound : IsSound before) (up : AreInOrder later.
           subst (λ n. Becomes before n (block_of before n) (Some new)) (number_is before.next_block q is)
           (fresh_at (block_of before before.next_block) (unknown (block_of before before.next_block) refl))
       becomes_by q false is = becomes_itself before q (block_of before q)
+
+      turns : (q : ℕ) → Becomes before q (block_of before q) (block_of later q)
+      turns q = subst (λ found. Becomes before q (block_of before q) found) (sym (at q)) (becomes_by q (is_number before.next_block q) refl)
+
+      new_by : (q : ℕ) (own : BlockRecord) (b : Bool) → is_number before.next_block q ≡ b → cond b (Some new) (block_of before q) ≡ Some own → (before.next_block ≡ q) ⊎ (own.stamp < before.next_stamp)
+      new_by q own true is there = inl (number_is before.next_block q is)
+      new_by q own false is there = inr (sound.each q own there).stamped

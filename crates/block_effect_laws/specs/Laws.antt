@@ -25,10 +25,15 @@ pub record IsSoundAt (known : Known) (block : ℕ) (own : BlockRecord) : Type 0 
   pub stamped : own.stamp < known.next_stamp
   pub agreed : AgreeOn own.committed own.reports
 
+-- no two blocks have one stamp
+abbrev pub AreApart : Known → Type 0
+AreApart known = (block other : ℕ) (own also : BlockRecord) → block_of known block ≡ Some own → block_of known other ≡ Some also → own.stamp ≡ also.stamp → block ≡ other
+
 -- each block stands once, and is so
 pub record IsSound (known : Known) : Type 0 where
   pub once : IsStrictlySortedBy nat_cmp (keys_of known.blocks)
   pub each : (block : ℕ) (own : BlockRecord) → block_of known block ≡ Some own → IsSoundAt known block own
+  pub apart : AreApart known
 
 -- ---- what becomes of it
 

@@ -21,7 +21,7 @@ use Rattle.history.specs.declared.entry.HistoryEntry.{HistoryEntry}
 use Rattle.history.specs.Config.{Opening}
 use Rattle.history.specs.LegalHistory.{now_at, IsLegal}
 use Rattle.history.specs.State.{users_of, rows_of, blocks_of, facts_of}
-use Rattle.block_laws.specs.Laws.{blocks_by, new_blocks, ids_given, stamps_given, LengthsAre, IdsAscend, StampsAscend, KnownBlocksWereGiven, StampsNeverFall, LengthsStay, BlocksStandOnce, BlocksAreBelow, FilesTellLengths, RowsAreNamespace}
+use Rattle.block_laws.specs.Laws.{blocks_by, new_blocks, ids_given, stamps_given, LengthsAre, IdsAscend, StampsAscend, KnownBlocksWereGiven, StampsAreOwn, StampsNeverFall, LengthsStay, BlocksStandOnce, BlocksAreBelow, FilesTellLengths, RowsAreNamespace}
 use Rattle.block_laws.proofs.Totals.{bit, total, own, in_rows, times_in}
 use Rattle.block_laws.proofs.Told.{told_by, told}
 use Rattle.block_laws.proofs.Standing.{same_length, length_told, wrong}
@@ -42,7 +42,7 @@ module _ (opening : Opening) where
   unfolding IsStrictlySortedBy
   stands [] legal = record {
     namespace = refl;
-    sound = record { once = tt; each = λ block own there. cc };
+    sound = record { once = tt; each = λ block own there. cc; apart = λ block other own also there. cc };
     agree = record { once = λ number. refl; right = refl };
   }
   stands (entry ∷ earlier) legal = (turned_behind entry earlier legal (stands earlier legal.2)).standing
@@ -183,6 +183,19 @@ known_were_given opening (entry ∷ earlier) block legal there =
     let turn = turns opening entry earlier legal in
     given_now (known_behind opening earlier) (known_behind opening (entry ∷ earlier)) (blocks_by entry.verdict) (new_blocks earlier) block turn.kept turn.gives
     (λ was. known_were_given opening earlier block legal.2 was) there
+
+with_stamp : (stamp : ℕ) (found : Option BlockRecord) → option_map (λ (own : BlockRecord). own.stamp) found ≡ Some stamp → (own : BlockRecord) × (found ≡ Some own) × (own.stamp ≡ stamp)
+with_stamp stamp None h = cc
+with_stamp stamp (Some own) h = (own, refl, one own.stamp stamp h)
+  where
+    one : (m n : ℕ) → Some m ≡ Some n → m ≡ n
+    one m n e = cc
+
+pub stamps_are_own : StampsAreOwn
+stamps_are_own opening entries block other stamp legal x y =
+    let own = with_stamp stamp (block_of (known_behind opening entries) block) x in
+    let also = with_stamp stamp (block_of (known_behind opening entries) other) y in
+    (stands opening entries legal).sound.apart block other own.0 also.0 own.1 also.1 (own.2 ∙ sym also.2)
 
 stamp_stays : (before : Known) (block stamp later : ℕ) (a b : Option BlockRecord) → ((own : BlockRecord) → a ≡ Some own → own.stamp < before.next_stamp) → Becomes before block a b
     → option_map (λ (own : BlockRecord). own.stamp) a ≡ Some stamp → option_map (λ (own : BlockRecord). own.stamp) b ≡ Some later → stamp ≤ later

@@ -62,6 +62,11 @@ abbrev pub KnownBlocksWereGiven : Type 0
 KnownBlocksWereGiven = (opening : Opening) (entries : List HistoryEntry) (block : ℕ) → IsLegal opening entries → is_known (blocks_of opening entries) block ≡ true
     → has_number block (ids_given entries) ≡ true
 
+-- the newest stamp of a block is that of no other
+abbrev pub StampsAreOwn : Type 0
+StampsAreOwn = (opening : Opening) (entries : List HistoryEntry) (block other stamp : ℕ) → IsLegal opening entries
+    → newest_stamp (blocks_of opening entries) block ≡ Some stamp → newest_stamp (blocks_of opening entries) other ≡ Some stamp → block ≡ other
+
 -- behind an entry more the newest stamp of a block isn't less
 abbrev pub StampsNeverFall : Type 0
 StampsNeverFall = (opening : Opening) (entry : HistoryEntry) (earlier : List HistoryEntry) (block stamp later : ℕ) → IsLegal opening (entry ∷ earlier)

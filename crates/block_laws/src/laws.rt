@@ -3,11 +3,12 @@
 ghost use Rattle.block_laws.specs.Laws as law;
 
 /// No id of a block and no generation stamp is given twice, also once a block is deleted: both ascend from one new block to the next.
-/// No block is known whose id no writer was given (HDFS Architecture, "Data Replication").
+/// No block is known whose id no writer was given, and no two have one newest stamp (HDFS Architecture, "Data Replication").
 pub fn numbers_are_given_once()
     ensures ids { law.IdsAscend }
     ensures stamps { law.StampsAscend }
     ensures known { law.KnownBlocksWereGiven }
+    ensures own { law.StampsAreOwn }
 {}
 
 /// From one step to the next, while a block is known: its newest stamp doesn't fall, and a length that is committed stays (HDFS-265).
