@@ -1,0 +1,5 @@
+pub mod Orders
+pub mod Reports
+pub mod Looking
+pub mod Turning
+pub mod Effects

@@ -1,0 +1,160 @@
+-- What a step leaves of what stands, and which numbers it gives.
+use Rattle.std.proofs.Common.{◌≡◌, ℕ, ◌+◌, ◌≤◌, ◌==◌, Bool, true, false, List, [], ◌∷◌, Option, Some, None, refl, sym, subst, cond, arith}
+use Rattle.hdfs_values.specs.NodeId.{node_of}
+use Rattle.hdfs_types.specs.LocatedBlocks.{AddedBlock}
+use Rattle.hdfs_types.specs.declared.op.Op.{Op}
+use Rattle.hdfs_types.specs.declared.op.Op.TheVariants as op
+use Rattle.hdfs_types.specs.declared.reply.Reply.{Reply}
+use Rattle.hdfs_types.specs.declared.replica.ReportedReplica.{ReportedReplica}
+use Rattle.block_records.specs.declared.last_block.LastBlock.{LastBlock}
+use Rattle.block_records.specs.declared.report.ReportVerdict.{ReportVerdict}
+use Rattle.block_records.specs.declared.report.ReportVerdict.TheVariants.{Superseded, Invalid, Valid}
+use Rattle.block_records.specs.Verdicts.{verdict_by}
+use Rattle.block_tables.specs.Changes.{without_report}
+use Rattle.known_blocks.specs.Known.{Known, altered}
+use Rattle.block_map.specs.BlockFacts.{BlockFacts, block_of, newest_stamp}
+use Rattle.block_map.specs.BlockEffects.{replicated, reported_by, without_report_at}
+use Rattle.block_effect_laws.specs.Laws.{IsSound, IsKept}
+use Rattle.block_effect_laws.proofs.Turning.{kept_same}
+use Rattle.principals.specs.Users.{Users}
+use Rattle.namespace_rows.specs.declared.row.Row.{Row}
+use Rattle.namespace_rows.specs.Namespace.{IsNamespace}
+use Rattle.namespace_rows.specs.Rows.{row_at}
+use Rattle.flat_rows.specs.BlockOutcome.{replication_at, ids_at, added_to}
+use Rattle.flat_rows.specs.declared.verdict.Verdict.{Verdict}
+use Rattle.flat_rows.specs.declared.verdict.Verdict.TheVariants.{Done, Denied, Refused}
+use Rattle.flat_rows.specs.FileOutcome.{appended_reply, holder_at}
+use Rattle.flat_rows.specs.NodeOutcome.{heartbeat_reply}
+use Rattle.flat_rows.specs.Facts.{Facts}
+use Rattle.flat_rows.specs.Outcome.{step, reply_of, status_of, acl_status_of, serial_reply}
+use Rattle.history.specs.Blocks.{heard_of, reported_of, extended, ended, all_replicated, blocks_after, blocks_by}
+use Rattle.history.specs.State.{rows_by}
+use Rattle.block_laws.specs.Laws as law
+use Rattle.block_laws.specs.Laws.{blocks_told}
+use Rattle.block_laws.proofs.Told.{told}
+use Rattle.block_laws.proofs.Standing.{Agree}
+use Rattle.block_laws.proofs.Namespaces.{namespace_stays}
+use Rattle.block_laws.proofs.Operations.{blocks_kept, agree_stays}
+use Rattle.block_laws.proofs.Unrefused.{was_done}
+
+-- ---- numbers that are given
+
+-- the next number and the next stamp, if any
+abbrev pub Gives : Known → Known → List AddedBlock → Type 0
+Gives before later [] = later.next_block ≡ before.next_block
+Gives before later (new ∷ []) = (new.block ≡ before.next_block) × (later.next_block ≡ before.next_block + 1) × (new.stamp ≡ before.next_stamp) × (before.next_stamp + 1 ≤ later.next_stamp)
+Gives before later (new ∷ other ∷ more) = ⊥
+
+gives_none : (before later : Known) (told : Reply) → blocks_told told ≡ [] → later.next_block ≡ before.next_block → Gives before later (blocks_told told)
+gives_none before later told none same = subst (λ new. Gives before later new) (sym none) same
+
+no_status : (at : Option Row) → blocks_told (status_of at) ≡ []
+no_status None = refl
+no_status (Some row) = refl
+
+no_acl : (at : Option Row) → blocks_told (acl_status_of at) ≡ []
+no_acl None = refl
+no_acl (Some row) = refl
+
+no_append : (holder : Option (List ℕ)) → blocks_told (appended_reply holder) ≡ []
+no_append None = refl
+no_append (Some holder) = refl
+
+no_serial : (serial : Option ℕ) → blocks_told (serial_reply serial) ≡ []
+no_serial None = refl
+no_serial (Some serial) = refl
+
+no_commands : (facts : Facts) (caller : List ℕ) (node : Option ℕ) → blocks_told (heartbeat_reply facts caller node) ≡ []
+no_commands facts caller None = refl
+no_commands facts caller (Some node) = refl
+
+next_replicated : (replication : ℕ) (numbers : List ℕ) (facts : BlockFacts) → (all_replicated replication numbers facts).known.next_block ≡ facts.known.next_block
+next_replicated replication [] facts = refl
+next_replicated replication (block ∷ numbers) facts = next_replicated replication numbers (replicated facts block replication)
+
+next_heard : (node : Option ℕ) (now : ℕ) (facts : BlockFacts) → (heard_of node now facts).known.next_block ≡ facts.known.next_block
+next_heard None now facts = refl
+next_heard (Some node) now facts = refl
+
+next_unreported : (found : Option ℕ) (stamp node block : ℕ) (own : Known) → (without_report_at found stamp node block own).next_block ≡ own.next_block
+next_unreported None stamp node block own = refl
+next_unreported (Some newest) stamp node block own = by (newest == stamp)
+  where
+    by : (b : Bool) → (cond b (altered (without_report node) block own) own).next_block ≡ own.next_block
+    by true = refl
+    by false = refl
+
+next_reported : (node : Option ℕ) (replica : ReportedReplica) (facts : BlockFacts) → (reported_of node replica facts).known.next_block ≡ facts.known.next_block
+next_reported None replica facts = refl
+next_reported (Some node) replica facts = by (verdict_by (block_of facts replica.block) replica.stamp replica.length)
+  where
+    by : (verdict : ReportVerdict) → (reported_by verdict facts node replica.block replica.stamp replica.length).known.next_block ≡ facts.known.next_block
+    by Superseded = refl
+    by Invalid = next_unreported (newest_stamp facts replica.block) replica.stamp node replica.block facts.known
+    by Valid = refl
+
+next_ended : (last : Option LastBlock) (facts : BlockFacts) → (ended last facts).known.next_block ≡ facts.known.next_block
+next_ended None facts = refl
+next_ended (Some last) facts = refl
+
+module _ (facts : Facts) (caller : List ℕ) (rows : List Row) where
+  abbrev before : Known
+  before = facts.blocks.known
+
+  abbrev after : Op → Known
+  after what = (blocks_after what caller facts.now rows facts.blocks).known
+
+  gives_added : (last : Option LastBlock) (replication : Option ℕ)
+      → Gives before (extended last facts.now replication facts.blocks).known (blocks_told (added_to facts.token caller facts.blocks last facts.now replication))
+  gives_added last None = refl
+  gives_added None (Some replication) = (refl, refl, refl, omega arith)
+  gives_added (Some last) (Some replication) = (refl, refl, refl, omega arith)
+
+  pub gives_next : (what : Op) → Gives before (after what) (blocks_told (reply_of facts caller what rows))
+  gives_next (op.Stat path) = gives_none before before (status_of (row_at path rows)) (no_status (row_at path rows)) refl
+  gives_next (op.GetAcl path) = gives_none before before (acl_status_of (row_at path rows)) (no_acl (row_at path rows)) refl
+  gives_next (op.Append path) = gives_none before before (appended_reply (holder_at (row_at path rows))) (no_append (holder_at (row_at path rows))) refl
+  gives_next (op.AddBlock path last) = gives_added last (replication_at (row_at path rows))
+  gives_next (op.Complete path last) = next_ended last facts.blocks
+  gives_next (op.SetReplication path replication) = next_replicated replication (ids_at (row_at path rows)) facts.blocks
+  gives_next (op.RollKey key) = gives_none before before (serial_reply facts.next_serial) (no_serial facts.next_serial) refl
+  gives_next op.Heartbeat = gives_none before (after op.Heartbeat) (heartbeat_reply facts caller (node_of caller)) (no_commands facts caller (node_of caller)) (next_heard (node_of caller) facts.now facts.blocks)
+  gives_next (op.Reported replica) = next_reported (node_of caller) replica facts.blocks
+  gives_next _ = refl
+
+-- ---- what stands
+
+pub record Standing (rows : List Row) (own : Known) : Type 0 where
+  pub namespace : IsNamespace rows
+  pub sound : IsSound own
+  pub agree : Agree (told own) rows
+
+-- and goes on standing, with the numbers that were given
+pub record Turned (before later : Known) (left : List Row) (new : List AddedBlock) : Type 0 where
+  pub standing : Standing left later
+  pub kept : IsKept before later
+  pub gives : Gives before later new
+
+module _ (facts : Facts) (rows : List Row) (users : Users) (caller : List ℕ) (what : Op) (standing : Standing rows facts.blocks.known) where
+  abbrev now : Known
+  now = facts.blocks.known
+
+  stays : Turned now now rows []
+  stays = record { standing = standing; kept = kept_same now standing.sound; gives = refl }
+
+  pub turned : (verdict : Verdict) → verdict ≡ (step facts rows users caller what).verdict
+      → Turned now (blocks_by what caller verdict facts.now rows facts.blocks).known (rows_by facts what caller verdict rows) (law.blocks_by verdict)
+  turned (Done told) is =
+      let done = was_done facts rows users caller what told is in
+      let kept = blocks_kept facts caller rows users standing.namespace standing.sound what done.unrefused in
+      record {
+        standing = record {
+          namespace = namespace_stays facts caller rows users standing.namespace what done.unrefused;
+          sound = kept.sound;
+          agree = agree_stays facts caller rows users standing.namespace standing.sound standing.agree what done.unrefused;
+        };
+        kept = kept;
+        gives = subst (λ reply. Gives now (blocks_after what caller facts.now rows facts.blocks).known (blocks_told reply)) (sym done.told_is) (gives_next facts caller rows what);
+      }
+  turned (Denied denial) is = stays
+  turned (Refused refusal) is = stays

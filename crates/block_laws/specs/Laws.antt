@@ -1,0 +1,106 @@
+-- What holds of blocks in every history: a number is given once, a newest stamp doesn't fall, a committed length stays, and no block stands
+-- in two places.
+-- (HDFS Architecture, "The File System Namespace" and "Data Replication"; HDFS-265 for generation stamps.)
+use Rattle.std.specs.Prelude.{◌≡◌, ℕ, ◌<◌, ◌≤◌, ◌==◌, Bool, true, List, [], ◌∷◌, ◌++◌, map, filter, length, is_some, if◌then◌else◌, Some}
+use Rattle.std.specs.List.{AllByRecursion}
+use Rattle.std.specs.List.Sorted.{IsStrictlyIncreasing}
+use Rattle.hdfs_types.specs.LocatedBlocks.{AddedBlock}
+use Rattle.hdfs_types.specs.declared.reply.Reply.{Reply}
+use Rattle.hdfs_types.specs.declared.reply.Reply.TheVariants as reply
+use Rattle.block_records.specs.Numbers.{has_number}
+use Rattle.block_map.specs.BlockFacts.{BlockFacts, block_of, newest_stamp, committed_length}
+use Rattle.namespace_rows.specs.declared.file_row.FileBlock.{FileBlock}
+use Rattle.namespace_rows.specs.declared.row.Row.{Row}
+use Rattle.namespace_rows.specs.Files.{blocks_in}
+use Rattle.namespace_rows.specs.Namespace.{IsNamespace}
+use Rattle.flat_rows.specs.BlockOutcome as file
+use Rattle.flat_rows.specs.declared.verdict.Verdict.{Verdict}
+use Rattle.flat_rows.specs.declared.verdict.Verdict.TheVariants.{Done, Denied, Refused}
+use Rattle.history.specs.declared.entry.HistoryEntry.{HistoryEntry}
+use Rattle.history.specs.Config.{Opening}
+use Rattle.history.specs.LegalHistory.{IsLegal}
+use Rattle.history.specs.State.{rows_of, blocks_of}
+
+-- ---- numbers that are given
+
+-- the new block that a writer was told of
+abbrev pub blocks_told : Reply → List AddedBlock
+blocks_told (reply.Added added) = added ∷ []
+blocks_told _ = []
+
+abbrev pub blocks_by : Verdict → List AddedBlock
+blocks_by (Done told) = blocks_told told
+blocks_by (Denied denial) = []
+blocks_by (Refused refusal) = []
+
+-- all of them, the oldest first
+abbrev pub new_blocks : List HistoryEntry → List AddedBlock
+new_blocks [] = []
+new_blocks (entry ∷ earlier) = new_blocks earlier ++ blocks_by entry.verdict
+
+abbrev pub ids_given : List HistoryEntry → List ℕ
+ids_given entries = map (λ (new : AddedBlock). new.block) (new_blocks entries)
+
+abbrev pub stamps_given : List HistoryEntry → List ℕ
+stamps_given entries = map (λ (new : AddedBlock). new.stamp) (new_blocks entries)
+
+-- no id is given twice, also once its block is deleted
+abbrev pub IdsAscend : Type 0
+IdsAscend = (opening : Opening) (entries : List HistoryEntry) → IsLegal opening entries → IsStrictlyIncreasing (ids_given entries)
+
+-- nor is a stamp
+abbrev pub StampsAscend : Type 0
+StampsAscend = (opening : Opening) (entries : List HistoryEntry) → IsLegal opening entries → IsStrictlyIncreasing (stamps_given entries)
+
+-- ---- what is known of a block
+
+abbrev pub is_known : BlockFacts → ℕ → Bool
+is_known facts block = is_some (block_of facts block)
+
+-- no block is known that no writer was told of
+abbrev pub KnownBlocksWereGiven : Type 0
+KnownBlocksWereGiven = (opening : Opening) (entries : List HistoryEntry) (block : ℕ) → IsLegal opening entries → is_known (blocks_of opening entries) block ≡ true
+    → has_number block (ids_given entries) ≡ true
+
+-- the newest stamp of a block is that of no other
+abbrev pub StampsAreOwn : Type 0
+StampsAreOwn = (opening : Opening) (entries : List HistoryEntry) (block other stamp : ℕ) → IsLegal opening entries
+    → newest_stamp (blocks_of opening entries) block ≡ Some stamp → newest_stamp (blocks_of opening entries) other ≡ Some stamp → block ≡ other
+
+-- behind an entry more the newest stamp of a block isn't less
+abbrev pub StampsNeverFall : Type 0
+StampsNeverFall = (opening : Opening) (entry : HistoryEntry) (earlier : List HistoryEntry) (block stamp later : ℕ) → IsLegal opening (entry ∷ earlier)
+    → newest_stamp (blocks_of opening earlier) block ≡ Some stamp → newest_stamp (blocks_of opening (entry ∷ earlier)) block ≡ Some later → stamp ≤ later
+
+-- and a length that was committed is still, while the block is known
+abbrev pub LengthsStay : Type 0
+LengthsStay = (opening : Opening) (entry : HistoryEntry) (earlier : List HistoryEntry) (block length : ℕ) → IsLegal opening (entry ∷ earlier)
+    → committed_length (blocks_of opening earlier) block ≡ Some length → is_known (blocks_of opening (entry ∷ earlier)) block ≡ true
+    → committed_length (blocks_of opening (entry ∷ earlier)) block ≡ Some length
+
+-- ---- where blocks stand
+
+-- how often a number is among these
+abbrev pub times : ℕ → List ℕ → ℕ
+times number numbers = length (filter (λ other. other == number) numbers)
+
+-- a block that is known stands in one file, and there in one place; no other stands in any
+abbrev pub BlocksStandOnce : Type 0
+BlocksStandOnce = (opening : Opening) (entries : List HistoryEntry) (block : ℕ) → IsLegal opening entries
+    → times block (blocks_in (rows_of opening entries)) ≡ (if is_known (blocks_of opening entries) block then 1 else 0)
+
+-- its number is below the one that is given next
+abbrev pub BlocksAreBelow : Type 0
+BlocksAreBelow = (opening : Opening) (entries : List HistoryEntry) (block : ℕ) → IsLegal opening entries → is_known (blocks_of opening entries) block ≡ true
+    → block < (blocks_of opening entries).known.next_block
+
+-- each file has of each of its blocks the length that is committed, or none
+abbrev pub LengthsAre : BlockFacts → List Row → Type 0
+LengthsAre facts rows = AllByRecursion (λ (row : Row). AllByRecursion (λ (block : FileBlock). committed_length facts block.id ≡ block.committed) (file.blocks_of row.file)) rows
+
+abbrev pub FilesTellLengths : Type 0
+FilesTellLengths = (opening : Opening) (entries : List HistoryEntry) → IsLegal opening entries → LengthsAre (blocks_of opening entries) (rows_of opening entries)
+
+-- the rows of a legal history are a namespace
+abbrev pub RowsAreNamespace : Type 0
+RowsAreNamespace = (opening : Opening) (entries : List HistoryEntry) → IsLegal opening entries → IsNamespace (rows_of opening entries)

@@ -1,0 +1,4 @@
+//! Laws about blocks over every history.
+#![tactic(auto)]
+
+pub mod laws;
