@@ -19,7 +19,7 @@ use Rattle.block_recovery.specs.declared.fault.PlanRefusal.TheVariants.{AlreadyB
 use Rattle.block_recovery.specs.declared.plan.Plan.{Plan}
 use Rattle.hdfs_types.specs.declared.commands.Recover.{Recover}
 
--- a call that is refused says why; want of memory may stand in the place of any other answer
+-- a call that is refused says why; out of memory may come in the place of any other answer
 abbrev pub IsFaultOf : Option PlanRefusal → PlanFault → Type 0
 IsFaultOf refusal (Refused own) = refusal ≡ Some own
 IsFaultOf refusal OutOfMemory = Unit {0}

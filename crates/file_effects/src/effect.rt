@@ -172,7 +172,7 @@ fn create_open(
     Ok(())
 }
 
-/// The clients who have open what a creation takes the place of. Where nothing may be replaced, nothing has the path.
+/// The clients that hold the file which `create over` replaces; none without `over`, since then the path is free.
 fn replaced_holders(
     alloc: Global,
     tree: &Tree,

@@ -46,7 +46,7 @@ abbrev pub of_file : (FileRow → Option Refusal) → Option Row → Option Refu
 of_file refused None = None
 of_file refused (Some row) = if_some_file refused row.file
 
--- to recover the last block of a file needs a live DataNode that holds it, and none is live yet
+-- the last block of a file would have to be recovered, which isn't done yet, whichever DataNodes are live
 abbrev pub refused_recovery : Bool → Option Refusal
 refused_recovery true = Some TooFewNodes
 refused_recovery false = None
@@ -83,8 +83,8 @@ abbrev pub bytes_of : Option FileRow → ℕ
 bytes_of None = 0
 bytes_of (Some file) = length_of file.blocks
 
--- who appends to a closed file (no holder; one whose last block is recovered was refused) has it open; one that another had open
--- is released
+-- an append to a closed file (no holder) opens it for the caller; an append to a file that another client holds closes it. One whose
+-- last block is being recovered was refused
 abbrev pub appended_reply : Option (List ℕ) → Reply
 appended_reply None = reply.Empty
 appended_reply (Some holder) = reply.Released
@@ -105,7 +105,7 @@ abbrev pub is_past_hard : LeaseFacts → Option (List ℕ) → Bool
 is_past_hard leases None = false
 is_past_hard leases (Some holder) = leases.is_past_hard holder
 
--- such a file is closed, but where its last block would have to be recovered, for which no DataNode is live yet
+-- such a file is closed, but where its last block would have to be recovered, which isn't done yet
 abbrev pub is_expired_file : LeaseFacts → Option FileRow → Bool
 is_expired_file leases None = false
 is_expired_file leases (Some file) = is_past_hard leases (holder_of file.state) && not (ends_uncommitted file.blocks)

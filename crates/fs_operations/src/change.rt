@@ -320,9 +320,8 @@ fn set_groups(
     }
 }
 
-/// Decides a verb that changes the namespace or the users, with its needs, and does it where no need fails and nothing
-/// against it: first the first need that fails, then the first refusal of the operation's list, then done. A denied or refused one
-/// changes nothing. Costs the paths that it names, one look-up in a map for each name, and `rename` the sub-tree only where the new
+/// Decides a verb that changes the namespace or the users, with its needs: answers the first need that fails, or else the first refusal
+/// of the operation's list that applies, or else does it. A denied or refused one changes nothing. Costs the paths that it names, one look-up in a map for each name, and `rename` the sub-tree only where the new
 /// path is deeper or longer (HDFS Architecture, "The File System Namespace"; HDFS Permissions Guide, "Permission Checks").
 ///
 /// # Errors

@@ -172,7 +172,7 @@ fn list(
     }
 }
 
-/// What there is at a path and beneath it; a number that can't be told counts as out of memory.
+/// What there is at a path and beneath it; a number that doesn't fit in 64 bits counts as out of memory.
 fn content_at(tree: &Tree, path: &Path) -> Result<ContentSummary, AllocError>
     ensures { IfOk result (λ content. Reply.Summary content ≡ spec.summary_of (changes.rows_under path.now tree.now)) }
 {
@@ -208,8 +208,8 @@ fn summary(
     Ok(Verdict::Done(Reply::Summary(content_at(tree, path)?)))
 }
 
-/// Answers a verb that changes nothing, with its needs, over what is lent: first the first need that fails, then the first refusal
-/// of the operation's list, then what it asks for. Costs the path that it names, one look-up in a map for each name; `stat`
+/// Answers a verb that changes nothing, with its needs, over what is lent: the first need that fails, or else the first refusal of the
+/// operation's list that applies, or else what it asks for. Costs the path that it names, one look-up in a map for each name; `stat`
 /// also the blocks of the file, `ls` what is listed, and `du` the sub-tree with its blocks (HDFS Architecture, "The File
 /// System Namespace"; HDFS Permissions Guide, "Permission Checks").
 ///

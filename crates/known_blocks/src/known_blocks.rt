@@ -38,7 +38,7 @@ pub struct KnownBlocks {
     next_block: u64,
     next_stamp: u64,
     table: WatchedTable,
-    // the blocks that are being recovered; one stands here too whose recovery could not begin for want of memory
+    // the blocks that are being recovered; a block may be here whose recovery could not begin since memory ran out
     running: BlockSet,
     alloc: Global,
 }

@@ -26,7 +26,7 @@ IsLeased last writers = (client : List ℕ) → moment_of writers.leases.renewal
 abbrev pub renewed_at : List ℕ → ℕ → (List ℕ → Option ℕ) → List ℕ → Option ℕ
 renewed_at client now last other = if same client other then Some now else last other
 
--- nothing but room may be other
+-- all is as before; only spare capacity may differ
 pub record IsAlike (before after : Writers) : Type 0 where
   pub leases : after.leases ≡ before.leases
   pub files : (client : List ℕ) → count_of after.files client ≡ count_of before.files client

@@ -17,7 +17,7 @@ use Rattle.name_core.specs.Told.{may_change}
 abbrev pub facts_in : (List ℕ → Option ℕ) → ℕ → Namesystem → Facts
 facts_in last now system = facts_with system.writers.leases.limits now (lease_in last system.tree) system.ring system.blocks
 
--- nothing but room may be other
+-- all is as before; only spare capacity may differ
 pub record IsUndone (old new : Namesystem) : Type 0 where
   pub tree : new.tree ≡ old.tree
   pub users : new.users ≡ old.users

@@ -70,7 +70,7 @@ refused_without (node ∷ nodes) = None
 abbrev pub refused_behind : Option LastBlock → Known → List ℕ → Option BlockRefusal
 refused_behind last known live = option_or (refused_last last known) (option_or (refused_without live) (refused_new_block known))
 
--- a call that is refused says why; want of memory may stand in the place of any other answer
+-- a call that is refused says why; out of memory may come in the place of any other answer
 abbrev pub IsFaultOf : Option BlockRefusal → BlockFault → Type 0
 IsFaultOf refusal (Refused own) = refusal ≡ Some own
 IsFaultOf refusal OutOfMemory = Unit {0}

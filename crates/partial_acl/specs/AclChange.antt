@@ -140,7 +140,7 @@ mask_after named list = record list { mask = Some (unwrap_or named (union_of_gro
 abbrev pub completed_list : Option Rights → EntryList → PartialList → EntryList
 completed_list named_mask other list = mask_after named_mask (with_bases_of other list)
 
--- an access list without named entries is kept as mode bits, its group behind the mask
+-- an access list without named entries is kept as mode bits: the group keeps of its rights those that the mask grants
 abbrev pub as_kept : EntryList → EntryList
 as_kept list =
     if has_named list then list

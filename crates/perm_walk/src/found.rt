@@ -57,7 +57,7 @@ pub fn standing_file<'a>(alloc: Global, reach: Reach<'a>) -> Result<FoundFile<'a
     }
 }
 
-/// The bytes of a file; a number that can't be told counts as out of memory. Costs its blocks.
+/// The bytes of a file; a number that doesn't fit in 64 bits counts as out of memory. Costs its blocks.
 pub fn length_told(file: &FileRow) -> Result<u64, AllocError>
     ensures { IfOk result (λ length. length ≡ length_of file.now.blocks) }
 {
@@ -67,7 +67,7 @@ pub fn length_told(file: &FileRow) -> Result<u64, AllocError>
     }
 }
 
-/// How many directories and files there are; a number that can't be told counts as out of memory.
+/// How many directories and files there are; a number that doesn't fit in 64 bits counts as out of memory.
 pub fn counts_at(tree: &Tree, path: &Path) -> Result<Counts, AllocError>
     ensures directories { IfOk result (λ counts. counts.directories ≡ length (filter rows_spec.is_directory (changes.rows_under path.now tree.now))) }
     ensures files { IfOk result (λ counts. counts.files ≡ length (filter (λ row. not (rows_spec.is_directory row)) (changes.rows_under path.now tree.now))) }

@@ -190,8 +190,8 @@ pub fn walk_along<'a>(
     judged_on(alloc, tree, path.names(), needs.as_slice(), caller)
 }
 
-/// Judges needs, most of which are on one of two paths, as `walk` does, and answers also how far the paths lead where none of
-/// the needs fails. One descent for each of the two paths, and one for each need on another; a need on a sub-tree costs
+/// Judges needs, most of which are on one of two paths, as `walk` does; where none of the needs fails, answers also the
+/// deepest existing component of each path. One descent for each of the two paths, and one for each need on another; a need on a sub-tree costs
 /// another and its directories. Memory is taken only for a denial.
 ///
 /// # Errors

@@ -8,7 +8,7 @@ use Rattle.block_records.specs.Numbers.{is_number}
 use Rattle.block_index.specs.Relation.{IsIndexBy}
 use Rattle.recovery_queue.specs.declared.begun.BegunRecovery.{BegunRecovery}
 
--- a recovery of the block that waits for another node isn't told any more
+-- a recovery of the block that waits for another node is dropped
 abbrev pub put : List (ℕ × ℕ) → ℕ → ℕ → List (ℕ × ℕ)
 put queue block primary = insert_entry nat_cmp queue block primary
 

@@ -40,7 +40,7 @@ impl RecoveryQueue {
         }
     }
 
-    /// Has the recovery of a block wait for this primary; one of the block that waits for another isn't told any more. Costs a look-up.
+    /// Has the recovery of a block wait for this primary; one of the block that waits for another is dropped. Costs a look-up.
     ///
     /// # Errors
     /// Out of memory. Nothing has changed then.
@@ -71,7 +71,7 @@ impl RecoveryQueue {
         Ok(())
     }
 
-    /// Has these recoveries wait, each for its primary, all of them or none; one of the same block that waits isn't told any more. Where
+    /// Has these recoveries wait, each for its primary, all of them or none; one of the same block that waits is dropped. Where
     /// there are some, costs a copy of what waits, and a look-up for each.
     ///
     /// # Errors

@@ -119,8 +119,8 @@ fn open_judged<'a>(
     }
 }
 
-/// Judges with its needs a request for a new block at the end of a file, over what is lent, and which block it is: first the first need that
-/// fails, then the first refusal of the operation's list. One descent along the path, and what `Blocks::plan_behind` costs; takes memory
+/// Judges with its needs a request for a new block at the end of a file, over what is lent, and which block it is: the first need that
+/// fails, or else the first refusal of the operation's list that applies. One descent along the path, and what `Blocks::plan_behind` costs; takes memory
 /// for what it answers alone (HDFS Architecture, "Replication Pipelining").
 ///
 /// # Errors
@@ -152,8 +152,8 @@ pub fn judge_add_block(
     )
 }
 
-/// Judges with its needs a request to read a file, over what is lent, and lends the file: first the first need that fails, then the first
-/// refusal of the operation's list. One descent along the path; takes memory only for a denial and a refusal (HDFS Architecture, "Data
+/// Judges with its needs a request to read a file, over what is lent, and lends the file: the first need that fails, or else the first
+/// refusal of the operation's list that applies. One descent along the path; takes memory only for a denial and a refusal (HDFS Architecture, "Data
 /// Replication").
 ///
 /// # Errors

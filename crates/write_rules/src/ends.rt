@@ -74,7 +74,7 @@ fn refusal_of_end(blocks: &Blocks, last: Option<LastBlock>) -> Option<Refusal>
     }
 }
 
-/// The bytes of a file once the length that is stated of its last block is committed; a number that can't be told counts as out of memory.
+/// The bytes of a file once the length that is stated of its last block is committed; a number that doesn't fit in 64 bits counts as out of memory.
 fn length_behind(last: Option<LastBlock>, file: &FileRow) -> Result<u64, AllocError>
     requires { is_last last file.now.blocks ≡ true }
     ensures { IfOk result (λ length. length ≡ bytes_behind last (Some file.now)) }

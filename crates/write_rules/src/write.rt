@@ -38,7 +38,7 @@ use principals::users::Users;
 use required_rights::demand::Needs;
 use std::alloc::{AllocError, Global};
 
-/// What is judged of a verb that writes files, before anything changes.
+/// The judgement on a verb that writes files, before anything changes.
 #[derive(Drop)]
 pub enum Judged {
     /// The verdict, however leases stand.
@@ -178,7 +178,7 @@ pub fn judge_append(
 // ---- deleting
 
 /// How many files and directories a deletion takes away: one where it isn't recursive, since nothing is beneath then. A number
-/// that can't be told counts as out of memory.
+/// that doesn't fit in 64 bits counts as out of memory.
 fn deleted_at(tree: &Tree, path: &Path, recursive: bool) -> Result<u64, AllocError>
     requires there { is_missing path.now tree.now ≡ false }
     requires alone { recursive ≡ false → is_alone (rows_under path.now tree.now) ≡ true }
@@ -229,8 +229,8 @@ pub fn judge_delete(
 
 // ---- all
 
-/// Judges with its needs a verb that writes a file, or a deletion, and changes nothing: first the first need that fails, then the
-/// first refusal of the operation's list, then done; what hangs on the lease of another client is left open. Costs the path, one
+/// Judges with its needs a verb that writes a file, or a deletion, and changes nothing: the first need that fails, or else the
+/// first refusal of the operation's list that applies, or else done; what depends on the lease of another client is left open. Costs the path, one
 /// look-up in a map for each name; `complete` also the reports of the last block and the blocks of the file, and a recursive `delete` the sub-tree (HDFS
 /// Architecture, "The File System Namespace"; HDFS Permissions Guide, "Permission Checks").
 ///

@@ -1,0 +1,4 @@
+pub mod Output
+pub mod Shown
+pub mod Ended
+pub mod Laws

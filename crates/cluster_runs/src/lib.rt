@@ -1,0 +1,6 @@
+//! Scripts of a cluster, lines in and lines of answers out: requests to the NameNode, calls of DataNodes, and deliveries of messages.
+#![tactic(auto)]
+
+pub mod laws;
+pub mod script;
+pub mod session;

@@ -1,0 +1,252 @@
+ghost use Rattle.std.specs.Prelude.{◌≡◌, ◌+◌, ◌++◌, ◌<◌, ◌^◌, length, slice_get, IfOk, OnOk, OnErr, Ok, Err, map, option_copied};
+ghost use Rattle.std.specs.Option.{option_map};
+ghost use Rattle.std.specs.String.{string_bytes};
+ghost use Rattle.history.specs.declared.entry.HistoryEntry.{HistoryEntry};
+ghost use Rattle.cluster_trace.specs.Provenance.{AllRight};
+ghost use Rattle.cluster_trace.specs.Typed.{AreTyped};
+ghost use Rattle.script_runs.specs.Output.{status_by};
+ghost use Rattle.cluster_text.specs.ToldText.{answer_line};
+ghost use Rattle.cluster_runs.specs.Output as spec;
+ghost use Rattle.cluster_runs.specs.Shown.{Shows, KeepsLines, HoldsFirst};
+
+use cluster_core::world::World;
+use cluster_text::event_line::read_event;
+use cluster_text::told::{print_bad, print_told};
+use cluster_trace::event::Event;
+use cluster_trace::outcome::Outcome;
+use flat_rows::verdict::Verdict;
+use hdfs_types::key::Key;
+use hdfs_values::fault::IllFormed;
+use hdfs_values::node_id::NodeId;
+use history::config::Config;
+use name_core::namenode::NameCore;
+use script_words::words::{is_skipped, without_return};
+use std::alloc::{AllocError, Global};
+use std::mem;
+
+// The first key of a script's NameNode.
+const FIRST_KEY: [u8; 20] = [0x0b; 20];
+
+fn node(id: u32) -> NodeId
+    requires { 0 < id }
+    ensures { result ≡ id }
+{
+    let Some(node) = NodeId::new(id) else {
+        unreachable!();
+    };
+    node
+}
+
+/// The cluster of a script.
+fn open_world(alloc: Global) -> Result<World, AllocError>
+    ensures { IfOk result (λ world. world ≡ spec.no_events) }
+{
+    let nodes = [
+        node(1),
+        node(2),
+        node(3),
+        node(4),
+        node(5),
+        node(6),
+        node(7),
+        node(8),
+    ];
+    World::new(alloc, Config::standard(), Key::new(FIRST_KEY), &nodes)
+}
+
+/// The verdict of a core's newest entry.
+fn newest_verdict(core: &NameCore) -> Option<&Verdict>
+    ensures { option_copied result ≡ option_map (λ (entry : HistoryEntry). entry.verdict) (slice_get core.now.entries 0) }
+{
+    match core.last() {
+        Some(entry) => Some(&entry.verdict),
+        None => None,
+    }
+}
+
+/// Adds what came of an event that a world has stepped, behind the number of its line, where the ledger had so many rows before.
+fn print_stepped(
+    alloc: Global,
+    number: usize,
+    rows: usize,
+    world: &World,
+    outcome: &Outcome,
+    line: &mut String,
+    out: &mut String,
+) -> Result<(), AllocError>
+    ensures ok { OnOk result (string_bytes out.new ≡ string_bytes out.old ++ answer_line number (Ok (record { outcome = outcome.now; rows = rows; newest = spec.newest_verdict world.now }))) }
+    ensures err { OnErr result (string_bytes out.new ≡ string_bytes out.old) }
+{
+    let newest = newest_verdict(world.core());
+    print_told(alloc, number, rows, newest, outcome, line, out)
+}
+
+/// How many tokens were granted.
+fn granted(world: &World) -> usize
+    ensures { result ≡ length (spec.ledger_after world.now) }
+{
+    world.core().ledger().len()
+}
+
+/// A script that is being run: the cluster, the lines so far, and what they print.
+#[derive(Drop)]
+pub struct Session {
+    world: World,
+    /// How many lines were run. One in which memory ran out isn't among them.
+    number: usize,
+    /// Whether one of them was ill-formed.
+    has_bad: bool,
+    out: String,
+    /// Where an answer is formatted.
+    line: String,
+    alloc: Global,
+}
+
+impl Session {
+    /// A cluster in which nothing has happened.
+    ///
+    /// # Errors
+    /// Out of memory.
+    pub fn open(alloc: Global) -> Result<Session, AllocError>
+        ensures { IfOk result (Shows spec.no_lines) }
+    {
+        Ok(Session {
+            world: open_world(alloc)?,
+            number: 0,
+            has_bad: false,
+            out: String::new(alloc),
+            line: String::new(alloc),
+            alloc,
+        })
+    }
+
+    /// The cluster as the lines so far leave it. Takes no memory.
+    pub fn world(&self) -> &World
+        ensures { result.now ≡ self.now.world }
+    {
+        &self.world
+    }
+
+    /// How many lines were run.
+    pub fn number(&self) -> usize
+        ensures { result ≡ self.now.number }
+    {
+        self.number
+    }
+
+    /// Whether one of the lines so far was ill-formed.
+    pub fn has_bad(&self) -> bool
+        ensures { (state : spec.State) → Shows state self.now → status_by result ≡ spec.status_of state.answers }
+    {
+        self.has_bad
+    }
+
+    /// Every request of the lines so far was answered by the written rules, and every call of a DataNode that presented a token and was
+    /// served, presented one that the NameNode had granted for it, or a forged one; and all values fit their types. Does nothing.
+    pub fn is_right(&self)
+        ensures right { (state : spec.State) → Shows state self.now → AllRight state.past.opening state.past.events }
+        ensures typed { (state : spec.State) → Shows state self.now → AreTyped state.past.opening state.past.events }
+    {
+        self.world.is_right();
+    }
+
+    /// What the lines so far print, where nothing more is run. The cluster isn't taken apart, and its memory stays allocated: a program
+    /// that has run a script ends soon, which gives all memory back at once.
+    pub fn into_output(self) -> String
+        ensures { result ≡ self.out }
+    {
+        let Session { world, out, .. } = self;
+        mem::forget(world);
+        out
+    }
+
+    /// Answers an event. Where memory runs out the line isn't counted, and the output stays as it was.
+    fn answer_event(&mut self, event: Event) -> Result<(), AllocError>
+        requires { self.old.number + 1 < 2 ^ 64 }
+        ensures number { OnOk result (self.new.number ≡ self.old.number + 1) }
+        ensures ok { (state : spec.State) → Shows state self.old → OnOk result (Shows (spec.after_answer state (spec.answered state.past (Ok event))) self.new) }
+        ensures err { OnErr result (KeepsLines self.old self.new) }
+    {
+        let rows = granted(&self.world);
+        let outcome = self.world.step(event)?;
+        let number = self.number + 1;
+        let printed = print_stepped(
+            self.alloc,
+            number,
+            rows,
+            &self.world,
+            &outcome,
+            &mut self.line,
+            &mut self.out,
+        );
+        drop(outcome);
+        printed?;
+        self.number = number;
+        Ok(())
+    }
+
+    /// Answers an ill-formed line. Where memory runs out the line isn't counted, and the output stays as it was.
+    fn answer_bad(&mut self, fault: IllFormed) -> Result<(), AllocError>
+        requires { self.old.number + 1 < 2 ^ 64 }
+        ensures number { OnOk result (self.new.number ≡ self.old.number + 1) }
+        ensures ok { (state : spec.State) → Shows state self.old → OnOk result (Shows (spec.after_answer state (spec.answered state.past (Err fault))) self.new) }
+        ensures err { OnErr result (KeepsLines self.old self.new) }
+    {
+        print_bad(self.number + 1, fault, &mut self.line, &mut self.out)?;
+        self.number += 1;
+        self.has_bad = true;
+        Ok(())
+    }
+
+    /// Answers what the next line says. Where memory runs out the line isn't counted, and the output stays as it was.
+    fn answer(&mut self, said: Result<Event, IllFormed>) -> Result<(), AllocError>
+        requires { self.old.number + 1 < 2 ^ 64 }
+        ensures number { OnOk result (self.new.number ≡ self.old.number + 1) }
+        ensures ok { (state : spec.State) → Shows state self.old → OnOk result (Shows (spec.after_answer state (spec.answered state.past said)) self.new) }
+        ensures err { OnErr result (KeepsLines self.old self.new) }
+    {
+        match said {
+            Ok(event) => self.answer_event(event),
+            Err(fault) => self.answer_bad(fault),
+        }
+    }
+
+    /// What a line says, where it is read behind those that were run.
+    fn read(&self, line: &str) -> Result<Result<Event, IllFormed>, AllocError>
+        ensures { IfOk result (λ said. said ≡ spec.event_in self.now.world line.now) }
+    {
+        read_event(self.alloc, self.world.core().ledger().as_slice(), line)
+    }
+
+    /// Runs a line, and adds its answer to the output where it has one. Where memory runs out the line isn't counted, and the
+    /// output stays as it was.
+    fn serve(&mut self, line: &str) -> Result<(), AllocError>
+        requires { self.old.number + 1 < 2 ^ 64 }
+        ensures number { OnOk result (self.new.number ≡ self.old.number + 1) }
+        ensures ok { (state : spec.State) → Shows state self.old → OnOk result (Shows (spec.after_line state line.now) self.new) }
+        ensures err { OnErr result (KeepsLines self.old self.new) }
+    {
+        let line = without_return(line);
+        if is_skipped(line) {
+            self.number += 1;
+            return Ok(());
+        }
+        let said = self.read(line)?;
+        self.answer(said)
+    }
+
+    /// Runs lines behind those that were run. Where memory runs out, the session has counted those before, and holds what they print.
+    ///
+    /// # Errors
+    /// Out of memory.
+    pub fn serve_all(&mut self, lines: &[&str]) -> Result<(), AllocError>
+        requires { self.old.number + length lines.now < 2 ^ 64 }
+        ensures ok { (state : spec.State) → Shows state self.old → OnOk result (Shows (spec.behind_lines state (map (λ line. line.now) lines.now)) self.new) }
+        ensures err { (state : spec.State) → Shows state self.old → OnErr result (HoldsFirst state (map (λ line. line.now) lines.now) self.new) }
+    {
+        for line in lines {
+            self.serve(line)?;
+        }
+        Ok(())
+    }
+}

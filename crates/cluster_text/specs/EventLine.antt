@@ -1,0 +1,142 @@
+-- The event that a line of a script makes in a cluster, or how the line is ill-formed:
+--   MOMENT CALLER VERB ..         a request to the NameNode
+--   MOMENT CALLER @NODE VERB ..   a call of a DataNode
+--   MOMENT - deliver NUMBER       the delivery of a message
+-- An unknown verb and a wrong number of words come first, and then the first ill-formed word. A token is named by its row in the ledger of
+-- those that were granted before the line.
+use Rattle.std.specs.Prelude.{ℕ, Bool, false, ◌==◌, ◌&&◌, ◌||◌, List, [], ◌∷◌, length, if◌then◌else◌, Result, Ok, Err, codes}
+use Rattle.hdfs_values.specs.Text.{same}
+use Rattle.hdfs_values.specs.declared.fault.IllFormed.{IllFormed}
+use Rattle.hdfs_values.specs.declared.fault.IllFormed.TheVariants.{BadLine}
+use Rattle.hdfs_types.specs.declared.op.Request.{Request}
+use Rattle.grant_ledger.specs.declared.ledger.LedgerRow.{LedgerRow}
+use Rattle.cluster_trace.specs.DataCall.{DataCall, BeginWrite, Packet, Finalize, Read}
+use Rattle.cluster_trace.specs.declared.event.Event.{Event}
+use Rattle.cluster_trace.specs.declared.event.Event.TheVariants.{Name, Deliver, Data}
+use Rattle.script_words.specs.Values.{◌>>=◌, moment_word, who_word, number_word}
+use Rattle.script_text.specs.Script.{request_of}
+use Rattle.node_words.specs.Words.{node_word, next_word, bytes_word, token_word}
+use Rattle.node_calls.specs.declared.presented.Presented.{Presented}
+use Rattle.cluster_text.specs.declared.event_line.NodeAsker.{NodeAsker}
+use Rattle.cluster_text.specs.declared.event_line.Place.{Place}
+
+-- ---- calls of a DataNode
+
+-- who asks which DataNode, and when
+abbrev pub asker_of : List ℕ → List ℕ → List ℕ → Result NodeAsker IllFormed
+asker_of moment caller node = do
+  m ← moment_word moment
+  c ← who_word caller
+  n ← node_word node
+  Ok (record { moment = m; caller = c; node = n })
+
+-- a block at a generation stamp
+abbrev pub place_of : List ℕ → List ℕ → Result Place IllFormed
+place_of block stamp = do
+  b ← number_word block
+  s ← number_word stamp
+  Ok (record { block = b; stamp = s })
+
+-- the caller presents a token for what is there
+abbrev pub presented_of : List LedgerRow → List ℕ → Place → List ℕ → Result Presented IllFormed
+presented_of ledger caller at token = do
+  t ← token_word ledger token
+  Ok (record { caller = caller; block = at.block; stamp = at.stamp; token = t })
+
+abbrev pub begin_of : List LedgerRow → List ℕ → List ℕ → List ℕ → List ℕ → List ℕ → Result DataCall IllFormed
+begin_of ledger caller block stamp next token = do
+  a ← place_of block stamp
+  n ← next_word next
+  p ← presented_of ledger caller a token
+  Ok (BeginWrite p n)
+
+abbrev pub packet_of : List LedgerRow → List ℕ → List ℕ → List ℕ → List ℕ → List ℕ → List ℕ → List ℕ → Result DataCall IllFormed
+packet_of ledger caller block stamp offset bytes next token = do
+  a ← place_of block stamp
+  o ← number_word offset
+  b ← bytes_word bytes
+  n ← next_word next
+  p ← presented_of ledger caller a token
+  Ok (Packet p o b n)
+
+abbrev pub finalize_of : List LedgerRow → List ℕ → List ℕ → List ℕ → List ℕ → List ℕ → List ℕ → Result DataCall IllFormed
+finalize_of ledger caller block stamp count next token = do
+  a ← place_of block stamp
+  c ← number_word count
+  n ← next_word next
+  p ← presented_of ledger caller a token
+  Ok (Finalize p c n)
+
+abbrev pub read_of : List LedgerRow → List ℕ → List ℕ → List ℕ → List ℕ → List ℕ → List ℕ → Result DataCall IllFormed
+read_of ledger caller block stamp offset count token = do
+  a ← place_of block stamp
+  o ← number_word offset
+  c ← number_word count
+  p ← presented_of ledger caller a token
+  Ok (Read p o c)
+
+-- the verbs, each with the number of words behind it
+abbrev pub is_call : List ℕ → ℕ → Bool
+is_call verb count =
+    (same verb (codes "begin") && (count == 4))
+    || ((same verb (codes "packet") && (count == 6)) || ((same verb (codes "finalize") || same verb (codes "read")) && (count == 5)))
+
+-- two verbs want five words
+abbrev pub five_of : List LedgerRow → List ℕ → List ℕ → List ℕ → List ℕ → List ℕ → List ℕ → List ℕ → Result DataCall IllFormed
+five_of ledger caller verb block stamp number next token =
+    if same verb (codes "finalize") then finalize_of ledger caller block stamp number next token else read_of ledger caller block stamp number next token
+
+abbrev pub call_of : List LedgerRow → List ℕ → List ℕ → List (List ℕ) → Result DataCall IllFormed
+call_of ledger caller verb (block ∷ stamp ∷ next ∷ token ∷ []) = begin_of ledger caller block stamp next token
+call_of ledger caller verb (block ∷ stamp ∷ number ∷ next ∷ token ∷ []) = five_of ledger caller verb block stamp number next token
+call_of ledger caller verb (block ∷ stamp ∷ offset ∷ bytes ∷ next ∷ token ∷ []) = packet_of ledger caller block stamp offset bytes next token
+call_of ledger caller verb _ = Err BadLine
+
+abbrev pub asked_by : List LedgerRow → NodeAsker → List ℕ → List (List ℕ) → Result Event IllFormed
+asked_by ledger asker verb words = do
+  c ← call_of ledger asker.caller verb words
+  Ok (Data asker.node asker.moment c)
+
+abbrev pub data_event : List LedgerRow → List ℕ → List ℕ → List ℕ → List ℕ → List (List ℕ) → Result Event IllFormed
+data_event ledger moment caller node verb words = do
+  a ← asker_of moment caller node
+  asked_by ledger a verb words
+
+abbrev pub node_event : List LedgerRow → List ℕ → List ℕ → List ℕ → List (List ℕ) → Result Event IllFormed
+node_event ledger moment caller node [] = Err BadLine
+node_event ledger moment caller node (verb ∷ words) = if is_call verb (length words) then data_event ledger moment caller node verb words else Err BadLine
+
+-- ---- deliveries
+
+abbrev pub delivery_of : List ℕ → List ℕ → Result Event IllFormed
+delivery_of moment number = do
+  m ← moment_word moment
+  k ← number_word number
+  Ok (Deliver k m)
+
+abbrev pub is_delivery : List ℕ → List ℕ → Bool
+is_delivery caller verb = same caller (codes "-") && same verb (codes "deliver")
+
+abbrev pub delivery_event : List ℕ → List (List ℕ) → Result Event IllFormed
+delivery_event moment (number ∷ []) = delivery_of moment number
+delivery_event moment _ = Err BadLine
+
+-- ---- requests to the NameNode
+
+abbrev pub name_event : List (List ℕ) → Result Event IllFormed
+name_event words = do
+  r ← request_of words
+  Ok (Name r)
+
+-- ---- all lines
+
+-- a word that names a DataNode
+abbrev pub names_node : List ℕ → Bool
+names_node [] = false
+names_node (byte ∷ rest) = byte == 64
+
+abbrev pub event_of : List LedgerRow → List (List ℕ) → Result Event IllFormed
+event_of ledger (moment ∷ caller ∷ verb ∷ words) =
+    if names_node verb then node_event ledger moment caller verb words else
+    if is_delivery caller verb then delivery_event moment words else name_event (moment ∷ caller ∷ verb ∷ words)
+event_of ledger _ = Err BadLine

@@ -1,0 +1,2 @@
+pub mod EventLine
+pub mod ToldText

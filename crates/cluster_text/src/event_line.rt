@@ -1,0 +1,335 @@
+ghost use Rattle.std.specs.Prelude.{◌≡◌, ◌≢◌, ℕ, List, IfOk, length, map};
+ghost use Rattle.script_words.specs.LineForms.{Forms};
+ghost use Rattle.script_words.specs.Words.{words_of};
+ghost use Rattle.cluster_text.specs.EventLine as spec;
+
+use cluster_trace::data_call::DataCall;
+use cluster_trace::event::Event;
+use grant_ledger::ledger::LedgerRow;
+use hdfs_values::fault::{IllFormed, ParseFault};
+use hdfs_values::ids::{BlockId, Stamp};
+use hdfs_values::moment::Moment;
+use hdfs_values::node_id::NodeId;
+use hdfs_values::who::Who;
+use node_calls::presented::Presented;
+use node_words::node_words::{next_word, node_word};
+use node_words::payload::bytes_word;
+use node_words::tokens::token_word;
+use script_text::line::request_of;
+use script_words::values::{moment_word, number_word, who_word};
+use script_words::words::{is_word, words_in};
+use std::alloc::{AllocError, Global};
+
+/// Who asks which DataNode, and when.
+#[derive(Drop)]
+struct NodeAsker {
+    moment: Moment,
+    caller: Who,
+    node: NodeId,
+}
+
+fn asker_of(alloc: Global, moment: &str, caller: &str, node: &str) -> Result<NodeAsker, ParseFault>
+    ensures { Forms result (spec.asker_of moment.now caller.now node.now) }
+{
+    let moment = moment_word(moment)?;
+    let caller = who_word(alloc, caller)?;
+    let node = node_word(node)?;
+    Ok(NodeAsker {
+        moment,
+        caller,
+        node,
+    })
+}
+
+/// A block at a generation stamp.
+#[derive(Clone, Copy)]
+struct Place {
+    block: BlockId,
+    stamp: Stamp,
+}
+
+fn place_of(block: &str, stamp: &str) -> Result<Place, ParseFault>
+    ensures { Forms result (spec.place_of block.now stamp.now) }
+{
+    let block = BlockId::new(number_word(block)?);
+    let stamp = Stamp::new(number_word(stamp)?);
+    Ok(Place { block, stamp })
+}
+
+/// The caller presents a token for what is there.
+fn presented_of(
+    alloc: Global,
+    ledger: &[LedgerRow],
+    caller: &Who,
+    at: Place,
+    token: &str,
+) -> Result<Presented, ParseFault>
+    ensures { Forms result (spec.presented_of ledger.now caller.now at token.now) }
+{
+    let token = token_word(alloc, ledger, token)?;
+    let caller = caller.clone()?;
+    Ok(Presented {
+        caller,
+        block: at.block,
+        stamp: at.stamp,
+        token,
+    })
+}
+
+fn begin_of(
+    alloc: Global,
+    ledger: &[LedgerRow],
+    caller: &Who,
+    block: &str,
+    stamp: &str,
+    next: &str,
+    token: &str,
+) -> Result<DataCall, ParseFault>
+    ensures { Forms result (spec.begin_of ledger.now caller.now block.now stamp.now next.now token.now) }
+{
+    let at = place_of(block, stamp)?;
+    let next = next_word(alloc, next)?;
+    let presented = presented_of(alloc, ledger, caller, at, token)?;
+    Ok(DataCall::begin_write(presented, next))
+}
+
+fn packet_of(
+    alloc: Global,
+    ledger: &[LedgerRow],
+    caller: &Who,
+    block: &str,
+    stamp: &str,
+    offset: &str,
+    bytes: &str,
+    next: &str,
+    token: &str,
+) -> Result<DataCall, ParseFault>
+    ensures { Forms result (spec.packet_of ledger.now caller.now block.now stamp.now offset.now bytes.now next.now token.now) }
+{
+    let at = place_of(block, stamp)?;
+    let offset = number_word(offset)?;
+    let bytes = bytes_word(alloc, bytes)?;
+    let next = next_word(alloc, next)?;
+    let presented = presented_of(alloc, ledger, caller, at, token)?;
+    Ok(DataCall::packet(presented, offset, bytes, next))
+}
+
+fn finalize_of(
+    alloc: Global,
+    ledger: &[LedgerRow],
+    caller: &Who,
+    block: &str,
+    stamp: &str,
+    count: &str,
+    next: &str,
+    token: &str,
+) -> Result<DataCall, ParseFault>
+    ensures { Forms result (spec.finalize_of ledger.now caller.now block.now stamp.now count.now next.now token.now) }
+{
+    let at = place_of(block, stamp)?;
+    let count = number_word(count)?;
+    let next = next_word(alloc, next)?;
+    let presented = presented_of(alloc, ledger, caller, at, token)?;
+    Ok(DataCall::finalize(presented, count, next))
+}
+
+fn read_of(
+    alloc: Global,
+    ledger: &[LedgerRow],
+    caller: &Who,
+    block: &str,
+    stamp: &str,
+    offset: &str,
+    count: &str,
+    token: &str,
+) -> Result<DataCall, ParseFault>
+    ensures { Forms result (spec.read_of ledger.now caller.now block.now stamp.now offset.now count.now token.now) }
+{
+    let at = place_of(block, stamp)?;
+    let offset = number_word(offset)?;
+    let count = number_word(count)?;
+    let presented = presented_of(alloc, ledger, caller, at, token)?;
+    Ok(DataCall::read(presented, offset, count))
+}
+
+/// Whether a verb is that of a call of a DataNode, with so many words behind it.
+fn is_call(verb: &str, count: usize) -> bool
+    ensures { result ≡ spec.is_call verb.now count }
+{
+    (is_word(verb, "begin") && count == 4)
+        || (is_word(verb, "packet") && count == 6)
+        || ((is_word(verb, "finalize") || is_word(verb, "read")) && count == 5)
+}
+
+/// What the five words behind one of two verbs ask.
+fn five_of(
+    alloc: Global,
+    ledger: &[LedgerRow],
+    caller: &Who,
+    verb: &str,
+    block: &str,
+    stamp: &str,
+    number: &str,
+    next: &str,
+    token: &str,
+) -> Result<DataCall, ParseFault>
+    ensures { Forms result (spec.five_of ledger.now caller.now verb.now block.now stamp.now number.now next.now token.now) }
+{
+    if is_word(verb, "finalize") {
+        finalize_of(alloc, ledger, caller, block, stamp, number, next, token)
+    } else {
+        read_of(alloc, ledger, caller, block, stamp, number, next, token)
+    }
+}
+
+/// What six words behind the verb ask.
+fn call_of_six(
+    alloc: Global,
+    ledger: &[LedgerRow],
+    caller: &Who,
+    words: &[&str],
+) -> Result<DataCall, ParseFault>
+    requires four { length words.now ≢ 4 }
+    requires five { length words.now ≢ 5 }
+    ensures { (verb : List ℕ) → Forms result (spec.call_of ledger.now caller.now verb (map (λ word. word.now) words.now)) }
+{
+    if words.len() != 6 {
+        return Err(ParseFault::IllFormed(IllFormed::BadLine));
+    }
+    packet_of(alloc, ledger, caller, words[0], words[1], words[2], words[3], words[4], words[5])
+}
+
+/// What the words behind the verb ask.
+fn call_of(
+    alloc: Global,
+    ledger: &[LedgerRow],
+    caller: &Who,
+    verb: &str,
+    words: &[&str],
+) -> Result<DataCall, ParseFault>
+    ensures { Forms result (spec.call_of ledger.now caller.now verb.now (map (λ word. word.now) words.now)) }
+{
+    if words.len() == 4 {
+        return begin_of(alloc, ledger, caller, words[0], words[1], words[2], words[3]);
+    }
+    if words.len() == 5 {
+        return five_of(alloc, ledger, caller, verb, words[0], words[1], words[2], words[3], words[4]);
+    }
+    call_of_six(alloc, ledger, caller, words)
+}
+
+fn asked_by(
+    alloc: Global,
+    ledger: &[LedgerRow],
+    asker: NodeAsker,
+    verb: &str,
+    words: &[&str],
+) -> Result<Event, ParseFault>
+    ensures { Forms result (spec.asked_by ledger.now asker verb.now (map (λ word. word.now) words.now)) }
+{
+    let call = call_of(alloc, ledger, &asker.caller, verb, words)?;
+    Ok(Event::Data(asker.node, asker.moment, call))
+}
+
+/// The call of a DataNode that a line makes.
+fn node_event(
+    alloc: Global,
+    ledger: &[LedgerRow],
+    moment: &str,
+    caller: &str,
+    node: &str,
+    words: &[&str],
+) -> Result<Event, ParseFault>
+    ensures { Forms result (spec.node_event ledger.now moment.now caller.now node.now (map (λ word. word.now) words.now)) }
+{
+    let [verb, words @ ..] = words else {
+        return Err(ParseFault::IllFormed(IllFormed::BadLine));
+    };
+    if !is_call(verb, words.len()) {
+        return Err(ParseFault::IllFormed(IllFormed::BadLine));
+    }
+    let asker = asker_of(alloc, moment, caller, node)?;
+    asked_by(alloc, ledger, asker, verb, words)
+}
+
+/// Whether a line is to deliver a message.
+fn is_delivery(caller: &str, verb: &str) -> bool
+    ensures { result ≡ spec.is_delivery caller.now verb.now }
+{
+    is_word(caller, "-") && is_word(verb, "deliver")
+}
+
+fn delivery_of(moment: &str, number: &str) -> Result<Event, ParseFault>
+    ensures { Forms result (spec.delivery_of moment.now number.now) }
+{
+    let moment = moment_word(moment)?;
+    let number = number_word(number)?;
+    Ok(Event::Deliver(number, moment))
+}
+
+fn delivery_event(moment: &str, words: &[&str]) -> Result<Event, ParseFault>
+    ensures { Forms result (spec.delivery_event moment.now (map (λ word. word.now) words.now)) }
+{
+    match words {
+        [number] => delivery_of(moment, number),
+        _ => Err(ParseFault::IllFormed(IllFormed::BadLine)),
+    }
+}
+
+fn name_event(alloc: Global, words: &[&str]) -> Result<Event, ParseFault>
+    ensures { Forms result (spec.name_event (map (λ word. word.now) words.now)) }
+{
+    match request_of(alloc, words) {
+        Ok(request) => Ok(Event::Name(request)),
+        Err(fault) => Err(fault),
+    }
+}
+
+/// Whether a word names a DataNode.
+fn names_node(word: &str) -> bool
+    ensures { result ≡ spec.names_node word.now }
+{
+    match word.as_bytes() {
+        [first, ..] => *first == b'@',
+        [] => false,
+    }
+}
+
+/// The event that the words of a line make, where these tokens were granted before.
+///
+/// # Errors
+/// `BadLine` for an unknown verb and a wrong number of words, before any word is judged; else how the first ill-formed word
+/// is ill-formed, or out of memory.
+pub fn event_of(alloc: Global, ledger: &[LedgerRow], words: &[&str]) -> Result<Event, ParseFault>
+    ensures { Forms result (spec.event_of ledger.now (map (λ word. word.now) words.now)) }
+{
+    let [moment, caller, verb, others @ ..] = words else {
+        return Err(ParseFault::IllFormed(IllFormed::BadLine));
+    };
+    if names_node(verb) {
+        return node_event(alloc, ledger, moment, caller, verb, others);
+    }
+    if is_delivery(caller, verb) {
+        return delivery_event(moment, others);
+    }
+    name_event(alloc, words)
+}
+
+/// The event that a line makes, where these tokens were granted before, or how the line is ill-formed.
+///
+/// # Errors
+/// Out of memory.
+pub fn read_event(
+    alloc: Global,
+    ledger: &[LedgerRow],
+    line: &str,
+) -> Result<Result<Event, IllFormed>, AllocError>
+    ensures { IfOk result (λ said. said ≡ spec.event_of ledger.now (words_of line.now)) }
+{
+    let words = words_in(alloc, line)?;
+    match event_of(alloc, ledger, &words) {
+        Ok(event) => Ok(Ok(event)),
+        Err(ParseFault::IllFormed(fault)) => Ok(Err(fault)),
+        Err(ParseFault::OutOfMemory) => Err(AllocError),
+    }
+}

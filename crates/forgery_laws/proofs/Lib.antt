@@ -1,0 +1,4 @@
+pub mod Members
+pub mod Orders
+pub mod Scripts
+pub mod Sent

@@ -1,0 +1,151 @@
+-- The tokens of the copies that a DataNode is told to make were granted with them.
+use Rattle.std.proofs.Common.{◌≡◌, ℕ, List, map, refl, sym, subst, Option, Some, None}
+use Rattle.std.specs.Bool.{⊤}
+use Rattle.std.specs.List.{AllByRecursion}
+use Rattle.permission_specs.specs.Modes.{modes}
+use Rattle.block_records.specs.declared.last_block.LastBlock.{LastBlock}
+use Rattle.block_copies.specs.declared.transfer.Transfer.{Transfer}
+use Rattle.block_tokens.specs.Ring.{Ring, grant_of}
+use Rattle.grant_ledger.specs.declared.ledger.LedgerRow.{LedgerRow}
+use Rattle.hdfs_values.specs.NodeId.{node_of}
+use Rattle.hdfs_types.specs.Commands.{Commands}
+use Rattle.hdfs_types.specs.declared.commands.CopyOrder.{CopyOrder}
+use Rattle.hdfs_types.specs.declared.commands.Recover.{Recover}
+use Rattle.hdfs_types.specs.declared.op.Op.{Op}
+use Rattle.hdfs_types.specs.declared.op.Op.TheVariants as op
+use Rattle.hdfs_types.specs.declared.op.Request.{Request}
+use Rattle.hdfs_types.specs.declared.reply.Refusal.{Refusal}
+use Rattle.hdfs_types.specs.declared.reply.Reply.{Reply}
+use Rattle.hdfs_types.specs.declared.reply.Reply.TheVariants as reply
+use Rattle.namespace_rows.specs.declared.row.Row.{Row}
+use Rattle.namespace_rows.specs.Rows.{row_at}
+use Rattle.principals.specs.Users.{Users}
+use Rattle.block_map.specs.BlockFacts.{transfers_for}
+use Rattle.block_map.specs.BlockEffects.{beaten}
+use Rattle.flat_rows.specs.BlockOutcome.{added_to, replication_at}
+use Rattle.flat_rows.specs.Decision.{decision}
+use Rattle.flat_rows.specs.Denial as denied
+use Rattle.flat_rows.specs.Facts.{Facts}
+use Rattle.flat_rows.specs.FileOutcome.{appended_reply, holder_at}
+use Rattle.flat_rows.specs.NodeOutcome.{Tokens, copy_command, heartbeat_reply}
+use Rattle.flat_rows.specs.Outcome.{reply_of, status_of, acl_status_of, serial_reply, first_refusal, refused_or_done, denied_or_outcome, step}
+use Rattle.flat_rows.specs.declared.verdict.Verdict.{Verdict}
+use Rattle.flat_rows.specs.declared.verdict.Verdict.TheVariants.{Done, Denied, Refused}
+use Rattle.history.specs.Config as name
+use Rattle.history.specs.Grants.{Access, granted_with, row_of, rows_granted}
+use Rattle.history.specs.Keys.{ring_of}
+use Rattle.history.specs.LegalHistory.{now_at, verdict_of}
+use Rattle.history.specs.State.{rows_of, users_of, facts_of}
+use Rattle.history.specs.declared.entry.HistoryEntry.{HistoryEntry}
+use Rattle.cluster_trace.specs.Provenance.{IsIn}
+use Rattle.cluster_trace.proofs.Each.{each_map}
+use Rattle.forgery_laws.specs.Forgeries.{IsTokenOf}
+use Rattle.forgery_laws.proofs.Members.{in_behind, in_map, all_in, each_both}
+
+-- ---- what a request is answered
+
+-- a heartbeat alone is told of copies, and each with the token to read and write its block
+abbrev HasTokens : Tokens → List ℕ → List CopyOrder → Type 0
+HasTokens token caller copies = AllByRecursion (λ (copy : CopyOrder). copy.token ≡ token caller copy.block (modes 3)) copies
+
+abbrev TellsTokens : Tokens → List ℕ → Op → Reply → Type 0
+TellsTokens token caller what (reply.Commands commands) = (what ≡ op.Heartbeat) × HasTokens token caller commands.copies
+TellsTokens token caller what _ = ⊤
+
+module _ (token : Tokens) (user : List ℕ) (what : Op) where
+  status_tells : (row : Option Row) → TellsTokens token user what (status_of row)
+  status_tells None = tt
+  status_tells (Some row) = tt
+
+  acl_tells : (row : Option Row) → TellsTokens token user what (acl_status_of row)
+  acl_tells None = tt
+  acl_tells (Some row) = tt
+
+  append_tells : (holder : Option (List ℕ)) → TellsTokens token user what (appended_reply holder)
+  append_tells None = tt
+  append_tells (Some holder) = tt
+
+  serial_tells : (serial : Option ℕ) → TellsTokens token user what (serial_reply serial)
+  serial_tells None = tt
+  serial_tells (Some serial) = tt
+
+  added_tells : (facts : Facts) (caller : List ℕ) (last : Option LastBlock) (replication : Option ℕ) → TellsTokens token user what (added_to facts.token caller facts.blocks last facts.now replication)
+  added_tells facts caller last None = tt
+  added_tells facts caller last (Some replication) = tt
+
+heartbeat_tells : (facts : Facts) (principal : List ℕ) (node : Option ℕ) → TellsTokens facts.token principal op.Heartbeat (heartbeat_reply facts principal node)
+heartbeat_tells facts principal None = tt
+heartbeat_tells facts principal (Some node) =
+    (refl, each_map (λ (copy : CopyOrder). copy.token ≡ facts.token principal copy.block (modes 3)) (copy_command facts.token principal) (λ (copy : Transfer). refl) (transfers_for (beaten facts.blocks node facts.now) facts.now node))
+
+reply_tells : (facts : Facts) (caller : List ℕ) (what : Op) (rows : List Row) → TellsTokens facts.token caller what (reply_of facts caller what rows)
+reply_tells facts caller (op.Stat path) rows = status_tells facts.token caller (op.Stat path) (row_at path rows)
+reply_tells facts caller (op.GetAcl path) rows = acl_tells facts.token caller (op.GetAcl path) (row_at path rows)
+reply_tells facts caller (op.Append path) rows = append_tells facts.token caller (op.Append path) (holder_at (row_at path rows))
+reply_tells facts caller (op.AddBlock path last) rows = added_tells facts.token caller (op.AddBlock path last) facts caller last (replication_at (row_at path rows))
+reply_tells facts caller (op.RollKey key) rows = serial_tells facts.token caller (op.RollKey key) facts.next_serial
+reply_tells facts caller op.Heartbeat rows = heartbeat_tells facts caller (node_of caller)
+reply_tells facts caller _ rows = tt
+
+abbrev VerdictTells : Tokens → List ℕ → Op → Verdict → Type 0
+VerdictTells token caller what (Done told) = TellsTokens token caller what told
+VerdictTells token caller what (Denied denial) = ⊤
+VerdictTells token caller what (Refused refusal) = ⊤
+
+step_tells : (facts : Facts) (rows : List Row) (users : Users) (caller : List ℕ) (what : Op) → VerdictTells facts.token caller what (step facts rows users caller what).verdict
+step_tells facts rows users caller what = by (decision rows users caller what)
+  where
+    outcome_tells : (refusal : Option Refusal) → VerdictTells facts.token caller what (refused_or_done facts rows users caller what refusal).verdict
+    outcome_tells None = reply_tells facts caller what rows
+    outcome_tells (Some refusal) = tt
+
+    by : (denial : Option denied.Denial) → VerdictTells facts.token caller what (denied_or_outcome facts rows users caller what denial).verdict
+    by None = outcome_tells (first_refusal facts caller what rows users)
+    by (Some denial) = tt
+
+-- ---- the rows that are granted with it
+
+-- the tokens of these copies are in the rows
+abbrev pub TellsGranted : List LedgerRow → Verdict → Type 0
+TellsGranted rows (Done (reply.Commands commands)) = AllByRecursion (λ (copy : CopyOrder). IsTokenOf rows copy.token) commands.copies
+TellsGranted rows _ = ⊤
+
+module _ (place : ℕ) (ring : Ring) (now : ℕ) (caller : List ℕ) where
+  abbrev token_in : Tokens
+  token_in user block access = (grant_of ring now user block access).token
+
+  abbrev copied : CopyOrder → Access
+  copied copy = record { block = copy.block; modes = modes 3 }
+
+  abbrev row_in : Access → LedgerRow
+  row_in own = row_of place ring now caller own
+
+  order_granted : (commands : Commands) (copy : CopyOrder) → IsIn copy commands.copies → copy.token ≡ token_in caller copy.block (modes 3) → IsTokenOf (map row_in (granted_with commands)) copy.token
+  order_granted commands copy i e =
+      let recoveries : List Access = map (λ (recovery : Recover). record { block = recovery.block; modes = modes 2 }) commands.recoveries in
+      (row_in (copied copy), in_map row_in (copied copy) (granted_with commands) (in_behind (copied copy) recoveries (map copied commands.copies) (in_map copied copy commands.copies i)), sym e)
+
+  orders_granted : (commands : Commands) → HasTokens token_in caller commands.copies → AllByRecursion (λ (copy : CopyOrder). IsTokenOf (map row_in (granted_with commands)) copy.token) commands.copies
+  orders_granted commands has =
+      each_both (λ (copy : CopyOrder). IsIn copy commands.copies) (λ (copy : CopyOrder). copy.token ≡ token_in caller copy.block (modes 3)) (λ (copy : CopyOrder). IsTokenOf (map row_in (granted_with commands)) copy.token)
+      (order_granted commands) commands.copies (all_in commands.copies) has
+
+  commands_granted : (what : Op) (commands : Commands) → TellsTokens token_in caller what (reply.Commands commands) → TellsGranted (rows_granted place ring now caller what (Done (reply.Commands commands))) (Done (reply.Commands commands))
+  commands_granted what commands tells =
+      subst (λ (own : Op). TellsGranted (rows_granted place ring now caller own (Done (reply.Commands commands))) (Done (reply.Commands commands))) (sym tells.0) (orders_granted commands tells.1)
+
+  told_granted : (what : Op) (told : Reply) → TellsTokens token_in caller what told → TellsGranted (rows_granted place ring now caller what (Done told)) (Done told)
+  told_granted what (reply.Commands commands) tells = commands_granted what commands tells
+  told_granted what _ tells = tt
+
+  verdict_granted : (what : Op) (verdict : Verdict) → VerdictTells token_in caller what verdict → TellsGranted (rows_granted place ring now caller what verdict) verdict
+  verdict_granted what (Done told) tells = told_granted what told tells
+  verdict_granted what (Denied denial) tells = tt
+  verdict_granted what (Refused refusal) tells = tt
+
+-- whatever a request is answered, the tokens of the copies that are told are among those that its entry grants
+pub request_granted : (opening : name.Opening) (earlier : List HistoryEntry) (request : Request) (place : ℕ)
+    → TellsGranted (rows_granted place (ring_of opening earlier) (now_at earlier request) request.caller request.op (verdict_of opening earlier request)) (verdict_of opening earlier request)
+request_granted opening earlier request place =
+    verdict_granted place (ring_of opening earlier) (now_at earlier request) request.caller request.op (verdict_of opening earlier request)
+    (step_tells (facts_of opening earlier (now_at earlier request)) (rows_of opening earlier) (users_of earlier) request.caller request.op)

@@ -1,0 +1,47 @@
+-- Where forged tokens could come from: from what clients present themselves, and from no message.
+use Rattle.std.specs.Prelude.{◌≡◌, ℕ, List, [], ◌∷◌}
+use Rattle.std.specs.Bool.{⊤}
+use Rattle.grant_ledger.specs.declared.ledger.LedgerRow.{LedgerRow}
+use Rattle.history.specs.Grants.{ledger_of}
+use Rattle.node_calls.specs.declared.call.NodeCall.{NodeCall}
+use Rattle.node_calls.specs.declared.call.NodeCall.TheVariants.{Presenting, Invalidate, Keys}
+use Rattle.cluster_trace.specs.DataCall.{node_call}
+use Rattle.cluster_trace.specs.Trace.{State, Opening, after}
+use Rattle.cluster_trace.specs.Provenance.{IsIn}
+use Rattle.cluster_trace.specs.declared.event.Event.{Event}
+use Rattle.cluster_trace.specs.declared.event.Event.TheVariants.{Name, Deliver, Data}
+use Rattle.cluster_laws.specs.Laws.{NothingIsForged}
+use Rattle.cluster_runs.specs.Output.{after_lines}
+
+-- these bytes are those of a token in one of the rows
+abbrev pub IsTokenOf : List LedgerRow → List ℕ → Type 0
+IsTokenOf rows token = (row : LedgerRow) × IsIn row rows × (row.grant.token ≡ token)
+
+-- the NameNode granted the token that a call presents
+abbrev pub Shows : List LedgerRow → NodeCall → Type 0
+Shows rows (Presenting presented asked) = IsTokenOf rows presented.token
+Shows rows (Invalidate block stamp) = ⊤
+Shows rows (Keys update) = ⊤
+
+-- what was granted so far
+abbrev pub granted_in : State → List LedgerRow
+granted_in state = ledger_of state.opening state.entries
+
+-- what a client presents himself is among them
+abbrev pub PresentsOf : List LedgerRow → Event → Type 0
+PresentsOf rows (Name request) = ⊤
+PresentsOf rows (Deliver number now) = ⊤
+PresentsOf rows (Data node now asked) = Shows rows (node_call asked)
+
+-- at each event
+abbrev pub AllPresentGranted : Opening → List Event → Type 0
+AllPresentGranted opening [] = ⊤
+AllPresentGranted opening (event ∷ earlier) = PresentsOf (granted_in (after opening earlier)) event × AllPresentGranted opening earlier
+
+-- over every list of events
+abbrev pub ClientsAloneForge : Type 0
+ClientsAloneForge = (opening : Opening) (events : List Event) → AllPresentGranted opening events → NothingIsForged opening events
+
+-- no line of a script presents a forged token, and no message brings one: a line names a token by its row in the ledger
+abbrev pub ScriptsForgeNothing : Type 0
+ScriptsForgeNothing = (lines : List (List ℕ)) → NothingIsForged (after_lines lines).past.opening (after_lines lines).past.events
