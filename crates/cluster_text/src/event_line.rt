@@ -196,7 +196,9 @@ fn call_of_six(
     if words.len() != 6 {
         return Err(ParseFault::IllFormed(IllFormed::BadLine));
     }
-    packet_of(alloc, ledger, caller, words[0], words[1], words[2], words[3], words[4], words[5])
+    packet_of(
+        alloc, ledger, caller, words[0], words[1], words[2], words[3], words[4], words[5],
+    )
 }
 
 /// What the words behind the verb ask.
@@ -210,10 +212,14 @@ fn call_of(
     ensures { Forms result (spec.call_of ledger.now caller.now verb.now (map (λ word. word.now) words.now)) }
 {
     if words.len() == 4 {
-        return begin_of(alloc, ledger, caller, words[0], words[1], words[2], words[3]);
+        return begin_of(
+            alloc, ledger, caller, words[0], words[1], words[2], words[3],
+        );
     }
     if words.len() == 5 {
-        return five_of(alloc, ledger, caller, verb, words[0], words[1], words[2], words[3], words[4]);
+        return five_of(
+            alloc, ledger, caller, verb, words[0], words[1], words[2], words[3], words[4],
+        );
     }
     call_of_six(alloc, ledger, caller, words)
 }
