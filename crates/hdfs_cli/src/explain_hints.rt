@@ -114,7 +114,8 @@ fn kind_of(alloc: Global, line: &str) -> Result<&'static str, AllocError> {
     if line.starts_with('#') {
         return Ok("a comment");
     }
-    match words_in(alloc, line)?.as_slice() {
+    let words = words_in(alloc, line)?;
+    match words.as_slice() {
         [_, _, node, ..] if node.starts_with('@') => Ok("a call of a DataNode"),
         _ => Ok("the delivery of a message"),
     }

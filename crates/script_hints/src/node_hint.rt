@@ -254,7 +254,7 @@ pub(crate) fn node_hint<'a>(
         return LineHint::Node(NodeHint::NoVerb);
     };
     let Some(known) = node_verb_of(verb) else {
-        return LineHint::Node(NodeHint::UnknownVerb(verb));
+        return LineHint::Node(NodeHint::UnknownVerb(*verb));
     };
     if words.len() != known.counts[0] {
         return LineHint::Count(known.name, known.words);
