@@ -24,9 +24,15 @@ static COUNTS: [(&str, &str); 15] = [
         "x a:b @x packet x x x x x",
         "packet wants B STAMP OFFSET BYTES NEXT #K",
     ),
-    ("x a:b @x finalize x x x x", "finalize wants B STAMP LEN NEXT #K"),
+    (
+        "x a:b @x finalize x x x x",
+        "finalize wants B STAMP LEN NEXT #K",
+    ),
     ("x a:b @x read x x x x", "read wants B STAMP OFFSET LEN #K"),
-    ("x a:b @x read x x x x x x", "read wants B STAMP OFFSET LEN #K"),
+    (
+        "x a:b @x read x x x x x x",
+        "read wants B STAMP OFFSET LEN #K",
+    ),
     ("x a:b begin x x x x", "begin wants @NODE before it"),
     ("x a:b read", "read wants @NODE before it"),
     ("x a:b deliver x x", "deliver wants the caller -"),
@@ -79,7 +85,10 @@ static FRONTS: [(&str, &str); 12] = [
         "0 ann @4294967295 begin x x x x",
         "block \"x\" is not decimal digits",
     ),
-    ("0 ann @01 begin x x x x", "block \"x\" is not decimal digits"),
+    (
+        "0 ann @01 begin x x x x",
+        "block \"x\" is not decimal digits",
+    ),
 ];
 
 #[test]

@@ -227,9 +227,7 @@ fn hint_on_word<'a>(granted: usize, kind: Word, word: &'a str) -> Option<LineHin
         Word::Number(what) => Some(LineHint::Number(hint_on_number(what, word))),
         Word::Bytes => hint_on_bytes(word),
         Word::Next => Some(LineHint::Node(hint_on_next(word)?)),
-        Word::Token => Some(LineHint::Node(NodeHint::Token(hint_on_token(
-            granted, word,
-        )?))),
+        Word::Token => Some(LineHint::Node(NodeHint::Token(hint_on_token(granted, word)?))),
     }
 }
 
