@@ -25,7 +25,6 @@ use std::marker::Model;
 
 /// A cluster in one process: a NameNode, DataNodes, and the messages between them. It is what its events lead to from its opening,
 /// whatever messages are lost, repeated or delivered out of order.
-#[derive(Drop)]
 pub struct World {
     ids: Vec<NodeId>,
     cluster: Cluster,
@@ -43,6 +42,20 @@ impl Model for World {
     ghost view = { past_of };
 
     ghost invariant = { IsReached };
+}
+
+// Written out: so it is one call wherever a world is let go, where a derived one is a step for each part of it.
+impl Drop for World {
+    fn drop(self) {
+        let World {
+            ids,
+            cluster,
+            events,
+        } = self;
+        drop(ids);
+        drop(cluster);
+        drop(events);
+    }
 }
 
 impl World {
