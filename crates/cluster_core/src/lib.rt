@@ -2,5 +2,4 @@
 #![tactic(auto)]
 
 mod cluster;
-mod kept;
 pub mod world;

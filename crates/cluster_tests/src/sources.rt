@@ -37,15 +37,8 @@ const LINES: [&str; 23] = [
     "36000200 bob @1 read 1 1001 0 2 #2",
 ];
 
-fn step_lines(alloc: Global, world: &mut World) -> Result<(), Fail> {
-    for line in LINES {
-        step_line(alloc, world, line)?;
-    }
-    Ok(())
-}
-
 // What the records of the DataNode 1 rest on.
-fn sources(alloc: Global, world: &World) -> Result<Vec<Source>, Fail> {
+fn sources_of(alloc: Global, world: &World) -> Result<Vec<Source>, Fail> {
     let id = NodeId::new(1).ok_or("an id")?;
     let node = world.node(id).ok_or("a node")?;
     let mut logs = Logs::new(alloc);
@@ -53,14 +46,19 @@ fn sources(alloc: Global, world: &World) -> Result<Vec<Source>, Fail> {
     Ok(provenance(alloc, world.core().ledger(), &logs)?)
 }
 
+fn step_lines(alloc: Global, world: &mut World) -> Result<Vec<Source>, Fail> {
+    for line in LINES {
+        step_line(alloc, world, line)?;
+    }
+    sources_of(alloc, world)
+}
+
 #[test]
 fn records_rest_on_the_entries_that_granted_their_tokens(rt: HostRuntime) -> Result<(), Fail> {
     let mut world = open(rt.alloc())?;
     let stepped = step_lines(rt.alloc(), &mut world);
-    let sources = sources(rt.alloc(), &world);
     drop(world);
-    stepped?;
-    let sources = sources?;
+    let sources = stepped?;
     let wanted = [
         Source::Grant(4),
         Source::Grant(4),
