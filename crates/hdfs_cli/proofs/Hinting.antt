@@ -1,37 +1,18 @@
 -- The lines of a script that are answered `bad` are its ill-formed ones.
-use Rattle.std.proofs.Common.{◌≡◌, ℕ, ◌+◌, ◌<◌, Bool, true, false, List, [], ◌∷◌, ◌++◌, Option, Some, None, Result, Ok, Err, Bor, refl, sym, ap, ◌∙◌, subst, length, map, take, get_or, append-nil}
+use Rattle.std.proofs.Common.{◌≡◌, ℕ, ◌+◌, ◌<◌, Bool, true, false, List, [], ◌∷◌, ◌++◌, None, Result, Ok, Err, Bor, refl, sym, ap, ◌∙◌, subst, length, map, take, get_or, append-nil}
 use Rattle.std.specs.Prelude.{if◌then◌else◌}
-use Rattle.std.specs.Option.{option_map}
 use Rattle.std.specs.Result.{result_err}
-use Rattle.std.proofs.lemmas.List.{map-append}
 use Rattle.std.proofs.lemmas.List.Elements.{filter_map-append}
 use Rattle.hdfs_values.specs.declared.fault.IllFormed.{IllFormed}
 use Rattle.script_words.specs.Words.{without_return, is_skipped}
 use Rattle.script_runs.proofs.Lines.{fold_step}
 use Rattle.cluster_trace.specs.declared.event.Event.{Event}
 use Rattle.cluster_core.specs.Past.{Past}
-use Rattle.script_hints.specs.declared.hint.Hint.{Hint}
-use Rattle.script_hints.specs.Hints.{fault_of, fault_in}
+use Rattle.script_hints.specs.Hints.{fault_in}
 use Rattle.cluster_runs.specs.Output.{State, Numbered, ledger_after, no_lines, answered, event_in, after_answer, after_line, after_lines, behind_lines}
 use Rattle.cluster_runs.specs.Shown.{Shows}
 use Rattle.cluster_runs.specs.declared.session.Session.{Session}
-use Rattle.hdfs_cli.specs.declared.hints.NumberedHint.{NumberedHint}
-use Rattle.hdfs_cli.specs.Hinted.{NumberedFault, numbered_fault, faults_at, bad_at, bad_answers}
-
--- ---- the hint on a line
-
-abbrev hinted : ℕ → Option Hint → List NumberedHint
-hinted number None = []
-hinted number (Some hint) = record { number = number; hint = hint } ∷ []
-
-pub hint_added : (old new : List NumberedHint) (number : ℕ) (hint : Option Hint) (fault : Option IllFormed) → option_map fault_of hint ≡ fault → new ≡ old ++ hinted number hint
-    → map numbered_fault new ≡ map numbered_fault old ++ faults_at number fault
-hint_added old new number None fault e is =
-    ap (map numbered_fault) is ∙ map-append numbered_fault old [] ∙ ap (λ (f : Option IllFormed). map numbered_fault old ++ faults_at number f) e
-hint_added old new number (Some hint) fault e is =
-    ap (map numbered_fault) is
-    ∙ map-append numbered_fault old (hinted number (Some hint))
-    ∙ ap (λ (f : Option IllFormed). map numbered_fault old ++ faults_at number f) e
+use Rattle.hdfs_cli.specs.Hinted.{NumberedFault, faults_at, bad_at, bad_answers}
 
 -- ---- one line more
 
