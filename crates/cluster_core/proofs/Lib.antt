@@ -1,4 +1,5 @@
 pub mod Naming
 pub mod Answering
 pub mod Delivering
+pub mod Keeping
 pub mod Reaching

@@ -1,3 +1,4 @@
 pub mod Cluster
 pub mod Past
+pub mod Kept
 pub mod World

@@ -1,9 +1,12 @@
 -- What steps leave of a world, and how it is kept.
-use Rattle.std.specs.Prelude.{◌≡◌, List, [], ◌∷◌, reverse}
+use Rattle.std.specs.Prelude.{◌≡◌, List, [], ◌∷◌, map, reverse}
+use Rattle.std.specs.List.{AllByRecursion}
+use Rattle.history.specs.declared.entry.HistoryEntry.{HistoryEntry}
 use Rattle.cluster_trace.specs.Trace.{State, after, outcome}
 use Rattle.cluster_trace.specs.Typed.{GrantsFit, AreTyped}
 use Rattle.cluster_trace.specs.declared.event.Event.{Event}
 use Rattle.cluster_trace.specs.declared.outcome.Outcome.{Outcome}
+use Rattle.cluster_core.specs.Kept.{IsWithin, event_of}
 use Rattle.cluster_core.specs.Past.{Past}
 use Rattle.cluster_core.specs.declared.world.World.TheInside.{Inside}
 
@@ -25,11 +28,19 @@ run_outcomes past (event ∷ events) = outcome (state_after past) event ∷ run_
 
 -- ---- how a world is kept
 
-abbrev pub past_of : Inside → Past
-past_of world = record { opening = record { name = world.cluster.opening; nodes = world.ids.items }; events = reverse world.events.items }
+-- the NameNode's history, the oldest entry first
+abbrev pub history_of : Inside → List HistoryEntry
+history_of world = reverse world.cluster.entries
 
--- its events lead from its opening to its state, and all values fit their types
+abbrev pub past_of : Inside → Past
+past_of world = record {
+  opening = record { name = world.cluster.opening; nodes = world.ids.items };
+  events = reverse (map (event_of (history_of world)) world.events.items);
+}
+
+-- its events lead from its opening to its state, those that asked the NameNode stand in its history, and all values fit their types
 pub record IsReached (world : Inside) : Type 0 where
+  pub within : AllByRecursion (IsWithin (history_of world)) world.events.items
   pub state : world.cluster ≡ state_after (past_of world)
   pub typed : AreTyped (past_of world).opening (past_of world).events
   pub fits : GrantsFit world.cluster

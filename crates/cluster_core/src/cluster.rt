@@ -1,10 +1,10 @@
-ghost use Rattle.std.specs.Prelude.{◌≡◌, ◌+◌, ◌<◌, ◌≤◌, ◌^◌, ◌++◌, List, length, slice_get, IfOk, IfSome, OnOk, OnErr, option_copied, vec_len, vec_capacity};
+ghost use Rattle.std.specs.Prelude.{◌≡◌, ◌+◌, ◌<◌, ◌≤◌, ◌^◌, ◌++◌, List, length, slice_get, IfOk, IfSome, OnOk, OnErr, option_copied, vec_len, vec_capacity, false};
 ghost use Rattle.history.specs.declared.entry.HistoryEntry.{HistoryEntry};
 ghost use Rattle.block_records.specs.Numbers.{entry_at};
 ghost use Rattle.cluster_trace.specs.Trace as spec;
 ghost use Rattle.cluster_trace.specs.Trace.{start, named, called, delivered, message_at, left_by, happens, outcome_of};
 ghost use Rattle.cluster_trace.specs.declared.event.Event.TheVariants as event;
-ghost use Rattle.cluster_trace.specs.Provenance.{call_brought, call_of};
+ghost use Rattle.cluster_trace.specs.Provenance.{call_brought};
 ghost use Rattle.cluster_trace.specs.Typed.{GrantsFit, PresentsBytes, CallFits};
 ghost use Rattle.cluster_core.specs.Cluster.{answer_outcome, answer_messages};
 ghost use Rattle.cluster_parts.specs.Sent.{messages_of, AreLaid};
@@ -14,7 +14,6 @@ use cluster_parts::found::{entry_count, find};
 use cluster_parts::nodes::Nodes;
 use cluster_parts::ranges::{read_call, read_rows};
 use cluster_parts::sent::{Sent, Source};
-use cluster_trace::event::Event;
 use cluster_trace::outcome::{ClusterRefusal, EventAnswer, Outcome};
 use datanode::answered::Answered;
 use datanode::datanode::DataNode;
@@ -39,17 +38,11 @@ fn last_count(core: &NameCore) -> u64
     }
 }
 
-// Whether a request may come without a message.
-fn is_from_outside(op: &Op) -> bool
+/// Whether a request may come without a message.
+pub(crate) fn is_from_outside(op: &Op) -> bool
     ensures { result ≡ spec.is_from_outside op.now }
 {
     !matches!(op, Op::Reported(_))
-}
-
-fn copy_of(request: &Request) -> Result<Request, AllocError>
-    ensures { IfOk result (λ copy. copy ≡ request.now) }
-{
-    request.clone()
 }
 
 // What comes of an event that does nothing.
@@ -205,36 +198,17 @@ impl Cluster {
         }
     }
 
-    // A request from outside.
-    fn ask(&mut self, request: &Request) -> Result<Outcome, AllocError>
-        ensures ok { OnOk result (self.new ≡ happens self.old (event.Name request.now)) }
-        ensures outcome { IfOk result (λ outcome. outcome ≡ spec.outcome self.old (event.Name request.now)) }
-        ensures fits { OnOk result (GrantsFit self.old → GrantsFit self.new) }
-        ensures err { OnErr result (self.new ≡ self.old) }
-    {
-        if is_from_outside(&request.op) {
-            let copy = copy_of(request)?;
-            return self.name(copy);
-        }
-        self.sent.make_room()?;
-        Ok(note_nothing(&self.sent, ClusterRefusal::NotFromOutside))
-    }
-
-    /// An event.
+    /// A request that only a message brings, and that is refused.
     ///
     /// # Errors
     /// Out of memory. Nothing has changed then.
-    pub(crate) fn happen(&mut self, event: &Event) -> Result<Outcome, AllocError>
-        ensures ok { OnOk result (self.new ≡ happens self.old event.now) }
-        ensures outcome { IfOk result (λ outcome. outcome ≡ spec.outcome self.old event.now) }
-        ensures fits { OnOk result (GrantsFit self.old → GrantsFit self.new) }
-        ensures bytes { OnOk result (CallFits (call_of self.old event.now)) }
+    pub(crate) fn refuse(&mut self, request: &Request) -> Result<Outcome, AllocError>
+        requires { spec.is_from_outside request.now.op ≡ false }
+        ensures ok { OnOk result (self.new ≡ happens self.old (event.Name request.now)) }
+        ensures outcome { IfOk result (λ outcome. outcome ≡ spec.outcome self.old (event.Name request.now)) }
         ensures err { OnErr result (self.new ≡ self.old) }
     {
-        match event {
-            Event::Name(request) => self.ask(request),
-            Event::Deliver(number, now) => self.deliver(*number, *now),
-            Event::Data(node, now, call) => self.call(*node, *now, call.as_node_call()),
-        }
+        self.sent.make_room()?;
+        Ok(note_nothing(&self.sent, ClusterRefusal::NotFromOutside))
     }
 }

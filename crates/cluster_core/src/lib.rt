@@ -2,4 +2,5 @@
 #![tactic(auto)]
 
 mod cluster;
+mod kept;
 pub mod world;

@@ -1,16 +1,21 @@
-ghost use Rattle.std.specs.Prelude.{◌≡◌, ◌++◌, [], List, IfOk, OnOk, OnErr, option_copied};
+ghost use Rattle.std.specs.Prelude.{◌≡◌, ◌++◌, [], List, IfOk, OnOk, OnErr, option_copied, true, false};
 ghost use Rattle.block_records.specs.Numbers.{entry_at};
 ghost use Rattle.cluster_trace.specs.Trace as trace;
 ghost use Rattle.cluster_trace.specs.Provenance.{AllRight};
 ghost use Rattle.cluster_trace.specs.Typed.{AreTyped};
 ghost use Rattle.cluster_trace.specs.declared.event.Event.{Event};
+ghost use Rattle.cluster_trace.specs.declared.event.Event.TheVariants as event;
 ghost use Rattle.cluster_core.specs.World.{state_after, stepped, run_past, run_outcomes};
 
-use crate::cluster::Cluster;
+use crate::cluster::{Cluster, is_from_outside};
+use crate::kept::KeptEvent;
+use cluster_trace::data_call::DataCall;
 use cluster_trace::event::Event;
 use cluster_trace::outcome::Outcome;
 use datanode::datanode::DataNode;
 use hdfs_types::key::Key;
+use hdfs_types::op::Request;
+use hdfs_values::moment::Moment;
 use hdfs_values::node_id::NodeId;
 use history::config::Config;
 use name_core::namenode::NameCore;
@@ -20,12 +25,11 @@ use std::marker::Model;
 
 /// A cluster in one process: a NameNode, DataNodes, and the messages between them. It is what its events lead to from its opening,
 /// whatever messages are lost, repeated or delivered out of order.
-#[derive(Drop)]
 pub struct World {
     ids: Vec<NodeId>,
     cluster: Cluster,
     // the oldest first
-    events: Vec<Event>,
+    events: Vec<KeptEvent>,
 }
 
 impl Model for World {
@@ -38,6 +42,20 @@ impl Model for World {
     ghost view = { past_of };
 
     ghost invariant = { IsReached };
+}
+
+// Written out: so it is one call wherever a world is let go, where a derived one is a step for each part of it.
+impl Drop for World {
+    fn drop(self) {
+        let World {
+            ids,
+            cluster,
+            events,
+        } = self;
+        drop(ids);
+        drop(cluster);
+        drop(events);
+    }
 }
 
 impl World {
@@ -86,9 +104,95 @@ impl World {
         let _events = &self.events;
     }
 
-    /// Steps an event, and keeps it. A request makes the next entry of the NameNode's history, which `core().last()` lends with its
-    /// verdict; where it was refused as `NoMessage`, `NoNode` or `NotFromOutside` nothing else has changed, and no clock. Costs what the
-    /// addressee's call costs, and to find a message a step for each time that the number of events that sent some can be halved.
+    // A request that only a message brings.
+    fn refuse(&mut self, request: Request) -> Result<Outcome, AllocError>
+        requires { trace.is_from_outside request.op ≡ false }
+        ensures world { OnOk result (self.new ≡ stepped self.old (event.Name request)) }
+        ensures outcome { IfOk result (λ outcome. outcome ≡ trace.outcome (state_after self.old) (event.Name request)) }
+        ensures err { OnErr result (self.new ≡ self.old) }
+    {
+        if self.events.reserve(1).is_err() {
+            drop(request);
+            return Err(AllocError);
+        }
+        let Ok(outcome) = self.cluster.refuse(&request) else {
+            drop(request);
+            return Err(AllocError);
+        };
+        let event = Event::Name(request);
+        self.events.push_reserved(KeptEvent::Whole(event));
+        Ok(outcome)
+    }
+
+    // A request from outside, which the history keeps.
+    fn ask(&mut self, request: Request) -> Result<Outcome, AllocError>
+        requires { trace.is_from_outside request.op ≡ true }
+        ensures world { OnOk result (self.new ≡ stepped self.old (event.Name request)) }
+        ensures outcome { IfOk result (λ outcome. outcome ≡ trace.outcome (state_after self.old) (event.Name request)) }
+        ensures err { OnErr result (self.new ≡ self.old) }
+    {
+        if self.events.reserve(1).is_err() {
+            drop(request);
+            return Err(AllocError);
+        }
+        let index = self.cluster.core().place() as usize;
+        let outcome = self.cluster.name(request)?;
+        self.events.push_reserved(KeptEvent::Asked(index));
+        Ok(outcome)
+    }
+
+    fn deliver(&mut self, number: u64, now: Moment) -> Result<Outcome, AllocError>
+        ensures world { OnOk result (self.new ≡ stepped self.old (event.Deliver number now)) }
+        ensures outcome { IfOk result (λ outcome. outcome ≡ trace.outcome (state_after self.old) (event.Deliver number now)) }
+        ensures err { OnErr result (self.new ≡ self.old) }
+    {
+        self.events.reserve(1)?;
+        let outcome = self.cluster.deliver(number, now)?;
+        let event = Event::Deliver(number, now);
+        self.events.push_reserved(KeptEvent::Whole(event));
+        Ok(outcome)
+    }
+
+    fn call(&mut self, node: NodeId, now: Moment, call: DataCall) -> Result<Outcome, AllocError>
+        ensures world { OnOk result (self.new ≡ stepped self.old (event.Data node now call)) }
+        ensures outcome { IfOk result (λ outcome. outcome ≡ trace.outcome (state_after self.old) (event.Data node now call)) }
+        ensures err { OnErr result (self.new ≡ self.old) }
+    {
+        if self.events.reserve(1).is_err() {
+            drop(call);
+            return Err(AllocError);
+        }
+        let Ok(outcome) = self.cluster.call(node, now, call.as_node_call()) else {
+            drop(call);
+            return Err(AllocError);
+        };
+        let event = Event::Data(node, now, call);
+        self.events.push_reserved(KeptEvent::Whole(event));
+        Ok(outcome)
+    }
+
+    fn happen(&mut self, event: Event) -> Result<Outcome, AllocError>
+        ensures world { OnOk result (self.new ≡ stepped self.old event) }
+        ensures outcome { IfOk result (λ outcome. outcome ≡ trace.outcome (state_after self.old) event) }
+        ensures err { OnErr result (self.new ≡ self.old) }
+    {
+        match event {
+            Event::Name(request) => {
+                if is_from_outside(&request.op) {
+                    self.ask(request)
+                } else {
+                    self.refuse(request)
+                }
+            }
+            Event::Deliver(number, now) => self.deliver(number, now),
+            Event::Data(node, now, call) => self.call(node, now, call),
+        }
+    }
+
+    /// Steps an event, and keeps it. A request makes the next entry of the NameNode's history, which keeps it and which `core().last()`
+    /// lends with its verdict; where it was refused as `NoMessage`, `NoNode` or `NotFromOutside` nothing else has changed, and no clock.
+    /// Costs what the addressee's call costs, and to find a message a step for each time that the number of events that sent some can be
+    /// halved.
     ///
     /// # Errors
     /// Out of memory. Nothing has changed then, and the event isn't kept.
@@ -98,15 +202,8 @@ impl World {
         ensures right { OnOk result (AllRight self.new.opening self.new.events) }
         ensures err { OnErr result (self.new ≡ self.old) }
     {
-        if self.events.reserve(1).is_err() {
-            drop(event);
-            return Err(AllocError);
-        }
-        let Ok(outcome) = self.cluster.happen(&event) else {
-            drop(event);
-            return Err(AllocError);
-        };
-        self.events.push_reserved(event);
+        let outcome = self.happen(event)?;
+        self.is_right();
         Ok(outcome)
     }
 }

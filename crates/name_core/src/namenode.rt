@@ -115,7 +115,6 @@ fn record(
 
 /// A NameNode's core: what it opened with, and its history, which is legal. Its namespace, its users, its leases, its keys, what it
 /// granted and what it knows of blocks and DataNodes are what the history gives.
-#[derive(Drop)]
 pub struct NameCore {
     config: Config,
     first_key: Key,
@@ -127,6 +126,26 @@ pub struct NameCore {
     // the oldest first
     history: Vec<HistoryEntry>,
     alloc: Global,
+}
+
+/// Written by hand, and not derived, so that a crate that owns a core doesn't prove anew how each part of it is dropped.
+impl Drop for NameCore {
+    fn drop(self) {
+        let NameCore {
+            config: _,
+            first_key: _,
+            system,
+            open_paths,
+            ledger,
+            clock: _,
+            history,
+            alloc: _,
+        } = self;
+        drop(system);
+        drop(open_paths);
+        drop(ledger);
+        drop(history);
+    }
 }
 
 impl Model for NameCore {

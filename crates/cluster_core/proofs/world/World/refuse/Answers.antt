@@ -1,0 +1,26 @@
+use Rattle.std.proofs.Common.{◌++◌, ◌∷◌, [], List, refl, ap, ◌∙◌}
+use Rattle.cluster_trace.specs.declared.event.Event.TheVariants.{Name}
+use Rattle.cluster_core.specs.declared.kept.KeptEvent.{KeptEvent}
+use Rattle.cluster_core.specs.declared.kept.KeptEvent.TheVariants.{Whole}
+use Rattle.cluster_core.specs.declared.world.World.TheInside.{Inside}
+use Rattle.cluster_core.proofs.Reaching.{Steps, whole_steps, lost_fits, step_reached, step_past, step_outcome}
+use Rattle.cluster_core.proofs.world.World.refuse.Goals as goal
+
+abbrev left : goal.After-push_reserved → Inside
+left c = record (c.self.inside) { cluster = c.refuse.new.self; events = c.push_reserved.new.self }
+
+steps : (c : goal.After-push_reserved) → Steps c.self.inside (Name c.args.request) (left c)
+steps c =
+    whole_steps c.self.inside (left c) (Name c.args.request) refl c.in-Ok.ensures.ok
+    (c.push_reserved.ensures.items ∙ ap (λ (events : List KeptEvent). events ++ Whole (Name c.args.request) ∷ []) c.reserve.ensures.items)
+    (lost_fits c.self.inside.cluster c.refuse.new.self c.args.request c.requires c.in-Ok.ensures.ok) tt
+
+pub invariant_of-self-2 : goal.invariant_of-self-2
+invariant_of-self-2 c = step_reached c.self.inside (Name c.args.request) (left c) c.self.invariant (steps c)
+
+pub returns-clause-world : goal.returns-clause-world
+returns-clause-world c = step_past c.self.inside c.args.self.now (Name c.args.request) (left c) c.self.invariant c.self.view_is (steps c)
+
+pub returns-clause-outcome : goal.returns-clause-outcome
+returns-clause-outcome c =
+    step_outcome c.self.inside c.args.self.now (Name c.args.request) c.in-Ok.outcome c.self.invariant c.self.view_is c.in-Ok.ensures.outcome
