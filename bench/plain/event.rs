@@ -2,7 +2,9 @@
 
 use crate::calls::{Asked, Call, Next, Payload, Presented};
 use crate::names::Names;
-use crate::request::{IllFormed, Read, Request, hex_byte, moment, number, who, words_of};
+use crate::request::{
+    IllFormed, Read, Request, hex_byte, hex_bytes, moment, number, who, words_of,
+};
 use crate::tokens::{LedgerRow, Token};
 
 pub enum Event {
@@ -35,22 +37,17 @@ fn next(word: &str) -> Read<Next> {
 }
 
 fn repeated(count: &str, digits: &str) -> Option<Payload> {
-    let byte = hex_byte(digits.as_bytes())?;
-    Some(Payload::Repeated(byte, number(count)?))
-}
-
-fn listed(digits: &str) -> Option<Payload> {
-    if !digits.len().is_multiple_of(2) {
+    let [high, low] = digits.as_bytes() else {
         return None;
-    }
-    let bytes = digits.as_bytes().chunks_exact(2).map(hex_byte);
-    Some(Payload::Listed(bytes.collect::<Option<_>>()?))
+    };
+    let byte = hex_byte(*high, *low)?;
+    Some(Payload::Repeated(byte, number(count)?))
 }
 
 fn payload(word: &str) -> Read<Payload> {
     let read = match word.split_once('*') {
         Some((count, digits)) => repeated(count, digits),
-        None => listed(word),
+        None => hex_bytes(word).map(Payload::Listed),
     };
     read.ok_or(IllFormed::BadLine)
 }

@@ -62,15 +62,27 @@ pub type Read<T> = Result<T, IllFormed>;
 /// The most words that a line has.
 const MOST_WORDS: usize = 10;
 
+/// Whether a byte separates words. Nearly all bytes are told by the first comparison.
+fn is_blank(byte: u8) -> bool {
+    byte <= b' ' && (byte == b' ' || byte == b'\t')
+}
+
 /// The words of a line, and how many they are, if these aren't too many.
 pub fn words_of(line: &str) -> Option<([&str; MOST_WORDS], usize)> {
     let mut words = [""; MOST_WORDS];
     let mut count = 0;
-    for word in line.split([' ', '\t']).filter(|word| !word.is_empty()) {
-        *words.get_mut(count)? = word;
+    let mut rest = line;
+    loop {
+        let Some(start) = rest.bytes().position(|byte| !is_blank(byte)) else {
+            return Some((words, count));
+        };
+        rest = &rest[start..];
+        let end = rest.as_bytes().iter().position(|byte| is_blank(*byte));
+        let end = end.unwrap_or(rest.len());
+        *words.get_mut(count)? = &rest[..end];
         count += 1;
+        rest = &rest[end..];
     }
-    Some((words, count))
 }
 
 pub fn number(word: &str) -> Option<u64> {
@@ -144,33 +156,54 @@ fn last_block(block: &str, length: &str) -> Read<Option<LastBlock>> {
     Ok(Some(LastBlock { block, length }))
 }
 
+/// In the place of the value of what is no hexadecimal digit.
+const NO_DIGIT: u8 = 0xff;
+
 /// The value of a hexadecimal digit of either case.
-fn hex_digit(digit: u8) -> Option<u8> {
+const fn hex_digit(digit: u8) -> u8 {
     match digit {
-        b'0'..=b'9' => Some(digit - b'0'),
-        b'a'..=b'f' => Some(digit - b'a' + 10),
-        b'A'..=b'F' => Some(digit - b'A' + 10),
-        _ => None,
+        b'0'..=b'9' => digit - b'0',
+        b'a'..=b'f' => digit - b'a' + 10,
+        b'A'..=b'F' => digit - b'A' + 10,
+        _ => NO_DIGIT,
     }
 }
 
+/// The values of all bytes as digits.
+const HEX_DIGITS: [u8; 256] = {
+    let mut values = [0; 256];
+    let mut byte = 0;
+    while byte < 256 {
+        values[byte] = hex_digit(byte as u8);
+        byte += 1;
+    }
+    values
+};
+
 /// The byte that two hexadecimal digits spell.
-pub fn hex_byte(digits: &[u8]) -> Option<u8> {
-    let [high, low] = digits else {
-        return None;
+pub fn hex_byte(high: u8, low: u8) -> Option<u8> {
+    let (high, low) = (hex_digit(high), hex_digit(low));
+    (high < 16 && low < 16).then_some(high << 4 | low)
+}
+
+/// The bytes that hexadecimal digits spell, two for each.
+pub fn hex_bytes<B: FromIterator<u8>>(digits: &str) -> Option<B> {
+    let mut all = 0;
+    let pairs = digits.as_bytes().chunks_exact(2);
+    let is_odd = !pairs.remainder().is_empty();
+    let byte = |pair: &[u8]| {
+        let high = HEX_DIGITS[usize::from(pair[0])];
+        let low = HEX_DIGITS[usize::from(pair[1])];
+        all |= high | low;
+        high << 4 | low
     };
-    Some(hex_digit(*high)? << 4 | hex_digit(*low)?)
+    let bytes = pairs.map(byte).collect();
+    (!is_odd && all < 16).then_some(bytes)
 }
 
 fn key(word: &str) -> Read<[u8; 20]> {
-    let mut key = [0; 20];
-    if word.len() != 2 * key.len() {
-        return Err(IllFormed::BadLine);
-    }
-    for (byte, digits) in key.iter_mut().zip(word.as_bytes().chunks_exact(2)) {
-        *byte = hex_byte(digits).ok_or(IllFormed::BadLine)?;
-    }
-    Ok(key)
+    let bytes: Vec<u8> = hex_bytes(word).ok_or(IllFormed::BadLine)?;
+    bytes.try_into().map_err(|_| IllFormed::BadLine)
 }
 
 fn acl_change(names: &mut Names, form: &str, spec: &str) -> Read<AclChange> {
