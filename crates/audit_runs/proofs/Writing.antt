@@ -77,15 +77,14 @@ front_of_block old now new entries block done is before (n, written) =
 
 -- ---- the entries of a script that was not run to its end
 
-pub first_of_history : (old new : Option (List ℕ)) (history entries : List HistoryEntry) (count : ℕ) → AreFirstOf history entries → AppendsFirst count old new (reverse entries) → AppendsFirst count old new history
+pub first_of_history : (old new : Option (List ℕ)) (history entries : List HistoryEntry) (count : ℕ) → AreFirstOf history entries → AppendsFirst count old new entries → AppendsFirst count old new history
 first_of_history old new history entries count first written =
-    let within : count ≤ length entries = omega (arith, written.within, length-reverse entries) in
     record {
-      within = omega (arith, within, first.within);
-      written = moved old new _ _ (ap audit_text (ap (take count) first.are ∙ take-take count (length entries) history within)) written.written;
+      within = omega (arith, written.within, first.within);
+      written = moved old new _ _ (ap audit_text (ap (take count) first.are ∙ take-take count (length entries) history written.within)) written.written;
     }
 
-pub front_of_history : (old new : Option (List ℕ)) (history entries : List HistoryEntry) → AreFirstOf history entries → AppendsFront old new (audit_text (reverse entries)) → AppendsFront old new (audit_text history)
+pub front_of_history : (old new : Option (List ℕ)) (history entries : List HistoryEntry) → AreFirstOf history entries → AppendsFront old new (audit_text entries) → AppendsFront old new (audit_text history)
 front_of_history old new history entries first written =
     front_written old new (audit_text (take (length entries) history)) (audit_text history) (front_of_whole history (length entries)) (subst (λ es. AppendsFront old new (audit_text es)) first.are written)
 

@@ -1,8 +1,8 @@
-ghost use Rattle.std.specs.Prelude.{◌≡◌, ◌≢◌, ◌≤◌, ℕ, length, take, drop, reverse, Ok, Err, IfOk, IfSome, OnOk, OnErr};
+ghost use Rattle.std.specs.Prelude.{◌≡◌, ◌≢◌, ◌≤◌, ℕ, length, take, drop, Ok, Err, IfOk, IfSome, OnOk, OnErr};
 ghost use Rattle.std.specs.Io.KnownBytes.{Appends, Keeps};
 ghost use Rattle.std.specs.Str.{IsUtf8};
 ghost use Rattle.script_runs.specs.Channel.{AppendsFront};
-ghost use Rattle.script_runs.specs.Output.{status_of, answers_of};
+ghost use Rattle.cluster_runs.specs.Output.{status_of, answers_of};
 ghost use Rattle.audit_text.specs.AuditText.{audit_text};
 ghost use Rattle.audit_runs.specs.Audit as spec;
 ghost use Rattle.audit_runs.specs.Audit.{AppendsFirst};
@@ -15,6 +15,7 @@ use script_runs::channel::write_text;
 use script_runs::script::{ScriptFault, Status, read_script};
 use std::alloc::{AllocError, Global};
 use std::io::{Read, Write};
+use std::mem;
 
 /// Of how many entries lines are made before they are written.
 const BLOCK: usize = 256;
@@ -69,21 +70,21 @@ fn write_entries<W: Write>(
     Ok(())
 }
 
-/// A script whose requests were recorded, and how it ended.
+/// A script that was recorded, and how it ended.
 #[derive(Drop)]
 struct RecordedRun {
     recording: Recording,
     ended: Result<Status, AllocError>,
 }
 
-/// Records a script on a NameNode of its own. Where memory ran out, the entries of the lines before are held.
+/// Records a script on a cluster of its own. Where memory ran out, the entries of the lines before are held.
 fn record_script(alloc: Global, script: &str) -> Result<RecordedRun, AllocError>
-    ensures ok { IfOk result (λ recorded. OnOk recorded.ended (reverse recorded.recording.core.entries ≡ spec.history_of script.now)) }
+    ensures ok { IfOk result (λ recorded. OnOk recorded.ended (spec.history_after recorded.recording.world ≡ spec.history_of script.now)) }
     ensures status { IfOk result (λ recorded. IfOk recorded.ended (λ status. status ≡ status_of (answers_of script.now))) }
-    ensures err { IfOk result (λ recorded. OnErr recorded.ended (AreFirstOf (spec.history_of script.now) recorded.recording.core.entries)) }
+    ensures err { IfOk result (λ recorded. OnErr recorded.ended (AreFirstOf (spec.history_of script.now) (spec.history_after recorded.recording.world))) }
 {
     let mut recording = Recording::open(alloc)?;
-    let ended = recording.run(alloc, script);
+    let ended = recording.run(script);
     Ok(RecordedRun { recording, ended })
 }
 
@@ -93,9 +94,9 @@ fn write_recorded<W: Write>(
     writer: &mut W,
     recorded: &RecordedRun,
 ) -> Result<Status, ScriptFault>
-    ensures ok { IfOk result (λ status. (recorded.now.ended ≡ Ok status) × Appends (W.contents writer.old) (W.contents writer.new) (audit_text (reverse recorded.now.recording.core.entries))) }
-    ensures no_memory { (count : ℕ) → result ≡ Err (ScriptFault.OutOfMemory count) → AppendsFirst count (W.contents writer.old) (W.contents writer.new) (reverse recorded.now.recording.core.entries) }
-    ensures unwritten { result ≡ Err ScriptFault.CannotWrite → AppendsFront (W.contents writer.old) (W.contents writer.new) (audit_text (reverse recorded.now.recording.core.entries)) }
+    ensures ok { IfOk result (λ status. (recorded.now.ended ≡ Ok status) × Appends (W.contents writer.old) (W.contents writer.new) (audit_text (spec.history_after recorded.now.recording.world))) }
+    ensures no_memory { (count : ℕ) → result ≡ Err (ScriptFault.OutOfMemory count) → AppendsFirst count (W.contents writer.old) (W.contents writer.new) (spec.history_after recorded.now.recording.world) }
+    ensures unwritten { result ≡ Err ScriptFault.CannotWrite → AppendsFront (W.contents writer.old) (W.contents writer.new) (audit_text (spec.history_after recorded.now.recording.world)) }
     ensures write_only { (result ≢ Err ScriptFault.CannotRead) × (result ≢ Err ScriptFault.NotUtf8) }
 {
     let entries = recorded.recording.history();
@@ -110,8 +111,10 @@ fn write_recorded<W: Write>(
     }
 }
 
-/// Reads a script whole, runs its lines, and writes the history that their requests make, a line of JSON for each entry, the oldest
-/// first, and nothing else. Linear in the script and the text beside the requests; of the text at most 256 lines are held at a time.
+/// Reads a script whole, runs its lines on a cluster of a NameNode and the DataNodes 1 to 8, and writes the history that they make at the
+/// NameNode, a line of JSON for each entry, the oldest first, and nothing else. Linear in the script and the text beside what the requests
+/// and calls cost; of the text at most 256 lines are held at a time. The cluster isn't taken apart, and its memory stays allocated: a
+/// program that has audited a script ends soon, which gives all memory back at once.
 ///
 /// # Errors
 /// `CannotRead` where the reader fails, or hasn't ended after 4,294,967,295 reads, and `NotUtf8`: nothing is written.
@@ -133,7 +136,6 @@ pub fn audit<R: Read, W: Write>(
         return Err(ScriptFault::OutOfMemory { served: 0 });
     };
     let ended = write_recorded(alloc, writer, &recorded);
-    // as where a script is run: its memory is given back all at once, when the program ends
-    drop(recorded);
+    mem::forget(recorded);
     ended
 }

@@ -1,4 +1,4 @@
-//! The history of a script: its requests in, and a line for each entry out.
+//! The history of a script: its lines in, and a line for each entry of the NameNode out.
 #![tactic(auto)]
 
 pub mod audit;

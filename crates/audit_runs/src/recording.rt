@@ -1,27 +1,29 @@
-ghost use Rattle.std.specs.Prelude.{◌≡◌, ◌<◌, ◌^◌, List, ℕ, length, reverse, IfOk, OnOk, OnErr, map};
-ghost use Rattle.script_runs.specs.Output as spec;
-ghost use Rattle.audit_runs.specs.Audit.{history_of};
+ghost use Rattle.std.specs.Prelude.{◌≡◌, List, ℕ, IfOk, OnOk, OnErr, Ok, Err, map};
+ghost use Rattle.cluster_runs.specs.Output as spec;
+ghost use Rattle.audit_runs.specs.Audit.{history_after, history_of};
 ghost use Rattle.audit_runs.specs.Recorded.{Holds, HoldsFirst, AreFirstOf};
 
-use hdfs_types::op::Request;
+use cluster_core::world::World;
+use cluster_runs::session::open_world;
+use cluster_text::event_line::read_event;
+use cluster_trace::event::Event;
 use hdfs_values::fault::IllFormed;
 use history::entry::HistoryEntry;
-use name_core::namenode::NameCore;
-use script_runs::script::{Session, Status};
-use script_text::line::read_line;
+use script_runs::script::Status;
 use script_words::words::{is_skipped, pieces_between, without_return};
 use std::alloc::{AllocError, Global};
 
 /// A script whose requests are recorded: what has a `Session` of it, but for the answers, which would grow with the script.
 #[derive(Drop)]
 pub(crate) struct Recording {
-    core: NameCore,
+    world: World,
     /// Whether a line was ill-formed.
     has_bad: bool,
+    alloc: Global,
 }
 
 impl Recording {
-    /// A NameNode that has answered nothing.
+    /// A cluster in which nothing has happened.
     ///
     /// # Errors
     /// Out of memory.
@@ -29,34 +31,36 @@ impl Recording {
         ensures { IfOk result (Holds spec.no_lines) }
     {
         Ok(Recording {
-            core: Session::open(alloc)?.core,
+            world: open_world(alloc)?,
             has_bad: false,
+            alloc,
         })
     }
 
-    /// The entries so far, the oldest first.
+    /// The entries of the NameNode so far, the oldest first.
     pub(crate) fn history(&self) -> &[HistoryEntry]
-        ensures { result.now ≡ reverse self.now.core.entries }
+        ensures { result.now ≡ history_after self.now.world }
     {
-        self.core.history()
+        self.world.core().history()
     }
 
-    /// Records a request.
-    fn record_request(&mut self, request: Request) -> Result<(), AllocError>
-        ensures ok { (state : spec.State) → Holds state self.old → OnOk result (Holds (spec.after_answer state (spec.answered spec.script_opening state.entries (Ok request))) self.new) }
-        ensures err { OnErr result (self.new.core ≡ self.old.core) }
+    /// Records an event. Where memory runs out it hasn't happened.
+    fn record_event(&mut self, event: Event) -> Result<(), AllocError>
+        ensures ok { (state : spec.State) → Holds state self.old → OnOk result (Holds (spec.after_answer state (spec.answered state.past (Ok event))) self.new) }
+        ensures err { OnErr result (self.new.world ≡ self.old.world) }
     {
-        let index = self.core.place();
-        self.core.append(0, index, request)
+        let outcome = self.world.step(event)?;
+        drop(outcome);
+        Ok(())
     }
 
     /// Takes in what the next line says.
-    fn take_in(&mut self, said: Result<Request, IllFormed>) -> Result<(), AllocError>
-        ensures ok { (state : spec.State) → Holds state self.old → OnOk result (Holds (spec.after_answer state (spec.answered spec.script_opening state.entries said)) self.new) }
-        ensures err { OnErr result (self.new.core ≡ self.old.core) }
+    fn take_in(&mut self, said: Result<Event, IllFormed>) -> Result<(), AllocError>
+        ensures ok { (state : spec.State) → Holds state self.old → OnOk result (Holds (spec.after_answer state (spec.answered state.past said)) self.new) }
+        ensures err { OnErr result (self.new.world ≡ self.old.world) }
     {
         match said {
-            Ok(request) => self.record_request(request),
+            Ok(event) => self.record_event(event),
             Err(_) => {
                 self.has_bad = true;
                 Ok(())
@@ -64,39 +68,46 @@ impl Recording {
         }
     }
 
+    /// What a line says, where it is read behind those that were run.
+    fn read(&self, line: &str) -> Result<Result<Event, IllFormed>, AllocError>
+        ensures { IfOk result (λ said. said ≡ spec.event_in self.now.world line.now) }
+    {
+        read_event(self.alloc, self.world.core().ledger().as_slice(), line)
+    }
+
     /// Runs a line. Where memory runs out it makes no entry.
-    fn serve(&mut self, alloc: Global, line: &str) -> Result<(), AllocError>
+    fn serve(&mut self, line: &str) -> Result<(), AllocError>
         ensures ok { (state : spec.State) → Holds state self.old → OnOk result (Holds (spec.after_line state line.now) self.new) }
-        ensures err { OnErr result (self.new.core ≡ self.old.core) }
+        ensures err { OnErr result (self.new.world ≡ self.old.world) }
     {
         let line = without_return(line);
         if is_skipped(line) {
             return Ok(());
         }
-        let said = read_line(alloc, line)?;
+        let said = self.read(line)?;
         self.take_in(said)
     }
 
     /// Runs the lines. Where memory runs out, the entries of those before are held.
-    fn serve_all(&mut self, alloc: Global, lines: &[&str]) -> Result<(), AllocError>
+    fn serve_all(&mut self, lines: &[&str]) -> Result<(), AllocError>
         ensures ok { (state : spec.State) → Holds state self.old → OnOk result (Holds (spec.behind_lines state (map (λ line. line.now) lines.now)) self.new) }
         ensures err { (state : spec.State) → Holds state self.old → OnErr result (HoldsFirst state (map (λ line. line.now) lines.now) self.new) }
     {
         for line in lines {
-            self.serve(alloc, line)?;
+            self.serve(line)?;
         }
         Ok(())
     }
 
-    /// Runs a script on a NameNode that has answered nothing. Where memory runs out, the entries of the lines before are held.
-    pub(crate) fn run(&mut self, alloc: Global, script: &str) -> Result<Status, AllocError>
+    /// Runs a script on a cluster in which nothing has happened. Where memory runs out, the entries of the lines before are held.
+    pub(crate) fn run(&mut self, script: &str) -> Result<Status, AllocError>
         requires { Holds spec.no_lines self.old }
-        ensures entries { OnOk result (reverse self.new.core.entries ≡ history_of script.now) }
+        ensures entries { OnOk result (history_after self.new.world ≡ history_of script.now) }
         ensures status { IfOk result (λ status. status ≡ spec.status_of (spec.answers_of script.now)) }
-        ensures err { OnErr result (AreFirstOf (history_of script.now) self.new.core.entries) }
+        ensures err { OnErr result (AreFirstOf (history_of script.now) (history_after self.new.world)) }
     {
-        let lines = pieces_between(alloc, script, '\n')?;
-        self.serve_all(alloc, &lines)?;
+        let lines = pieces_between(self.alloc, script, '\n')?;
+        self.serve_all(&lines)?;
         Ok(Status::by(self.has_bad))
     }
 }

@@ -37,8 +37,11 @@ fn node(id: u32) -> NodeId
     node
 }
 
-/// The cluster of a script.
-fn open_world(alloc: Global) -> Result<World, AllocError>
+/// The cluster of a script, in which nothing has happened: a NameNode and the DataNodes 1 to 8.
+///
+/// # Errors
+/// Out of memory.
+pub fn open_world(alloc: Global) -> Result<World, AllocError>
     ensures { IfOk result (λ world. world ≡ spec.no_events) }
 {
     let nodes = [

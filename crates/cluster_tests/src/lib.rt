@@ -1,5 +1,14 @@
-//! Tests of events of a cluster that no line of a script makes. Nothing stands on this crate.
+//! Tests of clusters: of events that no line of a script makes, of schedules that look random, and of what records of access rest on.
+//! Nothing stands on this crate.
 #![tactic(auto)]
 
 #[cfg(test)]
+mod lines;
+#[cfg(test)]
 mod outside;
+#[cfg(test)]
+mod random;
+#[cfg(test)]
+mod schedules;
+#[cfg(test)]
+mod sources;

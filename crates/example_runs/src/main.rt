@@ -4,7 +4,7 @@
 #![tactic(auto)]
 
 use audit_runs::audit::audit;
-use script_runs::script::run_script;
+use cluster_runs::script::run_script;
 use std::alloc::AllocError;
 use std::process::ExitCode;
 use std::{env, fs, io};

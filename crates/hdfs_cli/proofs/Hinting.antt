@@ -1,47 +1,44 @@
 -- The lines of a script that are answered `bad` are its ill-formed ones.
-use Rattle.std.proofs.Common.{◌≡◌, ℕ, ◌+◌, Bool, true, false, List, [], ◌∷◌, ◌++◌, None, Result, Ok, Err, refl, sym, ap, ◌∙◌, append_assoc, append-nil}
+use Rattle.std.proofs.Common.{◌≡◌, ℕ, ◌+◌, ◌<◌, Bool, true, false, List, [], ◌∷◌, ◌++◌, None, Result, Ok, Err, Bor, refl, sym, length, map, take, get_or, append-nil}
 use Rattle.std.specs.Prelude.{if◌then◌else◌}
 use Rattle.std.specs.Result.{result_err}
 use Rattle.std.proofs.lemmas.List.Elements.{filter_map-append}
 use Rattle.hdfs_values.specs.declared.fault.IllFormed.{IllFormed}
-use Rattle.hdfs_types.specs.declared.op.Request.{Request}
-use Rattle.script_hints.specs.Hints.{NumberedFault, fault_before, faults_from, faults_of}
-use Rattle.script_text.specs.Script.{request_of}
-use Rattle.script_words.specs.Words.{lines_of, without_return, is_skipped, words_of}
-use Rattle.hdfs_cli.specs.Hinted.{bad_at, bad_answers}
-use Rattle.script_runs.specs.Output.{Numbered, State, answered, after_answer, after_line, no_lines, script_opening, behind_lines, answers_of}
+use Rattle.script_words.specs.Words.{without_return, is_skipped}
+use Rattle.script_runs.proofs.Lines.{fold_step}
+use Rattle.cluster_trace.specs.declared.event.Event.{Event}
+use Rattle.script_hints.specs.Hints.{fault_in}
+use Rattle.cluster_runs.specs.Output.{State, Numbered, ledger_after, no_lines, answered, event_in, after_answer, after_line, after_lines}
+use Rattle.hdfs_cli.specs.Hinted.{NumberedFault, faults_at, bad_at, bad_answers}
 
-abbrev bads : State → List NumberedFault
-bads state = bad_answers state.answers
+-- ---- one line more
 
--- one answer more
-one_more : (state : State) (said : Result Request IllFormed) (others : List NumberedFault)
-    → bads (after_answer state (answered script_opening state.entries said)) ++ others ≡ bads state ++ fault_before (state.number + 1) (result_err said) others
-one_more state (Ok request) others =
-    ap (λ (front : List NumberedFault). front ++ others) (filter_map-append (λ (numbered : Numbered). bad_at numbered.number numbered.answer) state.answers _ ∙ append-nil _)
-one_more state (Err fault) others =
-    ap (λ (front : List NumberedFault). front ++ others) (filter_map-append (λ (numbered : Numbered). bad_at numbered.number numbered.answer) state.answers _) ∙ append_assoc (bads state) _ others
+one_answer : (state : State) (said : Result Event IllFormed)
+    → bad_answers (after_answer state (answered state.past said)).answers ≡ bad_answers state.answers ++ faults_at (state.number + 1) (result_err said)
+one_answer state (Ok event) = filter_map-append (λ (numbered : Numbered). bad_at numbered.number numbered.answer) state.answers _
+one_answer state (Err fault) = filter_map-append (λ (numbered : Numbered). bad_at numbered.number numbered.answer) state.answers _
 
-trimmed : (state : State) (skipped : Bool) (said : Result Request IllFormed) (others : List NumberedFault)
-    → bads (if skipped then record state { number = state.number + 1 } else after_answer state (answered script_opening state.entries said)) ++ others
-    ≡ bads state ++ fault_before (state.number + 1) (if skipped then None else result_err said) others
-trimmed state true said others = refl
-trimmed state false said others = one_more state said others
+abbrev after_said : State → Bool → Result Event IllFormed → State
+after_said state skipped said = if skipped then record state { number = state.number + 1 } else after_answer state (answered state.past said)
 
-number_after : (state : State) (skipped : Bool) (said : Result Request IllFormed)
-    → (if skipped then record state { number = state.number + 1 } else after_answer state (answered script_opening state.entries said)).number ≡ state.number + 1
-number_after state true said = refl
-number_after state false said = refl
+bad_said : (state : State) (skipped : Bool) (said : Result Event IllFormed)
+    → bad_answers (after_said state skipped said).answers ≡ bad_answers state.answers ++ faults_at (state.number + 1) (if skipped then None else result_err said)
+bad_said state true said = sym (append-nil _)
+bad_said state false said = one_answer state said
 
-behind : (state : State) (lines : List (List ℕ)) → bads (behind_lines state lines) ≡ bads state ++ faults_from (state.number + 1) lines
-behind state [] = sym (append-nil _)
-behind state (line ∷ lines) =
-    let text : List ℕ = without_return line in
-    let next : State = after_line state line in
-    let numbered : next.number ≡ state.number + 1 = number_after state (is_skipped text) (request_of (words_of text)) in
-    behind next lines
-    ∙ ap (λ n. bads next ++ faults_from (n + 1) lines) numbered
-    ∙ trimmed state (is_skipped text) (request_of (words_of text)) (faults_from (state.number + 1 + 1) lines)
+number_said : (state : State) (skipped : Bool) (said : Result Event IllFormed) → (after_said state skipped said).number ≡ state.number + 1
+number_said state true said = refl
+number_said state false said = refl
 
-pub bad_are_faults : (script : List ℕ) → faults_of (lines_of script) ≡ bad_answers (answers_of script)
-bad_are_faults script = sym (behind no_lines (lines_of script))
+pub bad_more : (state : State) (line : List ℕ)
+    → bad_answers (after_line state line).answers ≡ bad_answers state.answers ++ faults_at (state.number + 1) (fault_in (ledger_after state.past) line)
+bad_more state line = bad_said state (is_skipped (without_return line)) (event_in state.past (without_return line))
+
+pub number_more : (state : State) (line : List ℕ) → (after_line state line).number ≡ state.number + 1
+number_more state line = number_said state (is_skipped (without_return line)) (event_in state.past (without_return line))
+
+-- ---- all lines
+
+pub one_more : (lines : List (Bor (List ℕ))) (i : ℕ) (d : Bor (List ℕ)) → i < length lines
+    → after_line (after_lines (take i (map (λ line. line.now) lines))) (get_or lines i d).now ≡ after_lines (take (i + 1) (map (λ line. line.now) lines))
+one_more lines i d lt = fold_step (λ (line : Bor (List ℕ)). line.now) after_line no_lines _ _ lines i d lt refl refl

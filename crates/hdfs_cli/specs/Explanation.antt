@@ -14,13 +14,14 @@ use Rattle.hdfs_cli.specs.declared.explain.Explained.{Explained}
 use Rattle.hdfs_cli.specs.declared.explain.Explained.TheVariants.{Trail, NoRequest}
 use Rattle.script_words.specs.Words.{lines_of, without_return, is_skipped, words_of}
 use Rattle.script_text.specs.Script.{request_of}
-use Rattle.script_runs.specs.Output.{State, script_opening, after_lines, status_of}
+use Rattle.cluster_core.specs.World.{state_after}
+use Rattle.cluster_runs.specs.Output.{State, after_lines, status_of}
 
 abbrev pub well_formed : Result Request IllFormed → Option Request
 well_formed (Ok request) = Some request
 well_formed (Err fault) = None
 
--- the request of a line that is neither empty nor a comment nor ill-formed
+-- the request of a line that is neither empty nor a comment nor ill-formed, nor a call of a DataNode or a delivery
 abbrev pub request_in_trimmed : List ℕ → Option Request
 request_in_trimmed line = if is_skipped line then None else well_formed (request_of (words_of line))
 
@@ -42,7 +43,7 @@ abbrev pub trail_on : Opening → List HistoryEntry → Request → List Judged
 trail_on opening entries request = trail (rows_of opening entries) (users_of entries) request.caller request.op
 
 abbrev pub trail_of : State → Request → List Judged
-trail_of state request = trail_on script_opening state.entries request
+trail_of state request = trail_on state.past.opening.name (state_after state.past).entries request
 
 abbrev pub explanation_by : State → Option Request → List ℕ
 explanation_by state None = []

@@ -7,16 +7,19 @@ ghost use Rattle.std.specs.Str.{IsUtf8};
 ghost use Rattle.flat_rows.specs.Decision.{trail as trail_said};
 ghost use Rattle.script_runs.specs.Channel.{AppendsFront};
 ghost use Rattle.hdfs_cli.specs.Explanation as spec;
-ghost use Rattle.script_runs.specs.Output as output;
-ghost use Rattle.script_runs.specs.Shown.{Shows};
+ghost use Rattle.cluster_core.specs.World.{state_after};
+ghost use Rattle.cluster_runs.specs.Output as output;
+ghost use Rattle.cluster_runs.specs.Shown.{Shows};
 
+use cluster_runs::script::run_lines;
+use cluster_runs::session::Session;
 use flat_rows::trail::{Judged, trail};
 use hdfs_types::op::Request;
 use hdfs_values::path::Path;
 use inode_tree::tree::Tree;
 use namespace_rows::rows::Rows;
 use script_runs::channel::write_text;
-use script_runs::script::{ScriptFault, Session, Status, read_script, run_lines};
+use script_runs::script::{ScriptFault, Status, read_script};
 use script_text::line::read_line;
 use script_words::words::{is_skipped, pieces_between, without_return};
 use std::alloc::{AllocError, Global};
@@ -27,7 +30,7 @@ use std::io::{Read, Write};
 pub enum Explained {
     /// A request, whose needs were printed; and how the lines before it ended.
     Trail(Status),
-    /// No request: there is no such line, or it is empty, a comment or ill-formed. Nothing was printed.
+    /// No request: there is no such line, or it is empty, a comment, ill-formed, a call of a DataNode or a delivery. Nothing was printed.
     NoRequest,
 }
 
@@ -87,10 +90,11 @@ pub(crate) fn trail_on(
     session: &Session,
     request: &Request,
 ) -> Result<Vec<Judged>, AllocError>
-    ensures { IfOk result (λ needs. needs.items ≡ spec.trail_on session.now.core.opening session.now.core.entries request.now) }
+    ensures { IfOk result (λ needs. needs.items ≡ spec.trail_on session.now.world.opening.name (state_after session.now.world).entries request.now) }
 {
-    let rows = rows_of(alloc, session.core.tree())?;
-    let users = session.core.users();
+    let core = session.world().core();
+    let rows = rows_of(alloc, core.tree())?;
+    let users = core.users();
     let needs = trail(alloc, &rows, users, &request.caller, &request.op);
     drop(rows);
     needs
@@ -98,7 +102,7 @@ pub(crate) fn trail_on(
 
 /// What is printed of the needs of a request.
 fn needs_text(alloc: Global, session: &Session, request: &Request) -> Result<String, AllocError>
-    ensures { IfOk result (λ text. string_bytes text ≡ spec.trail_text (spec.trail_on session.now.core.opening session.now.core.entries request.now)) }
+    ensures { IfOk result (λ text. string_bytes text ≡ spec.trail_text (spec.trail_on session.now.world.opening.name (state_after session.now.world).entries request.now)) }
 {
     let needs = trail_on(alloc, session, request)?;
     let text = text_of(alloc, &needs);
@@ -117,7 +121,7 @@ fn explain_request(
     ensures text { IfOk result (λ explanation. string_bytes explanation.text ≡ spec.explanation_by (output.after_lines (map (λ line. line.now) before.now)) (Some request.now)) }
     ensures found { IfOk result (λ explanation. explanation.found ≡ Explained.Trail (output.status_of (output.after_lines (map (λ line. line.now) before.now)).answers)) }
 {
-    run_lines(alloc, session, before)?;
+    run_lines(session, before)?;
     Ok(Explanation {
         found: Explained::Trail(Status::by(session.has_bad())),
         text: needs_text(alloc, session, request)?,
@@ -135,7 +139,7 @@ fn explain_alone(
 {
     let mut session = Session::open(alloc)?;
     let explained = explain_request(alloc, &mut session, before, request);
-    drop(session);
+    drop(session.into_output());
     explained
 }
 

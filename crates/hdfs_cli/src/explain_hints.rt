@@ -1,17 +1,17 @@
-ghost use Rattle.script_runs.specs.Output as output;
-ghost use Rattle.script_runs.specs.Shown.{Shows};
+ghost use Rattle.cluster_runs.specs.Output as output;
+ghost use Rattle.cluster_runs.specs.Shown.{Shows};
 
 use crate::explain::{request_in, rows_of, trail_on};
-use crate::hints::{Line, add_hint, add_hints, hint_on_bytes};
+use crate::hints::{Line, add_hints, hint_on_bytes, next_hint, run_with_hints};
+use cluster_runs::script::run_more;
+use cluster_runs::session::Session;
 use flat_rows::ask::asks_of;
 use flat_rows::demand::{Demand, Role, needs_of};
 use flat_rows::trail::Judged;
 use hdfs_types::op::{Op, Request};
 use hdfs_values::path::{Path, is_same};
 use namespace_rows::row::Row;
-use script_hints::numbered::hints_on_lines;
-use script_runs::script::{Session, run_lines, run_more};
-use script_words::words::{is_skipped, pieces_between, without_return};
+use script_words::words::{pieces_between, without_return, words_in};
 use std::alloc::{AllocError, Global};
 use std::{slice, str};
 
@@ -100,26 +100,76 @@ fn add_rename_hints(
     let Op::Rename(from, _) = &request.op else {
         return Ok(());
     };
-    let rows = rows_of(alloc, session.core.tree())?;
+    let rows = rows_of(alloc, session.world().core().tree())?;
     let sides = sides_of(alloc, rows.as_slice(), &request.op, from)?;
     let needs = trail_on(alloc, session, request)?;
     add_sides(line, &needs, &sides, out)
 }
 
-/// Runs the lines before a request and then its own line, and adds what is said of a rename.
-fn run_to(
+/// What a line is that is neither ill-formed nor a request.
+fn kind_of(alloc: Global, line: &str) -> Result<&'static str, AllocError> {
+    if line.is_empty() {
+        return Ok("an empty line");
+    }
+    if line.starts_with('#') {
+        return Ok("a comment");
+    }
+    let words = words_in(alloc, line)?;
+    match words.as_slice() {
+        [_, _, node, ..] if node.starts_with('@') => Ok("a call of a DataNode"),
+        _ => Ok("the delivery of a message"),
+    }
+}
+
+/// Adds why a line is no request.
+fn add_reason(
     alloc: Global,
+    line: Line<'_>,
+    session: &Session,
+    out: &mut String,
+) -> Result<(), AllocError> {
+    let script = line.script;
+    let number = line.number;
+    match next_hint(alloc, session, line.text)? {
+        Some(hint) => writeln!(out, "{script}:{number}: {hint}"),
+        None => {
+            let kind = kind_of(alloc, without_return(line.text))?;
+            writeln!(out, "{script}:{number}: {kind}")
+        }
+    }
+}
+
+/// Adds what is said of a line behind those that were run, and runs it where it is a request; returns whether it is.
+fn add_hints_on_line(
+    alloc: Global,
+    line: Line<'_>,
     session: &mut Session,
+    out: &mut String,
+) -> Result<bool, AllocError> {
+    let Some(request) = request_in(alloc, line.text)? else {
+        add_reason(alloc, line, session, out)?;
+        return Ok(false);
+    };
+    let added = add_rename_hints(alloc, line, session, &request, out);
+    drop(request);
+    added?;
+    run_more(alloc, session, line.text)?;
+    Ok(true)
+}
+
+/// Runs the lines before one, and adds the hints on them, and on it; returns whether it is a request.
+fn add_hints_up_to(
+    alloc: Global,
     before: &[&str],
     line: Line<'_>,
-    request: &Request,
+    session: &mut Session,
     out: &mut String,
-) -> Result<(), AllocError>
+) -> Result<bool, AllocError>
     requires { Shows output.no_lines session.old }
 {
-    run_lines(alloc, session, before)?;
-    add_rename_hints(alloc, line, session, request, out)?;
-    run_more(alloc, session, line.text)
+    let hints = run_with_hints(alloc, session, before)?;
+    add_hints(line.script, &hints, out)?;
+    add_hints_on_line(alloc, line, session, out)
 }
 
 /// Adds what a request is refused with, where no need forbids it: the last answer, without its number.
@@ -138,56 +188,20 @@ fn add_refusal(line: Line<'_>, answers: &str, out: &mut String) -> Result<(), Al
     Ok(())
 }
 
-/// Adds the hints on a request.
-fn add_request_hints(
+/// Adds the hints on lines that begin a script, and on the one behind them.
+fn add_hints_behind(
     alloc: Global,
     before: &[&str],
     line: Line<'_>,
-    request: &Request,
     out: &mut String,
 ) -> Result<(), AllocError> {
     let mut session = Session::open(alloc)?;
-    let ran = run_to(alloc, &mut session, before, line, request, out);
+    let added = add_hints_up_to(alloc, before, line, &mut session, out);
     let answers = session.into_output();
-    ran?;
-    add_refusal(line, answers.as_str(), out)
-}
-
-/// Adds the hints on a line that is neither empty nor a comment.
-fn add_hints_on_words(
-    alloc: Global,
-    before: &[&str],
-    line: Line<'_>,
-    out: &mut String,
-) -> Result<(), AllocError> {
-    match request_in(alloc, line.text)? {
-        Some(request) => {
-            let added = add_request_hints(alloc, before, line, &request, out);
-            drop(request);
-            added
-        }
-        None => add_hint(alloc, line, out),
+    if added? {
+        add_refusal(line, answers.as_str(), out)?;
     }
-}
-
-/// Adds the hints on the line that is to be explained, which is behind these.
-fn add_hints_on_line(
-    alloc: Global,
-    before: &[&str],
-    line: Line<'_>,
-    out: &mut String,
-) -> Result<(), AllocError> {
-    let text = without_return(line.text);
-    if !is_skipped(text) {
-        return add_hints_on_words(alloc, before, line, out);
-    }
-    let script = line.script;
-    let number = line.number;
-    if text.is_empty() {
-        writeln!(out, "{script}:{number}: an empty line")
-    } else {
-        writeln!(out, "{script}:{number}: a comment")
-    }
+    Ok(())
 }
 
 /// The lines of a text; the empty piece behind the last line feed isn't one for who counts them.
@@ -220,14 +234,12 @@ fn hints_behind(
         add_count(name, lines.len(), &mut out)?;
         return Ok(out);
     };
-    let hints = hints_on_lines(alloc, done)?;
-    add_hints(name, &hints, &mut out)?;
     let line = Line {
         script: name,
         number: done.len().saturating_add(1),
         text,
     };
-    add_hints_on_line(alloc, done, line, &mut out)?;
+    add_hints_behind(alloc, done, line, &mut out)?;
     Ok(out)
 }
 

@@ -1,13 +1,22 @@
-ghost use Rattle.std.specs.Prelude.{◌≡◌, IfOk, map};
+ghost use Rattle.std.specs.Prelude.{◌≡◌, ◌+◌, ◌++◌, ◌<◌, ◌^◌, IfOk, OnOk, map};
+ghost use Rattle.std.specs.Option.{option_map};
+ghost use Rattle.script_hints.specs.Hints.{fault_of, fault_in};
+ghost use Rattle.cluster_runs.specs.Output as output;
+ghost use Rattle.cluster_runs.specs.Shown.{Shows};
 ghost use Rattle.hdfs_cli.specs.Hinted as spec;
-ghost use Rattle.script_runs.specs.Output.{answers_of};
-ghost use Rattle.script_hints.specs.Hints.{numbered_fault};
 
-use script_hints::hint::hint_in;
-use script_hints::numbered::{NumberedHint, hints_on_lines};
+use cluster_runs::session::Session;
+use script_hints::hint::{Hint, hint_in};
 use script_words::words::pieces_between;
 use std::alloc::{AllocError, Global};
-use std::str;
+use std::{slice, str};
+
+/// A hint, and the number of the line that gets it.
+#[derive(Clone, Copy)]
+pub struct NumberedHint<'a> {
+    pub number: usize,
+    pub hint: Hint<'a>,
+}
 
 /// A line of a script: the script's name, the line's number from 1 on, and its text.
 #[derive(Clone, Copy)]
@@ -17,14 +26,52 @@ pub(crate) struct Line<'a> {
     pub(crate) text: &'a str,
 }
 
-/// Adds the hint on a line, where it is ill-formed.
-pub(crate) fn add_hint(alloc: Global, line: Line<'_>, out: &mut String) -> Result<(), AllocError> {
-    if let Some(hint) = hint_in(alloc, line.text)? {
-        let script = line.script;
-        let number = line.number;
-        writeln!(out, "{script}:{number}: {hint}")?;
+/// The hint on the line behind those that were run, where it is ill-formed.
+pub(crate) fn next_hint<'a>(
+    alloc: Global,
+    session: &Session,
+    line: &'a str,
+) -> Result<Option<Hint<'a>>, AllocError>
+    ensures { IfOk result (λ hint. option_map fault_of hint ≡ fault_in (output.ledger_after session.now.world) line.now) }
+{
+    let core = session.world().core();
+    hint_in(alloc, core.ledger().as_slice(), line)
+}
+
+/// Adds the hint on the line behind those that were run, where it is ill-formed.
+fn push_hint<'a>(
+    alloc: Global,
+    session: &Session,
+    line: &'a str,
+    hints: &mut Vec<NumberedHint<'a>>,
+) -> Result<(), AllocError>
+    requires { session.now.number + 1 < 2 ^ 64 }
+    ensures { OnOk result (map spec.numbered_fault hints.new.items ≡ map spec.numbered_fault hints.old.items
+        ++ spec.faults_at (session.now.number + 1) (fault_in (output.ledger_after session.now.world) line.now)) }
+{
+    if let Some(hint) = next_hint(alloc, session, line)? {
+        let number = session.number() + 1;
+        hints.push(NumberedHint { number, hint })?;
     }
     Ok(())
+}
+
+/// Runs the lines of a script from its beginning, and gives a hint on each that is answered `bad`, in their order.
+pub(crate) fn run_with_hints<'a>(
+    alloc: Global,
+    session: &mut Session,
+    lines: &[&'a str],
+) -> Result<Vec<NumberedHint<'a>>, AllocError>
+    requires { Shows output.no_lines session.old }
+    ensures hints { IfOk result (λ hints. map spec.numbered_fault hints.items ≡ spec.bad_answers (output.after_lines (map (λ line. line.now) lines.now)).answers) }
+    ensures lines { OnOk result (Shows (output.after_lines (map (λ line. line.now) lines.now)) session.new) }
+{
+    let mut hints = Vec::new(alloc);
+    for line in lines {
+        push_hint(alloc, session, line, &mut hints)?;
+        session.serve_all(slice::from_ref(line))?;
+    }
+    Ok(hints)
 }
 
 /// Adds hints, a line for each.
@@ -42,12 +89,15 @@ pub(crate) fn add_hints(
 }
 
 /// The hints on a script: one on each line that is answered `bad`, in their order.
-#[tactic(auto, using(crate::proofs::Hinting::bad_are_faults))]
 fn hints_in<'a>(alloc: Global, script: &'a str) -> Result<Vec<NumberedHint<'a>>, AllocError>
-    ensures { IfOk result (λ hints. map numbered_fault hints.items ≡ spec.bad_answers (answers_of script.now)) }
+    ensures { IfOk result (λ hints. map spec.numbered_fault hints.items ≡ spec.bad_answers (output.answers_of script.now)) }
 {
     let lines = pieces_between(alloc, script, '\n')?;
-    hints_on_lines(alloc, &lines)
+    let mut session = Session::open(alloc)?;
+    let hints = run_with_hints(alloc, &mut session, &lines);
+    // what is printed of the script was printed before
+    drop(session.into_output());
+    hints
 }
 
 fn hints_on_text(alloc: Global, name: &str, script: &str) -> Result<String, AllocError> {

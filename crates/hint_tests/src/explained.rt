@@ -119,3 +119,32 @@ fn refusals_of_blocks_are_said(rt: HostRuntime) -> Result<(), Fail> {
         "s:5: granted, and then refused 15 NotYetReplicated\n",
     )
 }
+
+const CALLS: &str = "0 hdfs create /f 644 1\n\
+0 dn-1 heartbeat\n\
+0 - deliver 1\n\
+0 hdfs addblock /f\n\
+0 hdfs @1 begin 1 1001 - #1\n\
+0 hdfs @1 begin 1 1001 - #2\n\
+0 hdfs @1 finalize 1 1001 0 - #1\n\
+0 - deliver 2\n\
+0 hdfs delete /\n";
+
+#[test]
+fn calls_and_deliveries_have_no_request(rt: HostRuntime) -> Result<(), Fail> {
+    let delivery = hints(rt.alloc(), CALLS, 3)?;
+    is_text(delivery.as_str(), "s:3: the delivery of a message\n")?;
+    let call = hints(rt.alloc(), CALLS, 5)?;
+    is_text(call.as_str(), "s:5: a call of a DataNode\n")?;
+    let ungranted = hints(rt.alloc(), CALLS, 6)?;
+    is_text(
+        ungranted.as_str(),
+        "s:6: token \"#2\" was not granted: the last is #1\n",
+    )?;
+    let behind = hints(rt.alloc(), CALLS, 9)?;
+    is_text(
+        behind.as_str(),
+        "s:6: token \"#2\" was not granted: the last is #1\n\
+s:9: granted, and then refused 7 IsRoot\n",
+    )
+}

@@ -12,4 +12,6 @@ mod limits;
 #[cfg(test)]
 mod made;
 #[cfg(test)]
+mod node_causes;
+#[cfg(test)]
 mod scripts;

@@ -2,9 +2,9 @@ use script_hints::hint::hint_in;
 use std::alloc::{AllocError, Global};
 use std::test::Fail;
 
-/// The hint on a line. It has no clauses, so that no proof of a test computes it.
+/// The hint on a line before which no token was granted. It has no clauses, so that no proof of a test computes it.
 pub(crate) fn hint_text(alloc: Global, line: &str) -> Result<String, AllocError> {
-    match hint_in(alloc, line)? {
+    match hint_in(alloc, &[], line)? {
         Some(hint) => format!(in alloc; "{hint}"),
         None => String::from_str(alloc, "(none)"),
     }

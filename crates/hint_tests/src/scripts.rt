@@ -23,6 +23,29 @@ s.hdfs:8: blanks alone are neither a request nor an empty line\n",
     )
 }
 
+const TOKENS: &str = "0 hdfs create /f 644 1\n\
+0 hdfs @1 begin 1 1001 - #1\n\
+0 dn-1 heartbeat\n\
+0 hdfs addblock /f\n\
+0 hdfs @1 begin 1 1001 - #1\n\
+0 hdfs @1 begin 1 1001 - #2\n\
+0 hdfs @9 begin 1 1001 - #0\n\
+0 - deliver 1\n\
+0 hdfs @1 begin 1 1001 2,3 #1\n\
+0 hdfs - deliver 1\n";
+
+#[test]
+fn tokens_are_those_of_the_lines_before(rt: HostRuntime) -> Result<(), Fail> {
+    let hints = hints_on_script(rt.alloc(), "s", TOKENS.as_bytes())?;
+    is_text(
+        hints.as_str(),
+        "s:2: token \"#1\" was not granted, and none was\n\
+s:6: token \"#2\" was not granted: the last is #1\n\
+s:7: token \"#0\" was not granted: the last is #1\n\
+s:10: unknown verb \"-\"\n",
+    )
+}
+
 #[test]
 fn a_script_without_faults_gets_none(rt: HostRuntime) -> Result<(), Fail> {
     let hints = hints_on_script(rt.alloc(), "s.hdfs", b"0 hdfs stat /x\n".as_slice())?;

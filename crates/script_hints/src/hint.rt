@@ -2,7 +2,7 @@ ghost use Rattle.std.specs.Prelude.{◌≡◌, IfOk};
 ghost use Rattle.std.specs.Option.{option_map};
 ghost use Rattle.std.specs.Result.{result_err};
 ghost use Rattle.script_hints.specs.Hints as spec;
-ghost use Rattle.script_text.specs.Script.{request_of};
+ghost use Rattle.cluster_text.specs.EventLine.{event_of};
 ghost use Rattle.script_words.specs.Words.{words_of};
 
 use crate::acl_hint::{AclHint, acl_hint};
@@ -10,8 +10,9 @@ use crate::line_hint::{LineHint, line_hint};
 use crate::mode_hint::{ModeHint, mode_hint};
 use crate::name_hint::{NameHint, name_hint};
 use crate::path_hint::{PathHint, path_hint};
+use cluster_text::event_line::read_event;
+use grant_ledger::ledger::LedgerRow;
 use hdfs_values::fault::{AclFault, IllFormed, ParseFault};
-use script_text::line::read_line;
 use script_words::words::{is_skipped, without_return, words_in};
 use std::alloc::{AllocError, Global};
 use std::fmt;
@@ -64,18 +65,27 @@ pub(crate) fn is_read<T: Drop>(read: Result<T, ParseFault>) -> Result<bool, Allo
 }
 
 /// How a line is ill-formed, where it is.
-fn fault_of(alloc: Global, line: &str) -> Result<Option<IllFormed>, AllocError>
-    ensures { IfOk result (λ fault. fault ≡ result_err (request_of (words_of line.now))) }
+fn fault_of(
+    alloc: Global,
+    ledger: &[LedgerRow],
+    line: &str,
+) -> Result<Option<IllFormed>, AllocError>
+    ensures { IfOk result (λ fault. fault ≡ result_err (event_of ledger.now (words_of line.now))) }
 {
-    Ok(read_line(alloc, line)?.err())
+    Ok(read_event(alloc, ledger, line)?.err())
 }
 
-/// The hint on words that are ill-formed in this way.
-fn hint_on<'a>(alloc: Global, fault: IllFormed, words: &[&'a str]) -> Result<Hint<'a>, AllocError>
+/// The hint on words that are ill-formed in this way, where so many tokens were granted before.
+fn hint_on<'a>(
+    alloc: Global,
+    fault: IllFormed,
+    granted: usize,
+    words: &[&'a str],
+) -> Result<Hint<'a>, AllocError>
     ensures { IfOk result (λ hint. spec.fault_of hint ≡ fault) }
 {
     match fault {
-        IllFormed::BadLine => Ok(Hint::Line(line_hint(words))),
+        IllFormed::BadLine => Ok(Hint::Line(line_hint(granted, words))),
         IllFormed::BadPath => Ok(Hint::Path(path_hint(alloc, words)?)),
         IllFormed::BadAcl(fault) => Ok(Hint::Acl(fault, acl_hint(alloc, fault, words)?)),
         IllFormed::BadName => Ok(Hint::Name(name_hint(words))),
@@ -83,33 +93,42 @@ fn hint_on<'a>(alloc: Global, fault: IllFormed, words: &[&'a str]) -> Result<Hin
     }
 }
 
-/// The hint on a line: there is one exactly where the line makes no request, and it is for the answer that the line gets. Which
-/// word it names is only tested.
+/// The hint on a line, where these tokens were granted before: there is one exactly where the line makes no event, and it is for the
+/// answer that the line gets. Which word it names is only tested.
 ///
 /// # Errors
 /// Out of memory.
-pub fn hint_of(alloc: Global, line: &str) -> Result<Option<Hint<'_>>, AllocError>
-    ensures { IfOk result (λ hint. option_map spec.fault_of hint ≡ result_err (request_of (words_of line.now))) }
+pub fn hint_of<'a>(
+    alloc: Global,
+    ledger: &[LedgerRow],
+    line: &'a str,
+) -> Result<Option<Hint<'a>>, AllocError>
+    ensures { IfOk result (λ hint. option_map spec.fault_of hint ≡ result_err (event_of ledger.now (words_of line.now))) }
 {
-    match fault_of(alloc, line)? {
+    match fault_of(alloc, ledger, line)? {
         Some(fault) => {
             let words = words_in(alloc, line)?;
-            Ok(Some(hint_on(alloc, fault, &words)?))
+            Ok(Some(hint_on(alloc, fault, ledger.len(), &words)?))
         }
         None => Ok(None),
     }
 }
 
-/// The hint on a line of a script, which may end in a carriage return; an empty line and a comment get none.
+/// The hint on a line of a script, which may end in a carriage return, where these tokens were granted before; an empty line and a
+/// comment get none.
 ///
 /// # Errors
 /// Out of memory.
-pub fn hint_in(alloc: Global, line: &str) -> Result<Option<Hint<'_>>, AllocError>
-    ensures { IfOk result (λ hint. option_map spec.fault_of hint ≡ spec.fault_in line.now) }
+pub fn hint_in<'a>(
+    alloc: Global,
+    ledger: &[LedgerRow],
+    line: &'a str,
+) -> Result<Option<Hint<'a>>, AllocError>
+    ensures { IfOk result (λ hint. option_map spec.fault_of hint ≡ spec.fault_in ledger.now line.now) }
 {
     let line = without_return(line);
     if is_skipped(line) {
         return Ok(None);
     }
-    hint_of(alloc, line)
+    hint_of(alloc, ledger, line)
 }

@@ -6,6 +6,6 @@ pub mod hint;
 pub mod line_hint;
 pub mod mode_hint;
 pub mod name_hint;
-pub mod numbered;
+pub mod node_hint;
 pub mod path_hint;
 pub mod verbs;

@@ -1,5 +1,6 @@
 use crate::hint::word_at;
-use crate::verbs::{Verb, verb_of};
+use crate::node_hint::{NodeHint, delivery_hint, node_hint};
+use crate::verbs::{Verb, node_verb_of, verb_of};
 use script_words::acl_words::{wants_none, wants_spec};
 use script_words::values::{moment_word, number_word, replication_word};
 use script_words::words::is_word;
@@ -74,7 +75,7 @@ impl fmt::Display for FormHint<'_> {
     }
 }
 
-/// Why the words of a line make no request, where none of them is an ill-formed path, name, mode or access list.
+/// Why the words of a line make no event, where none of them is an ill-formed path, name, mode or access list.
 #[derive(Clone, Copy)]
 pub enum LineHint<'a> {
     Flaw(LineFlaw),
@@ -87,6 +88,9 @@ pub enum LineHint<'a> {
     Key,
     /// A word, and the one that it has to be.
     Instead(&'a str, &'static str),
+    /// A verb of a DataNode, which isn't named.
+    Nodeless(&'static str),
+    Node(NodeHint<'a>),
 }
 
 impl fmt::Display for LineHint<'_> {
@@ -99,6 +103,8 @@ impl fmt::Display for LineHint<'_> {
             LineHint::Form(hint) => write!(f, "{hint}"),
             LineHint::Key => f.write_str("a key is 40 hexadecimal digits"),
             LineHint::Instead(word, fixed) => write!(f, "{word:?} instead of {fixed}"),
+            LineHint::Nodeless(verb) => write!(f, "{verb} wants @NODE before it"),
+            LineHint::Node(hint) => write!(f, "{hint}"),
         }
     }
 }
@@ -130,7 +136,7 @@ fn hint_on_count<'a>(verb: &'static Verb, others: &[&'a str]) -> Option<LineHint
 }
 
 /// Why a word is no moment.
-fn hint_on_moment(word: &str) -> LineHint<'_> {
+pub(crate) fn hint_on_moment(word: &str) -> LineHint<'_> {
     if !are_digits(word) {
         return LineHint::Number(NumberHint::NotDigits("moment", word));
     }
@@ -146,8 +152,8 @@ fn hint_on_replication(word: &str) -> NumberHint<'_> {
 }
 
 /// Why a word is no number below 2^64.
-fn hint_on_number<'a>(what: &'static str, word: &'a str) -> NumberHint<'a> {
-    if !are_digits(word) {
+pub(crate) fn hint_on_number<'a>(what: &'static str, word: &'a str) -> NumberHint<'a> {
+    if word.is_empty() || !are_digits(word) {
         return NumberHint::NotDigits(what, word);
     }
     NumberHint::Large(what)
@@ -187,10 +193,18 @@ fn hint_behind_path<'a>(verb: &str, others: &[&'a str]) -> LineHint<'a> {
     LineHint::Form(FormHint::Unknown(next))
 }
 
+/// What is wrong with a verb that the NameNode doesn't have.
+fn hint_on_unknown(verb: &str) -> LineHint<'_> {
+    match node_verb_of(verb) {
+        Some(known) => LineHint::Nodeless(known.name),
+        None => LineHint::UnknownVerb(verb),
+    }
+}
+
 /// What is wrong with a moment, a verb and the words behind it.
 fn hint_on_words<'a>(moment: &'a str, verb: &'a str, others: &[&'a str]) -> LineHint<'a> {
     let Some(known) = verb_of(verb) else {
-        return LineHint::UnknownVerb(verb);
+        return hint_on_unknown(verb);
     };
     if let Some(hint) = hint_on_count(known, others) {
         return hint;
@@ -204,13 +218,31 @@ fn hint_on_words<'a>(moment: &'a str, verb: &'a str, others: &[&'a str]) -> Line
     hint_behind_path(verb, others)
 }
 
-/// Why the words of a line make no request, where that is no ill-formed path, name, mode or access list.
-pub fn line_hint<'a>(words: &[&'a str]) -> LineHint<'a> {
+/// What is wrong with the words of a line that has a verb, where so many tokens were granted before.
+fn hint_on_verb<'a>(
+    granted: usize,
+    moment: &'a str,
+    caller: &'a str,
+    verb: &'a str,
+    others: &[&'a str],
+) -> LineHint<'a> {
+    if verb.starts_with('@') {
+        return node_hint(granted, moment, verb, others);
+    }
+    if is_word(verb, "deliver") {
+        return delivery_hint(moment, caller, others);
+    }
+    hint_on_words(moment, verb, others)
+}
+
+/// Why the words of a line make no event where so many tokens were granted before, where that is no ill-formed path, name, mode or
+/// access list.
+pub fn line_hint<'a>(granted: usize, words: &[&'a str]) -> LineHint<'a> {
     match words {
         [] => LineHint::Flaw(LineFlaw::Blanks),
         [first, ..] if first.starts_with('#') => LineHint::Flaw(LineFlaw::LateComment),
         [first, ..] if first.starts_with('\u{feff}') => LineHint::Flaw(LineFlaw::ByteOrderMark),
-        [moment, _, verb, others @ ..] => hint_on_words(moment, verb, others),
+        [moment, caller, verb, others @ ..] => hint_on_verb(granted, moment, caller, verb, others),
         _ => LineHint::Flaw(LineFlaw::FewWords),
     }
 }

@@ -11,7 +11,7 @@ pub struct Verb {
     pub counts: [usize; 2],
 }
 
-/// The verbs of scripts.
+/// The verbs of requests to the NameNode.
 pub static VERBS: [Verb; 22] = [
     Verb {
         name: "mkdirs",
@@ -125,9 +125,45 @@ pub static VERBS: [Verb; 22] = [
     },
 ];
 
-/// The verb of this name.
+/// The verbs of calls of a DataNode.
+pub static NODE_VERBS: [Verb; 4] = [
+    Verb {
+        name: "begin",
+        words: "B STAMP NEXT #K",
+        counts: [4, 4],
+    },
+    Verb {
+        name: "packet",
+        words: "B STAMP OFFSET BYTES NEXT #K",
+        counts: [6, 6],
+    },
+    Verb {
+        name: "finalize",
+        words: "B STAMP LEN NEXT #K",
+        counts: [5, 5],
+    },
+    Verb {
+        name: "read",
+        words: "B STAMP OFFSET LEN #K",
+        counts: [5, 5],
+    },
+];
+
+/// The verb of deliveries of messages.
+pub static DELIVER: Verb = Verb {
+    name: "deliver",
+    words: "NUMBER",
+    counts: [1, 1],
+};
+
+/// The verb of this name, of a request to the NameNode.
 pub fn verb_of(name: &str) -> Option<&'static Verb> {
     VERBS.iter().find(|verb| is_word(verb.name, name))
+}
+
+/// The verb of this name, of a call of a DataNode.
+pub fn node_verb_of(name: &str) -> Option<&'static Verb> {
+    NODE_VERBS.iter().find(|verb| is_word(verb.name, name))
 }
 
 /// Adds a verb with its words on a line of its own.
@@ -141,7 +177,14 @@ fn add_verb(verb: &Verb, text: &mut String) -> Result<(), AllocError> {
     text.push_str(verb.words)
 }
 
-/// The form of a line, and the verbs with their words, a line each.
+fn add_verbs(verbs: &[Verb], text: &mut String) -> Result<(), AllocError> {
+    for verb in verbs {
+        add_verb(verb, text)?;
+    }
+    Ok(())
+}
+
+/// The forms of a line, and the verbs with their words, a line each.
 ///
 /// # Errors
 /// Out of memory.
@@ -150,8 +193,11 @@ pub fn help_text(alloc: Global) -> Result<String, AllocError> {
         alloc,
         "A line of a script is MOMENT CALLER VERB WORDS, with the moment in milliseconds.\n\nVerbs, with their words:",
     )?;
-    for verb in &VERBS {
-        add_verb(verb, &mut text)?;
-    }
+    add_verbs(&VERBS, &mut text)?;
+    text.push_str(
+        "\n\nA call of a DataNode is MOMENT CALLER @NODE VERB WORDS. Its verbs, with their words:",
+    )?;
+    add_verbs(&NODE_VERBS, &mut text)?;
+    text.push_str("\n\nMOMENT - deliver NUMBER delivers a message.")?;
     Ok(text)
 }

@@ -108,6 +108,24 @@ fn lines_without_a_request_print_nothing(rt: HostRuntime) -> Result<(), Fail> {
     explains_line(rt.alloc(), "", 1, "", Explained::NoRequest)
 }
 
+/// A script of a cluster, whose lines before are run in it.
+const CLUSTER: &str = "0 hdfs mkdirs /d 777\n\
+0 dn-1 heartbeat\n\
+0 - deliver 1\n\
+0 bob create /d/f 600 1\n\
+0 bob addblock /d/f\n\
+0 bob @1 begin 1 1001 - #1\n\
+0 ann open /d/f\n";
+
+#[test]
+fn calls_and_deliveries_print_nothing(rt: HostRuntime) -> Result<(), Fail> {
+    for number in [3, 6] {
+        explains_line(rt.alloc(), CLUSTER, number, "", Explained::NoRequest)?;
+    }
+    let text = "/ --x ok by other::r-x\n/d --x ok by other::rwx\n/d/f r-- denied by other::---\n";
+    explains_lines(&rt, CLUSTER, &[(7, text)])
+}
+
 #[test]
 fn a_script_that_is_no_text_is_not_explained(rt: HostRuntime) -> Result<(), Fail> {
     let want = Err(ScriptFault::NotUtf8);

@@ -1,5 +1,5 @@
 use Rattle.std.proofs.Common.{◌≡◌, ℕ, List, [], Bor, refl, subst, map, take, get_or, arith, ◌+◌, ◌<◌, length}
-use Rattle.script_runs.specs.Output.{State, after_line, behind_lines}
+use Rattle.cluster_runs.specs.Output.{State, after_line, behind_lines}
 use Rattle.script_runs.proofs.Lines.{fold_step}
 use Rattle.audit_runs.specs.Recorded.{Holds}
 use Rattle.audit_runs.proofs.recording.Recording.serve_all.Goals as goal

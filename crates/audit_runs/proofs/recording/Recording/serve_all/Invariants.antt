@@ -1,5 +1,5 @@
 use Rattle.std.proofs.Common.{map, take}
-use Rattle.script_runs.specs.Output.{State, behind_lines}
+use Rattle.cluster_runs.specs.Output.{State, behind_lines}
 use Rattle.audit_runs.specs.Recorded.{Holds}
 use Rattle.audit_runs.proofs.recording.Recording.serve_all.Given as goal
 
