@@ -64,7 +64,7 @@ adds_event state (Data node now asked) = adds_called state node now (node_call a
 -- ---- lines
 
 -- what a past leaves of the NameNode's entries
-entries_after : Past → List HistoryEntry
+abbrev entries_after : Past → List HistoryEntry
 entries_after past = (state_after past).entries
 
 adds_said : (state : State) (said : Result Event IllFormed) → Adds (entries_after state.past) (entries_after (after_answer state (answered state.past said)).past)

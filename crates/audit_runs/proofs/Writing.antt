@@ -13,10 +13,6 @@ use Rattle.audit_text.specs.AuditText.{entry_line, audit_text}
 use Rattle.audit_runs.specs.Audit.{AppendsFirst, history_of, audit_of}
 use Rattle.audit_runs.specs.Recorded.{AreFirstOf}
 
-pub ok_then : {S E P Q : Type 0} (r : Result S E) → (P → Q) → OnOk r P → OnOk r Q
-ok_then (Ok s) f p = f p
-ok_then (Err e) f p = tt
-
 moved : (old new : Option (List ℕ)) (a b : List ℕ) → a ≡ b → Appends old new a → Appends old new b
 moved old new a b e h = subst (λ text. Appends old new text) e h
 
