@@ -1,13 +1,17 @@
 //! What a caller is told, and how it is printed.
 
 use crate::access_list::{AclFault, Deciding, EntryKind};
-use crate::blocks::NewBlock;
+use crate::blocks::{NewBlock, Transfer};
+use crate::cluster::{EventAnswer, Lost, Outcome};
 use crate::names::{Names, Who};
 use crate::request::{IllFormed, SpecFault};
+use crate::tokens::{IssuedKey, Token};
 use crate::tree::{Denial, FileState, Need};
+use std::rc::Rc;
 
 pub struct FileDetail {
     pub replication: u8,
+    pub length: u64,
     pub state: FileState,
 }
 
@@ -20,18 +24,43 @@ pub struct Status {
     pub file: Option<FileDetail>,
 }
 
+/// A new block, the token with which it is written, and the row of the ledger that has it, counted from 1.
 #[allow(dead_code)]
 pub struct Added {
     pub new: NewBlock,
-    pub token: Box<[u8]>,
+    pub token: Token,
     pub row: u64,
 }
 
-/// What a DataNode is told: the keys, each with its serial number, and the replicas that it is to remove.
+/// A block that can be read, and the token with which it is.
 #[allow(dead_code)]
+pub struct Located {
+    pub block: u64,
+    pub stamp: u64,
+    pub length: u64,
+    pub nodes: Box<[u32]>,
+    pub token: Token,
+    pub row: u64,
+}
+
+/// A file to be read: its length, and its blocks whose length is committed.
+pub struct Opened {
+    pub length: u64,
+    pub blocks: Box<[Located]>,
+}
+
+/// A copy that a DataNode is to make, and the token with which it does.
+pub struct CopyOrder {
+    pub transfer: Transfer,
+    pub token: Token,
+}
+
+/// What a DataNode is told: the keys that serve, the replicas that it is to remove, each with its stamp, and the copies that it is to
+/// make.
 pub struct Commands {
-    pub keys: Box<[(u32, [u8; 20])]>,
+    pub keys: Rc<[IssuedKey]>,
     pub removals: Vec<(u64, u64)>,
+    pub copies: Vec<CopyOrder>,
 }
 
 pub enum Reply {
@@ -42,13 +71,12 @@ pub enum Reply {
     Deleted(u64),
     /// The file was taken from a client whose lease is past a limit, and closed.
     Released,
-    /// The file is closed; it holds nothing, since no block's length is committed.
-    Closed,
-    /// A file to be read; none of its blocks is told, since no block's length is committed.
-    Opened,
-    /// A new block, the token with which it is written, and the row of the ledger that has it, counted from 1.
+    /// The file is closed, and has so many bytes.
+    Closed(u64),
+    Opened(Box<Opened>),
     Added(Box<Added>),
-    #[allow(dead_code)]
+    /// The number of a new key.
+    Serial(u32),
     Heartbeat(Box<Commands>),
     /// So many files were closed.
     Expired(u64),
@@ -73,6 +101,7 @@ pub enum Refusal {
     NotYetReplicated,
     /// No DataNode is live.
     TooFewNodes,
+    SpentSerial,
     BadName,
 }
 
@@ -115,7 +144,7 @@ fn kind_text(kind: EntryKind) -> &'static str {
 }
 
 impl Printer<'_> {
-    fn push(&mut self, text: &str) {
+    pub fn push(&mut self, text: &str) {
         self.text.push_str(text);
     }
 
@@ -182,10 +211,12 @@ impl Printer<'_> {
     fn push_detail(&mut self, detail: &FileDetail) {
         self.push(" ");
         self.push_number(detail.replication.into());
+        self.push(" ");
+        self.push_number(detail.length);
         match detail.state {
-            FileState::Closed => self.push(" 0 closed"),
+            FileState::Closed => self.push(" closed"),
             FileState::Open(holder) => {
-                self.push(" 0 open:");
+                self.push(" open:");
                 self.push_who(holder);
             }
         }
@@ -221,12 +252,34 @@ impl Printer<'_> {
         self.push(" ");
         self.push_number(added.new.stamp);
         self.push(" targets ");
-        for (i, target) in added.new.targets.iter().enumerate() {
-            self.push(if i == 0 { "" } else { "," });
-            self.push_number((*target).into());
-        }
+        self.push_nodes(&added.new.targets);
         self.push(" token #");
         self.push_number(added.row);
+    }
+
+    fn push_nodes(&mut self, nodes: &[u32]) {
+        if nodes.is_empty() {
+            self.push("-");
+        }
+        for (i, node) in nodes.iter().enumerate() {
+            self.push(if i == 0 { "" } else { "," });
+            self.push_number((*node).into());
+        }
+    }
+
+    fn push_opened(&mut self, opened: &Opened) {
+        self.push("ok open ");
+        self.push_number(opened.length);
+        for own in &opened.blocks {
+            for (sign, number) in [(" ", own.block), (":", own.stamp), (":", own.length)] {
+                self.push(sign);
+                self.push_number(number);
+            }
+            self.push(":");
+            self.push_nodes(&own.nodes);
+            self.push(":#");
+            self.push_number(own.row);
+        }
     }
 
     fn push_reply(&mut self, reply: &Reply) {
@@ -239,9 +292,16 @@ impl Printer<'_> {
                 self.push_number(*count);
             }
             Reply::Released => self.push("ok released"),
-            Reply::Closed => self.push("ok closed 0"),
-            Reply::Opened => self.push("ok open 0"),
+            Reply::Closed(length) => {
+                self.push("ok closed ");
+                self.push_number(*length);
+            }
+            Reply::Opened(opened) => self.push_opened(opened),
             Reply::Added(added) => self.push_added(added),
+            Reply::Serial(serial) => {
+                self.push("ok serial ");
+                self.push_number((*serial).into());
+            }
             Reply::Heartbeat(_) => self.push("ok heartbeat"),
             Reply::Expired(count) => {
                 self.push("ok closed ");
@@ -275,6 +335,7 @@ impl Printer<'_> {
             Refusal::NotOpen => self.push("14 NotOpen"),
             Refusal::NotYetReplicated => self.push("15 NotYetReplicated"),
             Refusal::TooFewNodes => self.push("16 TooFewNodes"),
+            Refusal::SpentSerial => self.push("18 Spent Serial"),
             Refusal::BadName => self.push("19 BadName"),
         }
     }
@@ -289,6 +350,22 @@ impl Printer<'_> {
                 self.push(" ");
                 self.push_need(&denial.need);
             }
+        }
+    }
+
+    /// What comes of an event.
+    pub fn push_outcome(&mut self, outcome: &Outcome) {
+        match &outcome.answer {
+            EventAnswer::Named(verdict) => self.push_verdict(verdict),
+            EventAnswer::Called(answer) => self.push_called(answer),
+            EventAnswer::Lost(Lost::NoMessage) => self.push("refused D1 NoMessage"),
+            EventAnswer::Lost(Lost::NoNode) => self.push("refused D2 NoNode"),
+        }
+        if let Some((first, last)) = outcome.sent {
+            self.push(" sent ");
+            self.push_number(first);
+            self.push("-");
+            self.push_number(last);
         }
     }
 

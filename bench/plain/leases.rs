@@ -124,19 +124,36 @@ impl Leases {
         now.saturating_sub(self.leases[index].renewed)
     }
 
-    /// Ends the oldest lease, if it is past the hard limit, and tells the files that its client had open.
-    pub fn end_past_hard(&mut self, now: u64) -> Option<Vec<Place>> {
-        let index = self.oldest;
-        if index == NONE || self.age(index, now) <= HARD_LIMIT {
-            return None;
+    /// Tries to close the files of each client whose lease is past the hard limit, and tells how many were closed. A lease whose last
+    /// file is closed ends.
+    pub fn close_past_hard(&mut self, now: u64, mut close: impl FnMut(Place) -> bool) -> u64 {
+        let mut closed = 0;
+        let mut next = self.oldest;
+        while next != NONE && self.age(next, now) > HARD_LIMIT {
+            let index = next;
+            let lease = &mut self.leases[index];
+            next = lease.newer;
+            let before = lease.open_files.len();
+            lease.open_files.retain(|place| !close(*place));
+            closed += (before - lease.open_files.len()) as u64;
+            if lease.open_files.is_empty() {
+                let client = lease.client;
+                self.unlink(index);
+                self.indexes.remove(&client);
+                self.free.push(index);
+            }
         }
+        closed
+    }
+
+    /// Renews the lease of a client, if he has one.
+    pub fn renew(&mut self, client: Who, now: u64) -> bool {
+        let Some(&index) = self.indexes.get(&client) else {
+            return false;
+        };
         self.unlink(index);
-        self.indexes.remove(&self.leases[index].client);
-        self.free.push(index);
-        Some(
-            std::mem::take(&mut self.leases[index].open_files)
-                .into_iter()
-                .collect(),
-        )
+        self.link_last(index);
+        self.leases[index].renewed = now;
+        true
     }
 }

@@ -3,22 +3,31 @@
 //!
 //! Both programs read the workloads from one file, spell the same lines, and print the same answers (`plain NAME N script` and
 //! `plain NAME N answers` show them; `tools/compare-bench` compares them). What is timed is the same too: each line is read, its
-//! request is stepped, with its entry in the history, and the answer is printed, into memory. `plain - < SCRIPT` prints what a
-//! script is answered.
+//! request is stepped, with its entry in the history, or its call of a DataNode or its delivery of a message is, and the answer is printed,
+//! into memory. `plain - < SCRIPT` prints what a script of a cluster is answered.
 //!
 //! It is written for speed, with nothing proved: a path is one allocation, users and groups are numbers, nodes stand in one vector,
-//! a request moves into the history, and an answer is printed from its entry. It does less in these ways: it has only the verbs of
-//! the workloads, of `setfacl` two forms, no default lists, one key, no reports of blocks and so no committed length, no recovery, and
-//! it aborts for want of memory.
+//! a request moves into the history, and an answer is printed from its entry. A message is found by its number as an index, a payload that
+//! is passed on is shared and not copied, a token is shared by the ledger, the calls that present it and the logs, and a DataNode keeps its
+//! keys as they stand at the head of both digests. It does less in these ways: it has only the verbs of the workloads and of the stored
+//! scripts of clusters, of `setfacl` two forms, no default lists and no recoveries, it keeps no list of the events beside the history, the
+//! messages and the logs, and it aborts for want of memory.
 
 mod access_list;
 mod answer;
 mod blocks;
+mod calls;
+mod cluster;
+mod data_node;
+mod event;
+mod file_verbs;
 mod leases;
 mod name_node;
 mod names;
+mod node_answer;
 mod request;
 mod session;
+mod sha1;
 mod text;
 mod tokens;
 mod tree;

@@ -2,16 +2,13 @@
 //! history of all requests.
 
 use crate::access_list::AclChange;
-use crate::answer::{Added, Commands, Failure, FileDetail, Refusal, Reply, Status, Verdict};
+use crate::answer::{Failure, FileDetail, Refusal, Reply, Status, Verdict};
 use crate::blocks::Blocks;
 use crate::leases::Leases;
 use crate::names::{FastMap, Names, Who};
 use crate::request::{Op, Request};
-use crate::tokens::{KEY, Key, LedgerRow, WRITE};
-use crate::tree::{
-    Caller, Deleted, File, FileState, Held, Node, Place, Tree, Walk, last_name, no_node,
-    require_superuser,
-};
+use crate::tokens::{KeyRing, LedgerRow};
+use crate::tree::{Caller, Deleted, Held, Node, Place, Tree, Walk, last_name, require_superuser};
 
 const MOST_NAMES: usize = 1000;
 const MOST_BYTES: usize = 8000;
@@ -51,7 +48,7 @@ pub struct NameNode {
     users: Users,
     leases: Leases,
     blocks: Blocks,
-    key: Key,
+    keys: KeyRing,
     ledger: Vec<LedgerRow>,
     /// The greatest moment of a request.
     clock: u64,
@@ -59,17 +56,17 @@ pub struct NameNode {
 }
 
 /// What the verbs work on.
-struct Serving<'a> {
-    names: &'a Names,
-    tree: &'a mut Tree,
-    leases: &'a mut Leases,
-    blocks: &'a mut Blocks,
-    key: &'a Key,
-    ledger: &'a mut Vec<LedgerRow>,
-    caller: Caller<'a>,
-    now: u64,
+pub struct Serving<'a> {
+    pub names: &'a Names,
+    pub tree: &'a mut Tree,
+    pub leases: &'a mut Leases,
+    pub blocks: &'a mut Blocks,
+    pub keys: &'a mut KeyRing,
+    pub ledger: &'a mut Vec<LedgerRow>,
+    pub caller: Caller<'a>,
+    pub now: u64,
     /// The place of the entry that is made.
-    place: u64,
+    pub place: u64,
 }
 
 impl NameNode {
@@ -85,11 +82,16 @@ impl NameNode {
             },
             leases: Leases::new(),
             blocks: Blocks::new(),
-            key: Key::new(),
+            keys: KeyRing::new(),
             ledger: Vec::new(),
             clock: 0,
             history: Vec::new(),
         }
+    }
+
+    /// The tokens that were granted.
+    pub fn ledger(&self) -> &[LedgerRow] {
+        &self.ledger
     }
 
     /// Answers a request, which the history keeps with its verdict.
@@ -133,7 +135,7 @@ impl NameNode {
             tree: &mut self.tree,
             leases: &mut self.leases,
             blocks: &mut self.blocks,
-            key: &self.key,
+            keys: &mut self.keys,
             ledger: &mut self.ledger,
             caller: self.users.caller(caller),
             now: self.clock,
@@ -156,25 +158,29 @@ impl Serving<'_> {
                 self.create(path, *mode, *replication, *over)
             }
             Op::Append(path) => self.append(path),
-            Op::AddBlock(path) => self.add_block(path),
-            Op::Complete(path) => self.complete(path),
+            Op::AddBlock(path, last) => self.add_block(path, *last),
+            Op::Complete(path, last) => self.complete(path, *last),
             Op::Open(path) => self.open(path),
+            Op::SetReplication(path, replication) => self.set_replication(path, *replication),
+            Op::RollKey(key) => self.roll_key(*key),
+            Op::Renew => self.renew(),
             Op::Tick => self.tick(),
             Op::Heartbeat => self.heartbeat(),
+            Op::Reported(block, stamp, length) => self.reported(*block, *stamp, *length),
             Op::AddUser(..) => unreachable!("users are added elsewhere"),
         }
     }
 
-    fn walk<'p>(&self, path: &'p str) -> Result<Walk<'p>, Failure> {
+    pub fn walk<'p>(&self, path: &'p str) -> Result<Walk<'p>, Failure> {
         Ok(self.tree.walk(self.caller, path)?)
     }
 
-    fn last(&self, walk: &Walk) -> &Node {
+    pub fn last(&self, walk: &Walk) -> &Node {
         self.tree.node(walk.last)
     }
 
     /// No file is above the path.
-    fn expect_no_file_above(&self, walk: &Walk) -> Result<(), Refusal> {
+    pub fn expect_no_file_above(&self, walk: &Walk) -> Result<(), Refusal> {
         if walk.is_found() || self.last(walk).is_directory() {
             return Ok(());
         }
@@ -182,7 +188,7 @@ impl Serving<'_> {
     }
 
     /// Something has the path.
-    fn expect_found(&self, walk: &Walk) -> Result<Place, Refusal> {
+    pub fn expect_found(&self, walk: &Walk) -> Result<Place, Refusal> {
         self.expect_no_file_above(walk)?;
         if walk.is_found() {
             Ok(walk.last)
@@ -218,6 +224,7 @@ impl Serving<'_> {
             file: match &node.held {
                 Held::File(file) => Some(FileDetail {
                     replication: file.replication,
+                    length: file.length(),
                     state: file.state,
                 }),
                 Held::Directory(_) => None,
@@ -268,7 +275,7 @@ impl Serving<'_> {
     }
 
     /// What was deleted is open to nobody, and its blocks are known no more.
-    fn forget(&mut self, deleted: Deleted) {
+    pub fn forget(&mut self, deleted: Deleted) {
         for (holder, place) in deleted.open {
             self.leases.closed(holder, place);
         }
@@ -337,127 +344,5 @@ impl Serving<'_> {
         let acl = &mut self.tree.node_mut(place).acl;
         acl.change(self.names, change).map_err(Refusal::Acl)?;
         Ok(Reply::Empty)
-    }
-
-    fn create(&mut self, path: &str, mode: u16, replication: u8, over: bool) -> Verdict {
-        let walk = self.walk(path)?;
-        self.tree.require_write_above(self.caller, &walk)?;
-        let is_file = walk.is_found() && !self.last(&walk).is_directory();
-        if over && is_file {
-            self.tree.require_write(self.caller, &walk)?;
-        }
-        self.expect_no_file_above(&walk)?;
-        if walk.is_found() && !is_file {
-            return Err(Refusal::IsDirectory.into());
-        }
-        if is_file && !over {
-            return Err(Refusal::Exists.into());
-        }
-        let state = FileState::Open(self.caller.name);
-        let file = File {
-            replication,
-            state,
-            blocks: Vec::new(),
-        };
-        let place = self.make(walk, mode, file);
-        self.leases.opened(self.caller.name, place, self.now);
-        Ok(Reply::Empty)
-    }
-
-    /// Makes a file, after one that has the path is deleted.
-    fn make(&mut self, mut walk: Walk, mode: u16, file: File) -> Place {
-        if walk.is_found() {
-            let deleted = self.tree.delete(&walk);
-            self.forget(deleted);
-            walk = walk.without_last();
-        }
-        self.tree.make(self.caller.name, &walk, mode, Some(file))
-    }
-
-    fn append(&mut self, path: &str) -> Verdict {
-        let walk = self.walk(path)?;
-        self.tree.require_write(self.caller, &walk)?;
-        let place = self.expect_found(&walk)?;
-        let file = self.tree.file_mut(place).ok_or(Refusal::IsDirectory)?;
-        let FileState::Open(holder) = file.state else {
-            file.state = FileState::Open(self.caller.name);
-            self.leases.opened(self.caller.name, place, self.now);
-            return Ok(Reply::Empty);
-        };
-        if holder == self.caller.name || self.leases.is_live(holder, self.now) {
-            return Err(Refusal::LeaseHeld(holder).into());
-        }
-        file.state = FileState::Closed;
-        self.leases.closed(holder, place);
-        Ok(Reply::Released)
-    }
-
-    /// The place of a file that the caller has open, whose last block, if there is one, he doesn't state.
-    fn written(&self, path: &str) -> Result<Place, Failure> {
-        let walk = self.walk(path)?;
-        let place = self.expect_found(&walk)?;
-        let file = self.tree.file(place).ok_or(Refusal::IsDirectory)?;
-        match file.state {
-            FileState::Closed => Err(Refusal::NotOpen.into()),
-            FileState::Open(holder) if holder != self.caller.name => Err(Refusal::NoLease.into()),
-            FileState::Open(_) if !file.blocks.is_empty() => Err(Refusal::NotYetReplicated.into()),
-            FileState::Open(_) => Ok(place),
-        }
-    }
-
-    fn add_block(&mut self, path: &str) -> Verdict {
-        let place = self.written(path)?;
-        let file = self.tree.file_mut(place).expect("a file");
-        let added = self.blocks.add(file.replication, self.now);
-        let new = added.ok_or(Refusal::TooFewNodes)?;
-        file.blocks.push(new.block);
-        let user = self.names.text(self.caller.name);
-        let token = self.key.token(self.now, user, new.block, WRITE);
-        self.ledger.push(LedgerRow {
-            place: self.place,
-            user: self.caller.name,
-            block: new.block,
-            modes: WRITE,
-            expiry: LedgerRow::expiry_at(self.now),
-            serial: 1,
-            token: token.clone(),
-        });
-        let row = self.ledger.len() as u64;
-        Ok(Reply::Added(Box::new(Added { new, token, row })))
-    }
-
-    fn complete(&mut self, path: &str) -> Verdict {
-        let place = self.written(path)?;
-        self.tree.file_mut(place).expect("a file").state = FileState::Closed;
-        self.leases.closed(self.caller.name, place);
-        Ok(Reply::Closed)
-    }
-
-    fn open(&mut self, path: &str) -> Verdict {
-        let walk = self.walk(path)?;
-        self.tree.require_read(self.caller, &walk)?;
-        let place = self.expect_found(&walk)?;
-        self.tree.file(place).ok_or(Refusal::IsDirectory)?;
-        Ok(Reply::Opened)
-    }
-
-    fn heartbeat(&mut self) -> Verdict {
-        let node = self.names.node(self.caller.name).ok_or_else(no_node)?;
-        let removals = self.blocks.heard_of(node, self.now);
-        let keys = Box::new([(1, KEY)]);
-        Ok(Reply::Heartbeat(Box::new(Commands { keys, removals })))
-    }
-
-    fn tick(&mut self) -> Verdict {
-        require_superuser(self.caller)?;
-        let mut closed = 0;
-        while let Some(places) = self.leases.end_past_hard(self.now) {
-            closed += places.len() as u64;
-            for place in places {
-                let file = self.tree.file_mut(place).expect("an open file");
-                file.state = FileState::Closed;
-            }
-        }
-        Ok(Reply::Expired(closed))
     }
 }

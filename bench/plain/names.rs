@@ -35,6 +35,10 @@ impl Hasher for FastHasher {
         self.add(u64::from(word));
     }
 
+    fn write_u64(&mut self, word: u64) {
+        self.add(word);
+    }
+
     fn finish(&self) -> u64 {
         self.hash
     }
@@ -46,16 +50,29 @@ pub type FastMap<K, V> = HashMap<K, V, BuildHasherDefault<FastHasher>>;
 #[derive(Clone, Copy, PartialEq, Eq, Hash)]
 pub struct Who(u32);
 
+/// A name, and the DataNode whose principal it is.
+struct Name {
+    text: Box<str>,
+    node: Option<u32>,
+}
+
 /// All users and groups that were named.
 #[derive(Default)]
 pub struct Names {
     numbers: FastMap<Box<str>, Who>,
-    texts: Vec<Box<str>>,
+    all: Vec<Name>,
 }
 
 fn is_who(text: &str) -> bool {
     let is_allowed = |byte: &u8| matches!(byte, b'!'..=b'~') && !matches!(byte, b':' | b',' | b'/');
     (1..=255).contains(&text.len()) && text.as_bytes().iter().all(is_allowed)
+}
+
+/// The id of the DataNode whose principal has this name, `dn-N`.
+fn node_of(text: &str) -> Option<u32> {
+    let number = text.strip_prefix("dn-")?;
+    let is_id = !number.starts_with('0') && number.bytes().all(|byte| byte.is_ascii_digit());
+    if is_id { number.parse().ok() } else { None }
 }
 
 impl Names {
@@ -67,20 +84,21 @@ impl Names {
         if !is_who(word) {
             return None;
         }
-        let who = Who(self.texts.len() as u32);
-        self.texts.push(word.into());
+        let who = Who(self.all.len() as u32);
+        self.all.push(Name {
+            text: word.into(),
+            node: node_of(word),
+        });
         self.numbers.insert(word.into(), who);
         Some(who)
     }
 
     pub fn text(&self, who: Who) -> &str {
-        &self.texts[who.0 as usize]
+        &self.all[who.0 as usize].text
     }
 
-    /// The DataNode whose principal the name is, `dn-N`, which no user can have.
+    /// The DataNode whose principal the name is, which no user can have.
     pub fn node(&self, who: Who) -> Option<u32> {
-        let number = self.text(who).strip_prefix("dn-")?;
-        let is_id = !number.starts_with('0') && number.bytes().all(|byte| byte.is_ascii_digit());
-        if is_id { number.parse().ok() } else { None }
+        self.all[who.0 as usize].node
     }
 }

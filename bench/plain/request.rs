@@ -1,6 +1,7 @@
 //! What a line asks for.
 
 use crate::access_list::{AclChange, parse_spec};
+use crate::blocks::LastBlock;
 use crate::names::{Names, Who};
 
 const LATEST: u64 = 1 << 62;
@@ -20,11 +21,16 @@ pub enum Op {
     /// A file of this mode and replication, and whether a file that has the path is deleted first.
     Create(Path, u16, u8, bool),
     Append(Path),
-    AddBlock(Path),
-    Complete(Path),
+    AddBlock(Path, Option<LastBlock>),
+    Complete(Path, Option<LastBlock>),
     Open(Path),
+    SetReplication(Path, u8),
+    RollKey([u8; 20]),
+    Renew,
     Tick,
     Heartbeat,
+    /// A node has a finalized replica of a block, of this stamp and this length. No line says so, but a message does.
+    Reported(u64, u64, u64),
 }
 
 pub struct Request {
@@ -51,28 +57,40 @@ pub enum SpecFault {
     NamedBase,
 }
 
-type Read<T> = Result<T, IllFormed>;
+pub type Read<T> = Result<T, IllFormed>;
 
-/// The most words that a line of these verbs has.
-const MOST_WORDS: usize = 7;
+/// The most words that a line has.
+const MOST_WORDS: usize = 10;
 
-/// The words of a line, and how many they are, if these aren't too many.
-fn words_of(line: &str) -> Option<([&str; MOST_WORDS], usize)> {
-    let mut words = [""; MOST_WORDS];
-    let mut count = 0;
-    for word in line.split([' ', '\t']).filter(|word| !word.is_empty()) {
-        *words.get_mut(count)? = word;
-        count += 1;
-    }
-    Some((words, count))
+/// Whether a byte separates words. Nearly all bytes are told by the first comparison.
+fn is_blank(byte: u8) -> bool {
+    byte <= b' ' && (byte == b' ' || byte == b'\t')
 }
 
-fn number(word: &str) -> Option<u64> {
+/// The words of a line, and how many they are, if these aren't too many.
+pub fn words_of(line: &str) -> Option<([&str; MOST_WORDS], usize)> {
+    let mut words = [""; MOST_WORDS];
+    let mut count = 0;
+    let mut rest = line;
+    loop {
+        let Some(start) = rest.bytes().position(|byte| !is_blank(byte)) else {
+            return Some((words, count));
+        };
+        rest = &rest[start..];
+        let end = rest.as_bytes().iter().position(|byte| is_blank(*byte));
+        let end = end.unwrap_or(rest.len());
+        *words.get_mut(count)? = &rest[..end];
+        count += 1;
+        rest = &rest[end..];
+    }
+}
+
+pub fn number(word: &str) -> Option<u64> {
     let is_number = word.bytes().all(|byte| byte.is_ascii_digit());
     is_number.then(|| word.parse().ok()).flatten()
 }
 
-fn moment(word: &str) -> Read<u64> {
+pub fn moment(word: &str) -> Read<u64> {
     number(word)
         .filter(|moment| *moment <= LATEST)
         .ok_or(IllFormed::BadLine)
@@ -113,7 +131,7 @@ fn path(word: &str) -> Read<Path> {
     }
 }
 
-fn who(names: &mut Names, word: &str) -> Read<Who> {
+pub fn who(names: &mut Names, word: &str) -> Read<Who> {
     names.who(word).ok_or(IllFormed::BadName)
 }
 
@@ -130,6 +148,62 @@ fn word_is(word: &str, wanted: &str) -> Read<bool> {
     } else {
         Err(IllFormed::BadLine)
     }
+}
+
+fn last_block(block: &str, length: &str) -> Read<Option<LastBlock>> {
+    let block = number(block).ok_or(IllFormed::BadLine)?;
+    let length = number(length).ok_or(IllFormed::BadLine)?;
+    Ok(Some(LastBlock { block, length }))
+}
+
+/// In the place of the value of what is no hexadecimal digit.
+const NO_DIGIT: u8 = 0xff;
+
+/// The value of a hexadecimal digit of either case.
+const fn hex_digit(digit: u8) -> u8 {
+    match digit {
+        b'0'..=b'9' => digit - b'0',
+        b'a'..=b'f' => digit - b'a' + 10,
+        b'A'..=b'F' => digit - b'A' + 10,
+        _ => NO_DIGIT,
+    }
+}
+
+/// The values of all bytes as digits.
+const HEX_DIGITS: [u8; 256] = {
+    let mut values = [0; 256];
+    let mut byte = 0;
+    while byte < 256 {
+        values[byte] = hex_digit(byte as u8);
+        byte += 1;
+    }
+    values
+};
+
+/// The byte that two hexadecimal digits spell.
+pub fn hex_byte(high: u8, low: u8) -> Option<u8> {
+    let (high, low) = (hex_digit(high), hex_digit(low));
+    (high < 16 && low < 16).then_some(high << 4 | low)
+}
+
+/// The bytes that hexadecimal digits spell, two for each.
+pub fn hex_bytes<B: FromIterator<u8>>(digits: &str) -> Option<B> {
+    let mut all = 0;
+    let pairs = digits.as_bytes().chunks_exact(2);
+    let is_odd = !pairs.remainder().is_empty();
+    let byte = |pair: &[u8]| {
+        let high = HEX_DIGITS[usize::from(pair[0])];
+        let low = HEX_DIGITS[usize::from(pair[1])];
+        all |= high | low;
+        high << 4 | low
+    };
+    let bytes = pairs.map(byte).collect();
+    (!is_odd && all < 16).then_some(bytes)
+}
+
+fn key(word: &str) -> Read<[u8; 20]> {
+    let bytes: Vec<u8> = hex_bytes(word).ok_or(IllFormed::BadLine)?;
+    bytes.try_into().map_err(|_| IllFormed::BadLine)
 }
 
 fn acl_change(names: &mut Names, form: &str, spec: &str) -> Read<AclChange> {
@@ -163,9 +237,14 @@ fn op(names: &mut Names, verb: &str, words: &[&str]) -> Read<Op> {
             word_is(over, "over")?,
         ),
         ("append", [at]) => Op::Append(path(at)?),
-        ("addblock", [at]) => Op::AddBlock(path(at)?),
-        ("complete", [at]) => Op::Complete(path(at)?),
+        ("addblock", [at]) => Op::AddBlock(path(at)?, None),
+        ("addblock", [at, block, length]) => Op::AddBlock(path(at)?, last_block(block, length)?),
+        ("complete", [at]) => Op::Complete(path(at)?, None),
+        ("complete", [at, block, length]) => Op::Complete(path(at)?, last_block(block, length)?),
         ("open", [at]) => Op::Open(path(at)?),
+        ("setrep", [at, copies]) => Op::SetReplication(path(at)?, replication(copies)?),
+        ("rollkey", [digits]) => Op::RollKey(key(digits)?),
+        ("renew", []) => Op::Renew,
         ("tick", []) => Op::Tick,
         ("heartbeat", []) => Op::Heartbeat,
         _ => return Err(IllFormed::BadLine),
@@ -175,19 +254,19 @@ fn op(names: &mut Names, verb: &str, words: &[&str]) -> Read<Op> {
 /// Whether a verb is known and has so many words.
 fn is_verb(verb: &str, words: &[&str]) -> bool {
     match (verb, words.len()) {
-        ("tick" | "heartbeat", 0) => true,
-        ("stat" | "ls" | "delete" | "append" | "addblock" | "complete" | "open", 1) => true,
-        ("mkdirs" | "delete" | "rename" | "chmod" | "adduser", 2) | ("create", 3 | 4) => true,
+        ("tick" | "heartbeat" | "renew", 0) => true,
+        ("stat" | "ls" | "delete" | "append" | "open" | "rollkey", 1) => true,
+        ("mkdirs" | "delete" | "rename" | "chmod" | "adduser" | "setrep", 2) => true,
+        ("addblock" | "complete", 1 | 3) | ("create", 3 | 4) => true,
         ("setfacl", 3) => matches!(words[1], "set" | "modify"),
         _ => false,
     }
 }
 
 impl Request {
-    /// The request that a line makes.
-    pub fn read(names: &mut Names, line: &str) -> Read<Request> {
-        let (words, count) = words_of(line).ok_or(IllFormed::BadLine)?;
-        let [at, caller, verb, rest @ ..] = &words[..count] else {
+    /// The request that the words of a line make.
+    pub fn read(names: &mut Names, words: &[&str]) -> Read<Request> {
+        let [at, caller, verb, rest @ ..] = words else {
             return Err(IllFormed::BadLine);
         };
         if !is_verb(verb, rest) {

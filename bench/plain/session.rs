@@ -1,13 +1,13 @@
-//! A script that is run: the NameNode, the lines so far, and what they print.
+//! A script that is run: the cluster, the lines so far, and what they print.
 
 use crate::answer::Printer;
-use crate::name_node::NameNode;
+use crate::cluster::Cluster;
+use crate::event::Event;
 use crate::names::Names;
-use crate::request::Request;
 
 pub struct Session {
     names: Names,
-    node: NameNode,
+    cluster: Cluster,
     /// How many lines were run.
     number: u64,
     output: String,
@@ -16,10 +16,10 @@ pub struct Session {
 impl Session {
     pub fn open() -> Session {
         let mut names = Names::default();
-        let node = NameNode::new(&mut names);
+        let cluster = Cluster::new(&mut names);
         Session {
             names,
-            node,
+            cluster,
             number: 0,
             output: String::new(),
         }
@@ -36,7 +36,7 @@ impl Session {
     }
 
     fn serve(&mut self, line: &str) {
-        let read = Request::read(&mut self.names, line);
+        let read = Event::read(&mut self.names, self.cluster.name_node.ledger(), line);
         let mut printer = Printer {
             names: &self.names,
             text: &mut self.output,
@@ -44,10 +44,7 @@ impl Session {
         printer.push_number(self.number);
         printer.text.push(' ');
         match read {
-            Ok(request) => {
-                let entry = self.node.step(&self.names, request);
-                printer.push_verdict(&entry.verdict);
-            }
+            Ok(event) => printer.push_outcome(&self.cluster.step(&self.names, event)),
             Err(fault) => printer.push_bad(fault),
         }
         printer.text.push('\n');

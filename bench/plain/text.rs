@@ -6,6 +6,9 @@ use std::fmt::Write;
 const WRITERS: u32 = 100;
 const NODES: u32 = 10;
 
+/// How many bytes are listed.
+const BYTES: u32 = 512;
+
 /// A number below the bound, which jumps about from turn to turn (the mixing steps of SplitMix64).
 fn jumping(turn: u32, bound: u32) -> u32 {
     let spread = (u64::from(turn) + 1).wrapping_mul(0x9e37_79b9_7f4a_7c15);
@@ -52,15 +55,34 @@ fn place(mark: &str, turn: Turn) -> (u32, u32) {
     }
 }
 
+/// The number that a mark is which names two: the turn's number so many times, and so many more.
+fn counted(mark: &str, turn: u32) -> Option<u64> {
+    let (times, more) = mark.split_once('n')?;
+    let times: u64 = times.parse().ok()?;
+    let more: u64 = more.strip_prefix('+')?.parse().ok()?;
+    Some(u64::from(turn) * times + more)
+}
+
+fn push_bytes(text: &mut String, turn: u32) {
+    for byte in 0..BYTES {
+        write!(text, "{:02x}", turn.wrapping_add(byte) % 256).expect("memory");
+    }
+}
+
 fn push_mark(text: &mut String, mark: &str, turn: Turn) {
-    if mark == "writer" {
-        write!(text, "u{:02}", turn.number % WRITERS).expect("memory");
+    if let Some(number) = counted(mark, turn.number) {
+        write!(text, "{number}").expect("memory");
         return;
     }
-    if mark == "node" {
-        write!(text, "{}", turn.number % NODES + 1).expect("memory");
-        return;
+    match mark {
+        "writer" => write!(text, "u{:02}", turn.number % WRITERS).expect("memory"),
+        "node" => write!(text, "{}", turn.number % NODES + 1).expect("memory"),
+        "bytes" => push_bytes(text, turn.number),
+        _ => push_path(text, mark, turn),
     }
+}
+
+fn push_path(text: &mut String, mark: &str, turn: Turn) {
     let (number, names) = place(mark, turn);
     for name in 0..names {
         let digits = number / 100_u32.pow(4 - name) % 100;

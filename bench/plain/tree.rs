@@ -29,11 +29,31 @@ pub enum FileState {
     Open(Who),
 }
 
+/// A block of a file, and its length, once that is committed.
+pub struct FileBlock {
+    pub id: u64,
+    pub committed: Option<u64>,
+}
+
 pub struct File {
     pub replication: u8,
     pub state: FileState,
-    /// The ids of its blocks, in their order. The length of none is committed, since no DataNode reports one.
-    pub blocks: Vec<u64>,
+    /// In their order.
+    pub blocks: Vec<FileBlock>,
+}
+
+impl File {
+    /// How many bytes the blocks have whose length is committed.
+    pub fn length(&self) -> u64 {
+        let lengths = self.blocks.iter().filter_map(|block| block.committed);
+        lengths.sum()
+    }
+
+    /// Whether the length of the last block isn't committed.
+    pub fn ends_uncommitted(&self) -> bool {
+        let last = self.blocks.last();
+        last.is_some_and(|last| last.committed.is_none())
+    }
 }
 
 /// What was deleted: how many nodes, who had which of their files open, and the blocks of these files.
@@ -406,7 +426,7 @@ impl Tree {
                     if let FileState::Open(holder) = file.state {
                         open.push((holder, place));
                     }
-                    blocks.extend(file.blocks);
+                    blocks.extend(file.blocks.iter().map(|block| block.id));
                 }
             }
             self.free.push(place);

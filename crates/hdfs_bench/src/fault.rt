@@ -1,4 +1,4 @@
-use script_runs::timing::TimingFault;
+use cluster_timing::timing::TimingFault;
 use std::alloc::AllocError;
 use std::io;
 

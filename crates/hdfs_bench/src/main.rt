@@ -1,10 +1,11 @@
 //! The program `hdfs_bench`: `hdfs_bench NAME N` does a workload of size N in this process, and prints
 //! `NAME N OPS_PER_SECOND`.
 //!
-//! A workload is two scripts, as `hdfsns run` reads them: lines that prepare, and lines that are timed. One NameNode answers both.
-//! The clock runs from the text of the timed lines to the text of their answers, so what is timed is what a user runs: a line is
-//! read, its request is stepped, with its entry in the history, and the answer is printed, into memory. The texts are made before,
-//! and afterwards the answers are counted: each line of both has to be answered `ok`. `check_token_uncached` alone is no script.
+//! A workload is two scripts of a cluster: lines that prepare, and lines that are timed. One cluster of a NameNode and the DataNodes 1 to 8
+//! answers both. The clock runs from the text of the timed lines to the text of their answers, so what is timed is what a user runs: a
+//! line is read, its request is stepped, with its entry in the history, or its call or delivery is, and the answer is printed, into memory.
+//! The texts are made before, and afterwards the answers are counted: each line of both has to be answered `ok`. `check_token_uncached`
+//! alone is no script.
 //!
 //! `hdfs_bench NAME N script` prints the lines and runs none, and `hdfs_bench NAME N answers` prints what they are answered.
 #![tactic(auto)]
@@ -31,8 +32,8 @@ const BAD_COMMAND_LINE: u8 = 2;
 
 const USAGE: &str = "usage: hdfs_bench NAME N [script|answers]
   does a workload of size N and prints NAME N OPS_PER_SECOND, or prints its lines, or what these are answered
-  timed: to read the lines, to step their requests and to print the answers into memory; check_token_uncached is no script
-  NAME: check_token_uncached mkdirs stat acl_stat setfacl ls rename_dir delete_recursive create_complete append_takeover tick_idle tick_expired addblock open heartbeat_idle step_stat script";
+  timed: to read the lines, to step what they say and to print the answers into memory; check_token_uncached is no script
+  NAME: check_token_uncached mkdirs stat acl_stat setfacl ls rename_dir delete_recursive create_complete append_takeover tick_idle tick_expired addblock open heartbeat_idle step_stat script packet_64k packet_512 packet_passed_on read_64k pipeline";
 
 /// The workload that is no script.
 const CHECK_TOKEN: &str = "check_token_uncached";

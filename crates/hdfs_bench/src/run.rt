@@ -1,6 +1,6 @@
 use crate::answers::{count_lines, count_ok};
 use crate::fault::Fault;
-use script_runs::timing::time_script;
+use cluster_timing::timing::time_script;
 use std::time::Duration;
 
 /// The two texts of a workload of a size.
@@ -30,7 +30,7 @@ fn expect_ok(output: &str, script: Script) -> Result<(), Fault> {
     }
 }
 
-/// Runs both texts on a NameNode of their own, where each line is answered `ok`, and returns how long the second took. What they are
+/// Runs both texts on a cluster of their own, where each line is answered `ok`, and returns how long the second took. What they are
 /// answered is printed where that is wanted.
 pub fn run_alone(rt: &HostRuntime, script: Script, is_shown: bool) -> Result<Duration, Fault> {
     let run = time_script(rt, lines_of(script.before), lines_of(script.timed))?;

@@ -9,6 +9,9 @@ const WRITERS: u32 = 100;
 /// How many DataNodes there are.
 const NODES: u32 = 10;
 
+/// How many bytes are listed.
+const BYTES: u32 = 512;
+
 /// A number below the bound, the same in each run, which jumps about from turn to turn (the mixing steps of SplitMix64).
 fn jumping(turn: u32, bound: u32) -> u32
     requires { 0 < bound }
@@ -97,14 +100,41 @@ fn push_node(text: &mut String, number: u32) -> Result<(), AllocError> {
     write!(text, "{node}")
 }
 
+/// Adds 512 bytes in hexadecimal digits, which count on from a number.
+fn push_bytes(text: &mut String, number: u32) -> Result<(), AllocError> {
+    for more in 0..BYTES {
+        let byte = number.wrapping_add(more) % 256;
+        write!(text, "{byte:02x}")?;
+    }
+    Ok(())
+}
+
+/// The number that a mark is which names two: the turn's number so many times, and so many more.
+fn counted(mark: &str, number: u32) -> Option<u64> {
+    let (times, more) = mark.split_once('n')?;
+    let times = times.parse::<u64>().ok()?;
+    let more = more.strip_prefix('+')?.parse::<u64>().ok()?;
+    Some(u64::from(number).saturating_mul(times).saturating_add(more))
+}
+
+fn push_number(text: &mut String, number: u64) -> Result<(), AllocError> {
+    write!(text, "{number}")
+}
+
+fn push_word(text: &mut String, mark: &str, turn: Turn) -> Result<(), AllocError> {
+    match mark {
+        "writer" => push_writer(text, turn.number),
+        "node" => push_node(text, turn.number),
+        "bytes" => push_bytes(text, turn.number),
+        _ => push_path(text, number_at(mark, turn), names_at(mark)),
+    }
+}
+
 fn push_mark(text: &mut String, mark: &str, turn: Turn) -> Result<(), AllocError> {
-    if mark == "writer" {
-        return push_writer(text, turn.number);
+    match counted(mark, turn.number) {
+        Some(number) => push_number(text, number),
+        None => push_word(text, mark, turn),
     }
-    if mark == "node" {
-        return push_node(text, turn.number);
-    }
-    push_path(text, number_at(mark, turn), names_at(mark))
 }
 
 /// Adds what stands behind the beginning of a mark: the mark, filled in, and the text behind it. The first piece has no mark.

@@ -18,7 +18,9 @@ pub struct Workload {
 /// - `{earlier}` is the path of a number below the turn's, and `{behind}` that of the turn's number counted on from the size;
 /// - `{level4}` is the turn's directory at depth 4 above the paths, and so on;
 /// - `{writer}` is the client who writes `{path}`, one of a hundred by turns;
-/// - `{node}` is the id of a DataNode, one of ten by turns.
+/// - `{node}` is the id of a DataNode, one of ten by turns;
+/// - `{39n+4}` is the turn's number 39 times, and 4 more, and so for any two numbers;
+/// - `{bytes}` are 512 bytes in hexadecimal digits, which differ from turn to turn.
 #[derive(Clone, Copy)]
 pub struct Block {
     pub turns: Turns,
@@ -246,8 +248,134 @@ const MIX: Block = Block {
     lines: "0 alice mkdirs /shared{path} 755\n0 bob stat /shared{earlier}\n",
 };
 
+/// A DataNode is heard of, and gets its keys.
+const ONE_NODE: Block = Block {
+    turns: Fixed(1),
+    lines: "0 dn-1 heartbeat\n0 - deliver 1\n",
+};
+
+/// A file whose one block the node begins to hold.
+const ONE_BLOCK: Block = Block {
+    turns: Fixed(1),
+    lines: "0 alice create /file 644 1\n0 alice addblock /file\n0 alice @1 begin 1 1001 - #1\n",
+};
+
+/// As many packets of 64 KiB come to the node, one behind the other. A replica holds 2,048.
+const PACKETS_64K: Block = Block {
+    turns: Size,
+    lines: "0 alice @1 packet 1 1001 {65536n+0} 65536*61 - #1\n",
+};
+
+/// As many of 512 bytes. A replica holds 262,144.
+const PACKETS_512: Block = Block {
+    turns: Size,
+    lines: "0 alice @1 packet 1 1001 {512n+0} 512*61 - #1\n",
+};
+
+/// The block is finalized with 64 KiB, and opened by the reader.
+const WRITTEN_64K: Block = Block {
+    turns: Fixed(1),
+    lines: "0 alice @1 packet 1 1001 0 65536*61 - #1\n0 alice @1 finalize 1 1001 65536 - #1\n0 - deliver 2\n0 alice complete /file 1 65536\n0 bob open /file\n",
+};
+
+/// He reads all of it as often.
+const READS_64K: Block = Block {
+    turns: Size,
+    lines: "0 bob @1 read 1 1001 0 65536 #2\n",
+};
+
+/// The nodes of a pipeline are heard of, and get their keys.
+const TWO_NODES: Block = Block {
+    turns: Fixed(2),
+    lines: "0 dn-{1n+1} heartbeat\n0 - deliver {1n+1}\n",
+};
+
+const THREE_NODES: Block = Block {
+    turns: Fixed(3),
+    lines: "0 dn-{1n+1} heartbeat\n0 - deliver {1n+1}\n",
+};
+
+/// A file whose one block both nodes begin to hold.
+const BLOCK_OF_TWO: Block = Block {
+    turns: Fixed(1),
+    lines: "0 alice create /file 644 2\n0 alice addblock /file\n0 alice @1 begin 1 1001 2 #1\n0 - deliver 3\n",
+};
+
+/// As many packets whose bytes are listed come to the first, which passes them on to the second.
+const PACKETS_LISTED: Block = Block {
+    turns: Size,
+    lines: "0 alice @1 packet 1 1001 {512n+0} {bytes} 2 #1\n0 - deliver {1n+4}\n",
+};
+
+/// Files of one block each are written, one after the other: 16 packets of 4 KiB go through a pipeline of three nodes, each of which then
+/// reports its replica. Of a file 39 messages are sent, and three were sent before.
+const PIPELINES: Block = Block {
+    turns: Size,
+    lines: "0 alice create {path} 644 3
+0 alice addblock {path}
+0 alice @1 begin {1n+1} {1n+1001} 2,3 #{1n+1}
+0 - deliver {39n+4}
+0 - deliver {39n+5}
+0 alice @1 packet {1n+1} {1n+1001} 0 4096*61 2,3 #{1n+1}
+0 - deliver {39n+6}
+0 - deliver {39n+7}
+0 alice @1 packet {1n+1} {1n+1001} 4096 4096*61 2,3 #{1n+1}
+0 - deliver {39n+8}
+0 - deliver {39n+9}
+0 alice @1 packet {1n+1} {1n+1001} 8192 4096*61 2,3 #{1n+1}
+0 - deliver {39n+10}
+0 - deliver {39n+11}
+0 alice @1 packet {1n+1} {1n+1001} 12288 4096*61 2,3 #{1n+1}
+0 - deliver {39n+12}
+0 - deliver {39n+13}
+0 alice @1 packet {1n+1} {1n+1001} 16384 4096*61 2,3 #{1n+1}
+0 - deliver {39n+14}
+0 - deliver {39n+15}
+0 alice @1 packet {1n+1} {1n+1001} 20480 4096*61 2,3 #{1n+1}
+0 - deliver {39n+16}
+0 - deliver {39n+17}
+0 alice @1 packet {1n+1} {1n+1001} 24576 4096*61 2,3 #{1n+1}
+0 - deliver {39n+18}
+0 - deliver {39n+19}
+0 alice @1 packet {1n+1} {1n+1001} 28672 4096*61 2,3 #{1n+1}
+0 - deliver {39n+20}
+0 - deliver {39n+21}
+0 alice @1 packet {1n+1} {1n+1001} 32768 4096*61 2,3 #{1n+1}
+0 - deliver {39n+22}
+0 - deliver {39n+23}
+0 alice @1 packet {1n+1} {1n+1001} 36864 4096*61 2,3 #{1n+1}
+0 - deliver {39n+24}
+0 - deliver {39n+25}
+0 alice @1 packet {1n+1} {1n+1001} 40960 4096*61 2,3 #{1n+1}
+0 - deliver {39n+26}
+0 - deliver {39n+27}
+0 alice @1 packet {1n+1} {1n+1001} 45056 4096*61 2,3 #{1n+1}
+0 - deliver {39n+28}
+0 - deliver {39n+29}
+0 alice @1 packet {1n+1} {1n+1001} 49152 4096*61 2,3 #{1n+1}
+0 - deliver {39n+30}
+0 - deliver {39n+31}
+0 alice @1 packet {1n+1} {1n+1001} 53248 4096*61 2,3 #{1n+1}
+0 - deliver {39n+32}
+0 - deliver {39n+33}
+0 alice @1 packet {1n+1} {1n+1001} 57344 4096*61 2,3 #{1n+1}
+0 - deliver {39n+34}
+0 - deliver {39n+35}
+0 alice @1 packet {1n+1} {1n+1001} 61440 4096*61 2,3 #{1n+1}
+0 - deliver {39n+36}
+0 - deliver {39n+37}
+0 alice @1 finalize {1n+1} {1n+1001} 65536 2,3 #{1n+1}
+0 - deliver {39n+38}
+0 - deliver {39n+40}
+0 - deliver {39n+39}
+0 - deliver {39n+41}
+0 - deliver {39n+42}
+0 alice complete {path} {1n+1} 65536
+",
+};
+
 /// All that can be timed as scripts.
-pub static WORKLOADS: [Workload; 16] = [
+pub static WORKLOADS: [Workload; 21] = [
     // Directories are made, one a line, in a namespace that is empty at first.
     Workload {
         name: "mkdirs",
@@ -379,5 +507,40 @@ pub static WORKLOADS: [Workload; 16] = [
         before: &[SHARED],
         timed: &[MIX],
         operations: Operations::Lines,
+    },
+    // A DataNode takes packets of 64 KiB into one replica. An operation is one packet.
+    Workload {
+        name: "packet_64k",
+        before: &[OPEN, ONE_NODE, ONE_BLOCK],
+        timed: &[PACKETS_64K],
+        operations: Operations::Lines,
+    },
+    // The same of 512 bytes.
+    Workload {
+        name: "packet_512",
+        before: &[OPEN, ONE_NODE, ONE_BLOCK],
+        timed: &[PACKETS_512],
+        operations: Operations::Lines,
+    },
+    // A DataNode takes packets of 512 listed bytes into one replica, and passes them on to another, which does. An operation is a packet.
+    Workload {
+        name: "packet_passed_on",
+        before: &[OPEN, TWO_NODES, BLOCK_OF_TWO],
+        timed: &[PACKETS_LISTED],
+        operations: Operations::Size,
+    },
+    // A DataNode reads 64 KiB of a finalized replica. An operation is one read.
+    Workload {
+        name: "read_64k",
+        before: &[OPEN, ONE_NODE, ONE_BLOCK, WRITTEN_64K],
+        timed: &[READS_64K],
+        operations: Operations::Lines,
+    },
+    // Blocks are written by a pipeline of three DataNodes. An operation is one block, from the creation of its file to its end.
+    Workload {
+        name: "pipeline",
+        before: &[OPEN, THREE_NODES],
+        timed: &[PIPELINES],
+        operations: Operations::Size,
     },
 ];
