@@ -1,3 +1,4 @@
 pub mod Decision
 pub mod Plans
+pub mod Refusals
 pub mod Laws

@@ -120,8 +120,11 @@ impl Answers {
         Ok(NodeSet::of_ascending(nodes))
     }
 
-    // What these answers decide; `None` where no node has answered.
-    pub(crate) fn decision(&self, alloc: Global) -> Result<Option<Decision>, AllocError>
+    /// What these answers decide; `None` where no node has answered. Costs the answers.
+    ///
+    /// # Errors
+    /// Out of memory.
+    pub fn decision(&self, alloc: Global) -> Result<Option<Decision>, AllocError>
         ensures { IfOk result (λ decision. decision ≡ decision_of self.now) }
     {
         if let Some(length) = self.least_finalized() {

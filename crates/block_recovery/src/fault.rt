@@ -1,8 +1,9 @@
-ghost use Rattle.std.specs.Prelude.{◌≡◌};
+ghost use Rattle.std.specs.Prelude.{◌≡◌, Some};
 ghost use Rattle.block_recovery.specs.declared.fault.PlanFault.TheVariants.{OutOfMemory};
 
 use hdfs_values::ids::Stamp;
 use std::alloc::AllocError;
+use std::fmt;
 
 /// Why a plan doesn't do what it is asked to do.
 #[derive(Clone, Copy, PartialEq, Eq)]
@@ -15,6 +16,22 @@ pub enum PlanRefusal {
     Doubled,
     /// No node has said that it holds a replica: P4 NoReplicaAnswered.
     NoReplicaAnswered,
+}
+
+/// Prints the code, the name, and the stamp that is told with it, as `P1 AlreadyBegun 1002`.
+impl fmt::Display for PlanRefusal {
+    ghost use Rattle.block_recovery.specs.Refusals.{plan_refusal_text};
+
+    ghost output = { λ refusal. Some (plan_refusal_text refusal) };
+
+    fn fmt<W: fmt::Write>(&self, f: &mut fmt::Formatter<W>) -> fmt::Result {
+        match self {
+            PlanRefusal::AlreadyBegun(stamp) => write!(f, "P1 AlreadyBegun {}", stamp.get()),
+            PlanRefusal::Stranger => write!(f, "P2 Stranger"),
+            PlanRefusal::Doubled => write!(f, "P3 Doubled"),
+            PlanRefusal::NoReplicaAnswered => write!(f, "P4 NoReplicaAnswered"),
+        }
+    }
 }
 
 /// Why a call didn't do what it was asked to do. Nothing has changed then.

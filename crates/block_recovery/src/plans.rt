@@ -19,10 +19,17 @@ use std::marker::Model;
 ///
 /// A plan is begun, hears the answers of the nodes that it asked, is decided once, hears which nodes have cut their replicas, and is
 /// committed, as often as is asked. No call looks at a clock or at a token.
-#[derive(Drop)]
 pub struct Plans {
     by_block: BTreeMap<BlockId, BlockPlans>,
     alloc: Global,
+}
+
+// Written out, so that it is proved here alone, and not anew in each crate that owns plans.
+impl Drop for Plans {
+    fn drop(self) {
+        let Plans { by_block, alloc: _ } = self;
+        drop(by_block);
+    }
 }
 
 impl Model for Plans {

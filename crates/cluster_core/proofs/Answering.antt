@@ -1,5 +1,5 @@
 -- What comes of calls and deliveries.
-use Rattle.std.proofs.Common.{◌≡◌, ℕ, ◌+◌, true, false, cond, List, length, reverse, refl, ap, ◌∙◌, Option, Some, None, Result, Ok, Err}
+use Rattle.std.proofs.Common.{◌≡◌, ℕ, ◌+◌, true, false, cond, List, length, reverse, refl, ap, ◌∙◌, subst, Option, Some, None, Result, Ok, Err}
 use Rattle.std.specs.Prelude.{OnOk, IfOk, option_map, option_copied}
 use denote.Ref.{Bor}
 use Rattle.block_records.specs.Numbers.{entry_at}
@@ -10,18 +10,28 @@ use Rattle.node_calls.specs.declared.message.Message.{Message}
 use Rattle.node_calls.specs.declared.message.Message.TheVariants as message
 use Rattle.datanode.specs.NodeStep.{Node, node_answer}
 use Rattle.datanode.specs.declared.answered.Answered.{Answered}
-use Rattle.cluster_trace.specs.Trace.{State, lost, named, reporting, called, called_at, delivered, is_from_outside, happened, outcome_of}
-use Rattle.cluster_trace.specs.declared.event.Event.TheVariants.{Name}
+use Rattle.node_calls.specs.declared.call.PlanCall.{PlanCall}
+use Rattle.block_recovery.specs.Plans.{PlanTable}
+use Rattle.plan_steps.specs.PlanStep.{plan_answer}
+use Rattle.plan_steps.specs.declared.answered.PlanAnswered.{PlanAnswered}
+use Rattle.cluster_trace.specs.DataCall.{DataCall, as_message}
+use Rattle.cluster_trace.specs.Kept.{brought_as}
+use Rattle.cluster_trace.specs.Provenance.{call_brought, call_of}
+use Rattle.cluster_trace.specs.Trace.{State, Happened, lost, named, reporting, called, called_at, led, led_at, delivered, is_from_outside, happened, left_by, happens, outcome_of, outcome}
+use Rattle.cluster_trace.specs.Typed.{CallFits}
+use Rattle.cluster_trace.specs.declared.data_call.Asked.{Asked}
+use Rattle.cluster_trace.specs.declared.event.Event.TheVariants.{Name, Data}
 use Rattle.cluster_trace.specs.declared.outcome.ClusterRefusal.{ClusterRefusal}
 use Rattle.cluster_trace.specs.declared.outcome.ClusterRefusal.TheVariants.{NoMessage, NoNode, NotFromOutside}
-use Rattle.cluster_trace.specs.declared.outcome.EventAnswer.TheVariants.{Called, Lost}
-use Rattle.cluster_parts.specs.Carried.{seen, found_message, carried_out, nodes_carried}
+use Rattle.cluster_trace.specs.declared.outcome.EventAnswer.TheVariants.{Called, Led, Lost}
+use Rattle.cluster_parts.specs.Carried.{seen, found_message, carried_out, nodes_carried, plans_carried}
+use Rattle.cluster_parts.specs.Leaders.{answer_led}
 use Rattle.cluster_parts.specs.Nodes.{answer_at}
 use Rattle.cluster_parts.specs.Sent.{messages_of, AreLaid}
 use Rattle.cluster_parts.specs.declared.carried.Carried.TheVariants as carried
 use Rattle.cluster_parts.specs.declared.found.Found.{Found}
 use Rattle.cluster_parts.specs.declared.sent.Batch.{Batch}
-use Rattle.cluster_core.specs.Cluster.{answer_outcome}
+use Rattle.cluster_core.specs.Cluster.{answer_outcome, led_outcome}
 use Rattle.cluster_core.proofs.Naming.{state_with, sent_count}
 
 -- ---- results
@@ -36,9 +46,9 @@ if_ok P Q (Err e) f h = tt
 
 -- ---- outcomes
 
-module _ (own : core.NameCore) (nodes : List (ℕ × Node)) (batches : List Batch) (count : ℕ) (laid : AreLaid (reverse own.entries) 0 batches count) where
+module _ (own : core.NameCore) (nodes : List (ℕ × Node)) (plans : List (ℕ × PlanTable)) (batches : List Batch) (count : ℕ) (laid : AreLaid (reverse own.entries) 0 batches count) where
   abbrev state : State
-  state = state_with own nodes batches
+  state = state_with own nodes plans batches
 
   many : count ≡ length (messages_of (reverse own.entries) batches)
   many = sent_count own batches count laid
@@ -53,14 +63,21 @@ module _ (own : core.NameCore) (nodes : List (ℕ × Node)) (batches : List Batc
       by None = lost_outcome NoNode
       by (Some node) = ap (λ (n : ℕ). record { answer = Called (node_answer node now asked).result; first = n + 1; count = length (node_answer node now asked).messages }) many
 
-  pub nowhere_outcome : (now : ℕ) (found : Option Message) → carried_out nodes now found ≡ carried.Nowhere → record { answer = Lost NoMessage; first = count + 1; count = 0 } ≡ outcome_of state (delivered state now found)
+  pub led_by_outcome : (id : ℕ) (asked : PlanCall) → led_outcome count (answer_led id asked plans) ≡ outcome_of state (led state id asked)
+  led_by_outcome id asked = by (entry_at id plans)
+    where
+      by : (found : Option PlanTable) → led_outcome count (option_map (λ (own : PlanTable). plan_answer id asked own) found) ≡ outcome_of state (led_at state id asked found)
+      by None = lost_outcome NoNode
+      by (Some own) = ap (λ (n : ℕ). record { answer = Led (plan_answer id asked own).result; first = n + 1; count = length (plan_answer id asked own).messages }) many
+
+  pub nowhere_outcome : (now : ℕ) (found : Option Message) → carried_out nodes plans now found ≡ carried.Nowhere → record { answer = Lost NoMessage; first = count + 1; count = 0 } ≡ outcome_of state (delivered state now found)
   nowhere_outcome now None e = lost_outcome NoMessage
   nowhere_outcome now (Some (message.Node node asked)) e = cc
-  nowhere_outcome now (Some (message.Plan node asked)) e = lost_outcome NoMessage
+  nowhere_outcome now (Some (message.Plan node asked)) e = cc
   nowhere_outcome now (Some (message.Reported node block stamp bytes)) e = cc
   nowhere_outcome now (Some (message.CommitRecovery node block stamp bytes others)) e = lost_outcome NoMessage
 
-  pub carried_outcome : (now : ℕ) (found : Option Message) (answered : Option Answered) → carried_out nodes now found ≡ carried.Called answered → answer_outcome count answered ≡ outcome_of state (delivered state now found)
+  pub carried_outcome : (now : ℕ) (found : Option Message) (answered : Option Answered) → carried_out nodes plans now found ≡ carried.Called answered → answer_outcome count answered ≡ outcome_of state (delivered state now found)
   carried_outcome now None answered e = cc
   carried_outcome now (Some (message.Node node asked)) answered e =
       let is : answered ≡ answer_at node now asked nodes = cc in
@@ -69,9 +86,18 @@ module _ (own : core.NameCore) (nodes : List (ℕ × Node)) (batches : List Batc
   carried_outcome now (Some (message.Reported node block stamp bytes)) answered e = cc
   carried_outcome now (Some (message.CommitRecovery node block stamp bytes others)) answered e = cc
 
+  pub carried_led : (now : ℕ) (found : Option Message) (answered : Option PlanAnswered) → carried_out nodes plans now found ≡ carried.Led answered → led_outcome count answered ≡ outcome_of state (delivered state now found)
+  carried_led now None answered e = cc
+  carried_led now (Some (message.Node node asked)) answered e = cc
+  carried_led now (Some (message.Plan node asked)) answered e =
+      let is : answered ≡ answer_led node asked plans = cc in
+      ap (led_outcome count) is ∙ led_by_outcome node asked
+  carried_led now (Some (message.Reported node block stamp bytes)) answered e = cc
+  carried_led now (Some (message.CommitRecovery node block stamp bytes others)) answered e = cc
+
 -- ---- reports
 
-pub reports : (state : State) (now : ℕ) (found : Option Message) (node block stamp bytes : ℕ) → carried_out state.nodes now found ≡ carried.Report node block stamp bytes
+pub reports : (state : State) (now : ℕ) (found : Option Message) (node block stamp bytes : ℕ) → carried_out state.nodes state.plans now found ≡ carried.Report node block stamp bytes
     → named state (reporting node now block stamp bytes) ≡ delivered state now found
 reports state now None node block stamp bytes e = cc
 reports state now (Some (message.Node id asked)) node block stamp bytes e = cc
@@ -88,12 +114,20 @@ reports state now (Some (message.Reported id own at count)) node block stamp byt
 reports state now (Some (message.CommitRecovery id own at count others)) node block stamp bytes e = cc
 
 -- no node has changed
-pub reports_stay : (nodes : List (ℕ × Node)) (now : ℕ) (found : Option Message) (node block stamp bytes : ℕ) → carried_out nodes now found ≡ carried.Report node block stamp bytes → nodes_carried nodes now found ≡ nodes
-reports_stay nodes now None node block stamp bytes e = refl
-reports_stay nodes now (Some (message.Node id asked)) node block stamp bytes e = cc
-reports_stay nodes now (Some (message.Plan id asked)) node block stamp bytes e = refl
-reports_stay nodes now (Some (message.Reported id own at count)) node block stamp bytes e = refl
-reports_stay nodes now (Some (message.CommitRecovery id own at count others)) node block stamp bytes e = refl
+pub reports_stay : (nodes : List (ℕ × Node)) (plans : List (ℕ × PlanTable)) (now : ℕ) (found : Option Message) (node block stamp bytes : ℕ) → carried_out nodes plans now found ≡ carried.Report node block stamp bytes → nodes_carried nodes now found ≡ nodes
+reports_stay nodes plans now None node block stamp bytes e = refl
+reports_stay nodes plans now (Some (message.Node id asked)) node block stamp bytes e = cc
+reports_stay nodes plans now (Some (message.Plan id asked)) node block stamp bytes e = cc
+reports_stay nodes plans now (Some (message.Reported id own at count)) node block stamp bytes e = refl
+reports_stay nodes plans now (Some (message.CommitRecovery id own at count others)) node block stamp bytes e = refl
+
+-- and no plan
+pub reports_leave : (nodes : List (ℕ × Node)) (plans : List (ℕ × PlanTable)) (now : ℕ) (found : Option Message) (node block stamp bytes : ℕ) → carried_out nodes plans now found ≡ carried.Report node block stamp bytes → plans_carried plans found ≡ plans
+reports_leave nodes plans now None node block stamp bytes e = refl
+reports_leave nodes plans now (Some (message.Node id asked)) node block stamp bytes e = refl
+reports_leave nodes plans now (Some (message.Plan id asked)) node block stamp bytes e = cc
+reports_leave nodes plans now (Some (message.Reported id own at count)) node block stamp bytes e = refl
+reports_leave nodes plans now (Some (message.CommitRecovery id own at count others)) node block stamp bytes e = refl
 
 -- ---- requests from outside
 
@@ -102,6 +136,21 @@ taken state request e = ap (λ b. cond b (named state request) (lost state NotFr
 
 pub not_taken : (state : State) (request : Request) → is_from_outside request.op ≡ false → happened state (Name request) ≡ lost state NotFromOutside
 not_taken state request e = ap (λ b. cond b (named state request) (lost state NotFromOutside)) e
+
+-- ---- calls from outside
+
+module _ (state : State) (node now : ℕ) (own : DataCall) (asked : Asked) (is : brought_as node asked ≡ as_message node own) where
+  abbrev brought : Happened
+  brought = delivered state now (Some (brought_as node asked))
+
+  pub data_happens : left_by state brought ≡ happens state (Data node now own)
+  data_happens = ap (λ (own : Message). left_by state (delivered state now (Some own))) is
+
+  pub data_outcome : outcome_of state brought ≡ outcome state (Data node now own)
+  data_outcome = ap (λ (own : Message). outcome_of state (delivered state now (Some own))) is
+
+  pub data_presents : CallFits (call_brought now (Some (brought_as node asked))) → CallFits (call_of state (Data node now own))
+  data_presents fits = subst (λ (own : Message). CallFits (call_brought now (Some own))) is fits
 
 -- ---- what was found, lent
 

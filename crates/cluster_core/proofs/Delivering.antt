@@ -7,6 +7,7 @@ use Rattle.history.specs.declared.entry.HistoryEntry.{HistoryEntry}
 use Rattle.name_core.specs.NameCore as core
 use Rattle.node_calls.specs.declared.message.Message.{Message}
 use Rattle.datanode.specs.NodeStep.{Node}
+use Rattle.block_recovery.specs.Plans.{PlanTable}
 use Rattle.cluster_trace.specs.Trace.{State, message_at}
 use Rattle.cluster_parts.specs.Carried.{seen, found_message, carried_out}
 use Rattle.cluster_parts.specs.Sent.{messages_of}
@@ -23,8 +24,8 @@ found_is entries history batches roomy number found own past same is copied =
     ∙ ap (λ (own : List HistoryEntry). message_at number (messages_of own batches)) (sym (reverse-reverse history) ∙ ap reverse past)
 
 -- what comes of it is what comes of the message
-pub carried_is : (own : core.NameCore) (nodes : List (ℕ × Node)) (batches : List Batch) (state : State) (number now : ℕ) (found : Option Message) (carried other : Carried)
-    → found ≡ message_at number (messages_of (reverse own.entries) batches) → carried ≡ carried_out nodes now found → carried ≡ other → state_with own nodes batches ≡ state
-    → carried_out state.nodes now (message_at number state.messages) ≡ other
-carried_is own nodes batches state number now found carried other is out same at =
-    ap (λ (own : State). carried_out own.nodes now (message_at number own.messages)) (sym at) ∙ ap (carried_out nodes now) (sym is) ∙ sym out ∙ same
+pub carried_is : (own : core.NameCore) (nodes : List (ℕ × Node)) (plans : List (ℕ × PlanTable)) (batches : List Batch) (state : State) (number now : ℕ) (found : Option Message) (carried other : Carried)
+    → found ≡ message_at number (messages_of (reverse own.entries) batches) → carried ≡ carried_out nodes plans now found → carried ≡ other → state_with own nodes plans batches ≡ state
+    → carried_out state.nodes state.plans now (message_at number state.messages) ≡ other
+carried_is own nodes plans batches state number now found carried other is out same at =
+    ap (λ (own : State). carried_out own.nodes own.plans now (message_at number own.messages)) (sym at) ∙ ap (carried_out nodes plans now) (sym is) ∙ sym out ∙ same

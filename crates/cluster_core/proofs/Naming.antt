@@ -13,6 +13,7 @@ use Rattle.history.specs.declared.entry.HistoryEntry.{HistoryEntry}
 use Rattle.name_core.specs.NameCore as core
 use Rattle.node_calls.specs.declared.message.Message.{Message}
 use Rattle.datanode.specs.NodeStep.{Node}
+use Rattle.block_recovery.specs.Plans.{PlanTable}
 use Rattle.cluster_trace.specs.Trace.{State, entry_messages, named, left_by, outcome_of}
 use Rattle.cluster_trace.specs.Typed.{GrantFits}
 use Rattle.cluster_trace.specs.declared.outcome.EventAnswer.TheVariants.{Named}
@@ -22,8 +23,8 @@ use Rattle.cluster_parts.specs.declared.sent.Batch.{Batch}
 use Rattle.cluster_parts.specs.declared.sent.Source.TheVariants.{Entry}
 use Rattle.cluster_parts.proofs.Laying.{laid_more, messages_more, newest, count_is}
 
-abbrev pub state_with : core.NameCore → List (ℕ × Node) → List Batch → State
-state_with own nodes batches = record { opening = own.opening; entries = own.entries; nodes = nodes; messages = messages_of (reverse own.entries) batches }
+abbrev pub state_with : core.NameCore → List (ℕ × Node) → List (ℕ × PlanTable) → List Batch → State
+state_with own nodes plans batches = record { opening = own.opening; entries = own.entries; nodes = nodes; plans = plans; messages = messages_of (reverse own.entries) batches }
 
 -- a batch of the messages of an entry was noted behind the others
 pub record IsNoted (index count : ℕ) (batches added : List Batch) (before after : ℕ) : Type 0 where
@@ -59,21 +60,21 @@ sent_count own batches count laid = omega (arith, count_is (reverse own.entries)
 
 -- ---- a request
 
-pub record IsNamed (own new : core.NameCore) (nodes : List (ℕ × Node)) (batches added : List Batch) (before after count : ℕ) (request : Request) : Type 0 where
+pub record IsNamed (own new : core.NameCore) (nodes : List (ℕ × Node)) (plans : List (ℕ × PlanTable)) (batches added : List Batch) (before after count : ℕ) (request : Request) : Type 0 where
   pub laid : AreLaid (reverse new.entries) 0 added after
-  pub state : state_with new nodes added ≡ left_by (state_with own nodes batches) (named (state_with own nodes batches) request)
+  pub state : state_with new nodes plans added ≡ left_by (state_with own nodes plans batches) (named (state_with own nodes plans batches) request)
   pub outcome : (place first : ℕ) → place ≡ length new.entries → first ≡ before + 1
-      → record { answer = Named place; first = first; count = count } ≡ outcome_of (state_with own nodes batches) (named (state_with own nodes batches) request)
+      → record { answer = Named place; first = first; count = count } ≡ outcome_of (state_with own nodes plans batches) (named (state_with own nodes plans batches) request)
 
 abbrev next : core.NameCore → Request → HistoryEntry
 next own request = core.entry_of own 0 (length own.entries) request
 
-named_done : (own : core.NameCore) (nodes : List (ℕ × Node)) (batches added : List Batch) (before after count index : ℕ) (request : Request)
+named_done : (own : core.NameCore) (nodes : List (ℕ × Node)) (plans : List (ℕ × PlanTable)) (batches added : List Batch) (before after count index : ℕ) (request : Request)
     → AreLaid (reverse own.entries) 0 batches before → index ≡ length own.entries → count ≡ length (entry_messages (next own request)) → IsNoted index count batches added before after
-    → IsNamed own (core.stepped own 0 (length own.entries) request) nodes batches added before after count request
-named_done own nodes batches added before after count index request laid at many noted = record {
+    → IsNamed own (core.stepped own 0 (length own.entries) request) nodes plans batches added before after count request
+named_done own nodes plans batches added before after count index request laid at many noted = record {
   laid = named_laid own.entries (next own request) batches added before after count index laid at many noted;
-  state = ap (λ (messages : List Message). record { opening = own.opening; entries = next own request ∷ own.entries; nodes = nodes; messages = messages })
+  state = ap (λ (messages : List Message). record { opening = own.opening; entries = next own request ∷ own.entries; nodes = nodes; plans = plans; messages = messages })
       (named_messages own.entries (next own request) batches added before after count index laid at many noted);
   outcome = λ place first is first_is.
       ap (λ (n : ℕ). record { answer = Named n; first = first; count = count }) (is ∙ suc_is own.entries)
@@ -84,15 +85,15 @@ named_done own nodes batches added before after count index request laid at many
     suc_is : (entries : List HistoryEntry) → length (next own request ∷ entries) ≡ length entries + 1
     suc_is entries = omega arith
 
-pub is_named : (own new : core.NameCore) (nodes : List (ℕ × Node)) (batches added : List Batch) (before after count index : ℕ) (request : Request)
+pub is_named : (own new : core.NameCore) (nodes : List (ℕ × Node)) (plans : List (ℕ × PlanTable)) (batches added : List Batch) (before after count index : ℕ) (request : Request)
     → new ≡ core.stepped own 0 index request → AreLaid (reverse own.entries) 0 batches before → index ≡ length own.entries
     → IfSome (slice_get new.entries 0) (λ entry. count ≡ length (entry_messages entry)) → IsNoted index count batches added before after
-    → IsNamed own new nodes batches added before after count request
-is_named own new nodes batches added before after count index request is laid at many noted =
+    → IsNamed own new nodes plans batches added before after count request
+is_named own new nodes plans batches added before after count index request is laid at many noted =
     let stepped : new ≡ core.stepped own 0 (length own.entries) request = is ∙ ap (λ (n : ℕ). core.stepped own 0 n request) at in
     let last : IfSome (slice_get (core.stepped own 0 (length own.entries) request).entries 0) (λ entry. count ≡ length (entry_messages entry)) =
     subst (λ (own : core.NameCore). IfSome (slice_get own.entries 0) (λ entry. count ≡ length (entry_messages entry))) stepped many in
-    subst (λ (left : core.NameCore). IsNamed own left nodes batches added before after count request) (sym stepped) (named_done own nodes batches added before after count index request laid at last noted)
+    subst (λ (left : core.NameCore). IsNamed own left nodes plans batches added before after count request) (sym stepped) (named_done own nodes plans batches added before after count index request laid at last noted)
 
 -- ---- grants
 

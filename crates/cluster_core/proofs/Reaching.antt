@@ -9,8 +9,10 @@ use Rattle.node_calls.specs.declared.message.Message.{Message}
 use Rattle.node_calls.specs.declared.message.Message.TheVariants as message
 use Rattle.datanode.specs.NodeStep.{Node}
 use Rattle.hdfs_types.specs.declared.op.Request.{Request}
-use Rattle.cluster_trace.specs.DataCall.{node_call}
-use Rattle.cluster_trace.specs.Trace.{State, lost, entry_of, named, reporting, called, called_at, message_at, delivered, is_from_outside, left_by, happens, outcome}
+use Rattle.node_calls.specs.declared.call.PlanCall.{PlanCall}
+use Rattle.block_recovery.specs.Plans.{PlanTable}
+use Rattle.cluster_trace.specs.DataCall.{DataCall, as_message, BeginWrite, Packet, Finalize, Read, Decide, Commit}
+use Rattle.cluster_trace.specs.Trace.{State, lost, entry_of, named, reporting, called, called_at, led, led_at, message_at, delivered, is_from_outside, left_by, happens, outcome}
 use Rattle.cluster_trace.specs.Provenance.{AllRight, call_of}
 use Rattle.cluster_trace.specs.Typed.{GrantsFit, CallFits, AreTyped}
 use Rattle.cluster_trace.specs.declared.event.Event.{Event}
@@ -43,10 +45,14 @@ grows_called : (state : State) (id now : ℕ) (asked : NodeCall) (found : Option
 grows_called state id now asked None = stays state.entries
 grows_called state id now asked (Some node) = stays state.entries
 
+grows_led : (state : State) (id : ℕ) (asked : PlanCall) (found : Option PlanTable) → Grows state.entries (led_at state id asked found).entries
+grows_led state id asked None = stays state.entries
+grows_led state id asked (Some plans) = stays state.entries
+
 grows_delivered : (state : State) (now : ℕ) (found : Option Message) → Grows state.entries (delivered state now found).entries
 grows_delivered state now None = stays state.entries
 grows_delivered state now (Some (message.Node node asked)) = grows_called state node now asked (entry_at node state.nodes)
-grows_delivered state now (Some (message.Plan node asked)) = stays state.entries
+grows_delivered state now (Some (message.Plan node asked)) = grows_led state node asked (entry_at node state.plans)
 grows_delivered state now (Some (message.Reported node block stamp bytes)) = record { more = entry_of state (reporting node now block stamp bytes) ∷ []; is = refl }
 grows_delivered state now (Some (message.CommitRecovery node block stamp bytes nodes)) = stays state.entries
 
@@ -57,7 +63,7 @@ grows_asked state request false = stays state.entries
 grows : (state : State) (event : Event) → Grows state.entries (happens state event).entries
 grows state (Name request) = grows_asked state request (is_from_outside request.op)
 grows state (Deliver number now) = grows_delivered state now (message_at number state.messages)
-grows state (Data node now asked) = grows_called state node now (node_call asked) (entry_at node state.nodes)
+grows state (Data node now asked) = grows_delivered state now (Some (as_message node asked))
 
 -- ---- a world that stepped an event
 
@@ -98,8 +104,20 @@ fits_called : (state : State) (id now : ℕ) (asked : NodeCall) (found : Option 
 fits_called state id now asked None fits = fits
 fits_called state id now asked (Some node) fits = fits
 
-pub called_fits : (old new : State) (id now : ℕ) (asked : NodeCall) → new ≡ left_by old (called old id now asked) → GrantsFit old → GrantsFit new
-called_fits old new id now asked is fits = subst GrantsFit (sym is) (fits_called old id now asked (entry_at id old.nodes) fits)
+fits_led : (state : State) (id : ℕ) (asked : PlanCall) (found : Option PlanTable) → GrantsFit state → GrantsFit (left_by state (led_at state id asked found))
+fits_led state id asked None fits = fits
+fits_led state id asked (Some plans) fits = fits
+
+fits_data : (state : State) (node now : ℕ) (asked : DataCall) → GrantsFit state → GrantsFit (happens state (Data node now asked))
+fits_data state node now (BeginWrite presented next) fits = fits_called state node now _ (entry_at node state.nodes) fits
+fits_data state node now (Packet presented offset bytes next) fits = fits_called state node now _ (entry_at node state.nodes) fits
+fits_data state node now (Finalize presented count next) fits = fits_called state node now _ (entry_at node state.nodes) fits
+fits_data state node now (Read presented offset count) fits = fits_called state node now _ (entry_at node state.nodes) fits
+fits_data state node now (Decide block stamp) fits = fits_led state node _ (entry_at node state.plans) fits
+fits_data state node now (Commit block stamp) fits = fits_led state node _ (entry_at node state.plans) fits
+
+pub data_fits : (old new : State) (node now : ℕ) (asked : DataCall) → new ≡ happens old (Data node now asked) → GrantsFit old → GrantsFit new
+data_fits old new node now asked is fits = subst GrantsFit (sym is) (fits_data old node now asked fits)
 
 -- ---- what it leaves
 

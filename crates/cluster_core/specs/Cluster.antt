@@ -2,9 +2,10 @@
 use Rattle.std.specs.Prelude.{ℕ, ◌+◌, List, [], length, reverse, Option, Some, None}
 use Rattle.node_calls.specs.declared.message.Message.{Message}
 use Rattle.datanode.specs.declared.answered.Answered.{Answered}
+use Rattle.plan_steps.specs.declared.answered.PlanAnswered.{PlanAnswered}
 use Rattle.cluster_trace.specs.Trace.{State}
 use Rattle.cluster_trace.specs.declared.outcome.ClusterRefusal.TheVariants.{NoNode}
-use Rattle.cluster_trace.specs.declared.outcome.EventAnswer.TheVariants.{Called, Lost}
+use Rattle.cluster_trace.specs.declared.outcome.EventAnswer.TheVariants.{Called, Led, Lost}
 use Rattle.cluster_trace.specs.declared.outcome.Outcome.{Outcome}
 use Rattle.cluster_parts.specs.Sent.{messages_of, AreLaid}
 use Rattle.cluster_core.specs.declared.cluster.Cluster.TheInside.{Inside}
@@ -14,6 +15,7 @@ state_of own = record {
   opening = own.core.opening;
   entries = own.core.entries;
   nodes = own.nodes;
+  plans = own.leaders;
   messages = messages_of (reverse own.core.entries) own.sent.batches.items;
 }
 
@@ -28,3 +30,12 @@ answer_outcome count (Some own) = record { answer = Called own.result; first = c
 abbrev pub answer_messages : Option Answered → List Message
 answer_messages None = []
 answer_messages (Some own) = own.messages
+
+-- and of a call about the recoveries that a DataNode leads
+abbrev pub led_outcome : ℕ → Option PlanAnswered → Outcome
+led_outcome count None = record { answer = Lost NoNode; first = count + 1; count = 0 }
+led_outcome count (Some own) = record { answer = Led own.result; first = count + 1; count = length own.messages }
+
+abbrev pub led_messages : Option PlanAnswered → List Message
+led_messages None = []
+led_messages (Some own) = own.messages

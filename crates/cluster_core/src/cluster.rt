@@ -2,18 +2,20 @@ ghost use Rattle.std.specs.Prelude.{◌≡◌, ◌+◌, ◌<◌, ◌≤◌, ◌^
 ghost use Rattle.history.specs.declared.entry.HistoryEntry.{HistoryEntry};
 ghost use Rattle.block_records.specs.Numbers.{entry_at};
 ghost use Rattle.cluster_trace.specs.Trace as spec;
-ghost use Rattle.cluster_trace.specs.Trace.{start, named, called, delivered, message_at, left_by, happens, outcome_of};
+ghost use Rattle.cluster_trace.specs.Trace.{start, named, called, led, delivered, message_at, left_by, happens, outcome_of};
 ghost use Rattle.cluster_trace.specs.declared.event.Event.TheVariants as event;
-ghost use Rattle.cluster_trace.specs.Provenance.{call_brought};
+ghost use Rattle.cluster_trace.specs.Provenance.{call_brought, call_of};
 ghost use Rattle.cluster_trace.specs.Typed.{GrantsFit, PresentsBytes, CallFits};
-ghost use Rattle.cluster_core.specs.Cluster.{answer_outcome, answer_messages};
+ghost use Rattle.cluster_core.specs.Cluster.{answer_outcome, answer_messages, led_outcome, led_messages};
 ghost use Rattle.cluster_parts.specs.Sent.{messages_of, AreLaid};
 
 use cluster_parts::carried::{Carried, carry_out, report};
 use cluster_parts::found::{entry_count, find};
+use cluster_parts::leaders::Leaders;
 use cluster_parts::nodes::Nodes;
 use cluster_parts::ranges::{read_call, read_rows};
 use cluster_parts::sent::{Sent, Source};
+use cluster_trace::data_call::{Asked, DataCall};
 use cluster_trace::outcome::{ClusterRefusal, EventAnswer, Outcome};
 use datanode::answered::Answered;
 use datanode::datanode::DataNode;
@@ -23,7 +25,8 @@ use hdfs_values::moment::Moment;
 use hdfs_values::node_id::NodeId;
 use history::config::Config;
 use name_core::namenode::NameCore;
-use node_calls::call::NodeCall;
+use node_calls::call::{NodeCall, PlanCall};
+use plan_steps::answered::PlanAnswered;
 use std::alloc::{AllocError, Global};
 use std::marker::Model;
 
@@ -57,6 +60,14 @@ fn note_nothing(sent: &Sent, refusal: ClusterRefusal) -> Outcome
     }
 }
 
+// What comes of a call of a DataNode that isn't there.
+fn note_stranger(sent: &Sent) -> Outcome
+    requires { sent.now.count ≤ 2 ^ 62 }
+    ensures { result ≡ record { answer = EventAnswer.Lost ClusterRefusal.NoNode; first = sent.now.count + 1; count = 0 } }
+{
+    note_nothing(sent, ClusterRefusal::NoNode)
+}
+
 // What comes of a call of a DataNode, whose messages are noted.
 fn note_answer(sent: &mut Sent, answered: Option<Answered>) -> Outcome
     requires room { vec_len sent.old.batches < vec_capacity sent.old.batches }
@@ -66,11 +77,30 @@ fn note_answer(sent: &mut Sent, answered: Option<Answered>) -> Outcome
     ensures laid { (history : List HistoryEntry) → AreLaid history 0 sent.old.batches.items sent.old.count → AreLaid history 0 sent.new.batches.items sent.new.count }
 {
     let Some(answered) = answered else {
-        return note_nothing(sent, ClusterRefusal::NoNode);
+        return note_stranger(sent);
     };
     let count = answered.messages.as_slice().len() as u64;
     Outcome {
         answer: EventAnswer::Called(answered.result),
+        first: sent.add(Source::Own(answered.messages), count),
+        count,
+    }
+}
+
+// What comes of a call about the recoveries that a DataNode leads.
+fn note_led(sent: &mut Sent, answered: Option<PlanAnswered>) -> Outcome
+    requires room { vec_len sent.old.batches < vec_capacity sent.old.batches }
+    requires small { sent.old.count ≤ 2 ^ 62 }
+    ensures outcome { result ≡ led_outcome sent.old.count answered }
+    ensures messages { (history : List HistoryEntry) → messages_of history sent.new.batches.items ≡ messages_of history sent.old.batches.items ++ led_messages answered }
+    ensures laid { (history : List HistoryEntry) → AreLaid history 0 sent.old.batches.items sent.old.count → AreLaid history 0 sent.new.batches.items sent.new.count }
+{
+    let Some(answered) = answered else {
+        return note_stranger(sent);
+    };
+    let count = answered.messages.as_slice().len() as u64;
+    Outcome {
+        answer: EventAnswer::Led(answered.result),
         first: sent.add(Source::Own(answered.messages), count),
         count,
     }
@@ -81,6 +111,7 @@ fn note_answer(sent: &mut Sent, answered: Option<Answered>) -> Outcome
 pub(crate) struct Cluster {
     core: NameCore,
     nodes: Nodes,
+    leaders: Leaders,
     sent: Sent,
     alloc: Global,
 }
@@ -107,9 +138,11 @@ impl Cluster {
         ensures { IfOk result (λ own. own ≡ start (record { name = record { config = config; key = key }; nodes = ids.now })) }
     {
         let nodes = Nodes::of(alloc, ids, config.replica_limit())?;
+        let leaders = Leaders::of(alloc, ids)?;
         Ok(Cluster {
             core: NameCore::open(alloc, config, key)?,
             nodes,
+            leaders,
             sent: Sent::new(alloc),
             alloc,
         })
@@ -158,7 +191,7 @@ impl Cluster {
     ///
     /// # Errors
     /// Out of memory. Nothing has changed then.
-    pub(crate) fn call(
+    fn call(
         &mut self,
         node: NodeId,
         now: Moment,
@@ -175,6 +208,41 @@ impl Cluster {
         Ok(note_answer(&mut self.sent, answered))
     }
 
+    /// A call of a DataNode about the recoveries that it leads.
+    ///
+    /// # Errors
+    /// Out of memory. Nothing has changed then.
+    fn lead(&mut self, node: NodeId, call: &PlanCall) -> Result<Outcome, AllocError>
+        ensures ok { OnOk result (self.new ≡ left_by self.old (led self.old node call.now)) }
+        ensures outcome { IfOk result (λ outcome. outcome ≡ outcome_of self.old (led self.old node call.now)) }
+        ensures err { OnErr result (self.new ≡ self.old) }
+    {
+        self.sent.make_room()?;
+        let answered = self.leaders.lead(node, call)?;
+        Ok(note_led(&mut self.sent, answered))
+    }
+
+    /// A call of a DataNode from outside.
+    ///
+    /// # Errors
+    /// Out of memory. Nothing has changed then.
+    pub(crate) fn data(
+        &mut self,
+        node: NodeId,
+        now: Moment,
+        call: &DataCall,
+    ) -> Result<Outcome, AllocError>
+        ensures ok { OnOk result (self.new ≡ happens self.old (event.Data node now call.now)) }
+        ensures outcome { IfOk result (λ outcome. outcome ≡ spec.outcome self.old (event.Data node now call.now)) }
+        ensures bytes { OnOk result (CallFits (call_of self.old (event.Data node now call.now))) }
+        ensures err { OnErr result (self.new ≡ self.old) }
+    {
+        match call.as_asked() {
+            Asked::Replica(asked) => self.call(node, now, asked),
+            Asked::Plan(asked) => self.lead(node, asked),
+        }
+    }
+
     /// The delivery of the message with a number.
     ///
     /// # Errors
@@ -188,9 +256,17 @@ impl Cluster {
     {
         self.sent.make_room()?;
         let found = find(&self.sent, self.core.history(), number);
-        match carry_out(self.alloc, &mut self.nodes, now, found.as_ref())? {
+        let carried = carry_out(
+            self.alloc,
+            &mut self.nodes,
+            &mut self.leaders,
+            now,
+            found.as_ref(),
+        )?;
+        match carried {
             Carried::Nowhere => Ok(note_nothing(&self.sent, ClusterRefusal::NoMessage)),
             Carried::Called(answered) => Ok(note_answer(&mut self.sent, answered)),
+            Carried::Led(answered) => Ok(note_led(&mut self.sent, answered)),
             Carried::Report(node, block, stamp, length) => {
                 let request = report(self.alloc, node, now, block, stamp, length)?;
                 self.name(request)

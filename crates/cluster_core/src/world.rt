@@ -162,7 +162,7 @@ impl World {
             drop(call);
             return Err(AllocError);
         }
-        let Ok(outcome) = self.cluster.call(node, now, call.as_node_call()) else {
+        let Ok(outcome) = self.cluster.data(node, now, &call) else {
             drop(call);
             return Err(AllocError);
         };

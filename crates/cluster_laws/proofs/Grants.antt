@@ -7,16 +7,20 @@ use Rattle.block_tokens.proofs.Taking.{parts_told}
 use Rattle.grant_ledger.specs.declared.ledger.LedgerRow.{LedgerRow}
 use Rattle.node_calls.specs.declared.call.NodeCall.{NodeCall}
 use Rattle.node_calls.specs.declared.call.NodeCall.TheVariants.{Presenting}
+use Rattle.node_calls.specs.declared.call.PlanCall.{PlanCall}
+use Rattle.node_calls.specs.declared.call.PlanCall.TheVariants as plan
 use Rattle.node_calls.specs.declared.call.TokenCall.{TokenCall}
+use Rattle.node_calls.specs.declared.call.TokenCall.TheVariants as asks
 use Rattle.node_calls.specs.declared.presented.Presented.{Presented}
 use Rattle.node_calls.specs.declared.reply.NodeReply.{NodeReply}
 use Rattle.node_replies.specs.Asking.{asked_by, sends_copy}
 use Rattle.hdfs_values.specs.NodeId.{node_principal}
 use Rattle.hdfs_types.specs.declared.op.Request.{Request}
 use Rattle.datanode.specs.NodeStep.{Node, clock_with}
-use Rattle.cluster_trace.specs.DataCall.{DataCall, node_call}
+use Rattle.block_recovery.specs.Plans.{PlanTable}
+use Rattle.cluster_trace.specs.DataCall.{DataCall, as_message, BeginWrite, Packet, Finalize, Read, Decide, Commit}
 use Rattle.cluster_trace.specs.Provenance.{IsIn, granted, IsForged, IsGranted, IsCovered, IsCoveredWhere, CallAt, call_of, IsServedRightly}
-use Rattle.cluster_trace.specs.Trace.{State, Opening, lost, named, called_at, is_from_outside, happened, after}
+use Rattle.cluster_trace.specs.Trace.{State, Opening, lost, named, called, called_at, led, led_at, delivered, is_from_outside, happened, after}
 use Rattle.cluster_trace.specs.Typed.{GrantFits, AreTyped}
 use Rattle.cluster_trace.specs.declared.event.Event.{Event}
 use Rattle.cluster_trace.specs.declared.event.Event.TheVariants.{Name, Deliver, Data}
@@ -40,17 +44,44 @@ same_nodes opening (Name request ∷ requests) earlier all = request_leaves (aft
 same_nodes opening (Deliver number now ∷ requests) earlier all = absurd all
 same_nodes opening (Data node now asked ∷ requests) earlier all = absurd all
 
+request_keeps : (state : State) (b : Bool) (request : Request) → (cond b (named state request) (lost state NotFromOutside)).plans ≡ state.plans
+request_keeps state true request = refl
+request_keeps state false request = refl
+
+same_plans : (opening : Opening) (requests earlier : List Event) → AreRequests requests → (after opening (requests ++ earlier)).plans ≡ (after opening earlier).plans
+same_plans opening [] earlier all = refl
+same_plans opening (Name request ∷ requests) earlier all = request_keeps (after opening (requests ++ earlier)) (is_from_outside request.op) request ∙ same_plans opening requests earlier all
+same_plans opening (Deliver number now ∷ requests) earlier all = absurd all
+same_plans opening (Data node now asked ∷ requests) earlier all = absurd all
+
 answer_by : (state other : State) (id now : ℕ) (asked : NodeCall) (found : Option Node) → (called_at state id now asked found).answer ≡ (called_at other id now asked found).answer
 answer_by state other id now asked None = refl
 answer_by state other id now asked (Some node) = refl
 
+led_by : (state other : State) (id : ℕ) (asked : PlanCall) (found : Option PlanTable) → (led_at state id asked found).answer ≡ (led_at other id asked found).answer
+led_by state other id asked None = refl
+led_by state other id asked (Some plans) = refl
+
+-- two clusters with the same DataNodes, which lead the same recoveries
+module _ (state other : State) (nodes : state.nodes ≡ other.nodes) (plans : state.plans ≡ other.plans) where
+  called_same : (id now : ℕ) (asked : NodeCall) → (called state id now asked).answer ≡ (called other id now asked).answer
+  called_same id now asked = ap (λ own. (called_at state id now asked (entry_at id own)).answer) nodes ∙ answer_by state other id now asked (entry_at id other.nodes)
+
+  led_same : (id : ℕ) (asked : PlanCall) → (led state id asked).answer ≡ (led other id asked).answer
+  led_same id asked = ap (λ own. (led_at state id asked (entry_at id own)).answer) plans ∙ led_by state other id asked (entry_at id other.plans)
+
+  answer_same : (node now : ℕ) (asked : DataCall) → (delivered state now (Some (as_message node asked))).answer ≡ (delivered other now (Some (as_message node asked))).answer
+  answer_same node now (BeginWrite presented next) = called_same node now (Presenting presented (asks.Begin next))
+  answer_same node now (Packet presented offset bytes next) = called_same node now (Presenting presented (asks.Packet offset bytes next))
+  answer_same node now (Finalize presented count next) = called_same node now (Presenting presented (asks.Finalize count next))
+  answer_same node now (Read presented offset count) = called_same node now (Presenting presented (asks.Read offset count))
+  answer_same node now (Decide block stamp) = led_same node (plan.Decide block stamp)
+  answer_same node now (Commit block stamp) = led_same node (plan.Commit block stamp)
+
 pub outlive : (opening : Opening) (requests earlier : List Event) (node now : ℕ) (asked : DataCall) → AreRequests requests
     → (happened (after opening (requests ++ earlier)) (Data node now asked)).answer ≡ (happened (after opening earlier) (Data node now asked)).answer
 outlive opening requests earlier node now asked all =
-    let state = after opening (requests ++ earlier) in
-    let other = after opening earlier in
-    ap (λ nodes. (called_at state node now (node_call asked) (entry_at node nodes)).answer) (same_nodes opening requests earlier all)
-    ∙ answer_by state other node now (node_call asked) (entry_at node other.nodes)
+    answer_same (after opening (requests ++ earlier)) (after opening earlier) (same_nodes opening requests earlier all) (same_plans opening requests earlier all) node now asked
 
 -- ---- expiries
 

@@ -10,6 +10,7 @@ use Rattle.history.specs.Keys.{ring_of}
 use Rattle.node_calls.specs.declared.access_log.AccessRecord.{AccessRecord}
 use Rattle.node_calls.specs.declared.call.NodeCall.{NodeCall}
 use Rattle.node_calls.specs.declared.call.NodeCall.TheVariants.{Presenting, Invalidate, Keys}
+use Rattle.node_calls.specs.declared.call.PlanCall.{PlanCall}
 use Rattle.node_calls.specs.declared.call.TokenCall.{TokenCall}
 use Rattle.node_calls.specs.declared.message.Message.{Message}
 use Rattle.node_calls.specs.declared.message.Message.TheVariants as message
@@ -20,9 +21,10 @@ use Rattle.node_calls.specs.declared.reply.NodeReply.{NodeReply}
 use Rattle.node_replies.specs.Asking.{asked_by, record_of}
 use Rattle.replicas.specs.ReplicaStep.{held_at, removal_refusal}
 use Rattle.datanode.specs.NodeStep.{Node, node_after, node_answer, presented_after, presented_answer, presented_by, told_by, removed_by, clock_with, call_refusal}
-use Rattle.cluster_trace.specs.DataCall.{node_call}
+use Rattle.block_recovery.specs.Plans.{PlanTable}
+use Rattle.cluster_trace.specs.DataCall.{as_message}
 use Rattle.cluster_trace.specs.Provenance.{IsIn, granted, IsForged, IsGranted, IsCoveredWhere, call_brought, call_of, IsServedRightly, AllRight}
-use Rattle.cluster_trace.specs.Trace.{State, Opening, Happened, with_new_node, new_node, lost, named, entry_of, called_at, delivered, message_at, reporting, is_from_outside, happened, after}
+use Rattle.cluster_trace.specs.Trace.{State, Opening, Happened, with_new_node, new_node, lost, named, entry_of, called_at, led, led_at, delivered, message_at, reporting, is_from_outside, happened, after}
 use Rattle.cluster_trace.specs.Typed.{AreTyped}
 use Rattle.cluster_trace.specs.declared.event.Event.{Event}
 use Rattle.cluster_trace.specs.declared.event.Event.TheVariants.{Name, Deliver, Data}
@@ -113,11 +115,18 @@ called_rest state id now asked (Some node) e all honest served =
     let own : AllByRecursion (Rests (granted state)) node.log = values_at (λ (node : Node). AllByRecursion (Rests (granted state)) node.log) state.nodes id node all e in
     values_set (λ (node : Node). AllByRecursion (Rests (granted state)) node.log) state.nodes id (node_after node now asked) all (call_rests state now node own asked honest served)
 
+led_rest : (state : State) (id : ℕ) (asked : PlanCall) → AllRest (granted state) state.nodes → LeavesRest state (led state id asked)
+led_rest state id asked all = by (entry_at id state.plans)
+  where
+    by : (found : Option PlanTable) → LeavesRest state (led_at state id asked found)
+    by None = all
+    by (Some plans) = all
+
 delivered_rest : (state : State) (now : ℕ) (found : Option Message) → AllRest (granted state) state.nodes → (IsForgery state (call_brought now found) → ⊥) → IsServedRightly state (call_brought now found) (delivered state now found).answer
     → LeavesRest state (delivered state now found)
 delivered_rest state now None all honest served = all
 delivered_rest state now (Some (message.Node node asked)) all honest served = called_rest state node now asked (entry_at node state.nodes) refl all honest served
-delivered_rest state now (Some (message.Plan node asked)) all honest served = all
+delivered_rest state now (Some (message.Plan node asked)) all honest served = led_rest state node asked all
 delivered_rest state now (Some (message.Reported node block stamp bytes)) all honest served = named_rest state (reporting node now block stamp bytes) all
 delivered_rest state now (Some (message.CommitRecovery node block stamp bytes others)) all honest served = all
 
@@ -128,7 +137,7 @@ event_rest state (Name request) all honest served = by (is_from_outside request.
     by true = named_rest state request all
     by false = all
 event_rest state (Deliver number now) all honest served = delivered_rest state now (message_at number state.messages) all honest served
-event_rest state (Data node now asked) all honest served = called_rest state node now (node_call asked) (entry_at node state.nodes) refl all honest served
+event_rest state (Data node now asked) all honest served = delivered_rest state now (Some (as_message node asked)) all honest served
 
 start_rests : (rows : List LedgerRow) (limit : ℕ) (ids : List ℕ) (nodes : List (ℕ × Node)) → AllRest rows nodes → AllRest rows (fold (with_new_node limit) nodes ids)
 start_rests rows limit [] nodes all = all

@@ -12,7 +12,9 @@ use Rattle.node_calls.specs.declared.call.NodeCall.TheVariants.{Keys}
 use Rattle.node_calls.specs.declared.message.Message.{Message}
 use Rattle.node_calls.specs.declared.message.Message.TheVariants as message
 use Rattle.datanode.specs.NodeStep.{Node}
+use Rattle.block_recovery.specs.Plans.{PlanTable}
 use Rattle.cluster_trace.specs.Trace.{recover_message, removal_message, copy_message}
+use Rattle.cluster_parts.specs.Leaders.{plans_led, answer_led}
 use Rattle.cluster_parts.specs.Nodes.{nodes_after, answer_at}
 use Rattle.cluster_parts.specs.declared.found.Found.{Found}
 use Rattle.cluster_parts.specs.declared.found.Found.TheVariants as found
@@ -46,13 +48,13 @@ commands_for entry = verdict_for (node_of entry.request.caller) entry.verdict
 abbrev pub commands_seen : Option (ℕ × Bor Commands) → Option (ℕ × Commands)
 commands_seen found = option_map (λ (own : ℕ × Bor Commands). (own.0, own.1.now)) found
 
--- what comes of it: a DataNode is called, or a report is to be told
-abbrev pub carried_out : List (ℕ × Node) → ℕ → Option Message → Carried
-carried_out nodes now None = carried.Nowhere
-carried_out nodes now (Some (message.Node node asked)) = carried.Called (answer_at node now asked nodes)
-carried_out nodes now (Some (message.Plan node asked)) = carried.Nowhere
-carried_out nodes now (Some (message.Reported node block stamp bytes)) = carried.Report node block stamp bytes
-carried_out nodes now (Some (message.CommitRecovery node block stamp bytes others)) = carried.Nowhere
+-- what comes of it: a DataNode is called, also about the recoveries that it leads, or a report is to be told
+abbrev pub carried_out : List (ℕ × Node) → List (ℕ × PlanTable) → ℕ → Option Message → Carried
+carried_out nodes plans now None = carried.Nowhere
+carried_out nodes plans now (Some (message.Node node asked)) = carried.Called (answer_at node now asked nodes)
+carried_out nodes plans now (Some (message.Plan node asked)) = carried.Led (answer_led node asked plans)
+carried_out nodes plans now (Some (message.Reported node block stamp bytes)) = carried.Report node block stamp bytes
+carried_out nodes plans now (Some (message.CommitRecovery node block stamp bytes others)) = carried.Nowhere
 
 abbrev pub nodes_carried : List (ℕ × Node) → ℕ → Option Message → List (ℕ × Node)
 nodes_carried nodes now None = nodes
@@ -60,3 +62,10 @@ nodes_carried nodes now (Some (message.Node node asked)) = nodes_after node now 
 nodes_carried nodes now (Some (message.Plan node asked)) = nodes
 nodes_carried nodes now (Some (message.Reported node block stamp bytes)) = nodes
 nodes_carried nodes now (Some (message.CommitRecovery node block stamp bytes others)) = nodes
+
+abbrev pub plans_carried : List (ℕ × PlanTable) → Option Message → List (ℕ × PlanTable)
+plans_carried plans None = plans
+plans_carried plans (Some (message.Node node asked)) = plans
+plans_carried plans (Some (message.Plan node asked)) = plans_led node asked plans
+plans_carried plans (Some (message.Reported node block stamp bytes)) = plans
+plans_carried plans (Some (message.CommitRecovery node block stamp bytes others)) = plans

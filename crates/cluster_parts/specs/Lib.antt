@@ -1,3 +1,4 @@
 pub mod Nodes
+pub mod Leaders
 pub mod Sent
 pub mod Carried

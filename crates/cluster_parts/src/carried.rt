@@ -1,28 +1,31 @@
 ghost use Rattle.std.specs.Prelude.{◌≡◌, IfOk, OnOk, OnErr, Some};
-ghost use Rattle.hdfs_values.specs.NodeId.{node_principal};
 ghost use Rattle.node_calls.specs.declared.call.NodeCall.TheVariants as asked;
+ghost use Rattle.node_calls.specs.declared.call.PlanCall.TheVariants as plan;
 ghost use Rattle.datanode.specs.NodeStep.{copying};
 ghost use Rattle.cluster_trace.specs.Trace.{reporting};
 ghost use Rattle.cluster_trace.specs.Typed.{PresentsBytes, CallFits};
 ghost use Rattle.cluster_trace.specs.Provenance.{call_brought};
-ghost use Rattle.cluster_parts.specs.Carried.{seen, found_message, carried_out, nodes_carried};
+ghost use Rattle.cluster_parts.specs.Carried.{seen, found_message, carried_out, nodes_carried, plans_carried};
+ghost use Rattle.cluster_parts.specs.Leaders.{plans_led, answer_led};
 ghost use Rattle.cluster_parts.specs.Nodes.{nodes_after, answer_at};
 
 use crate::found::Found;
+use crate::leaders::Leaders;
 use crate::nodes::Nodes;
 use crate::ranges::read_call;
 use datanode::answered::Answered;
-use hdfs_types::commands::{CopyOrder, Removal};
+use hdfs_types::commands::{CopyOrder, Recover, Removal};
 use hdfs_types::key_list::KeyList;
 use hdfs_types::op::{Op, Request};
 use hdfs_types::replica::ReportedReplica;
 use hdfs_values::ids::{BlockId, Stamp};
 use hdfs_values::moment::Moment;
 use hdfs_values::node_id::NodeId;
-use hdfs_values::who::Who;
 use node_calls::call::{NodeCall, TokenCall};
 use node_calls::message::Message;
 use node_calls::presented::{Presented, PresentedToken};
+use plan_steps::answered::PlanAnswered;
+use plan_steps::principal::principal_of;
 use std::alloc::{AllocError, Global};
 
 /// What comes of a message that is delivered.
@@ -32,20 +35,10 @@ pub enum Carried {
     Nowhere,
     /// What a DataNode answers; nothing where there is no such node.
     Called(Option<Answered>),
+    /// What a DataNode answers that leads recoveries; nothing where there is no such node.
+    Led(Option<PlanAnswered>),
     /// A DataNode's report is to be told to the NameNode.
     Report(NodeId, BlockId, Stamp, u64),
-}
-
-// The name of a node.
-fn principal_of(alloc: Global, node: NodeId) -> Result<Who, AllocError>
-    ensures { IfOk result (λ who. who ≡ node_principal node) }
-{
-    let text = format!(in alloc; "dn-{}", node.get())?;
-    // it is a name, so that only memory can lack
-    match Who::parse(alloc, text.as_str()) {
-        Ok(who) => Ok(who),
-        Err(_) => Err(AllocError),
-    }
 }
 
 /// The request that a report is, in the node's own name.
@@ -104,15 +97,24 @@ fn call(
 }
 
 // Carries out a message that is kept on its own.
-fn carry_message(nodes: &mut Nodes, now: Moment, message: &Message) -> Result<Carried, AllocError>
-    ensures ok { OnOk result (nodes.new ≡ nodes_carried nodes.old now (Some message.now)) }
-    ensures carried { IfOk result (λ carried. carried ≡ carried_out nodes.old now (Some message.now)) }
+fn carry_message(
+    nodes: &mut Nodes,
+    leaders: &mut Leaders,
+    now: Moment,
+    message: &Message,
+) -> Result<Carried, AllocError>
+    ensures nodes { OnOk result (nodes.new ≡ nodes_carried nodes.old now (Some message.now)) }
+    ensures leaders { OnOk result (leaders.new ≡ plans_carried leaders.old (Some message.now)) }
+    ensures carried { IfOk result (λ carried. carried ≡ carried_out nodes.old leaders.old now (Some message.now)) }
     ensures bytes { OnOk result (CallFits (call_brought now (Some message.now))) }
-    ensures err { OnErr result (nodes.new ≡ nodes.old) }
+    ensures err { OnErr result ((nodes.new ≡ nodes.old) × (leaders.new ≡ leaders.old)) }
 {
     match message {
         Message::Node(node, asked) => call(nodes, *node, now, asked),
-        Message::Plan(_, _) => Ok(Carried::Nowhere),
+        Message::Plan(node, asked) => {
+            let answered = leaders.lead(*node, asked)?;
+            Ok(Carried::Led(answered))
+        }
         Message::Reported(node, block, stamp, length) => {
             Ok(Carried::Report(*node, *block, *stamp, *length))
         }
@@ -167,22 +169,38 @@ fn carry_copy(
     call(nodes, node, now, &made)
 }
 
+// Has a DataNode lead a recovery.
+fn carry_recovery(
+    leaders: &mut Leaders,
+    node: NodeId,
+    own: &Recover,
+) -> Result<Carried, AllocError>
+    ensures ok { OnOk result (leaders.new ≡ plans_led node (plan.Recover own.now.block own.now.stamp own.now.nodes own.now.token) leaders.old) }
+    ensures carried { IfOk result (λ carried. carried ≡ Carried.Led (answer_led node (plan.Recover own.now.block own.now.stamp own.now.nodes own.now.token) leaders.old)) }
+    ensures err { OnErr result (leaders.new ≡ leaders.old) }
+{
+    let answered = leaders.begin(node, own)?;
+    Ok(Carried::Led(answered))
+}
+
 // Carries out a message as it was found.
 fn carry_found(
     alloc: Global,
     nodes: &mut Nodes,
+    leaders: &mut Leaders,
     now: Moment,
     found: &Found<'_>,
 ) -> Result<Carried, AllocError>
-    ensures ok { OnOk result (nodes.new ≡ nodes_carried nodes.old now (Some (seen found.now))) }
-    ensures carried { IfOk result (λ carried. carried ≡ carried_out nodes.old now (Some (seen found.now))) }
+    ensures nodes { OnOk result (nodes.new ≡ nodes_carried nodes.old now (Some (seen found.now))) }
+    ensures leaders { OnOk result (leaders.new ≡ plans_carried leaders.old (Some (seen found.now))) }
+    ensures carried { IfOk result (λ carried. carried ≡ carried_out nodes.old leaders.old now (Some (seen found.now))) }
     ensures bytes { OnOk result (CallFits (call_brought now (Some (seen found.now)))) }
-    ensures err { OnErr result (nodes.new ≡ nodes.old) }
+    ensures err { OnErr result ((nodes.new ≡ nodes.old) × (leaders.new ≡ leaders.old)) }
 {
     match found {
-        Found::Kept(message) => carry_message(nodes, now, message),
+        Found::Kept(message) => carry_message(nodes, leaders, now, message),
         Found::Keys(node, keys) => carry_keys(nodes, *node, now, keys),
-        Found::Recovery(_, _) => Ok(Carried::Nowhere),
+        Found::Recovery(node, own) => carry_recovery(leaders, *node, own),
         Found::Removal(node, own) => carry_removal(nodes, *node, now, *own),
         Found::Copy(node, copy) => carry_copy(alloc, nodes, *node, now, copy),
     }
@@ -195,16 +213,18 @@ fn carry_found(
 pub fn carry_out(
     alloc: Global,
     nodes: &mut Nodes,
+    leaders: &mut Leaders,
     now: Moment,
     found: Option<&Found<'_>>,
 ) -> Result<Carried, AllocError>
-    ensures ok { OnOk result (nodes.new ≡ nodes_carried nodes.old now (found_message found.entry)) }
-    ensures carried { IfOk result (λ carried. carried ≡ carried_out nodes.old now (found_message found.entry)) }
+    ensures nodes { OnOk result (nodes.new ≡ nodes_carried nodes.old now (found_message found.entry)) }
+    ensures leaders { OnOk result (leaders.new ≡ plans_carried leaders.old (found_message found.entry)) }
+    ensures carried { IfOk result (λ carried. carried ≡ carried_out nodes.old leaders.old now (found_message found.entry)) }
     ensures bytes { OnOk result (CallFits (call_brought now (found_message found.entry))) }
-    ensures err { OnErr result (nodes.new ≡ nodes.old) }
+    ensures err { OnErr result ((nodes.new ≡ nodes.old) × (leaders.new ≡ leaders.old)) }
 {
     match found {
-        Some(found) => carry_found(alloc, nodes, now, found),
+        Some(found) => carry_found(alloc, nodes, leaders, now, found),
         None => Ok(Carried::Nowhere),
     }
 }

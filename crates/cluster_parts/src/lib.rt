@@ -1,8 +1,10 @@
-//! The parts of a cluster: its DataNodes by their ids, its messages as they are kept, and what carrying one out leaves.
+//! The parts of a cluster: its DataNodes by their ids, the recoveries that they lead, its messages as they are kept, and what carrying one
+//! out leaves.
 #![tactic(auto)]
 
 pub mod carried;
 pub mod found;
+pub mod leaders;
 pub mod nodes;
 pub mod ranges;
 pub mod sent;

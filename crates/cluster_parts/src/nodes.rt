@@ -13,9 +13,16 @@ use std::collections::BTreeMap;
 use std::marker::Model;
 
 /// The DataNodes of a cluster by their ids.
-#[derive(Drop)]
 pub struct Nodes {
     by_id: BTreeMap<NodeId, DataNode>,
+}
+
+// Written out, so that it is proved here alone, and not anew in each crate that owns them.
+impl Drop for Nodes {
+    fn drop(self) {
+        let Nodes { by_id } = self;
+        drop(by_id);
+    }
 }
 
 impl Model for Nodes {

@@ -1,16 +1,17 @@
 -- The event that a line of a script makes in a cluster, or how the line is ill-formed:
 --   MOMENT CALLER VERB ..         a request to the NameNode
---   MOMENT CALLER @NODE VERB ..   a call of a DataNode
+--   MOMENT CALLER @NODE VERB ..   a call of a DataNode, or in its own name of the recoveries that it leads
 --   MOMENT - deliver NUMBER       the delivery of a message
 -- An unknown verb and a wrong number of words come first, and then the first ill-formed word. A token is named by its row in the ledger of
 -- those that were granted before the line.
-use Rattle.std.specs.Prelude.{ℕ, Bool, false, ◌==◌, ◌&&◌, ◌||◌, List, [], ◌∷◌, length, if◌then◌else◌, Result, Ok, Err, codes}
+use Rattle.std.specs.Prelude.{ℕ, Bool, false, ◌==◌, ◌&&◌, ◌||◌, List, [], ◌∷◌, length, if◌then◌else◌, Option, Some, None, Result, Ok, Err, codes}
+use Rattle.hdfs_values.specs.NodeId.{node_of}
 use Rattle.hdfs_values.specs.Text.{same}
 use Rattle.hdfs_values.specs.declared.fault.IllFormed.{IllFormed}
 use Rattle.hdfs_values.specs.declared.fault.IllFormed.TheVariants.{BadLine}
 use Rattle.hdfs_types.specs.declared.op.Request.{Request}
 use Rattle.grant_ledger.specs.declared.ledger.LedgerRow.{LedgerRow}
-use Rattle.cluster_trace.specs.DataCall.{DataCall, BeginWrite, Packet, Finalize, Read}
+use Rattle.cluster_trace.specs.DataCall.{DataCall, BeginWrite, Packet, Finalize, Read, Decide, Commit}
 use Rattle.cluster_trace.specs.declared.event.Event.{Event}
 use Rattle.cluster_trace.specs.declared.event.Event.TheVariants.{Name, Deliver, Data}
 use Rattle.script_words.specs.Values.{◌>>=◌, moment_word, who_word, number_word}
@@ -75,26 +76,43 @@ read_of ledger caller block stamp offset count token = do
   p ← presented_of ledger caller a token
   Ok (Read p o c)
 
+abbrev pub going_on : List ℕ → List ℕ → List ℕ → Result DataCall IllFormed
+going_on verb block stamp = do
+  a ← place_of block stamp
+  Ok (if same verb (codes "decide") then Decide a.block a.stamp else Commit a.block a.stamp)
+
+abbrev pub is_that : ℕ → Option ℕ → Bool
+is_that node None = false
+is_that node (Some own) = own == node
+
+-- a node goes on with the recoveries that it leads in its own name alone
+abbrev pub led_of : NodeAsker → List ℕ → List ℕ → List ℕ → Result DataCall IllFormed
+led_of asker verb block stamp =
+    if is_that asker.node (node_of asker.caller) then going_on verb block stamp else Err BadLine
+
 -- the verbs, each with the number of words behind it
 abbrev pub is_call : List ℕ → ℕ → Bool
 is_call verb count =
     (same verb (codes "begin") && (count == 4))
-    || ((same verb (codes "packet") && (count == 6)) || ((same verb (codes "finalize") || same verb (codes "read")) && (count == 5)))
+    || ((same verb (codes "packet") && (count == 6))
+    || (((same verb (codes "finalize") || same verb (codes "read")) && (count == 5))
+    || ((same verb (codes "decide") || same verb (codes "commit")) && (count == 2))))
 
 -- two verbs want five words
 abbrev pub five_of : List LedgerRow → List ℕ → List ℕ → List ℕ → List ℕ → List ℕ → List ℕ → List ℕ → Result DataCall IllFormed
 five_of ledger caller verb block stamp number next token =
     if same verb (codes "finalize") then finalize_of ledger caller block stamp number next token else read_of ledger caller block stamp number next token
 
-abbrev pub call_of : List LedgerRow → List ℕ → List ℕ → List (List ℕ) → Result DataCall IllFormed
-call_of ledger caller verb (block ∷ stamp ∷ next ∷ token ∷ []) = begin_of ledger caller block stamp next token
-call_of ledger caller verb (block ∷ stamp ∷ number ∷ next ∷ token ∷ []) = five_of ledger caller verb block stamp number next token
-call_of ledger caller verb (block ∷ stamp ∷ offset ∷ bytes ∷ next ∷ token ∷ []) = packet_of ledger caller block stamp offset bytes next token
-call_of ledger caller verb _ = Err BadLine
+abbrev pub call_of : List LedgerRow → NodeAsker → List ℕ → List (List ℕ) → Result DataCall IllFormed
+call_of ledger asker verb (block ∷ stamp ∷ []) = led_of asker verb block stamp
+call_of ledger asker verb (block ∷ stamp ∷ next ∷ token ∷ []) = begin_of ledger asker.caller block stamp next token
+call_of ledger asker verb (block ∷ stamp ∷ number ∷ next ∷ token ∷ []) = five_of ledger asker.caller verb block stamp number next token
+call_of ledger asker verb (block ∷ stamp ∷ offset ∷ bytes ∷ next ∷ token ∷ []) = packet_of ledger asker.caller block stamp offset bytes next token
+call_of ledger asker verb _ = Err BadLine
 
 abbrev pub asked_by : List LedgerRow → NodeAsker → List ℕ → List (List ℕ) → Result Event IllFormed
 asked_by ledger asker verb words = do
-  c ← call_of ledger asker.caller verb words
+  c ← call_of ledger asker verb words
   Ok (Data asker.node asker.moment c)
 
 abbrev pub data_event : List LedgerRow → List ℕ → List ℕ → List ℕ → List ℕ → List (List ℕ) → Result Event IllFormed

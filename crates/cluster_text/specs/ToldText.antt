@@ -1,4 +1,4 @@
--- The text of what comes of an event, and of what a DataNode replies.
+-- The text of what comes of an event, and of what a DataNode replies, also of the recoveries that it leads.
 use Rattle.std.specs.Prelude.{ℕ, zero, suc, ◌+◌, Bool, true, false, List, [], ◌∷◌, ◌++◌, Option, Some, None, Result, Ok, Err, codes}
 use Rattle.std.specs.Fmt.{decimal}
 use Rattle.hex.specs.Hex.{encode_lower}
@@ -6,15 +6,20 @@ use Rattle.hdfs_values.specs.Faults.{ill_formed_text}
 use Rattle.hdfs_values.specs.declared.fault.IllFormed.{IllFormed}
 use Rattle.flat_rows.specs.declared.verdict.Verdict.{Verdict}
 use Rattle.script_text.specs.AnswerText.{verdict_text}
+use Rattle.script_text.specs.BlockText.{nodes_text}
 use Rattle.node_calls.specs.Refusals.{node_refusal_text}
 use Rattle.node_calls.specs.declared.call.ReplicaState.{ReplicaState}
 use Rattle.node_calls.specs.declared.call.ReplicaState.TheVariants.{Writing, Finalized}
 use Rattle.node_calls.specs.declared.refusal.NodeRefusal.{NodeRefusal}
 use Rattle.node_calls.specs.declared.reply.NodeReply.{NodeReply}
 use Rattle.node_calls.specs.declared.reply.NodeReply.TheVariants as reply
+use Rattle.block_recovery.specs.Refusals.{plan_refusal_text}
+use Rattle.block_recovery.specs.declared.fault.PlanRefusal.{PlanRefusal}
+use Rattle.plan_steps.specs.declared.answered.PlanReply.{PlanReply}
+use Rattle.plan_steps.specs.declared.answered.PlanReply.TheVariants as plan_reply
 use Rattle.cluster_trace.specs.Refusals.{cluster_refusal_text}
 use Rattle.cluster_trace.specs.declared.outcome.EventAnswer.{EventAnswer}
-use Rattle.cluster_trace.specs.declared.outcome.EventAnswer.TheVariants.{Named, Called, Lost}
+use Rattle.cluster_trace.specs.declared.outcome.EventAnswer.TheVariants.{Named, Called, Led, Lost}
 use Rattle.cluster_trace.specs.declared.outcome.Outcome.{Outcome}
 
 -- ---- a DataNode's reply
@@ -44,6 +49,18 @@ abbrev pub called_text : Result NodeReply NodeRefusal → List ℕ
 called_text (Ok told) = node_reply_text told
 called_text (Err refusal) = codes "refused " ++ node_refusal_text refusal
 
+-- ---- the reply of a DataNode that leads recoveries
+
+abbrev pub plan_reply_text : PlanReply → List ℕ
+plan_reply_text (plan_reply.Asked count) = codes "ok asked " ++ decimal count
+plan_reply_text plan_reply.Noted = codes "ok noted"
+plan_reply_text (plan_reply.Decided own) = codes "ok length " ++ (decimal own.length ++ (codes " nodes " ++ nodes_text own.nodes))
+plan_reply_text (plan_reply.Committed bytes) = codes "ok committed " ++ decimal bytes
+
+abbrev pub led_text : Result PlanReply PlanRefusal → List ℕ
+led_text (Ok told) = plan_reply_text told
+led_text (Err refusal) = codes "refused " ++ plan_refusal_text refusal
+
 -- ---- what comes of an event
 
 -- what came of an event; how many rows the ledger had before it, by which the tokens that it grants are numbered; and the verdict of the
@@ -60,6 +77,7 @@ ruled_text rows (Some verdict) = verdict_text rows verdict
 abbrev pub event_answer_text : ℕ → Option Verdict → EventAnswer → List ℕ
 event_answer_text rows newest (Named place) = ruled_text rows newest
 event_answer_text rows newest (Called result) = called_text result
+event_answer_text rows newest (Led result) = led_text result
 event_answer_text rows newest (Lost refusal) = codes "refused " ++ cluster_refusal_text refusal
 
 -- the numbers of the first and the last message that are sent, if any is

@@ -1,4 +1,5 @@
 ghost use Rattle.std.specs.Prelude.{◌≡◌, ◌≢◌, ℕ, List, IfOk, length, map};
+ghost use Rattle.hdfs_values.specs.NodeId.{node_of};
 ghost use Rattle.script_words.specs.LineForms.{Forms};
 ghost use Rattle.script_words.specs.Words.{words_of};
 ghost use Rattle.cluster_text.specs.EventLine as spec;
@@ -9,7 +10,7 @@ use grant_ledger::ledger::LedgerRow;
 use hdfs_values::fault::{IllFormed, ParseFault};
 use hdfs_values::ids::{BlockId, Stamp};
 use hdfs_values::moment::Moment;
-use hdfs_values::node_id::NodeId;
+use hdfs_values::node_id::{NodeId, node_of};
 use hdfs_values::who::Who;
 use node_calls::presented::Presented;
 use node_words::node_words::{next_word, node_word};
@@ -159,6 +160,7 @@ fn is_call(verb: &str, count: usize) -> bool
     (is_word(verb, "begin") && count == 4)
         || (is_word(verb, "packet") && count == 6)
         || ((is_word(verb, "finalize") || is_word(verb, "read")) && count == 5)
+        || ((is_word(verb, "decide") || is_word(verb, "commit")) && count == 2)
 }
 
 /// What the five words behind one of two verbs ask.
@@ -182,20 +184,58 @@ fn five_of(
     }
 }
 
+/// What is asked of a recovery.
+fn going_on(verb: &str, block: &str, stamp: &str) -> Result<DataCall, ParseFault>
+    ensures { Forms result (spec.going_on verb.now block.now stamp.now) }
+{
+    let at = place_of(block, stamp)?;
+    if is_word(verb, "decide") {
+        return Ok(DataCall::decide(at.block, at.stamp));
+    }
+    Ok(DataCall::commit(at.block, at.stamp))
+}
+
+/// Whether a node asks in its own name.
+fn is_own(asker: &NodeAsker) -> bool
+    ensures { result ≡ spec.is_that asker.now.node (node_of asker.now.caller) }
+{
+    match node_of(&asker.caller) {
+        Some(own) => own == asker.node,
+        None => false,
+    }
+}
+
+/// What the two words behind one of two verbs ask of a recovery, in the name of the node that leads it.
+fn led_of(
+    asker: &NodeAsker,
+    verb: &str,
+    block: &str,
+    stamp: &str,
+) -> Result<DataCall, ParseFault>
+    ensures { Forms result (spec.led_of asker.now verb.now block.now stamp.now) }
+{
+    if !is_own(asker) {
+        return Err(ParseFault::IllFormed(IllFormed::BadLine));
+    }
+    going_on(verb, block, stamp)
+}
+
 /// What six words behind the verb ask.
 fn call_of_six(
     alloc: Global,
     ledger: &[LedgerRow],
-    caller: &Who,
+    asker: &NodeAsker,
     words: &[&str],
 ) -> Result<DataCall, ParseFault>
+    requires two { length words.now ≢ 2 }
     requires four { length words.now ≢ 4 }
     requires five { length words.now ≢ 5 }
-    ensures { (verb : List ℕ) → Forms result (spec.call_of ledger.now caller.now verb (map (λ word. word.now) words.now)) }
+    ensures { (verb : List ℕ) → Forms result (spec.call_of ledger.now asker.now verb (map (λ word. word.now) words.now)) }
 {
     if words.len() != 6 {
         return Err(ParseFault::IllFormed(IllFormed::BadLine));
     }
+    let caller = &asker.caller;
     packet_of(
         alloc, ledger, caller, words[0], words[1], words[2], words[3], words[4], words[5],
     )
@@ -205,12 +245,16 @@ fn call_of_six(
 fn call_of(
     alloc: Global,
     ledger: &[LedgerRow],
-    caller: &Who,
+    asker: &NodeAsker,
     verb: &str,
     words: &[&str],
 ) -> Result<DataCall, ParseFault>
-    ensures { Forms result (spec.call_of ledger.now caller.now verb.now (map (λ word. word.now) words.now)) }
+    ensures { Forms result (spec.call_of ledger.now asker.now verb.now (map (λ word. word.now) words.now)) }
 {
+    let caller = &asker.caller;
+    if words.len() == 2 {
+        return led_of(asker, verb, words[0], words[1]);
+    }
     if words.len() == 4 {
         return begin_of(
             alloc, ledger, caller, words[0], words[1], words[2], words[3],
@@ -221,7 +265,7 @@ fn call_of(
             alloc, ledger, caller, verb, words[0], words[1], words[2], words[3], words[4],
         );
     }
-    call_of_six(alloc, ledger, caller, words)
+    call_of_six(alloc, ledger, asker, words)
 }
 
 fn asked_by(
@@ -233,7 +277,7 @@ fn asked_by(
 ) -> Result<Event, ParseFault>
     ensures { Forms result (spec.asked_by ledger.now asker verb.now (map (λ word. word.now) words.now)) }
 {
-    let call = call_of(alloc, ledger, &asker.caller, verb, words)?;
+    let call = call_of(alloc, ledger, &asker, verb, words)?;
     Ok(Event::Data(asker.node, asker.moment, call))
 }
 

@@ -3,4 +3,5 @@
 
 pub mod event_line;
 pub mod node_reply;
+pub mod plan_reply;
 pub mod told;

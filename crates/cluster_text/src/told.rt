@@ -4,6 +4,7 @@ ghost use Rattle.cluster_trace.specs.Refusals.{cluster_refusal_text};
 ghost use Rattle.cluster_text.specs.ToldText as spec;
 
 use crate::node_reply::print_called;
+use crate::plan_reply::print_led;
 use cluster_trace::outcome::{ClusterRefusal, EventAnswer, Outcome};
 use flat_rows::verdict::Verdict;
 use hdfs_values::fault::IllFormed;
@@ -41,6 +42,7 @@ fn print_event_answer(
     match answer {
         EventAnswer::Named(_) => print_ruled(rows, newest, line),
         EventAnswer::Called(called) => print_called(alloc, called, line),
+        EventAnswer::Led(led) => print_led(led, line),
         EventAnswer::Lost(refusal) => print_lost(*refusal, line),
     }
 }

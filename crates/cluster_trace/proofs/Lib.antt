@@ -1,4 +1,5 @@
 pub mod Each
+pub mod EachPlan
 pub mod Keys
 pub mod Commands
 pub mod Tokens

@@ -31,7 +31,7 @@ use Rattle.node_calls.specs.declared.reply.NodeReply.{NodeReply}
 use Rattle.node_replies.specs.Asking.{asked_by, mode_of, sends_copy}
 use Rattle.replicas.specs.ReplicaStep.{held_at, replica_refusal}
 use Rattle.datanode.specs.NodeStep.{Node, node_answer, presented_answer, told_by, clock_with, call_refusal, token_or_replica, access_of}
-use Rattle.cluster_trace.specs.DataCall.{node_call}
+use Rattle.cluster_trace.specs.DataCall.{as_message}
 use Rattle.cluster_trace.specs.Provenance.{IsIn, granted, IsGranted, IsForged, call_brought, call_of, request_brought, IsRuled, IsCovered, IsCoveredWhere, IsServedRightly, IsRight, AllRight}
 use Rattle.cluster_trace.specs.Trace.{State, Opening, lost, named, called_at, delivered, message_at, is_from_outside, after}
 use Rattle.cluster_trace.specs.Typed.{GrantFits, GrantsFit, PresentsBytes, CallFits, AreTyped}
@@ -185,7 +185,7 @@ event_right state (Name request) sound fits bytes = record { ruled = request_rul
 event_right state (Deliver number now) sound fits bytes =
     record { ruled = delivered_ruled state now (message_at number state.messages); served = delivered_rightly state now (message_at number state.messages) sound fits bytes }
 event_right state (Data node now asked) sound fits bytes =
-    record { ruled = tt; served = called_rightly state node now (node_call asked) sound fits bytes (entry_at node state.nodes) refl }
+    record { ruled = tt; served = delivered_rightly state now (Some (as_message node asked)) sound fits bytes }
 
 pub all_right : (opening : Opening) (events : List Event) → AreTyped opening events → AllRight opening events
 all_right opening [] typed = tt

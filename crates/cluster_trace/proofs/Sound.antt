@@ -1,5 +1,5 @@
 -- Whatever happens in a cluster, DataNodes hold, and messages bring, no other keys than those that the NameNode made.
-use Rattle.std.proofs.Common.{◌≡◌, ℕ, zero, suc, Bool, true, false, cond, List, [], ◌∷◌, refl, fold, Option, Some, None}
+use Rattle.std.proofs.Common.{◌≡◌, ℕ, zero, suc, Bool, true, false, cond, List, [], ◌∷◌, refl, subst, fold, Option, Some, None}
 use Rattle.std.specs.List.{AllByRecursion}
 use Rattle.block_records.specs.Numbers.{entry_at}
 use Rattle.hdfs_values.specs.NodeId.{node_of}
@@ -8,6 +8,8 @@ use Rattle.hdfs_types.specs.declared.op.Request.{Request}
 use Rattle.history.specs.Keys.{ring_of}
 use Rattle.node_calls.specs.declared.call.NodeCall.{NodeCall}
 use Rattle.node_calls.specs.declared.call.NodeCall.TheVariants.{Presenting, Invalidate, Keys}
+use Rattle.node_calls.specs.declared.call.PlanCall.{PlanCall}
+use Rattle.node_calls.specs.declared.call.PlanCall.TheVariants as plan
 use Rattle.node_calls.specs.declared.call.TokenCall.{TokenCall}
 use Rattle.node_calls.specs.declared.call.TokenCall.TheVariants as call
 use Rattle.node_calls.specs.declared.message.Message.{Message}
@@ -20,13 +22,16 @@ use Rattle.node_replies.specs.Sending.{call_sends, forward, to_primary}
 use Rattle.replicas.specs.ReplicaStep.{held_at, removal_refusal}
 use Rattle.replicas.specs.declared.held.Held.{Held}
 use Rattle.datanode.specs.NodeStep.{Node, node_after, node_answer, presented_answer, told_by, removal_told, clock_with, call_refusal}
-use Rattle.cluster_trace.specs.DataCall.{DataCall, node_call, BeginWrite, Packet, Finalize, Read}
-use Rattle.cluster_trace.specs.Trace.{State, Opening, Happened, start, with_new_node, new_node, lost, named, entry_of, called, called_at, delivered, message_at, reporting, is_from_outside, happened, left_by, after}
+use Rattle.block_recovery.specs.Plans.{PlanTable}
+use Rattle.block_recovery.specs.declared.fault.PlanRefusal.{PlanRefusal}
+use Rattle.plan_steps.specs.PlanStep.{plan_refusal, plan_there, decided, presenting, to_each, plan_sends, told_unless, plan_answer}
+use Rattle.cluster_trace.specs.DataCall.{DataCall, as_message, BeginWrite, Packet, Finalize, Read, Decide, Commit}
+use Rattle.cluster_trace.specs.Trace.{State, Opening, Happened, start, with_new_node, new_node, lost, named, entry_of, called, called_at, led, led_at, delivered, message_at, reporting, is_from_outside, happened, left_by, after}
 use Rattle.cluster_trace.specs.declared.event.Event.{Event}
 use Rattle.cluster_trace.specs.declared.event.Event.TheVariants.{Name, Deliver, Data}
 use Rattle.cluster_trace.specs.declared.outcome.ClusterRefusal.{ClusterRefusal}
 use Rattle.cluster_trace.specs.declared.outcome.ClusterRefusal.TheVariants.{NoMessage, NoNode, NotFromOutside}
-use Rattle.cluster_trace.proofs.Each.{each_append, each_more, each_get, never_some, AllValues, values_at, values_set, values_inserted}
+use Rattle.cluster_trace.proofs.Each.{each_append, each_more, each_map, each_get, some_is, never_some, AllValues, values_at, values_set, values_inserted}
 use Rattle.cluster_trace.proofs.Keys.{Made, Brings, MessageBrings, after_made}
 use Rattle.cluster_trace.proofs.Commands.{IsMade, stays_made, request_brings}
 
@@ -71,11 +76,33 @@ module _ (P : ℕ × List ℕ → Type 0) where
       by (Some refusal) = tt
       by None = tt
 
-  client_brings : (asked : DataCall) → Brings P (node_call asked)
-  client_brings (BeginWrite presented next) = tt
-  client_brings (Packet presented offset bytes next) = tt
-  client_brings (Finalize presented count next) = tt
-  client_brings (Read presented offset count) = tt
+  outside_brings : (node : ℕ) (asked : DataCall) → MessageBrings P (as_message node asked)
+  outside_brings node (BeginWrite presented next) = tt
+  outside_brings node (Packet presented offset bytes next) = tt
+  outside_brings node (Finalize presented count next) = tt
+  outside_brings node (Read presented offset count) = tt
+  outside_brings node (Decide block stamp) = tt
+  outside_brings node (Commit block stamp) = tt
+
+  each_brings : (presented : Presented) (asked : TokenCall) (nodes : List ℕ) → AllByRecursion (MessageBrings P) (to_each presented asked nodes)
+  each_brings presented asked nodes = each_map (MessageBrings P) (λ (node : ℕ). message.Node node (Presenting presented asked)) (λ (node : ℕ). tt) nodes
+
+  plan_sends_bring : (leader : ℕ) (asked : PlanCall) (plans : PlanTable) → AllByRecursion (MessageBrings P) (plan_sends leader asked plans)
+  plan_sends_bring leader (plan.Recover block stamp nodes token) plans = each_brings (presenting leader block stamp token) call.InitRecovery nodes
+  plan_sends_bring leader (plan.Reply node block stamp state bytes) plans = tt
+  plan_sends_bring leader (plan.Decide block stamp) plans =
+      let own = plan_there block stamp plans in
+      each_brings (presenting leader block stamp own.token) (call.UpdateReplica (decided own).length) (decided own).nodes
+  plan_sends_bring leader (plan.Updated node block stamp) plans = tt
+  plan_sends_bring leader (plan.Commit block stamp) plans = (tt, tt)
+
+  plan_answer_brings : (leader : ℕ) (asked : PlanCall) (plans : PlanTable) → AllByRecursion (MessageBrings P) (plan_answer leader asked plans).messages
+  unfolding plan_answer
+  plan_answer_brings leader asked plans = by (plan_refusal asked plans)
+    where
+      by : (refused : Option PlanRefusal) → AllByRecursion (MessageBrings P) (told_unless leader asked plans refused).messages
+      by (Some refusal) = tt
+      by None = plan_sends_bring leader asked plans
 
 -- ---- more keys
 
@@ -141,6 +168,13 @@ called_keeps state id now asked sound brings = by (entry_at id state.nodes) refl
       more = λ own i. i;
     }
 
+led_keeps : (state : State) (id : ℕ) (asked : PlanCall) → IsSound state → Keeps state (led state id asked)
+led_keeps state id asked sound = by (entry_at id state.plans)
+  where
+    by : (found : Option PlanTable) → Keeps state (led_at state id asked found)
+    by None = lost_keeps state NoNode sound
+    by (Some plans) = record { nodes = sound.nodes; sent = plan_answer_brings (MadeIn state) id asked plans; more = λ own i. i }
+
 pub message_brings : (P : Message → Type 0) (messages : List Message) (number : ℕ) (own : Message) → AllByRecursion P messages → message_at number messages ≡ Some own → P own
 message_brings P messages zero own all e = absurd (never_some own e)
 message_brings P messages (suc before) own all e = each_get P messages before own all e
@@ -148,7 +182,7 @@ message_brings P messages (suc before) own all e = each_get P messages before ow
 delivered_keeps : (state : State) (now : ℕ) (found : Option Message) → IsSound state → ((own : Message) → found ≡ Some own → MessageBrings (MadeIn state) own) → Keeps state (delivered state now found)
 delivered_keeps state now None sound brings = lost_keeps state NoMessage sound
 delivered_keeps state now (Some (message.Node node asked)) sound brings = called_keeps state node now asked sound (brings (message.Node node asked) refl)
-delivered_keeps state now (Some (message.Plan node asked)) sound brings = lost_keeps state NoMessage sound
+delivered_keeps state now (Some (message.Plan node asked)) sound brings = led_keeps state node asked sound
 delivered_keeps state now (Some (message.Reported node block stamp bytes)) sound brings = named_keeps state (reporting node now block stamp bytes) sound
 delivered_keeps state now (Some (message.CommitRecovery node block stamp bytes nodes)) sound brings = lost_keeps state NoMessage sound
 
@@ -159,7 +193,9 @@ event_keeps state (Name request) sound = by (is_from_outside request.op)
     by true = named_keeps state request sound
     by false = lost_keeps state NotFromOutside sound
 event_keeps state (Deliver number now) sound = delivered_keeps state now (message_at number state.messages) sound (λ own e. message_brings (MessageBrings (MadeIn state)) state.messages number own sound.messages e)
-event_keeps state (Data node now asked) sound = called_keeps state node now (node_call asked) sound (client_brings (MadeIn state) asked)
+event_keeps state (Data node now asked) sound =
+    let own : Message = as_message node asked in
+    delivered_keeps state now (Some own) sound (λ other e. subst (MessageBrings (MadeIn state)) (some_is own other e) (outside_brings (MadeIn state) node asked))
 
 start_nodes : (P : ℕ × List ℕ → Type 0) (limit : ℕ) (ids : List ℕ) (nodes : List (ℕ × Node)) → AllValues (λ (node : Node). Made P node.keys) nodes
     → AllValues (λ (node : Node). Made P node.keys) (fold (with_new_node limit) nodes ids)

@@ -14,12 +14,14 @@ use Rattle.node_calls.specs.declared.message.Message.{Message}
 use Rattle.node_calls.specs.declared.message.Message.TheVariants as message
 use Rattle.node_calls.specs.declared.refusal.NodeRefusal.TheVariants.{Token}
 use Rattle.node_calls.specs.declared.reply.NodeReply.TheVariants as told
-use Rattle.cluster_trace.specs.DataCall.{Read}
+use Rattle.block_recovery.specs.declared.fault.PlanRefusal.TheVariants.{Stranger}
+use Rattle.plan_steps.specs.PlanStep.{plan_answer}
+use Rattle.cluster_trace.specs.DataCall.{Read, Decide, Commit}
 use Rattle.cluster_trace.specs.Trace.{Opening, after, outcome}
 use Rattle.cluster_trace.specs.declared.event.Event.{Event}
 use Rattle.cluster_trace.specs.declared.event.Event.TheVariants.{Name, Deliver, Data}
 use Rattle.cluster_trace.specs.declared.outcome.ClusterRefusal.TheVariants.{NoMessage, NoNode, NotFromOutside}
-use Rattle.cluster_trace.specs.declared.outcome.EventAnswer.TheVariants.{Called, Lost}
+use Rattle.cluster_trace.specs.declared.outcome.EventAnswer.TheVariants.{Called, Led, Lost}
 
 abbrev opening : Opening
 opening = record { name = record { config = standard; key = 7 ∷ [] }; nodes = 2 ∷ 1 ∷ [] }
@@ -73,3 +75,11 @@ from_outside = refl
 refused_read : (outcome (after opening two_beats) (read 1)).answer ≡ Called (Err (Token Malformed))
 unfolding node_answer presented_answer token_test parts_of
 refused_read = refl
+
+-- a recovery that nobody began, and a node that isn't there
+nobody_leads : map (λ asked. (outcome (after opening two_beats) (Data 1 9 asked)).answer) (Decide 1 1002 ∷ Commit 1 1002 ∷ []) ≡ Led (Err Stranger) ∷ Led (Err Stranger) ∷ []
+unfolding plan_answer
+nobody_leads = refl
+
+no_leader : (outcome (after opening two_beats) (Data 9 9 (Decide 1 1002))).answer ≡ Lost NoNode
+no_leader = refl

@@ -1,11 +1,17 @@
--- How a client's call is seen that is kept as a call of a DataNode.
-use Rattle.std.specs.Prelude.{Bool, true, false, []}
+-- How a call from outside is seen that is kept as it is asked of a DataNode.
+use Rattle.std.specs.Prelude.{ℕ, Bool, true, false, []}
 use Rattle.node_calls.specs.declared.call.NodeCall.{NodeCall}
 use Rattle.node_calls.specs.declared.call.NodeCall.TheVariants.{Presenting, Invalidate, Keys}
+use Rattle.node_calls.specs.declared.call.PlanCall.{PlanCall}
+use Rattle.node_calls.specs.declared.call.PlanCall.TheVariants as plan
 use Rattle.node_calls.specs.declared.call.TokenCall.{TokenCall}
 use Rattle.node_calls.specs.declared.call.TokenCall.TheVariants as call
+use Rattle.node_calls.specs.declared.message.Message.{Message}
+use Rattle.node_calls.specs.declared.message.Message.TheVariants as message
 use Rattle.node_calls.specs.declared.presented.Presented.{Presented}
-use Rattle.cluster_trace.specs.DataCall as client
+use Rattle.cluster_trace.specs.DataCall as outside
+use Rattle.cluster_trace.specs.declared.data_call.Asked.{Asked}
+use Rattle.cluster_trace.specs.declared.data_call.Asked.TheVariants.{Replica, Plan}
 
 -- a client asks this himself
 abbrev pub is_client_call : TokenCall → Bool
@@ -18,26 +24,53 @@ is_client_call (call.UpdateReplica count) = false
 is_client_call (call.SendCopy to) = false
 is_client_call (call.TakeCopy bytes) = false
 
-abbrev pub is_asked : NodeCall → Bool
-is_asked (Presenting presented asked) = is_client_call asked
-is_asked (Invalidate block stamp) = false
-is_asked (Keys update) = false
+abbrev pub is_asked_of_replica : NodeCall → Bool
+is_asked_of_replica (Presenting presented asked) = is_client_call asked
+is_asked_of_replica (Invalidate block stamp) = false
+is_asked_of_replica (Keys update) = false
+
+abbrev pub is_asked_of_plan : PlanCall → Bool
+is_asked_of_plan (plan.Recover block stamp nodes token) = false
+is_asked_of_plan (plan.Reply node block stamp state bytes) = false
+is_asked_of_plan (plan.Decide block stamp) = true
+is_asked_of_plan (plan.Updated node block stamp) = false
+is_asked_of_plan (plan.Commit block stamp) = true
+
+abbrev pub is_asked : Asked → Bool
+is_asked (Replica own) = is_asked_of_replica own
+is_asked (Plan own) = is_asked_of_plan own
 
 -- never seen, since nothing else is kept
-abbrev pub nothing : client.DataCall
-nothing = client.Read (record { caller = []; block = 0; stamp = 0; token = [] }) 0 0
+abbrev pub nothing : outside.DataCall
+nothing = outside.Decide 0 0
 
-abbrev pub presented_as : Presented → TokenCall → client.DataCall
-presented_as presented (call.Begin next) = client.BeginWrite presented next
-presented_as presented (call.Packet offset bytes next) = client.Packet presented offset bytes next
-presented_as presented (call.Finalize count next) = client.Finalize presented count next
-presented_as presented (call.Read offset count) = client.Read presented offset count
+abbrev pub presented_as : Presented → TokenCall → outside.DataCall
+presented_as presented (call.Begin next) = outside.BeginWrite presented next
+presented_as presented (call.Packet offset bytes next) = outside.Packet presented offset bytes next
+presented_as presented (call.Finalize count next) = outside.Finalize presented count next
+presented_as presented (call.Read offset count) = outside.Read presented offset count
 presented_as presented call.InitRecovery = nothing
 presented_as presented (call.UpdateReplica count) = nothing
 presented_as presented (call.SendCopy to) = nothing
 presented_as presented (call.TakeCopy bytes) = nothing
 
-abbrev pub asked_in : NodeCall → client.DataCall
-asked_in (Presenting presented asked) = presented_as presented asked
-asked_in (Invalidate block stamp) = nothing
-asked_in (Keys update) = nothing
+abbrev pub asked_of_replica : NodeCall → outside.DataCall
+asked_of_replica (Presenting presented asked) = presented_as presented asked
+asked_of_replica (Invalidate block stamp) = nothing
+asked_of_replica (Keys update) = nothing
+
+abbrev pub asked_of_plan : PlanCall → outside.DataCall
+asked_of_plan (plan.Recover block stamp nodes token) = nothing
+asked_of_plan (plan.Reply node block stamp state bytes) = nothing
+asked_of_plan (plan.Decide block stamp) = outside.Decide block stamp
+asked_of_plan (plan.Updated node block stamp) = nothing
+asked_of_plan (plan.Commit block stamp) = outside.Commit block stamp
+
+abbrev pub asked_in : Asked → outside.DataCall
+asked_in (Replica own) = asked_of_replica own
+asked_in (Plan own) = asked_of_plan own
+
+-- as if a message brought it
+abbrev pub brought_as : ℕ → Asked → Message
+brought_as node (Replica own) = message.Node node own
+brought_as node (Plan own) = message.Plan node own

@@ -22,12 +22,12 @@ use Rattle.node_calls.specs.declared.message.Message.TheVariants as message
 use Rattle.node_calls.specs.declared.presented.Presented.{Presented}
 use Rattle.node_replies.specs.Asking.{asked_by, mode_of}
 use Rattle.datanode.specs.NodeStep.{Node, clock_with}
-use Rattle.cluster_trace.specs.DataCall.{node_call}
+use Rattle.cluster_trace.specs.DataCall.{as_message}
 use Rattle.cluster_trace.specs.Trace.{State, Opening, Happened, entry_of, message_at, reporting, is_from_outside, happened, after}
 use Rattle.cluster_trace.specs.declared.event.Event.{Event}
 use Rattle.cluster_trace.specs.declared.event.Event.TheVariants.{Name, Deliver, Data}
 use Rattle.cluster_trace.specs.declared.outcome.EventAnswer.{EventAnswer}
-use Rattle.cluster_trace.specs.declared.outcome.EventAnswer.TheVariants.{Named, Called, Lost}
+use Rattle.cluster_trace.specs.declared.outcome.EventAnswer.TheVariants.{Named, Called, Led, Lost}
 
 abbrev pub IsIn : {X : Type 0} → X → List X → Type 0
 IsIn x [] = ⊥
@@ -85,7 +85,7 @@ call_brought now _ = None
 abbrev pub call_of : State → Event → Option CallAt
 call_of state (Name request) = None
 call_of state (Deliver number now) = call_brought now (message_at number state.messages)
-call_of state (Data node now asked) = Some (record { node = node; now = now; call = node_call asked })
+call_of state (Data node now asked) = call_brought now (Some (as_message node asked))
 
 -- ---- the theorem, for one event behind others
 
@@ -107,6 +107,7 @@ abbrev pub IsCoveredWhere : State → ℕ → Option Node → NodeCall → Event
 IsCoveredWhere state now found asked (Called (Ok told)) = IsCovered state now found asked
 IsCoveredWhere state now found asked (Called (Err refusal)) = ⊤
 IsCoveredWhere state now found asked (Named place) = ⊤
+IsCoveredWhere state now found asked (Led result) = ⊤
 IsCoveredWhere state now found asked (Lost refusal) = ⊤
 
 abbrev pub IsServedRightly : State → Option CallAt → EventAnswer → Type 0

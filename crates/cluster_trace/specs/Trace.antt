@@ -24,18 +24,22 @@ use Rattle.history.specs.LegalHistory.{verdict_of}
 use Rattle.history.specs.declared.entry.HistoryEntry.{HistoryEntry}
 use Rattle.node_calls.specs.declared.call.NodeCall.{NodeCall}
 use Rattle.node_calls.specs.declared.call.NodeCall.TheVariants.{Invalidate, Keys}
+use Rattle.node_calls.specs.declared.call.PlanCall.{PlanCall}
 use Rattle.node_calls.specs.declared.call.PlanCall.TheVariants as plan
 use Rattle.node_calls.specs.declared.message.Message.{Message}
 use Rattle.node_calls.specs.declared.message.Message.TheVariants as message
 use Rattle.datanode.specs.NodeStep.{Node, node_after, node_answer, copying}
 use Rattle.datanode.specs.declared.answered.Answered.{Answered}
-use Rattle.cluster_trace.specs.DataCall.{node_call}
+use Rattle.block_recovery.specs.Plans.{PlanTable}
+use Rattle.plan_steps.specs.PlanStep.{plans_after, plan_answer}
+use Rattle.plan_steps.specs.declared.answered.PlanAnswered.{PlanAnswered}
+use Rattle.cluster_trace.specs.DataCall.{as_message}
 use Rattle.cluster_trace.specs.declared.event.Event.{Event}
 use Rattle.cluster_trace.specs.declared.event.Event.TheVariants.{Name, Deliver, Data}
 use Rattle.cluster_trace.specs.declared.outcome.ClusterRefusal.{ClusterRefusal}
 use Rattle.cluster_trace.specs.declared.outcome.ClusterRefusal.TheVariants.{NoMessage, NoNode, NotFromOutside}
 use Rattle.cluster_trace.specs.declared.outcome.EventAnswer.{EventAnswer}
-use Rattle.cluster_trace.specs.declared.outcome.EventAnswer.TheVariants.{Named, Called, Lost}
+use Rattle.cluster_trace.specs.declared.outcome.EventAnswer.TheVariants.{Named, Called, Led, Lost}
 use Rattle.cluster_trace.specs.declared.outcome.Outcome.{Outcome}
 
 pub record State : Type 0 where
@@ -44,6 +48,8 @@ pub record State : Type 0 where
   pub entries : List HistoryEntry
   -- the DataNodes by their ids
   pub nodes : List (ℕ × Node)
+  -- of each DataNode the recoveries that it leads
+  pub plans : List (ℕ × PlanTable)
   -- in the order in which they were sent
   pub messages : List Message
 
@@ -61,20 +67,31 @@ new_node limit id = record { id = id; limit = limit; clock = 0; keys = []; block
 abbrev pub with_new_node : ℕ → List (ℕ × Node) → ℕ → List (ℕ × Node)
 with_new_node limit nodes id = insert_entry nat_cmp nodes id (new_node limit id)
 
+-- it leads none
+abbrev pub with_no_plan : List (ℕ × PlanTable) → ℕ → List (ℕ × PlanTable)
+with_no_plan plans id = insert_entry nat_cmp plans id []
+
 abbrev pub start : Opening → State
-start opening = record { opening = opening.name; entries = []; nodes = fold (with_new_node opening.name.config.replica_limit) [] opening.nodes; messages = [] }
+start opening = record {
+  opening = opening.name;
+  entries = [];
+  nodes = fold (with_new_node opening.name.config.replica_limit) [] opening.nodes;
+  plans = fold with_no_plan [] opening.nodes;
+  messages = [];
+}
 
 -- ---- what an event does
 
--- what is answered and sent, and what is left of the NameNode's history and of the DataNodes
+-- what is answered and sent, and what is left of the NameNode's history, of the DataNodes and of the recoveries that they lead
 pub record Happened : Type 0 where
   pub answer : EventAnswer
   pub sent : List Message
   pub entries : List HistoryEntry
   pub nodes : List (ℕ × Node)
+  pub plans : List (ℕ × PlanTable)
 
 abbrev pub lost : State → ClusterRefusal → Happened
-lost state refusal = record { answer = Lost refusal; sent = []; entries = state.entries; nodes = state.nodes }
+lost state refusal = record { answer = Lost refusal; sent = []; entries = state.entries; nodes = state.nodes; plans = state.plans }
 
 -- ---- requests to the NameNode
 
@@ -118,6 +135,7 @@ named state request = record {
   sent = entry_messages (entry_of state request);
   entries = entry_of state request ∷ state.entries;
   nodes = state.nodes;
+  plans = state.plans;
 }
 
 -- messages alone bring what DataNodes report
@@ -128,7 +146,13 @@ is_from_outside _ = true
 -- ---- calls of a DataNode
 
 abbrev pub answered : State → ℕ → Node → Answered → Happened
-answered state id left own = record { answer = Called own.result; sent = own.messages; entries = state.entries; nodes = set_value (is_number id) state.nodes left }
+answered state id left own = record {
+  answer = Called own.result;
+  sent = own.messages;
+  entries = state.entries;
+  nodes = set_value (is_number id) state.nodes left;
+  plans = state.plans;
+}
 
 abbrev pub called_at : State → ℕ → ℕ → NodeCall → Option Node → Happened
 called_at state id now asked None = lost state NoNode
@@ -136,6 +160,24 @@ called_at state id now asked (Some node) = answered state id (node_after node no
 
 abbrev pub called : State → ℕ → ℕ → NodeCall → Happened
 called state id now asked = called_at state id now asked (entry_at id state.nodes)
+
+-- ---- calls of a DataNode about the recoveries that it leads: no clock moves on
+
+abbrev pub led_on : State → ℕ → PlanTable → PlanAnswered → Happened
+led_on state id left own = record {
+  answer = Led own.result;
+  sent = own.messages;
+  entries = state.entries;
+  nodes = state.nodes;
+  plans = set_value (is_number id) state.plans left;
+}
+
+abbrev pub led_at : State → ℕ → PlanCall → Option PlanTable → Happened
+led_at state id asked None = lost state NoNode
+led_at state id asked (Some plans) = led_on state id (plans_after asked plans) (plan_answer id asked plans)
+
+abbrev pub led : State → ℕ → PlanCall → Happened
+led state id asked = led_at state id asked (entry_at id state.plans)
 
 -- ---- messages
 
@@ -149,11 +191,11 @@ abbrev pub reporting : ℕ → ℕ → ℕ → ℕ → ℕ → Request
 reporting node now block stamp bytes =
     record { caller = node_principal node; moment = now; op = op.Reported (record { block = block; stamp = stamp; length = bytes }) }
 
--- nobody leads a recovery yet, and the NameNode is told of none
+-- the NameNode is told of no recovery yet
 abbrev pub delivered : State → ℕ → Option Message → Happened
 delivered state now None = lost state NoMessage
 delivered state now (Some (message.Node node asked)) = called state node now asked
-delivered state now (Some (message.Plan node asked)) = lost state NoMessage
+delivered state now (Some (message.Plan node asked)) = led state node asked
 delivered state now (Some (message.Reported node block stamp bytes)) = named state (reporting node now block stamp bytes)
 delivered state now (Some (message.CommitRecovery node block stamp bytes nodes)) = lost state NoMessage
 
@@ -162,7 +204,7 @@ delivered state now (Some (message.CommitRecovery node block stamp bytes nodes))
 abbrev pub happened : State → Event → Happened
 happened state (Name request) = if is_from_outside request.op then named state request else lost state NotFromOutside
 happened state (Deliver number now) = delivered state now (message_at number state.messages)
-happened state (Data node now asked) = called state node now (node_call asked)
+happened state (Data node now asked) = delivered state now (Some (as_message node asked))
 
 -- the numbers of what it sends go on from those before
 abbrev pub outcome_of : State → Happened → Outcome
@@ -172,7 +214,7 @@ abbrev pub outcome : State → Event → Outcome
 outcome state event = outcome_of state (happened state event)
 
 abbrev pub left_by : State → Happened → State
-left_by state what = record { opening = state.opening; entries = what.entries; nodes = what.nodes; messages = state.messages ++ what.sent }
+left_by state what = record { opening = state.opening; entries = what.entries; nodes = what.nodes; plans = what.plans; messages = state.messages ++ what.sent }
 
 abbrev pub happens : State → Event → State
 happens state event = left_by state (happened state event)

@@ -1,17 +1,29 @@
-ghost use Rattle.std.specs.Prelude.{◌≡◌};
+ghost use Rattle.std.specs.Prelude.{◌≡◌, ℕ};
 ghost use Rattle.cluster_trace.specs.DataCall as asked;
-ghost use Rattle.cluster_trace.specs.DataCall.{node_call};
+ghost use Rattle.cluster_trace.specs.DataCall.{as_message};
+ghost use Rattle.cluster_trace.specs.Kept.{brought_as};
 
+use hdfs_values::ids::{BlockId, Stamp};
 use node_calls::block_bytes::BlockBytes;
-use node_calls::call::{NodeCall, TokenCall};
+use node_calls::call::{NodeCall, PlanCall, TokenCall};
 use node_calls::node_list::NodeList;
 use node_calls::presented::Presented;
 use std::marker::Model;
 
-/// What a client asks of a DataNode himself: to write a replica, or to read it. Every other call of a DataNode comes with a message.
+/// A call as a DataNode is asked it.
+#[derive(Drop)]
+pub enum Asked {
+    /// Of a replica.
+    Replica(NodeCall),
+    /// Of the recoveries that the node leads.
+    Plan(PlanCall),
+}
+
+/// What is asked of a DataNode from outside: a client asks to write a replica, or to read it, and a node that leads the recovery of a block
+/// is to go on with it. Every other call of a DataNode comes with a message.
 #[derive(Drop)]
 pub struct DataCall {
-    call: NodeCall,
+    asked: Asked,
 }
 
 impl Model for DataCall {
@@ -22,9 +34,9 @@ impl Model for DataCall {
 
     ghost use Rattle.cluster_trace.specs.Kept.{asked_in, is_asked};
 
-    ghost view = { λ own. asked_in own.call };
+    ghost view = { λ own. asked_in own.asked };
 
-    ghost invariant = { λ own. is_asked own.call ≡ true };
+    ghost invariant = { λ own. is_asked own.asked ≡ true };
 }
 
 impl DataCall {
@@ -33,7 +45,7 @@ impl DataCall {
         ensures { result ≡ asked.BeginWrite presented next }
     {
         DataCall {
-            call: NodeCall::Presenting(presented, TokenCall::Begin(next)),
+            asked: Asked::Replica(NodeCall::Presenting(presented, TokenCall::Begin(next))),
         }
     }
 
@@ -42,7 +54,7 @@ impl DataCall {
         ensures { result ≡ asked.Packet presented offset bytes next }
     {
         DataCall {
-            call: NodeCall::Presenting(presented, TokenCall::Packet(offset, bytes, next)),
+            asked: Asked::Replica(NodeCall::Presenting(presented, TokenCall::Packet(offset, bytes, next))),
         }
     }
 
@@ -51,7 +63,7 @@ impl DataCall {
         ensures { result ≡ asked.Finalize presented length next }
     {
         DataCall {
-            call: NodeCall::Presenting(presented, TokenCall::Finalize(length, next)),
+            asked: Asked::Replica(NodeCall::Presenting(presented, TokenCall::Finalize(length, next))),
         }
     }
 
@@ -60,14 +72,32 @@ impl DataCall {
         ensures { result ≡ asked.Read presented offset count }
     {
         DataCall {
-            call: NodeCall::Presenting(presented, TokenCall::Read(offset, count)),
+            asked: Asked::Replica(NodeCall::Presenting(presented, TokenCall::Read(offset, count))),
+        }
+    }
+
+    /// The leading node decides on the length of the block whose recovery has this stamp. Takes no memory.
+    pub fn decide(block: BlockId, stamp: Stamp) -> DataCall
+        ensures { result ≡ asked.Decide block stamp }
+    {
+        DataCall {
+            asked: Asked::Plan(PlanCall::Decide(block, stamp)),
+        }
+    }
+
+    /// The leading node tells the NameNode of the block whose recovery has this stamp. Takes no memory.
+    pub fn commit(block: BlockId, stamp: Stamp) -> DataCall
+        ensures { result ≡ asked.Commit block stamp }
+    {
+        DataCall {
+            asked: Asked::Plan(PlanCall::Commit(block, stamp)),
         }
     }
 
     /// The call as a DataNode is asked it. Takes no memory.
-    pub fn as_node_call(&self) -> &NodeCall
-        ensures { result.now ≡ node_call self.now }
+    pub fn as_asked(&self) -> &Asked
+        ensures { (node : ℕ) → brought_as node result.now ≡ as_message node self.now }
     {
-        &self.call
+        &self.asked
     }
 }

@@ -10,6 +10,6 @@ pub enum Event {
     Name(Request),
     /// The message of this number is delivered at a moment: once more, if it was delivered before.
     Deliver(u64, Moment),
-    /// A client's call of a DataNode, at a moment.
+    /// A call of a DataNode, at a moment.
     Data(NodeId, Moment, DataCall),
 }

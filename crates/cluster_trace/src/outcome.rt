@@ -1,7 +1,9 @@
 ghost use Rattle.std.specs.Prelude.{Some};
 
+use block_recovery::fault::PlanRefusal;
 use node_calls::refusal::NodeRefusal;
 use node_calls::reply::NodeReply;
+use plan_steps::answered::PlanReply;
 use std::fmt;
 
 /// Why an event does nothing. It stays in the list of events all the same, and no clock moves on.
@@ -37,6 +39,8 @@ pub enum EventAnswer {
     Named(u64),
     /// A DataNode's answer.
     Called(Result<NodeReply, NodeRefusal>),
+    /// The answer of a DataNode that leads recoveries.
+    Led(Result<PlanReply, PlanRefusal>),
     Lost(ClusterRefusal),
 }
 

@@ -1,10 +1,12 @@
 -- The lines of a script present granted tokens alone.
-use Rattle.std.proofs.Common.{◌≡◌, ℕ, zero, suc, ◌+◌, Bool, true, false, inl, inr, List, [], ◌∷◌, length, Option, Some, None, Result, Ok, Err, refl, sym, subst}
+use Rattle.std.proofs.Common.{◌≡◌, ℕ, zero, suc, ◌+◌, Bool, true, false, inl, inr, List, [], ◌∷◌, length, Option, Some, None, Result, Ok, Err, refl, sym, subst, codes}
 use Rattle.std.specs.Prelude.{slice_get, if◌then◌else◌, IfOk, ok_or}
 use Rattle.std.specs.List.{fold}
 use Rattle.std.specs.Option.{option_and_then, option_map}
 use Rattle.grant_ledger.specs.declared.ledger.LedgerRow.{LedgerRow}
+use Rattle.hdfs_values.specs.NodeId.{node_of}
 use Rattle.hdfs_values.specs.Number.{number_of}
+use Rattle.hdfs_values.specs.Text.{same}
 use Rattle.hdfs_values.specs.declared.fault.IllFormed.{IllFormed}
 use Rattle.hdfs_values.specs.declared.fault.IllFormed.TheVariants.{BadLine}
 use Rattle.history.specs.Config as name
@@ -14,14 +16,15 @@ use Rattle.script_words.specs.Words.{is_skipped, without_return, words_of}
 use Rattle.script_text.specs.Script.{request_of}
 use Rattle.node_words.specs.Words.{behind, token_at, token_word, next_word, bytes_word}
 use Rattle.node_calls.specs.declared.presented.Presented.{Presented}
-use Rattle.cluster_trace.specs.DataCall.{DataCall, node_call, BeginWrite, Packet, Finalize, Read}
+use Rattle.cluster_trace.specs.DataCall.{DataCall, BeginWrite, Packet, Finalize, Read, Decide, Commit}
 use Rattle.cluster_trace.specs.Provenance.{IsIn}
 use Rattle.cluster_trace.specs.Trace.{Opening, after}
 use Rattle.cluster_trace.specs.declared.event.Event.{Event}
 use Rattle.cluster_trace.proofs.Each.{some_is, never_some}
 use Rattle.cluster_core.specs.Past.{Past}
 use Rattle.cluster_core.specs.World.{state_after, stepped}
-use Rattle.cluster_text.specs.EventLine.{is_call, place_of, presented_of, begin_of, packet_of, finalize_of, read_of, call_of, asker_of, asked_by, node_event, is_delivery, delivery_event, names_node, event_of}
+use Rattle.cluster_text.specs.EventLine.{is_call, place_of, presented_of, begin_of, packet_of, finalize_of, read_of, going_on, is_that, led_of, call_of, asker_of, asked_by, node_event, is_delivery, delivery_event, names_node, event_of}
+use Rattle.cluster_text.specs.declared.event_line.NodeAsker.{NodeAsker}
 use Rattle.forgery_laws.specs.Forgeries.{IsTokenOf, Shows, PresentsOf, AllPresentGranted, ScriptsForgeNothing}
 use Rattle.forgery_laws.proofs.Sent.{nothing_is_forged}
 use Rattle.cluster_runs.specs.Output.{State, no_lines, ledger_after, answered, event_in, after_answer, after_line}
@@ -63,7 +66,7 @@ token_has rows word = by (option_and_then number_of (behind 35 word))
 
 module _ (rows : List LedgerRow) where
   abbrev CallShows : DataCall → Type 0
-  CallShows asked = Shows rows (node_call asked)
+  CallShows asked = Shows rows asked
 
   presented_has : (caller : List ℕ) (at : _) (token : List ℕ) → IfOk (presented_of rows caller at token) (λ presented. IsTokenOf rows presented.token)
   presented_has caller at token = then_uses (λ (presented : Presented). IsTokenOf rows presented.token) (IsTokenOf rows) (token_word rows token) _ (token_has rows token) (λ t h. h)
@@ -95,20 +98,34 @@ module _ (rows : List LedgerRow) where
   five_has true caller block stamp number next token = finalize_has caller block stamp number next token
   five_has false caller block stamp number next token = read_has caller block stamp number next token
 
-  call_has : (caller verb : List ℕ) (words : List (List ℕ)) → IfOk (call_of rows caller verb words) CallShows
-  call_has caller verb [] = tt
-  call_has caller verb (a ∷ []) = tt
-  call_has caller verb (a ∷ b ∷ []) = tt
-  call_has caller verb (a ∷ b ∷ c ∷ []) = tt
-  call_has caller verb (a ∷ b ∷ c ∷ d ∷ []) = begin_has caller a b c d
-  call_has caller verb (a ∷ b ∷ c ∷ d ∷ e ∷ []) = five_has _ caller a b c d e
-  call_has caller verb (a ∷ b ∷ c ∷ d ∷ e ∷ f ∷ []) = packet_has caller a b c d e f
-  call_has caller verb (a ∷ b ∷ c ∷ d ∷ e ∷ f ∷ g ∷ words) = tt
+  going_on_has : (verb block stamp : List ℕ) → IfOk (going_on verb block stamp) CallShows
+  going_on_has verb block stamp = then_has CallShows (place_of block stamp) _ (λ at. by at.block at.stamp (same verb (codes "decide")))
+    where
+      by : (b s : ℕ) (decides : Bool) → CallShows (if decides then Decide b s else Commit b s)
+      by b s true = tt
+      by b s false = tt
+
+  led_has : (asker : NodeAsker) (verb block stamp : List ℕ) → IfOk (led_of asker verb block stamp) CallShows
+  led_has asker verb block stamp = by (is_that asker.node (node_of asker.caller))
+    where
+      by : (own : Bool) → IfOk (if own then going_on verb block stamp else Err BadLine) CallShows
+      by true = going_on_has verb block stamp
+      by false = tt
+
+  call_has : (asker : NodeAsker) (verb : List ℕ) (words : List (List ℕ)) → IfOk (call_of rows asker verb words) CallShows
+  call_has asker verb [] = tt
+  call_has asker verb (a ∷ []) = tt
+  call_has asker verb (a ∷ b ∷ []) = led_has asker verb a b
+  call_has asker verb (a ∷ b ∷ c ∷ []) = tt
+  call_has asker verb (a ∷ b ∷ c ∷ d ∷ []) = begin_has asker.caller a b c d
+  call_has asker verb (a ∷ b ∷ c ∷ d ∷ e ∷ []) = five_has _ asker.caller a b c d e
+  call_has asker verb (a ∷ b ∷ c ∷ d ∷ e ∷ f ∷ []) = packet_has asker.caller a b c d e f
+  call_has asker verb (a ∷ b ∷ c ∷ d ∷ e ∷ f ∷ g ∷ words) = tt
 
   -- ---- events
 
-  asked_has : (asker : _) (verb : List ℕ) (words : List (List ℕ)) → IfOk (asked_by rows asker verb words) (PresentsOf rows)
-  asked_has asker verb words = then_uses (PresentsOf rows) CallShows (call_of rows asker.caller verb words) _ (call_has asker.caller verb words) (λ call h. h)
+  asked_has : (asker : NodeAsker) (verb : List ℕ) (words : List (List ℕ)) → IfOk (asked_by rows asker verb words) (PresentsOf rows)
+  asked_has asker verb words = then_uses (PresentsOf rows) CallShows (call_of rows asker verb words) _ (call_has asker verb words) (λ call h. h)
 
   data_has : (is : Bool) (moment caller node verb : List ℕ) (words : List (List ℕ))
       → IfOk (if is then (asker_of moment caller node >>= (λ asker. asked_by rows asker verb words)) else Err BadLine) (PresentsOf rows)

@@ -3,9 +3,8 @@ use Rattle.std.specs.Prelude.{◌≡◌, ℕ, List, [], ◌∷◌}
 use Rattle.std.specs.Bool.{⊤}
 use Rattle.grant_ledger.specs.declared.ledger.LedgerRow.{LedgerRow}
 use Rattle.history.specs.Grants.{ledger_of}
-use Rattle.node_calls.specs.declared.call.NodeCall.{NodeCall}
-use Rattle.node_calls.specs.declared.call.NodeCall.TheVariants.{Presenting, Invalidate, Keys}
-use Rattle.cluster_trace.specs.DataCall.{node_call}
+use Rattle.node_calls.specs.declared.presented.Presented.{Presented}
+use Rattle.cluster_trace.specs.DataCall.{DataCall, BeginWrite, Packet, Finalize, Read, Decide, Commit}
 use Rattle.cluster_trace.specs.Trace.{State, Opening, after}
 use Rattle.cluster_trace.specs.Provenance.{IsIn}
 use Rattle.cluster_trace.specs.declared.event.Event.{Event}
@@ -17,11 +16,14 @@ use Rattle.cluster_runs.specs.Output.{after_lines}
 abbrev pub IsTokenOf : List LedgerRow → List ℕ → Type 0
 IsTokenOf rows token = (row : LedgerRow) × IsIn row rows × (row.grant.token ≡ token)
 
--- the NameNode granted the token that a call presents
-abbrev pub Shows : List LedgerRow → NodeCall → Type 0
-Shows rows (Presenting presented asked) = IsTokenOf rows presented.token
-Shows rows (Invalidate block stamp) = ⊤
-Shows rows (Keys update) = ⊤
+-- the NameNode granted the token that a client presents; a node that goes on with a recovery presents none
+abbrev pub Shows : List LedgerRow → DataCall → Type 0
+Shows rows (BeginWrite presented next) = IsTokenOf rows presented.token
+Shows rows (Packet presented offset bytes next) = IsTokenOf rows presented.token
+Shows rows (Finalize presented count next) = IsTokenOf rows presented.token
+Shows rows (Read presented offset count) = IsTokenOf rows presented.token
+Shows rows (Decide block stamp) = ⊤
+Shows rows (Commit block stamp) = ⊤
 
 -- what was granted so far
 abbrev pub granted_in : State → List LedgerRow
@@ -31,7 +33,7 @@ granted_in state = ledger_of state.opening state.entries
 abbrev pub PresentsOf : List LedgerRow → Event → Type 0
 PresentsOf rows (Name request) = ⊤
 PresentsOf rows (Deliver number now) = ⊤
-PresentsOf rows (Data node now asked) = Shows rows (node_call asked)
+PresentsOf rows (Data node now asked) = Shows rows asked
 
 -- at each event
 abbrev pub AllPresentGranted : Opening → List Event → Type 0

@@ -3,3 +3,5 @@
 
 #[cfg(test)]
 mod plans;
+#[cfg(test)]
+mod steps;

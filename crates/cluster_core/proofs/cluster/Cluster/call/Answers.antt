@@ -10,5 +10,5 @@ returns-clause-outcome c =
     c.note_answer.ensures.outcome
     ∙ ap (λ (n : ℕ). answer_outcome n c.in_ok-answered.answered) c.make_room.ensures.count
     ∙ ap (answer_outcome own.sent.count) c.in_ok-answered.ensures.answer
-    ∙ called_outcome own.core own.nodes own.sent.batches.items own.sent.count c.self.invariant c.args.node c.args.now c.args.call.now
+    ∙ called_outcome own.core own.nodes own.leaders own.sent.batches.items own.sent.count c.self.invariant c.args.node c.args.now c.args.call.now
     ∙ ap (λ (state : State). outcome_of state (called state c.args.node c.args.now c.args.call.now)) c.self.view_is

@@ -6,11 +6,11 @@ use Rattle.cluster_trace.specs.Typed.{GrantsFit}
 use Rattle.cluster_core.proofs.Naming.{IsNamed, is_named, noted_behind, grants_fit}
 use Rattle.cluster_core.proofs.cluster.Cluster.name.Goals as goal
 
-done : (c : goal.After-place) → IsNamed c.self.inside.core c.append.new.self c.self.inside.nodes c.self.inside.sent.batches.items c.add-first.new.self.batches.items c.self.inside.sent.count
+done : (c : goal.After-place) → IsNamed c.self.inside.core c.append.new.self c.self.inside.nodes c.self.inside.leaders c.self.inside.sent.batches.items c.add-first.new.self.batches.items c.self.inside.sent.count
     c.add-first.new.self.count c.last_count-count.result c.args.request
 done c =
     let own = c.self.inside in
-    is_named own.core c.append.new.self own.nodes own.sent.batches.items c.add-first.new.self.batches.items own.sent.count c.add-first.new.self.count c.last_count-count.result c.place-index.result c.args.request
+    is_named own.core c.append.new.self own.nodes own.leaders own.sent.batches.items c.add-first.new.self.batches.items own.sent.count c.add-first.new.self.count c.last_count-count.result c.place-index.result c.args.request
     c.in_ok-append.ensures.ok c.self.invariant c.place-index.ensures.place c.last_count-count.ensures.count
     (noted_behind c.place-index.result c.last_count-count.result own.sent.batches.items c.make_room.new.self.batches.items c.add-first.new.self.batches.items own.sent.count c.make_room.new.self.count c.add-first.new.self.count
     c.make_room.ensures.batches c.make_room.ensures.count (record { messages = c.add-first.ensures.messages; laid = c.add-first.ensures.laid }))

@@ -10,6 +10,6 @@ returns-clause-outcome c =
     let own = c.self.inside in
     c.note_nothing.ensures
     ∙ ap (λ (n : ℕ). record { answer = Lost NotFromOutside; first = n + 1; count = 0 }) c.make_room.ensures.count
-    ∙ lost_outcome own.core own.nodes own.sent.batches.items own.sent.count c.self.invariant NotFromOutside
+    ∙ lost_outcome own.core own.nodes own.leaders own.sent.batches.items own.sent.count c.self.invariant NotFromOutside
     ∙ ap (λ (state : State). outcome_of state (lost state NotFromOutside)) c.self.view_is
     ∙ ap (outcome_of c.args.self.now) (sym (not_taken c.args.self.now c.args.request.now c.requires))

@@ -1,5 +1,5 @@
 use Rattle.std.proofs.Common.{◌++◌, ◌∷◌, [], List, length, refl, sym, ap, ◌∙◌}
-use Rattle.cluster_trace.specs.Trace.{State, outcome_of}
+use Rattle.cluster_trace.specs.Trace.{outcome_of}
 use Rattle.cluster_trace.specs.declared.event.Event.TheVariants.{Name}
 use Rattle.cluster_core.specs.declared.kept.KeptEvent.{KeptEvent}
 use Rattle.cluster_core.specs.declared.kept.KeptEvent.TheVariants.{Asked}

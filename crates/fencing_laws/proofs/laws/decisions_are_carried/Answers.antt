@@ -1,0 +1,8 @@
+use Rattle.fencing_laws.proofs.Decided.{updates_are_decided, commits_are_decided}
+use Rattle.fencing_laws.proofs.laws.decisions_are_carried.Goals as goal
+
+pub returns-clause-updates : goal.returns-clause-updates
+returns-clause-updates c = updates_are_decided
+
+pub returns-clause-commits : goal.returns-clause-commits
+returns-clause-commits c = commits_are_decided

@@ -1,0 +1,26 @@
+//! Laws about the recoveries of blocks in clusters. Each function does nothing: what it ensures follows from the definitions.
+
+ghost use Rattle.fencing_laws.specs.Fencing as law;
+
+/// Whatever happens in a cluster, a stamp that a DataNode promised never falls, nor does the stamp of its replica, and once it let a
+/// recovery begin, it takes no packet of an older stamp (HDFS-265: generation stamps fence old writers).
+pub fn old_writers_are_fenced()
+    ensures promises { law.PromisesStay }
+    ensures stamps { law.StampsStay }
+    ensures fenced { law.OldWritersAreFenced }
+{}
+
+/// Whatever happens in a cluster, the DataNodes and nobody else lead recoveries, and a plan stays as it was begun, answered and decided
+/// (HDFS-265, "Block recovery").
+pub fn plans_stay()
+    ensures lead { law.NodesLead }
+    ensures stay { law.PlansStay }
+    ensures right { law.PlansAreRight }
+{}
+
+/// Whatever messages are lost, repeated or late, a replica is recovered to a length that a plan decided, in which its node takes part, and
+/// the NameNode is told what the plan of the sender decided (HDFS-265, "Block recovery").
+pub fn decisions_are_carried()
+    ensures updates { law.UpdatesAreDecided }
+    ensures commits { law.CommitsAreDecided }
+{}

@@ -1,0 +1,227 @@
+ghost use Rattle.std.specs.Prelude.{◌≡◌, [], IfOk, OnOk, OnErr, Ok, Err};
+ghost use Rattle.node_calls.specs.declared.call.PlanCall.TheVariants as asked;
+ghost use Rattle.plan_steps.specs.PlanStep as spec;
+ghost use Rattle.plan_steps.specs.PlanStep.{plans_after, plan_answer};
+
+use crate::answered::{PlanAnswered, PlanReply};
+use crate::orders::{inits, presenting, updates};
+use block_records::node_set::NodeSet;
+use block_recovery::answer::Answer;
+use block_recovery::fault::{PlanFault, PlanRefusal};
+use block_recovery::plans::Plans;
+use block_recovery::recover::Recover;
+use block_tokens::token::TokenBytes;
+use hdfs_values::ids::{BlockId, Stamp};
+use hdfs_values::node_id::NodeId;
+use node_calls::call::{PlanCall, ReplicaState};
+use node_calls::message::{Message, Messages};
+use node_calls::presented::PresentedToken;
+use std::alloc::{AllocError, Global};
+
+fn refuse(alloc: Global, refusal: PlanRefusal) -> PlanAnswered
+    ensures { result ≡ record { result = Err refusal; messages = [] } }
+{
+    PlanAnswered {
+        result: Err(refusal),
+        messages: Messages::new(alloc),
+    }
+}
+
+fn note(alloc: Global) -> PlanAnswered
+    ensures { result ≡ record { result = Ok PlanReply.Noted; messages = [] } }
+{
+    PlanAnswered {
+        result: Ok(PlanReply::Noted),
+        messages: Messages::new(alloc),
+    }
+}
+
+/// Begins a recovery that the node is to lead, and asks the nodes for their replicas. Costs a look-up, and the nodes.
+///
+/// # Errors
+/// Out of memory. Nothing has changed then.
+pub fn begin(
+    alloc: Global,
+    plans: &mut Plans,
+    leader: NodeId,
+    recover: &Recover,
+) -> Result<PlanAnswered, AllocError>
+    ensures ok { OnOk result (plans.new ≡ plans_after (asked.Recover recover.now.block recover.now.stamp recover.now.nodes recover.now.token) plans.old) }
+    ensures answer { IfOk result (λ answered. answered ≡ plan_answer leader (asked.Recover recover.now.block recover.now.stamp recover.now.nodes recover.now.token) plans.old) }
+    ensures err { OnErr result (plans.new ≡ plans.old) }
+{
+    let (block, stamp) = (recover.block, recover.stamp);
+    let presented = presenting(alloc, leader, block, stamp, recover.token.as_bytes())?;
+    let messages = inits(alloc, &presented, recover.nodes.as_slice())?;
+    match plans.begin(recover) {
+        Ok(nodes) => Ok(PlanAnswered {
+            result: Ok(PlanReply::Asked(nodes.as_slice().len() as u64)),
+            messages,
+        }),
+        Err(PlanFault::Refused(refusal)) => Ok(refuse(alloc, refusal)),
+        Err(PlanFault::OutOfMemory) => Err(AllocError),
+    }
+}
+
+// The recovery that a message tells of.
+fn recover_of(
+    alloc: Global,
+    block: BlockId,
+    stamp: Stamp,
+    nodes: &NodeSet,
+    token: &PresentedToken,
+) -> Result<Recover, AllocError>
+    ensures { IfOk result (λ recover. recover ≡ spec.recover_of block stamp nodes.now token.now) }
+{
+    Ok(Recover {
+        block,
+        stamp,
+        nodes: nodes.clone()?,
+        token: TokenBytes::new(Vec::from_slice(alloc, token.as_bytes())?),
+    })
+}
+
+fn answer_of(state: ReplicaState, length: u64) -> Answer
+    ensures { result ≡ spec.answer_of state length }
+{
+    let finalized = match state {
+        ReplicaState::Writing => false,
+        ReplicaState::Finalized => true,
+    };
+    Answer { length, finalized }
+}
+
+fn reply(
+    alloc: Global,
+    plans: &mut Plans,
+    leader: NodeId,
+    node: NodeId,
+    block: BlockId,
+    stamp: Stamp,
+    state: ReplicaState,
+    length: u64,
+) -> Result<PlanAnswered, AllocError>
+    ensures ok { OnOk result (plans.new ≡ plans_after (asked.Reply node block stamp state length) plans.old) }
+    ensures answer { IfOk result (λ answered. answered ≡ plan_answer leader (asked.Reply node block stamp state length) plans.old) }
+    ensures err { OnErr result (plans.new ≡ plans.old) }
+{
+    match plans.reply(block, stamp, node, answer_of(state, length)) {
+        Ok(()) => Ok(note(alloc)),
+        Err(PlanFault::Refused(refusal)) => Ok(refuse(alloc, refusal)),
+        Err(PlanFault::OutOfMemory) => Err(AllocError),
+    }
+}
+
+// What the nodes that take part are sent once the plan is decided by the answers that it has.
+fn decided_updates(
+    alloc: Global,
+    plans: &Plans,
+    leader: NodeId,
+    block: BlockId,
+    stamp: Stamp,
+) -> Result<Messages, AllocError>
+    ensures { IfOk result (λ sent. sent ≡ spec.plan_sends leader (asked.Decide block stamp) plans.now) }
+{
+    let Some(plan) = plans.get(block, stamp) else {
+        return Ok(Messages::new(alloc));
+    };
+    let Some(decision) = plan.answers.decision(alloc)? else {
+        return Ok(Messages::new(alloc));
+    };
+    let presented = presenting(alloc, leader, block, stamp, plan.token.as_bytes())?;
+    updates(alloc, &presented, decision.length, decision.nodes.as_slice())
+}
+
+fn decide(
+    alloc: Global,
+    plans: &mut Plans,
+    leader: NodeId,
+    block: BlockId,
+    stamp: Stamp,
+) -> Result<PlanAnswered, AllocError>
+    ensures ok { OnOk result (plans.new ≡ plans_after (asked.Decide block stamp) plans.old) }
+    ensures answer { IfOk result (λ answered. answered ≡ plan_answer leader (asked.Decide block stamp) plans.old) }
+    ensures err { OnErr result (plans.new ≡ plans.old) }
+{
+    let messages = decided_updates(alloc, plans, leader, block, stamp)?;
+    match plans.decide(block, stamp) {
+        Ok(decision) => Ok(PlanAnswered {
+            result: Ok(PlanReply::Decided(decision)),
+            messages,
+        }),
+        Err(PlanFault::Refused(refusal)) => Ok(refuse(alloc, refusal)),
+        Err(PlanFault::OutOfMemory) => Err(AllocError),
+    }
+}
+
+fn note_updated(
+    alloc: Global,
+    plans: &mut Plans,
+    leader: NodeId,
+    node: NodeId,
+    block: BlockId,
+    stamp: Stamp,
+) -> Result<PlanAnswered, AllocError>
+    ensures ok { OnOk result (plans.new ≡ plans_after (asked.Updated node block stamp) plans.old) }
+    ensures answer { IfOk result (λ answered. answered ≡ plan_answer leader (asked.Updated node block stamp) plans.old) }
+    ensures err { OnErr result (plans.new ≡ plans.old) }
+{
+    match plans.updated(block, stamp, node) {
+        Ok(()) => Ok(note(alloc)),
+        Err(PlanFault::Refused(refusal)) => Ok(refuse(alloc, refusal)),
+        Err(PlanFault::OutOfMemory) => Err(AllocError),
+    }
+}
+
+fn commit(
+    alloc: Global,
+    plans: &Plans,
+    leader: NodeId,
+    block: BlockId,
+    stamp: Stamp,
+) -> Result<PlanAnswered, AllocError>
+    ensures ok { OnOk result (plans.now ≡ plans_after (asked.Commit block stamp) plans.now) }
+    ensures answer { IfOk result (λ answered. answered ≡ plan_answer leader (asked.Commit block stamp) plans.now) }
+{
+    let commit = match plans.commit(block, stamp) {
+        Ok(commit) => commit,
+        Err(PlanFault::Refused(refusal)) => return Ok(refuse(alloc, refusal)),
+        Err(PlanFault::OutOfMemory) => return Err(AllocError),
+    };
+    let length = commit.length;
+    let told = Message::CommitRecovery(leader, block, stamp, length, commit.nodes);
+    Ok(PlanAnswered {
+        result: Ok(PlanReply::Committed(length)),
+        messages: Messages::one(alloc, told)?,
+    })
+}
+
+/// A call of the node with this id about the recoveries that it leads. Costs a look-up, and the nodes of the plan.
+///
+/// # Errors
+/// Out of memory. Nothing has changed then.
+pub fn lead(
+    alloc: Global,
+    plans: &mut Plans,
+    leader: NodeId,
+    call: &PlanCall,
+) -> Result<PlanAnswered, AllocError>
+    ensures ok { OnOk result (plans.new ≡ plans_after call.now plans.old) }
+    ensures answer { IfOk result (λ answered. answered ≡ plan_answer leader call.now plans.old) }
+    ensures err { OnErr result (plans.new ≡ plans.old) }
+{
+    match call {
+        PlanCall::Recover(block, stamp, nodes, token) => {
+            let recover = recover_of(alloc, *block, *stamp, nodes, token)?;
+            begin(alloc, plans, leader, &recover)
+        }
+        PlanCall::Reply(node, block, stamp, state, length) => {
+            reply(alloc, plans, leader, *node, *block, *stamp, *state, *length)
+        }
+        PlanCall::Decide(block, stamp) => decide(alloc, plans, leader, *block, *stamp),
+        PlanCall::Updated(node, block, stamp) => {
+            note_updated(alloc, plans, leader, *node, *block, *stamp)
+        }
+        PlanCall::Commit(block, stamp) => commit(alloc, plans, leader, *block, *stamp),
+    }
+}
