@@ -191,12 +191,7 @@ impl Cluster {
     ///
     /// # Errors
     /// Out of memory. Nothing has changed then.
-    fn call(
-        &mut self,
-        node: NodeId,
-        now: Moment,
-        call: &NodeCall,
-    ) -> Result<Outcome, AllocError>
+    fn call(&mut self, node: NodeId, now: Moment, call: &NodeCall) -> Result<Outcome, AllocError>
         ensures ok { OnOk result (self.new ≡ left_by self.old (called self.old node now call.now)) }
         ensures outcome { IfOk result (λ outcome. outcome ≡ outcome_of self.old (called self.old node now call.now)) }
         ensures bytes { OnOk result (PresentsBytes call.now) }

@@ -170,11 +170,7 @@ fn carry_copy(
 }
 
 // Has a DataNode lead a recovery.
-fn carry_recovery(
-    leaders: &mut Leaders,
-    node: NodeId,
-    own: &Recover,
-) -> Result<Carried, AllocError>
+fn carry_recovery(leaders: &mut Leaders, node: NodeId, own: &Recover) -> Result<Carried, AllocError>
     ensures ok { OnOk result (leaders.new ≡ plans_led node (plan.Recover own.now.block own.now.stamp own.now.nodes own.now.token) leaders.old) }
     ensures carried { IfOk result (λ carried. carried ≡ Carried.Led (answer_led node (plan.Recover own.now.block own.now.stamp own.now.nodes own.now.token) leaders.old)) }
     ensures err { OnErr result (leaders.new ≡ leaders.old) }

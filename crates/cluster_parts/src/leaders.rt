@@ -71,11 +71,7 @@ impl Leaders {
     ///
     /// # Errors
     /// Out of memory. Nothing has changed then.
-    pub fn lead(
-        &mut self,
-        id: NodeId,
-        call: &PlanCall,
-    ) -> Result<Option<PlanAnswered>, AllocError>
+    pub fn lead(&mut self, id: NodeId, call: &PlanCall) -> Result<Option<PlanAnswered>, AllocError>
         ensures ok { OnOk result (self.new ≡ plans_led id call.now self.old) }
         ensures answer { IfOk result (λ answered. answered ≡ answer_led id call.now self.old) }
         ensures err { OnErr result (self.new ≡ self.old) }

@@ -206,12 +206,7 @@ fn is_own(asker: &NodeAsker) -> bool
 }
 
 /// What the two words behind one of two verbs ask of a recovery, in the name of the node that leads it.
-fn led_of(
-    asker: &NodeAsker,
-    verb: &str,
-    block: &str,
-    stamp: &str,
-) -> Result<DataCall, ParseFault>
+fn led_of(asker: &NodeAsker, verb: &str, block: &str, stamp: &str) -> Result<DataCall, ParseFault>
     ensures { Forms result (spec.led_of asker.now verb.now block.now stamp.now) }
 {
     if !is_own(asker) {

@@ -54,7 +54,10 @@ impl DataCall {
         ensures { result ≡ asked.Packet presented offset bytes next }
     {
         DataCall {
-            asked: Asked::Replica(NodeCall::Presenting(presented, TokenCall::Packet(offset, bytes, next))),
+            asked: Asked::Replica(NodeCall::Presenting(
+                presented,
+                TokenCall::Packet(offset, bytes, next),
+            )),
         }
     }
 
@@ -63,7 +66,10 @@ impl DataCall {
         ensures { result ≡ asked.Finalize presented length next }
     {
         DataCall {
-            asked: Asked::Replica(NodeCall::Presenting(presented, TokenCall::Finalize(length, next))),
+            asked: Asked::Replica(NodeCall::Presenting(
+                presented,
+                TokenCall::Finalize(length, next),
+            )),
         }
     }
 

@@ -129,7 +129,12 @@ fn decided_updates(
         return Ok(Messages::new(alloc));
     };
     let presented = presenting(alloc, leader, block, stamp, plan.token.as_bytes())?;
-    updates(alloc, &presented, decision.length, decision.nodes.as_slice())
+    updates(
+        alloc,
+        &presented,
+        decision.length,
+        decision.nodes.as_slice(),
+    )
 }
 
 fn decide(

@@ -26,6 +26,7 @@ enum Call {
 type Row = (Call, &'static str);
 
 const BLOCK: u64 = 1;
+
 const STAMP: u64 = 1002;
 
 fn node(id: u32) -> Result<NodeId, AllocError> {
@@ -182,7 +183,10 @@ static THREE_NODES: [Row; 12] = [
     (Call::Commit, "P4 NoReplicaAnswered"),
     (Call::Updated(3), "noted"),
     (Call::Updated(2), "P2 Stranger"),
-    (Call::Commit, "committed 512; commit by 1 of 1 1002 at 512 3"),
+    (
+        Call::Commit,
+        "committed 512; commit by 1 of 1 1002 at 512 3",
+    ),
 ];
 
 #[test]
