@@ -7,10 +7,12 @@ use Rattle.hdfs_values.specs.declared.fault.IllFormed.{IllFormed}
 use Rattle.hdfs_types.specs.declared.op.Request.{Request}
 use Rattle.history.specs.declared.entry.HistoryEntry.{HistoryEntry}
 use Rattle.node_calls.specs.declared.call.NodeCall.{NodeCall}
+use Rattle.node_calls.specs.declared.call.PlanCall.{PlanCall}
 use Rattle.node_calls.specs.declared.message.Message.{Message}
 use Rattle.node_calls.specs.declared.message.Message.TheVariants as message
 use Rattle.datanode.specs.NodeStep.{Node}
-use Rattle.cluster_trace.specs.DataCall.{node_call}
+use Rattle.block_recovery.specs.Plans.{PlanTable}
+use Rattle.cluster_trace.specs.DataCall.{as_message}
 use Rattle.cluster_trace.specs.Trace as trace
 use Rattle.cluster_trace.specs.declared.event.Event.{Event}
 use Rattle.cluster_trace.specs.declared.event.Event.TheVariants.{Name, Deliver, Data}
@@ -42,10 +44,14 @@ adds_called : (state : trace.State) (id now : ℕ) (asked : NodeCall) (found : O
 adds_called state id now asked None = adds_none state.entries
 adds_called state id now asked (Some node) = adds_none state.entries
 
+adds_led : (state : trace.State) (id : ℕ) (asked : PlanCall) (found : Option PlanTable) → Adds state.entries (trace.led_at state id asked found).entries
+adds_led state id asked None = adds_none state.entries
+adds_led state id asked (Some plans) = adds_none state.entries
+
 adds_delivered : (state : trace.State) (now : ℕ) (found : Option Message) → Adds state.entries (trace.delivered state now found).entries
 adds_delivered state now None = adds_none state.entries
 adds_delivered state now (Some (message.Node node asked)) = adds_called state node now asked (entry_at node state.nodes)
-adds_delivered state now (Some (message.Plan node asked)) = adds_none state.entries
+adds_delivered state now (Some (message.Plan node asked)) = adds_led state node asked (entry_at node state.plans)
 adds_delivered state now (Some (message.Reported node block stamp bytes)) = adds_named state (trace.reporting node now block stamp bytes)
 adds_delivered state now (Some (message.CommitRecovery node block stamp bytes nodes)) = adds_none state.entries
 
@@ -59,7 +65,7 @@ adds_asked state request = by (trace.is_from_outside request.op)
 adds_event : (state : trace.State) (event : Event) → Adds state.entries (trace.happened state event).entries
 adds_event state (Name request) = adds_asked state request
 adds_event state (Deliver number now) = adds_delivered state now (trace.message_at number state.messages)
-adds_event state (Data node now asked) = adds_called state node now (node_call asked) (entry_at node state.nodes)
+adds_event state (Data node now asked) = adds_delivered state now (Some (as_message node asked))
 
 -- ---- lines
 

@@ -34,7 +34,7 @@ const REQUESTS: [&str; 16] = [
     "dn-? heartbeat",
     "dn-? heartbeat",
     "alice create /d/f? 644 1",
-    "alice create /d/f? 644 2",
+    "alice create /d/f? 644 3 over",
     "alice addblock /d/f?",
     "alice addblock /d/f?",
     "alice addblock /d/f? B 1",
@@ -57,14 +57,8 @@ const CALLS: [(&str, &str); 8] = [
     ("finalize", "1 -"),
     ("finalize", "1 3"),
     ("read", "0 1"),
-    ("read", "0 2"),
+    ("read", "0 1"),
 ];
-
-const READ: (&str, &str) = ("read", "0 1");
-
-fn has_modes(granted: Modes, asked: Modes) -> bool {
-    granted.bits() & asked.bits() == asked.bits()
-}
 
 // One of the rows, rather a late one.
 fn row_index(rows: &[LedgerRow], dice: &mut Dice) -> usize
@@ -109,11 +103,7 @@ fn write_call(rows: &[LedgerRow], dice: &mut Dice, line: &mut String) -> Result<
     if dice.below(8) == 0 {
         block = 1 + dice.below(5);
     }
-    let mut call = CALLS[dice.below(8) as usize];
-    if has_modes(grant.modes, Modes::READ) && dice.below(4) > 0 {
-        call = READ;
-    }
-    let (verb, others) = call;
+    let (verb, others) = CALLS[dice.below(8) as usize];
     let node = 1 + dice.below(3);
     let stamp = block.wrapping_add(1000);
     write!(
@@ -133,6 +123,10 @@ fn write_line(world: &World, dice: &mut Dice, sent: u64, line: &mut String) -> R
         _ => write_call(rows, dice, line)?,
     }
     Ok(())
+}
+
+fn has_modes(granted: Modes, asked: Modes) -> bool {
+    granted.bits() & asked.bits() == asked.bits()
 }
 
 // Whether a grant lets the caller of a record do what he did.

@@ -1,7 +1,10 @@
 use crate::made::all_get;
 use std::test::Fail;
 
-static FINE: [(&str, &str); 3] = [
+static FINE: [(&str, &str); 6] = [
+    ("0 dn-1 @1 decide 1 1002", "(none)"),
+    ("0 dn-1 @01 commit 0 18446744073709551615", "(none)"),
+    ("0 dn-4294967295 @4294967295 commit 1 1002\r", "(none)"),
     ("0 - deliver 0", "(none)"),
     ("0 - deliver 18446744073709551615\r", "(none)"),
     ("0 @1 stat /", "(none)"),
@@ -13,7 +16,7 @@ fn well_formed_lines_get_none(rt: HostRuntime) -> Result<(), Fail> {
 }
 
 /// Lines with another number of words, or another verb. The words are ill-formed too, which is judged later.
-static COUNTS: [(&str, &str); 15] = [
+static COUNTS: [(&str, &str); 20] = [
     ("x a:b @x", "a call wants MOMENT CALLER @NODE VERB WORDS"),
     ("x a:b @x frob x", "unknown verb \"frob\" of a DataNode"),
     ("x a:b @x stat /..", "unknown verb \"stat\" of a DataNode"),
@@ -33,6 +36,11 @@ static COUNTS: [(&str, &str); 15] = [
         "x a:b @x read x x x x x x",
         "read wants B STAMP OFFSET LEN #K",
     ),
+    ("x a:b @x decide x", "decide wants B STAMP"),
+    ("x a:b @x decide x x x", "decide wants B STAMP"),
+    ("x a:b @x commit", "commit wants B STAMP"),
+    ("x a:b @x commit x x x x", "commit wants B STAMP"),
+    ("x a:b decide x x", "decide wants @NODE before it"),
     ("x a:b begin x x x x", "begin wants @NODE before it"),
     ("x a:b read", "read wants @NODE before it"),
     ("x a:b deliver x x", "deliver wants the caller -"),
@@ -46,7 +54,7 @@ fn counts_of_words_get_hints(rt: HostRuntime) -> Result<(), Fail> {
 }
 
 /// What stands before the verb, with words behind it that are ill-formed too.
-static FRONTS: [(&str, &str); 12] = [
+static FRONTS: [(&str, &str); 15] = [
     (
         "now a:b @x begin x x x x",
         "moment \"now\" is not decimal digits",
@@ -89,11 +97,63 @@ static FRONTS: [(&str, &str); 12] = [
         "0 ann @01 begin x x x x",
         "block \"x\" is not decimal digits",
     ),
+    ("x a:b @x decide x x", "moment \"x\" is not decimal digits"),
+    (
+        "0 a:b @x decide x x",
+        "\"a:b\" has ':', which no name of a user or a group has",
+    ),
+    (
+        "0 ann @x commit x x",
+        "\"@x\" is not @ and the id of a DataNode, from 1 to 4,294,967,295",
+    ),
 ];
 
 #[test]
 fn moments_callers_and_nodes_get_hints(rt: HostRuntime) -> Result<(), Fail> {
     all_get(&rt, &FRONTS)
+}
+
+/// Callers who don't lead a recovery at that DataNode, and what is wrong with the words of one who may.
+static LEADERS: [(&str, &str); 10] = [
+    ("0 ann @1 decide x x", "decide at @1 wants the caller dn-1"),
+    (
+        "0 dn-1 @2 decide 1 1002",
+        "decide at @2 wants the caller dn-2",
+    ),
+    (
+        "0 dn-01 @1 commit 1 1002",
+        "commit at @1 wants the caller dn-1",
+    ),
+    (
+        "0 dn-1 @02 commit 1 1002",
+        "commit at @2 wants the caller dn-2",
+    ),
+    (
+        "0 dn- @1 commit 1 1002",
+        "commit at @1 wants the caller dn-1",
+    ),
+    (
+        "0 dn-4294967297 @1 commit 1 1002",
+        "commit at @1 wants the caller dn-1",
+    ),
+    ("0 dn-1 @1 decide x x", "block \"x\" is not decimal digits"),
+    (
+        "0 dn-1 @1 decide 1 -1",
+        "stamp \"-1\" is not decimal digits",
+    ),
+    (
+        "0 dn-1 @1 commit 18446744073709551616 x",
+        "block is not below 2^64",
+    ),
+    (
+        "0 dn-1 @1 commit 1 18446744073709551616",
+        "stamp is not below 2^64",
+    ),
+];
+
+#[test]
+fn calls_of_leaders_get_hints(rt: HostRuntime) -> Result<(), Fail> {
+    all_get(&rt, &LEADERS)
 }
 
 /// The first ill-formed word of a call, with others behind it.

@@ -227,7 +227,7 @@ fn hint_on_verb<'a>(
     others: &[&'a str],
 ) -> LineHint<'a> {
     if verb.starts_with('@') {
-        return node_hint(granted, moment, verb, others);
+        return node_hint(granted, moment, caller, verb, others);
     }
     if is_word(verb, "deliver") {
         return delivery_hint(moment, caller, others);

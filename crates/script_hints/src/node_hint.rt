@@ -69,6 +69,8 @@ pub enum NodeHint<'a> {
     Token(TokenHint<'a>),
     /// A message is delivered by nobody.
     Caller,
+    /// The verb is called by the DataNode itself, which has this id.
+    Leader(&'static str, u64),
 }
 
 impl fmt::Display for NodeHint<'_> {
@@ -86,6 +88,7 @@ impl fmt::Display for NodeHint<'_> {
             NodeHint::Bytes(hint) => write!(f, "{hint}"),
             NodeHint::Token(hint) => write!(f, "{hint}"),
             NodeHint::Caller => f.write_str("deliver wants the caller -"),
+            NodeHint::Leader(verb, id) => write!(f, "{verb} at @{id} wants the caller dn-{id}"),
         }
     }
 }
@@ -132,6 +135,13 @@ static READ: [Word; 5] = [
     Word::Token,
 ];
 
+static RECOVERY: [Word; 2] = [Word::Number("block"), Word::Number("stamp")];
+
+/// Whether a DataNode goes on by this verb with a recovery that it leads.
+fn is_leading(verb: &str) -> bool {
+    is_word(verb, "decide") || is_word(verb, "commit")
+}
+
 /// What the words behind a verb say.
 fn words_behind(verb: &str) -> &'static [Word] {
     if is_word(verb, "begin") {
@@ -140,23 +150,30 @@ fn words_behind(verb: &str) -> &'static [Word] {
         &PACKET
     } else if is_word(verb, "finalize") {
         &FINALIZE
+    } else if is_leading(verb) {
+        &RECOVERY
     } else {
         &READ
     }
 }
 
-/// Whether a text is the id of a DataNode.
-fn is_node_id(text: &str) -> bool {
+/// The id of a DataNode that a text spells.
+fn node_id(text: &str) -> Option<u64> {
     match number_of(text) {
-        Some(id) => 0 < id && id <= u64::from(u32::MAX),
-        None => false,
+        Some(id) if 0 < id && id <= u64::from(u32::MAX) => Some(id),
+        _ => None,
     }
 }
 
-/// Whether a word names a DataNode.
-fn is_node(word: &str) -> bool {
-    match word.strip_prefix('@') {
-        Some(id) => is_node_id(id),
+/// The id of the DataNode that a word names.
+fn named_id(word: &str) -> Option<u64> {
+    node_id(word.strip_prefix('@')?)
+}
+
+/// Whether a caller is the DataNode of this id: a name with leading zeros is another's.
+fn is_principal(caller: &str, id: u64) -> bool {
+    match caller.strip_prefix("dn-") {
+        Some(own) => !own.starts_with('0') && node_id(own) == Some(id),
         None => false,
     }
 }
@@ -167,7 +184,7 @@ fn hint_on_next(next: &str) -> Option<NodeHint<'_>> {
         return None;
     }
     for piece in next.split(',') {
-        if !is_node_id(piece) {
+        if node_id(piece).is_none() {
             return Some(NodeHint::Next(next, piece));
         }
     }
@@ -245,6 +262,7 @@ fn hint_on_call<'a>(granted: usize, verb: &Verb, words: &[&'a str]) -> LineHint<
 pub(crate) fn node_hint<'a>(
     granted: usize,
     moment: &'a str,
+    caller: &'a str,
     node: &'a str,
     others: &[&'a str],
 ) -> LineHint<'a> {
@@ -260,8 +278,11 @@ pub(crate) fn node_hint<'a>(
     if moment_word(moment).is_err() {
         return hint_on_moment(moment);
     }
-    if !is_node(node) {
+    let Some(id) = named_id(node) else {
         return LineHint::Node(NodeHint::Node(node));
+    };
+    if is_leading(known.name) && !is_principal(caller, id) {
+        return LineHint::Node(NodeHint::Leader(known.name, id));
     }
     hint_on_call(granted, known, words)
 }

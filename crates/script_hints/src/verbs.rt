@@ -126,7 +126,7 @@ pub static VERBS: [Verb; 22] = [
 ];
 
 /// The verbs of calls of a DataNode.
-pub static NODE_VERBS: [Verb; 4] = [
+pub static NODE_VERBS: [Verb; 6] = [
     Verb {
         name: "begin",
         words: "B STAMP NEXT #K",
@@ -146,6 +146,16 @@ pub static NODE_VERBS: [Verb; 4] = [
         name: "read",
         words: "B STAMP OFFSET LEN #K",
         counts: [5, 5],
+    },
+    Verb {
+        name: "decide",
+        words: "B STAMP",
+        counts: [2, 2],
+    },
+    Verb {
+        name: "commit",
+        words: "B STAMP",
+        counts: [2, 2],
     },
 ];
 
