@@ -12,11 +12,22 @@ use std::marker::Model;
 
 /// The access control list of a file or a directory: the sticky bit, the entries that are judged, and the default entries that
 /// what is made in a directory inherits (HDFS Permissions Guide, "Overview" and "ACLs (Access Control Lists)").
-#[derive(Drop)]
 pub struct Acl {
     sticky: bool,
     access: EntryList,
     default: Option<Box<EntryList>>,
+}
+
+impl Drop for Acl {
+    fn drop(self) {
+        let Acl {
+            sticky: _,
+            access,
+            default,
+        } = self;
+        drop(access);
+        drop(default);
+    }
 }
 
 impl Model for Acl {

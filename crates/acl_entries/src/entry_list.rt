@@ -43,13 +43,25 @@ struct NamedEntries {
 /// The entries of one scope of an access control list: those of the owner, the owning group and all others, those of named
 /// users and named groups in the order of their names, and the mask, where there is one; at most 32 (HDFS Permissions Guide,
 /// "ACLs (Access Control Lists)").
-#[derive(Drop)]
 pub struct EntryList {
     user: Rights,
     group: Rights,
     other: Rights,
     mask: Option<Rights>,
     named: Option<Box<NamedEntries>>,
+}
+
+impl Drop for EntryList {
+    fn drop(self) {
+        let EntryList {
+            user: _,
+            group: _,
+            other: _,
+            mask: _,
+            named,
+        } = self;
+        drop(named);
+    }
 }
 
 impl Model for EntryList {

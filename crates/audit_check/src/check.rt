@@ -16,11 +16,22 @@ use receipt_checks::receipts::Receipts;
 use std::alloc::{AllocError, Global};
 
 /// What a NameNode opened with, and the entries that its history had when the passes began, the oldest first.
-#[derive(Drop)]
 pub struct Opening {
     pub config: Config,
     pub first_key: Key,
     pub entries: Vec<HistoryEntry>,
+}
+
+impl Drop for Opening {
+    fn drop(self) {
+        let Opening {
+            config,
+            first_key: _,
+            entries,
+        } = self;
+        drop(config);
+        drop(entries);
+    }
 }
 
 /// Why a history and the answers that were kept of it aren't known to agree.

@@ -34,7 +34,6 @@ use std::alloc::{AllocError, Global};
 use std::marker::Model;
 
 /// What the NameNode knows of blocks, and of the DataNodes that hold them (HDFS Architecture, "Data Replication").
-#[derive(Drop)]
 pub struct Blocks {
     // in milliseconds
     retry: u32,
@@ -43,6 +42,24 @@ pub struct Blocks {
     marks: Marks,
     queue: RecoveryQueue,
     alloc: Global,
+}
+
+impl Drop for Blocks {
+    fn drop(self) {
+        let Blocks {
+            retry: _,
+            known,
+            nodes,
+            marks,
+            queue,
+            alloc,
+        } = self;
+        drop(known);
+        drop(nodes);
+        drop(marks);
+        drop(queue);
+        drop(alloc);
+    }
 }
 
 impl Model for Blocks {

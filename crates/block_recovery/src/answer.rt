@@ -31,9 +31,15 @@ impl Answer {
 }
 
 /// The nodes that have answered, by their ids, each with its answer.
-#[derive(Drop)]
 pub struct Answers {
     by_node: BTreeMap<NodeId, Answer>,
+}
+
+impl Drop for Answers {
+    fn drop(self) {
+        let Answers { by_node } = self;
+        drop(by_node);
+    }
 }
 
 impl Model for Answers {

@@ -14,7 +14,6 @@ use hdfs_values::node_id::NodeId;
 use std::alloc::{AllocError, Global};
 
 /// A recovery of a block that was begun (HDFS-265, "Block recovery").
-#[derive(Drop)]
 pub struct Plan {
     /// The nodes that were asked for their replicas.
     pub nodes: NodeSet,
@@ -26,6 +25,23 @@ pub struct Plan {
     pub decision: Option<Decision>,
     /// Of the nodes that take part those that hold a replica of the decided length.
     pub updated: UpdatedNodes,
+}
+
+impl Drop for Plan {
+    fn drop(self) {
+        let Plan {
+            nodes,
+            token,
+            answers,
+            decision,
+            updated,
+        } = self;
+        drop(nodes);
+        drop(token);
+        drop(answers);
+        drop(decision);
+        drop(updated);
+    }
 }
 
 impl Plan {

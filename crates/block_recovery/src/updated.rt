@@ -11,9 +11,15 @@ use std::collections::BTreeSet;
 use std::marker::Model;
 
 /// The nodes that cut their replicas to the length that was decided, by their ids.
-#[derive(Drop)]
 pub struct UpdatedNodes {
     nodes: BTreeSet<NodeId>,
+}
+
+impl Drop for UpdatedNodes {
+    fn drop(self) {
+        let UpdatedNodes { nodes } = self;
+        drop(nodes);
+    }
 }
 
 impl Model for UpdatedNodes {

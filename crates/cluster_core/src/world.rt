@@ -209,11 +209,18 @@ impl World {
 }
 
 /// A world, and what came of the events that were stepped.
-#[derive(Drop)]
 pub struct Trace {
     pub world: World,
     /// The oldest first.
     pub outcomes: Vec<Outcome>,
+}
+
+impl Drop for Trace {
+    fn drop(self) {
+        let Trace { world, outcomes } = self;
+        drop(world);
+        drop(outcomes);
+    }
 }
 
 /// Steps events in their order, up to the first for which there is no memory, and keeps what came of those before it.

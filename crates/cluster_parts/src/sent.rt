@@ -7,26 +7,46 @@ use node_calls::message::Messages;
 use std::alloc::{AllocError, Global};
 
 /// Where the messages of one event are.
-#[derive(Drop)]
 pub enum Source {
     /// They are the commands in the entry with this index of the NameNode's history.
     Entry(usize),
     Own(Messages),
 }
 
+impl Drop for Source {
+    fn drop(self) {
+        match self {
+            Source::Entry(_) => {}
+            Source::Own(part) => drop(part),
+        }
+    }
+}
+
 /// The messages of one event that sends some.
-#[derive(Drop)]
 pub struct Batch {
     /// The number of the first.
     pub first: u64,
     pub source: Source,
 }
 
+impl Drop for Batch {
+    fn drop(self) {
+        let Batch { first: _, source } = self;
+        drop(source);
+    }
+}
+
 /// All messages that were ever sent, in batches, each of one event.
-#[derive(Drop)]
 pub struct Sent {
     pub batches: Vec<Batch>,
     pub count: u64,
+}
+
+impl Drop for Sent {
+    fn drop(self) {
+        let Sent { batches, count: _ } = self;
+        drop(batches);
+    }
 }
 
 // More messages than this aren't numbered: that much memory there is nowhere.

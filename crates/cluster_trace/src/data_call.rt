@@ -21,9 +21,15 @@ pub enum Asked {
 
 /// What is asked of a DataNode from outside: a client asks to write a replica, or to read it, and a node that leads the recovery of a block
 /// is to go on with it. Every other call of a DataNode comes with a message.
-#[derive(Drop)]
 pub struct DataCall {
     asked: Asked,
+}
+
+impl Drop for DataCall {
+    fn drop(self) {
+        let DataCall { asked } = self;
+        drop(asked);
+    }
 }
 
 impl Model for DataCall {

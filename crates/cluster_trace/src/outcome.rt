@@ -33,7 +33,6 @@ impl fmt::Display for ClusterRefusal {
 }
 
 /// What is answered to an event.
-#[derive(Drop)]
 pub enum EventAnswer {
     /// The entry at this place of the NameNode's history, with its verdict.
     Named(u64),
@@ -44,12 +43,33 @@ pub enum EventAnswer {
     Lost(ClusterRefusal),
 }
 
+impl Drop for EventAnswer {
+    fn drop(self) {
+        match self {
+            EventAnswer::Named(_) => {}
+            EventAnswer::Called(part) => drop(part),
+            EventAnswer::Led(part) => drop(part),
+            EventAnswer::Lost(part) => drop(part),
+        }
+    }
+}
+
 /// What comes of an event: the answer, and the messages that it sends, which are numbered from 1 in the order in which they are sent.
-#[derive(Drop)]
 pub struct Outcome {
     pub answer: EventAnswer,
     /// The number of the first message.
     pub first: u64,
     /// How many messages there are.
     pub count: u64,
+}
+
+impl Drop for Outcome {
+    fn drop(self) {
+        let Outcome {
+            answer,
+            first: _,
+            count: _,
+        } = self;
+        drop(answer);
+    }
 }

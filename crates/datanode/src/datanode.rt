@@ -29,7 +29,6 @@ use std::marker::Model;
 
 /// A DataNode: its replicas, the keys that the NameNode sent it, and whom it let at them (HDFS Architecture, "NameNode and DataNodes";
 /// HADOOP-4359).
-#[derive(Drop)]
 pub struct DataNode {
     id: NodeId,
     // in whose name it sends copies
@@ -42,6 +41,26 @@ pub struct DataNode {
     replicas: Replicas,
     log: AccessLog,
     alloc: Global,
+}
+
+impl Drop for DataNode {
+    fn drop(self) {
+        let DataNode {
+            id: _,
+            principal,
+            limit: _,
+            clock: _,
+            keys,
+            replicas,
+            log,
+            alloc,
+        } = self;
+        drop(principal);
+        drop(keys);
+        drop(replicas);
+        drop(log);
+        drop(alloc);
+    }
 }
 
 impl Model for DataNode {

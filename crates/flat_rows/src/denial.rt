@@ -14,9 +14,15 @@ use std::marker::Model;
 /// A need that failed: what was needed, what decided, the row of the component, and for whom it was judged. The row,
 /// judged for the caller with these groups, is what denies the need, so a denial carries its own evidence (HDFS Permissions
 /// Guide, "Permission Checks"). It keeps its evidence in a box: most verdicts are no denials, and are moved about.
-#[derive(Drop)]
 pub struct Denial {
     evidence: Box<Evidence>,
+}
+
+impl Drop for Denial {
+    fn drop(self) {
+        let Denial { evidence } = self;
+        drop(evidence);
+    }
 }
 
 /// The row of the component, and what the denial says beside it.

@@ -5,11 +5,20 @@ use hdfs_types::reply::{Refusal, Reply};
 use std::alloc::AllocError;
 
 /// The answer of the NameNode to a request.
-#[derive(Drop)]
 pub enum Verdict {
     Done(Reply),
     Denied(Denial),
     Refused(Refusal),
+}
+
+impl Drop for Verdict {
+    fn drop(self) {
+        match self {
+            Verdict::Done(part) => drop(part),
+            Verdict::Denied(part) => drop(part),
+            Verdict::Refused(part) => drop(part),
+        }
+    }
 }
 
 impl Clone for Verdict {

@@ -6,17 +6,29 @@ use std::alloc::{AllocError, Global};
 use std::marker::Model;
 
 /// A token that the NameNode granted, and the place of the entry of its history that granted it.
-#[derive(Drop)]
 pub struct LedgerRow {
     pub place: u64,
     pub grant: Grant,
 }
 
+impl Drop for LedgerRow {
+    fn drop(self) {
+        let LedgerRow { place: _, grant } = self;
+        drop(grant);
+    }
+}
+
 /// The tokens that a NameNode ever granted, in the order in which it granted them (HADOOP-4359: the NameNode issues a block access
 /// token for each block that a caller may access).
-#[derive(Drop)]
 pub struct Ledger {
     rows: Vec<LedgerRow>,
+}
+
+impl Drop for Ledger {
+    fn drop(self) {
+        let Ledger { rows } = self;
+        drop(rows);
+    }
 }
 
 impl Model for Ledger {

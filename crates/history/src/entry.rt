@@ -5,7 +5,6 @@ use hdfs_types::op::Request;
 use std::alloc::{AllocError, Global};
 
 /// One step of a NameNode's history: a request, and the verdict on it.
-#[derive(Drop)]
 pub struct HistoryEntry {
     /// Which entry it is, counted from 1.
     pub place: u64,
@@ -14,6 +13,20 @@ pub struct HistoryEntry {
     pub index: u64,
     pub request: Request,
     pub verdict: Verdict,
+}
+
+impl Drop for HistoryEntry {
+    fn drop(self) {
+        let HistoryEntry {
+            place: _,
+            pass: _,
+            index: _,
+            request,
+            verdict,
+        } = self;
+        drop(request);
+        drop(verdict);
+    }
 }
 
 impl Clone for HistoryEntry {
@@ -50,9 +63,20 @@ pub fn copy_of(alloc: Global, entries: &[HistoryEntry]) -> Result<Vec<HistoryEnt
 }
 
 /// What a caller is answered: the request, the verdict on it, and the place of the last entry that the verdict rests on.
-#[derive(Drop)]
 pub struct Answer {
     pub place: u64,
     pub request: Request,
     pub verdict: Verdict,
+}
+
+impl Drop for Answer {
+    fn drop(self) {
+        let Answer {
+            place: _,
+            request,
+            verdict,
+        } = self;
+        drop(request);
+        drop(verdict);
+    }
 }

@@ -38,10 +38,17 @@ use std::marker::Model;
 /// A namespace, whose rows stand in ascending path order: the root first, and the parent of each other row a directory
 /// (HDFS Architecture, "The File System Namespace"). A call costs its path, one look-up in a map for each name; what it
 /// costs beyond that is said at the call.
-#[derive(Drop)]
 pub struct Tree {
     root: Node,
     alloc: Global,
+}
+
+impl Drop for Tree {
+    fn drop(self) {
+        let Tree { root, alloc } = self;
+        drop(root);
+        drop(alloc);
+    }
 }
 
 impl Model for Tree {

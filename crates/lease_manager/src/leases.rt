@@ -27,12 +27,22 @@ pub enum LeaseState {
 
 /// The leases of clients, each by its last renewal, the oldest first, and the limits of their ages. A lease covers all files
 /// that its client has open (HDFS Architecture, the single-writer model).
-#[derive(Drop)]
 pub struct Leases {
     // in milliseconds
     soft: u32,
     hard: u32,
     renewals: IndexMap<Who, Moment>,
+}
+
+impl Drop for Leases {
+    fn drop(self) {
+        let Leases {
+            soft: _,
+            hard: _,
+            renewals,
+        } = self;
+        drop(renewals);
+    }
 }
 
 impl Model for Leases {

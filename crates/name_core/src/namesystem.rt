@@ -50,13 +50,29 @@ use write_rules::write::{Judged, judge, judge_node, judge_rights};
 
 /// The namespace, the users, the clients who have files open, the keys under which tokens are issued, and the blocks with their
 /// nodes.
-#[derive(Drop)]
 pub struct Namesystem {
     pub tree: Tree,
     pub users: Users,
     pub writers: Writers,
     pub ring: KeyRing,
     pub blocks: Blocks,
+}
+
+impl Drop for Namesystem {
+    fn drop(self) {
+        let Namesystem {
+            tree,
+            users,
+            writers,
+            ring,
+            blocks,
+        } = self;
+        drop(tree);
+        drop(users);
+        drop(writers);
+        drop(ring);
+        drop(blocks);
+    }
 }
 
 // ---- verbs that leave leases as they are

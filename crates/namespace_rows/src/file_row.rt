@@ -19,9 +19,15 @@ pub struct FileBlock {
 }
 
 /// The blocks of a file, in the order of the file.
-#[derive(Drop)]
 pub struct FileBlocks {
     list: Vec<FileBlock>,
+}
+
+impl Drop for FileBlocks {
+    fn drop(self) {
+        let FileBlocks { list } = self;
+        drop(list);
+    }
 }
 
 impl Model for FileBlocks {
@@ -160,11 +166,22 @@ impl Clone for FileBlocks {
 }
 
 /// What a file has beside what a directory has.
-#[derive(Drop)]
 pub struct FileRow {
     pub replication: Repl,
     pub blocks: FileBlocks,
     pub state: FileState,
+}
+
+impl Drop for FileRow {
+    fn drop(self) {
+        let FileRow {
+            replication: _,
+            blocks,
+            state,
+        } = self;
+        drop(blocks);
+        drop(state);
+    }
 }
 
 impl Clone for FileRow {

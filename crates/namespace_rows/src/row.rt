@@ -16,7 +16,6 @@ use permission_specs::rights::Rights;
 use std::alloc::AllocError;
 
 /// A file or a directory, by its path (HDFS Architecture, "The File System Namespace").
-#[derive(Drop)]
 pub struct Row {
     pub path: Path,
     pub kind: ObjectKind,
@@ -25,6 +24,24 @@ pub struct Row {
     pub acl: Acl,
     /// What a file has beside what a directory has; `None` for a directory.
     pub file: Option<FileRow>,
+}
+
+impl Drop for Row {
+    fn drop(self) {
+        let Row {
+            path,
+            kind: _,
+            owner,
+            group,
+            acl,
+            file,
+        } = self;
+        drop(path);
+        drop(owner);
+        drop(group);
+        drop(acl);
+        drop(file);
+    }
 }
 
 impl Row {

@@ -16,9 +16,15 @@ use std::marker::Model;
 
 /// The rows of a namespace in ascending path order: the root first, the parent of each other row a directory, and
 /// no file with the sticky bit (HDFS Architecture, "The File System Namespace"). This is the plain form, whose calls scan the list.
-#[derive(Drop)]
 pub struct Rows {
     list: Vec<Row>,
+}
+
+impl Drop for Rows {
+    fn drop(self) {
+        let Rows { list } = self;
+        drop(list);
+    }
 }
 
 impl Model for Rows {

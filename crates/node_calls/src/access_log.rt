@@ -10,7 +10,6 @@ use std::alloc::{AllocError, Global};
 use std::marker::Model;
 
 /// That a DataNode let a caller at a block for the token that he presented.
-#[derive(Drop)]
 pub struct AccessRecord {
     pub node: NodeId,
     /// The node's clock.
@@ -23,6 +22,23 @@ pub struct AccessRecord {
     /// In bytes.
     pub length: u64,
     pub token: PresentedToken,
+}
+
+impl Drop for AccessRecord {
+    fn drop(self) {
+        let AccessRecord {
+            node: _,
+            moment: _,
+            caller,
+            block: _,
+            mode: _,
+            offset: _,
+            length: _,
+            token,
+        } = self;
+        drop(caller);
+        drop(token);
+    }
 }
 
 impl Clone for AccessRecord {
@@ -43,9 +59,15 @@ impl Clone for AccessRecord {
 }
 
 /// What a DataNode noted down of the calls that it let through, in their order.
-#[derive(Drop)]
 pub struct AccessLog {
     records: Vec<AccessRecord>,
+}
+
+impl Drop for AccessLog {
+    fn drop(self) {
+        let AccessLog { records } = self;
+        drop(records);
+    }
 }
 
 impl Model for AccessLog {

@@ -6,12 +6,22 @@ use std::marker::Model;
 /// Bytes of a block, as a packet of a write pipeline carries them (HDFS Architecture, "Replication Pipelining").
 ///
 /// One byte many times takes no memory, so that a packet can be refused for its length before anything of that length is made.
-#[derive(Drop)]
 pub struct BlockBytes {
     listed: Vec<u8>,
     // behind those that are listed
     byte: u8,
     times: u64,
+}
+
+impl Drop for BlockBytes {
+    fn drop(self) {
+        let BlockBytes {
+            listed,
+            byte: _,
+            times: _,
+        } = self;
+        drop(listed);
+    }
 }
 
 impl Model for BlockBytes {

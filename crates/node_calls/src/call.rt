@@ -14,7 +14,6 @@ pub enum ReplicaState {
 }
 
 /// What is asked of a replica by who presents a token.
-#[derive(Drop)]
 pub enum TokenCall {
     /// Begins a replica; these nodes come next in the pipeline.
     Begin(NodeList),
@@ -34,8 +33,25 @@ pub enum TokenCall {
     TakeCopy(BlockBytes),
 }
 
+impl Drop for TokenCall {
+    fn drop(self) {
+        match self {
+            TokenCall::Begin(part) => drop(part),
+            TokenCall::Packet(_, second, third) => {
+                drop(second);
+                drop(third);
+            }
+            TokenCall::Finalize(_, second) => drop(second),
+            TokenCall::Read(_, _) => {}
+            TokenCall::InitRecovery => {}
+            TokenCall::UpdateReplica(_) => {}
+            TokenCall::SendCopy(_) => {}
+            TokenCall::TakeCopy(part) => drop(part),
+        }
+    }
+}
+
 /// A call of a DataNode.
-#[derive(Drop)]
 pub enum NodeCall {
     Presenting(Presented, TokenCall),
     /// Removes the replica, if its stamp isn't newer than this.
@@ -44,8 +60,20 @@ pub enum NodeCall {
     Keys(KeyList),
 }
 
+impl Drop for NodeCall {
+    fn drop(self) {
+        match self {
+            NodeCall::Presenting(first, second) => {
+                drop(first);
+                drop(second);
+            }
+            NodeCall::Invalidate(_, _) => {}
+            NodeCall::Keys(part) => drop(part),
+        }
+    }
+}
+
 /// A call of the DataNode that leads the recovery of a block (HDFS-265, block recovery).
-#[derive(Drop)]
 pub enum PlanCall {
     /// Leads the recovery of a block at a stamp among these nodes, with this token.
     Recover(BlockId, Stamp, NodeSet, PresentedToken),
@@ -57,4 +85,19 @@ pub enum PlanCall {
     Updated(NodeId, BlockId, Stamp),
     /// Tells the NameNode.
     Commit(BlockId, Stamp),
+}
+
+impl Drop for PlanCall {
+    fn drop(self) {
+        match self {
+            PlanCall::Recover(_, _, third, fourth) => {
+                drop(third);
+                drop(fourth);
+            }
+            PlanCall::Reply(_, _, _, fourth, _) => drop(fourth),
+            PlanCall::Decide(_, _) => {}
+            PlanCall::Updated(_, _, _) => {}
+            PlanCall::Commit(_, _) => {}
+        }
+    }
 }

@@ -6,9 +6,15 @@ use std::alloc::{AllocError, Global};
 use std::marker::Model;
 
 /// The bytes that were read of a replica, in pieces that stand one behind another.
-#[derive(Drop)]
 pub struct Chunks {
     pieces: Vec<Bytes>,
+}
+
+impl Drop for Chunks {
+    fn drop(self) {
+        let Chunks { pieces } = self;
+        drop(pieces);
+    }
 }
 
 impl Model for Chunks {

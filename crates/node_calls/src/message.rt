@@ -8,7 +8,6 @@ use std::alloc::{AllocError, Global};
 use std::marker::Model;
 
 /// What NameNode and DataNodes send one another.
-#[derive(Drop)]
 pub enum Message {
     /// A call of a DataNode.
     Node(NodeId, NodeCall),
@@ -20,10 +19,27 @@ pub enum Message {
     CommitRecovery(NodeId, BlockId, Stamp, u64, NodeSet),
 }
 
+impl Drop for Message {
+    fn drop(self) {
+        match self {
+            Message::Node(_, second) => drop(second),
+            Message::Plan(_, second) => drop(second),
+            Message::Reported(_, _, _, _) => {}
+            Message::CommitRecovery(_, _, _, _, fifth) => drop(fifth),
+        }
+    }
+}
+
 /// Messages in the order in which they are sent.
-#[derive(Drop)]
 pub struct Messages {
     list: Vec<Message>,
+}
+
+impl Drop for Messages {
+    fn drop(self) {
+        let Messages { list } = self;
+        drop(list);
+    }
 }
 
 impl Model for Messages {
@@ -80,6 +96,7 @@ impl Messages {
     pub fn into_vec(self) -> Vec<Message>
         ensures { result.items ≡ self }
     {
-        self.list
+        let Messages { list } = self;
+        list
     }
 }

@@ -6,9 +6,15 @@ use std::marker::Model;
 
 /// DataNodes in an order: those of a write pipeline that come next (HDFS Architecture, "Replication Pipelining"). A node may stand in it
 /// twice.
-#[derive(Drop)]
 pub struct NodeList {
     nodes: Vec<NodeId>,
+}
+
+impl Drop for NodeList {
+    fn drop(self) {
+        let NodeList { nodes } = self;
+        drop(nodes);
+    }
 }
 
 impl Model for NodeList {

@@ -6,9 +6,15 @@ use std::alloc::{AllocError, Global};
 use std::marker::Model;
 
 /// The bytes that a caller presents as a block access token (HADOOP-4359). They may be anything.
-#[derive(Drop)]
 pub struct PresentedToken {
     bytes: Vec<u8>,
+}
+
+impl Drop for PresentedToken {
+    fn drop(self) {
+        let PresentedToken { bytes } = self;
+        drop(bytes);
+    }
 }
 
 impl Model for PresentedToken {
@@ -51,12 +57,24 @@ impl Clone for PresentedToken {
 }
 
 /// Who asks for something of a block at a generation stamp, and the token that he presents for it.
-#[derive(Drop)]
 pub struct Presented {
     pub caller: Who,
     pub block: BlockId,
     pub stamp: Stamp,
     pub token: PresentedToken,
+}
+
+impl Drop for Presented {
+    fn drop(self) {
+        let Presented {
+            caller,
+            block: _,
+            stamp: _,
+            token,
+        } = self;
+        drop(caller);
+        drop(token);
+    }
 }
 
 impl Clone for Presented {

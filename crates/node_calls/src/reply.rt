@@ -3,7 +3,6 @@ use crate::chunks::Chunks;
 use hdfs_values::ids::Stamp;
 
 /// What a DataNode answers to a call that it doesn't refuse.
-#[derive(Drop)]
 pub enum NodeReply {
     Begun,
     /// The replica has this length now.
@@ -22,4 +21,21 @@ pub enum NodeReply {
     Stored(u64),
     /// So many are held.
     Keys(u64),
+}
+
+impl Drop for NodeReply {
+    fn drop(self) {
+        match self {
+            NodeReply::Begun => {}
+            NodeReply::Taken(_) => {}
+            NodeReply::Finalized(_) => {}
+            NodeReply::Read(part) => drop(part),
+            NodeReply::Replica(_, _, third) => drop(third),
+            NodeReply::Updated(_) => {}
+            NodeReply::Removed => {}
+            NodeReply::Copied(_) => {}
+            NodeReply::Stored(_) => {}
+            NodeReply::Keys(_) => {}
+        }
+    }
 }

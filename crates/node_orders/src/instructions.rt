@@ -18,7 +18,6 @@ use std::alloc::{AllocError, Global};
 use std::marker::Model;
 
 /// What a DataNode is told with the answer to its heartbeat (HDFS Architecture, "Data Disk Failure, Heartbeats and Re-Replication").
-#[derive(Drop)]
 pub struct Instructions {
     /// The recoveries that it is to lead, by block.
     pub recoveries: Vec<Recovery>,
@@ -26,6 +25,19 @@ pub struct Instructions {
     pub removals: Vec<Mark>,
     /// The copies that it is to make, by block.
     pub copies: Vec<Transfer>,
+}
+
+impl Drop for Instructions {
+    fn drop(self) {
+        let Instructions {
+            recoveries,
+            removals,
+            copies,
+        } = self;
+        drop(recoveries);
+        drop(removals);
+        drop(copies);
+    }
 }
 
 impl Model for Instructions {

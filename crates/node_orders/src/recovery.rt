@@ -3,9 +3,19 @@ use hdfs_values::ids::{BlockId, Stamp};
 
 /// The recovery of a block that a DataNode is to lead: the stamp that the block gets, and all nodes that are to hold it, live or not
 /// (HDFS-265).
-#[derive(Drop)]
 pub struct Recovery {
     pub block: BlockId,
     pub stamp: Stamp,
     pub nodes: NodeSet,
+}
+
+impl Drop for Recovery {
+    fn drop(self) {
+        let Recovery {
+            block: _,
+            stamp: _,
+            nodes,
+        } = self;
+        drop(nodes);
+    }
 }

@@ -37,11 +37,23 @@ impl<T: Drop> From<AllocFailed<T>> for UserFault {
 
 /// The known users with their groups, the superuser and the supergroup (HDFS Permissions Guide, "Group Mapping" and "The
 /// Super-User").
-#[derive(Drop)]
 pub struct Users {
     known: BTreeMap<Who, Groups>,
     superuser: Who,
     supergroup: Who,
+}
+
+impl Drop for Users {
+    fn drop(self) {
+        let Users {
+            known,
+            superuser,
+            supergroup,
+        } = self;
+        drop(known);
+        drop(superuser);
+        drop(supergroup);
+    }
 }
 
 impl Model for Users {

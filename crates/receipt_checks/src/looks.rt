@@ -47,9 +47,15 @@ impl Pairs {
 }
 
 /// For each number of entries the looks that rest on so many.
-#[derive(Drop)]
 pub struct Looks {
     places: Vec<Pairs>,
+}
+
+impl Drop for Looks {
+    fn drop(self) {
+        let Looks { places } = self;
+        drop(places);
+    }
 }
 
 impl Model for Looks {

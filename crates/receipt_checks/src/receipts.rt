@@ -6,9 +6,15 @@ use history::entry::Answer;
 use std::marker::Model;
 
 /// The answers that a pass kept, in their order.
-#[derive(Drop)]
 pub struct Receipts {
     answers: Vec<Answer>,
+}
+
+impl Drop for Receipts {
+    fn drop(self) {
+        let Receipts { answers } = self;
+        drop(answers);
+    }
 }
 
 impl Model for Receipts {

@@ -9,10 +9,19 @@ use std::alloc::AllocError;
 
 /// What a DataNode has of a block: a replica or none, and the greatest generation stamp that it ever held or promised. Nothing is begun
 /// at a stamp that isn't greater.
-#[derive(Drop)]
 pub struct Held {
     pub replica: Option<Replica>,
     pub promised: Stamp,
+}
+
+impl Drop for Held {
+    fn drop(self) {
+        let Held {
+            replica,
+            promised: _,
+        } = self;
+        drop(replica);
+    }
 }
 
 impl Held {

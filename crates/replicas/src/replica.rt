@@ -111,11 +111,22 @@ fn front(bytes: &[u8], count: u64) -> &[u8]
 
 /// A replica of a block: its generation stamp, whether it is being written, and its bytes (HDFS Architecture, "Data Blocks"; HDFS-265,
 /// replica states).
-#[derive(Drop)]
 pub struct Replica {
     pub stamp: Stamp,
     pub state: ReplicaState,
     pub bytes: ReplicaBytes,
+}
+
+impl Drop for Replica {
+    fn drop(self) {
+        let Replica {
+            stamp: _,
+            state,
+            bytes,
+        } = self;
+        drop(state);
+        drop(bytes);
+    }
 }
 
 impl Replica {

@@ -17,10 +17,17 @@ use std::collections::BTreeMap;
 use std::marker::Model;
 
 /// The replicas of one DataNode, by the ids of their blocks, and the greatest generation stamp that it ever held or promised of each.
-#[derive(Drop)]
 pub struct Replicas {
     blocks: BTreeMap<BlockId, Held>,
     alloc: Global,
+}
+
+impl Drop for Replicas {
+    fn drop(self) {
+        let Replicas { blocks, alloc } = self;
+        drop(blocks);
+        drop(alloc);
+    }
 }
 
 impl Model for Replicas {

@@ -5,9 +5,15 @@ use std::alloc::{AllocError, Global};
 use std::marker::Model;
 
 /// Copies of the access logs of DataNodes.
-#[derive(Drop)]
 pub struct Logs {
     logs: Vec<AccessLog>,
+}
+
+impl Drop for Logs {
+    fn drop(self) {
+        let Logs { logs } = self;
+        drop(logs);
+    }
 }
 
 impl Model for Logs {
