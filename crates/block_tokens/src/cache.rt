@@ -1,9 +1,10 @@
-ghost use Rattle.std.specs.Prelude.{◌≡◌, ◌+◌, [], Some, None, length, OnOk, OnErr, option_copied};
+ghost use Rattle.std.specs.Prelude.{◌≡◌, ◌+◌, [], Some, None, length, IfOk, OnOk, OnErr, option_copied};
 ghost use Rattle.hdfs_values.specs.Text.{same};
 ghost use Rattle.block_tokens.specs.KeyList as spec;
 ghost use Rattle.block_tokens.specs.TokenTest.{Answers, access_test, token_test};
 
 use crate::code::has_code;
+use crate::hmac::CodeKey;
 use crate::key::{HeldKey, KeyList};
 use crate::refusal::TokenRefusal;
 use crate::token::{Body, decode};
@@ -15,10 +16,57 @@ use std::alloc::{AllocError, Global};
 use std::collections::BTreeMap;
 use std::marker::Model;
 
+// A held key, ready to make codes.
+#[derive(Drop)]
+struct CachedKey {
+    key: CodeKey,
+    expiry: Option<u64>,
+}
+
+impl Model for CachedKey {
+    ghost use Rattle.hdfs_types.specs.declared.key_list.HeldKey.{HeldKey};
+
+    ghost Value = { HeldKey };
+
+    ghost view = { λ cached. record { key = cached.key; expiry = cached.expiry } };
+}
+
+impl CachedKey {
+    fn new(held: HeldKey) -> CachedKey
+        ensures { result ≡ held }
+    {
+        CachedKey {
+            key: CodeKey::new(held.key),
+            expiry: held.expiry,
+        }
+    }
+
+    fn is_usable(&self, now: Moment) -> bool
+        ensures { result ≡ spec.expires_after now self.now.expiry }
+    {
+        let held = HeldKey {
+            key: self.key.key(),
+            expiry: self.expiry,
+        };
+        held.is_usable(now)
+    }
+}
+
+impl Clone for CachedKey {
+    ghost is_clone = { λ cached copy. copy ≡ cached };
+
+    fn clone(&self) -> Result<CachedKey, AllocError> {
+        Ok(CachedKey {
+            key: self.key.clone()?,
+            expiry: self.expiry,
+        })
+    }
+}
+
 /// The keys that a DataNode holds, by their serials.
 #[derive(Drop)]
 pub struct KeyCache {
-    keys: BTreeMap<u32, HeldKey>,
+    keys: BTreeMap<u32, CachedKey>,
 }
 
 impl Model for KeyCache {
@@ -32,37 +80,37 @@ impl Model for KeyCache {
 }
 
 // What is held of a key once it comes with an update.
-fn learned(known: Option<&HeldKey>, new: HeldKey) -> HeldKey
-    ensures { result ≡ spec.learned_key (option_copied known.entry) new }
+fn learned(known: Option<&CachedKey>, new: HeldKey) -> Result<CachedKey, AllocError>
+    ensures { IfOk result (λ key. key ≡ spec.learned_key (option_copied known.entry) new) }
 {
-    match known {
-        None => new,
-        Some(known) => HeldKey {
-            key: known.key,
-            expiry: known.expiry.or(new.expiry),
-        },
-    }
+    let Some(known) = known else {
+        return Ok(CachedKey::new(new));
+    };
+    Ok(CachedKey {
+        key: known.key.clone()?,
+        expiry: known.expiry.or(new.expiry),
+    })
 }
 
 // Adds one key of an update to what is held.
 fn merge_one(
-    keys: &mut BTreeMap<u32, HeldKey>,
+    keys: &mut BTreeMap<u32, CachedKey>,
     serial: Serial,
     key: HeldKey,
 ) -> Result<(), AllocError>
     ensures ok { OnOk result (keys.new.entries ≡ spec.with_merged_key keys.old.entries (serial, key)) }
     ensures ordered { OnOk result (spec.AreKeys keys.new.entries) }
 {
-    let key = learned(keys.get(&serial.get()), key);
+    let key = learned(keys.get(&serial.get()), key)?;
     keys.insert(serial.get(), key)?;
     Ok(())
 }
 
-fn unless_expired(now: Moment, known: Option<&HeldKey>) -> Option<HeldKey>
-    ensures { result ≡ spec.unless_expired now (option_copied known.entry) }
+fn unless_expired(now: Moment, known: Option<&CachedKey>) -> Option<&CachedKey>
+    ensures { option_copied result ≡ spec.unless_expired now (option_copied known.entry) }
 {
     match known {
-        Some(held) if held.is_usable(now) => Some(*held),
+        Some(held) if held.is_usable(now) => Some(held),
         _ => None,
     }
 }
@@ -142,8 +190,8 @@ impl KeyCache {
     }
 
     // The key with a serial, where no known expiry of it has come.
-    fn usable_key(&self, now: Moment, serial: Serial) -> Option<HeldKey>
-        ensures { result ≡ spec.key_with serial (spec.usable_keys now self.now) }
+    fn usable_key(&self, now: Moment, serial: Serial) -> Option<&CachedKey>
+        ensures { option_copied result ≡ spec.key_with serial (spec.usable_keys now self.now) }
     {
         unless_expired(now, self.keys.get(&serial.get()))
     }

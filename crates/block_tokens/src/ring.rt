@@ -5,7 +5,7 @@ ghost use Rattle.block_tokens.specs.Ring as spec;
 ghost use Rattle.block_tokens.specs.declared.ring.RollFault.TheVariants.{OutOfMemory};
 
 use crate::grant::Grant;
-use crate::hmac::hmac_sha1;
+use crate::hmac::CodeKey;
 use crate::key::{HeldKey, Key, KeyList};
 use crate::token::{Body, TokenBytes, coded};
 use hdfs_values::ids::{BlockId, Serial};
@@ -37,7 +37,7 @@ impl From<AllocError> for RollFault {
 pub struct KeyRing {
     older: KeyList,
     serial: Serial,
-    key: Key,
+    key: CodeKey,
     // of the tokens, in milliseconds
     lifetime: u32,
 }
@@ -56,10 +56,10 @@ impl Model for KeyRing {
 
 // The bytes with their code behind them.
 #[tactic(auto, unfolding(crate::specs::Ring::coded_token))]
-fn with_code(key: &Key, mut bytes: Vec<u8>) -> Result<TokenBytes, AllocError>
+fn with_code(key: &CodeKey, mut bytes: Vec<u8>) -> Result<TokenBytes, AllocError>
     ensures { IfOk result (λ token. token ≡ spec.coded_token key.now bytes.items) }
 {
-    let code = hmac_sha1(key.as_bytes(), &bytes);
+    let code = key.code(&bytes);
     bytes.extend_from_slice(&code)?;
     Ok(TokenBytes::new(bytes))
 }
@@ -72,7 +72,7 @@ impl KeyRing {
         KeyRing {
             older: KeyList::new(alloc),
             serial,
-            key,
+            key: CodeKey::new(key),
             lifetime,
         }
     }
@@ -98,12 +98,12 @@ impl KeyRing {
             return Err(RollFault::SpentSerial);
         };
         let expiring = HeldKey {
-            key: self.key,
+            key: self.key.key(),
             expiry: Some(self.expiry(now)),
         };
         self.older.push(self.serial, expiring)?;
         self.serial = next;
-        self.key = key;
+        self.key = CodeKey::new(key);
         Ok(next)
     }
 
@@ -159,7 +159,7 @@ impl KeyRing {
             }
         }
         let current = HeldKey {
-            key: self.key,
+            key: self.key.key(),
             expiry: None,
         };
         keys.push(self.serial, current)?;

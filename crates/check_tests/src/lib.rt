@@ -4,6 +4,8 @@
 #[cfg(test)]
 mod alterations;
 #[cfg(test)]
+mod cores;
+#[cfg(test)]
 mod story;
 #[cfg(test)]
 mod verdicts;

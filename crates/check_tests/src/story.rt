@@ -61,7 +61,8 @@ fn verdict_of(told: Told) -> Verdict {
     }
 }
 
-fn request_of(alloc: Global, line: &str) -> Result<Request, Fail> {
+/// The request of a line.
+pub(crate) fn request_of(alloc: Global, line: &str) -> Result<Request, Fail> {
     match read_line(alloc, line)? {
         Ok(request) => Ok(request),
         Err(_) => Err(Fail::new("no request")),
@@ -143,7 +144,8 @@ fn tell(alloc: Global, story: &mut Story) -> Result<(), Fail> {
     Ok(())
 }
 
-fn empty(alloc: Global) -> Story {
+/// Nothing was asked.
+pub(crate) fn empty(alloc: Global) -> Story {
     Story {
         opening: Opening {
             config: Config::standard(),

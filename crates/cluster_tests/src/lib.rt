@@ -9,6 +9,8 @@ mod outside;
 #[cfg(test)]
 mod random;
 #[cfg(test)]
+mod runs;
+#[cfg(test)]
 mod schedules;
 #[cfg(test)]
 mod sources;

@@ -11,7 +11,7 @@ use token_provenance::source::Source;
 
 // Tokens over time: of those that call the DataNode 1, the writer presents a token that the fourth request was granted, and the reader one
 // of the seventh, of which the other calls are refused.
-const LINES: [&str; 23] = [
+pub(crate) const LINES: [&str; 23] = [
     "0 hdfs mkdirs /d 777",
     "0 dn-1 heartbeat",
     "0 - deliver 1",
@@ -37,8 +37,8 @@ const LINES: [&str; 23] = [
     "36000200 bob @1 read 1 1001 0 2 #2",
 ];
 
-// What the records of the DataNode 1 rest on.
-fn sources_of(alloc: Global, world: &World) -> Result<Vec<Source>, Fail> {
+/// What the records of the DataNode 1 rest on.
+pub(crate) fn sources_of(alloc: Global, world: &World) -> Result<Vec<Source>, Fail> {
     let id = NodeId::new(1).ok_or("an id")?;
     let node = world.node(id).ok_or("a node")?;
     let mut logs = Logs::new(alloc);

@@ -1,10 +1,12 @@
-ghost use Rattle.std.specs.Prelude.{◌≡◌, ◌++◌, IfOk, OnOk};
+ghost use Rattle.std.specs.Prelude.{◌≡◌, ◌++◌, ◌*◌, ◌<◌, ◌≤◌, ◌==◌, not, length, slice_index, OnOk};
 ghost use Rattle.std.specs.Fmt.{decimal};
+ghost use Rattle.std.specs.List.{flat_map};
 ghost use Rattle.std.specs.String.{string_bytes};
-ghost use Rattle.hex.specs.Hex.{encode_lower};
+ghost use Rattle.hex.specs.Hex.{encode_lower, lower_digits};
 ghost use Rattle.node_calls.specs.declared.reply.NodeReply.TheVariants as reply;
 ghost use Rattle.cluster_text.specs.ToldText as spec;
 
+use bytes::Bytes;
 use hdfs_values::ids::Stamp;
 use node_calls::call::ReplicaState;
 use node_calls::chunks::Chunks;
@@ -12,30 +14,90 @@ use node_calls::refusal::NodeRefusal;
 use node_calls::reply::NodeReply;
 use std::alloc::{AllocError, Global};
 
-/// The bytes in hexadecimal digits, two for each.
-fn digits_of(alloc: Global, chunks: &Chunks) -> Result<String, AllocError>
-    ensures { IfOk result (λ digits. string_bytes digits ≡ encode_lower chunks.now) }
+/// The digit of a number below 16.
+fn digit_of(number: u8) -> u8
+    requires { number < 16 }
+    ensures { result ≡ slice_index lower_digits number }
 {
-    let mut digits = String::new(alloc);
-    let pieces = chunks.pieces();
-    for piece in pieces {
-        let text = hex::encode(alloc, piece.as_slice())?;
-        digits.push_str(text.as_str())?;
+    if number < 10 {
+        b'0' + number
+    } else {
+        b'a' + (number - 10)
     }
-    Ok(digits)
+}
+
+/// Writes the digits of bytes, two for each.
+fn spell(bytes: &[u8], digits: &mut [u8])
+    requires { length digits.old ≡ 2 * length bytes.now }
+    ensures { digits.new ≡ encode_lower bytes.now }
+{
+    for i in 0..bytes.len() {
+        digits[2 * i] = digit_of(bytes[i] >> 4);
+        digits[2 * i + 1] = digit_of(bytes[i] & 0xf);
+    }
+}
+
+/// Of how many bytes the digits are made at a time.
+const SPELLED: usize = 256;
+
+/// Adds the digits of no more bytes than are spelled at a time.
+fn push_spelled(bytes: &[u8], room: &mut [u8; 512], line: &mut String) -> Result<(), AllocError>
+    requires { length bytes.now ≤ 256 }
+    ensures { OnOk result (string_bytes line.new ≡ string_bytes line.old ++ encode_lower bytes.now) }
+{
+    let digits = &mut room[..2 * bytes.len()];
+    spell(bytes, digits);
+    line.push_str(unsafe { str::from_utf8_unchecked(digits) })
+}
+
+/// Adds the bytes in hexadecimal digits, two for each.
+fn push_digits(bytes: &[u8], line: &mut String) -> Result<(), AllocError>
+    ensures { OnOk result (string_bytes line.new ≡ string_bytes line.old ++ encode_lower bytes.now) }
+{
+    line.reserve(bytes.len().saturating_mul(2))?;
+    let mut room = [0; 512];
+    let mut rest = bytes;
+    while rest.len() > SPELLED {
+        let (piece, behind) = rest.split_at(SPELLED);
+        push_spelled(piece, &mut room, line)?;
+        rest = behind;
+    }
+    push_spelled(rest, &mut room, line)
+}
+
+/// Whether there is a byte in any piece.
+fn has_bytes(pieces: &[Bytes]) -> bool
+    ensures { result ≡ not (length (flat_map (λ piece. piece) pieces.now) == 0) }
+{
+    for piece in pieces {
+        if !piece.is_empty() {
+            return true;
+        }
+    }
+    false
+}
+
+/// Adds the digits of bytes that stand in pieces.
+fn push_pieces(pieces: &[Bytes], line: &mut String) -> Result<(), AllocError>
+    ensures { OnOk result (string_bytes line.new ≡ string_bytes line.old ++ encode_lower (flat_map (λ piece. piece) pieces.now)) }
+{
+    for piece in pieces {
+        push_digits(piece.as_slice(), line)?;
+    }
+    Ok(())
 }
 
 /// Adds the bytes that were read behind a blank; nothing where there are none.
-fn print_read(alloc: Global, chunks: &Chunks, line: &mut String) -> Result<(), AllocError>
+fn print_read(chunks: &Chunks, line: &mut String) -> Result<(), AllocError>
     ensures { OnOk result (string_bytes line.new ≡ string_bytes line.old ++ spec.node_reply_text (reply.Read chunks.now)) }
 {
-    let digits = digits_of(alloc, chunks)?;
     line.push_str("ok read")?;
-    if digits.is_empty() {
+    let pieces = chunks.pieces();
+    if !has_bytes(pieces) {
         return Ok(());
     }
     line.push_str(" ")?;
-    line.push_str(digits.as_str())
+    push_pieces(pieces, line)
 }
 
 fn state_word(state: ReplicaState) -> &'static str
@@ -70,14 +132,14 @@ fn print_number(word: &str, number: u64, line: &mut String) -> Result<(), AllocE
     Ok(())
 }
 
-fn print_reply(alloc: Global, reply: &NodeReply, line: &mut String) -> Result<(), AllocError>
+fn print_reply(reply: &NodeReply, line: &mut String) -> Result<(), AllocError>
     ensures { OnOk result (string_bytes line.new ≡ string_bytes line.old ++ spec.node_reply_text reply.now) }
 {
     match reply {
         NodeReply::Begun => line.push_str("ok begun"),
         NodeReply::Taken(bytes) => print_number("ok taken ", *bytes, line),
         NodeReply::Finalized(bytes) => print_number("ok finalized ", *bytes, line),
-        NodeReply::Read(chunks) => print_read(alloc, chunks, line),
+        NodeReply::Read(chunks) => print_read(chunks, line),
         NodeReply::Replica(stamp, length, state) => print_replica(*stamp, *length, *state, line),
         NodeReply::Updated(bytes) => print_number("ok updated ", *bytes, line),
         NodeReply::Removed => line.push_str("ok removed"),
@@ -99,14 +161,14 @@ fn print_refusal(refusal: NodeRefusal, line: &mut String) -> Result<(), AllocErr
 /// # Errors
 /// Out of memory.
 pub fn print_called(
-    alloc: Global,
+    _alloc: Global,
     answer: &Result<NodeReply, NodeRefusal>,
     line: &mut String,
 ) -> Result<(), AllocError>
     ensures { OnOk result (string_bytes line.new ≡ string_bytes line.old ++ spec.called_text answer.now) }
 {
     match answer {
-        Ok(reply) => print_reply(alloc, reply, line),
+        Ok(reply) => print_reply(reply, line),
         Err(refusal) => print_refusal(*refusal, line),
     }
 }

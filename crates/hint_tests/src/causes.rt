@@ -54,7 +54,7 @@ fn lines_and_moments_get_hints(rt: HostRuntime) -> Result<(), Fail> {
 }
 
 /// Each verb with a word too few or too many. The words are ill-formed too, which is judged later.
-static COUNTS: [(&str, &str); 33] = [
+static COUNTS: [(&str, &str); 37] = [
     ("x a:b mkdirs /..", "mkdirs wants P MODE"),
     ("0 a:b mkdirs /.. 888 888", "mkdirs wants P MODE"),
     ("0 a:b stat", "stat wants P"),
@@ -101,6 +101,10 @@ static COUNTS: [(&str, &str); 33] = [
     ("0 a:b open", "open wants P"),
     ("0 a:b setrep /..", "setrep wants P REPL"),
     ("0 a:b renew /..", "renew wants no words"),
+    ("0 a:b tick /..", "tick wants no words"),
+    ("0 a:b heartbeat 1", "heartbeat wants no words"),
+    ("0 a:b rollkey", "rollkey wants HEX"),
+    ("0 a:b rollkey 0b 0b", "rollkey wants HEX"),
     ("0 a:b adduser a:b", "adduser wants U GROUPS"),
     ("0 a:b groups a:b a:b a:b", "groups wants U GROUPS"),
 ];
@@ -190,6 +194,32 @@ static NAMES: [(&str, &str); 13] = [
 #[test]
 fn names_get_hints(rt: HostRuntime) -> Result<(), Fail> {
     all_get(&rt, &NAMES)
+}
+
+/// 39 digits, 41, a letter that is none, and a sign. The word isn't repeated.
+static KEYS: [(&str, &str); 5] = [
+    (
+        "0 ann rollkey 0b0b0b0b0b0b0b0b0b0b0b0b0b0b0b0b0b0b0b0",
+        "a key is 40 hexadecimal digits",
+    ),
+    (
+        "0 ann rollkey 0b0b0b0b0b0b0b0b0b0b0b0b0b0b0b0b0b0b0b0b0",
+        "a key is 40 hexadecimal digits",
+    ),
+    (
+        "0 ann rollkey 0b0b0b0b0b0b0b0b0b0b0b0b0b0b0b0b0b0b0b0g",
+        "a key is 40 hexadecimal digits",
+    ),
+    ("0 ann rollkey -", "a key is 40 hexadecimal digits"),
+    (
+        "0 ann rollkey 0b0b0b0b0b0b0b0b0b0b0B0B0B0B0B0B0B0B0B0B",
+        "(none)",
+    ),
+];
+
+#[test]
+fn keys_get_hints(rt: HostRuntime) -> Result<(), Fail> {
+    all_get(&rt, &KEYS)
 }
 
 static WORDS: [(&str, &str); 24] = [

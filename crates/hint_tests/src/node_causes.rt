@@ -157,7 +157,7 @@ fn calls_of_leaders_get_hints(rt: HostRuntime) -> Result<(), Fail> {
 }
 
 /// The first ill-formed word of a call, with others behind it.
-static WORDS: [(&str, &str); 16] = [
+static WORDS: [(&str, &str); 18] = [
     (
         "0 ann @1 begin 18446744073709551616 x x x",
         "block is not below 2^64",
@@ -219,6 +219,11 @@ static WORDS: [(&str, &str); 16] = [
         "\"2,2,\" has \"\", which is no id of a DataNode",
     ),
     ("0 - deliver x", "message \"x\" is not decimal digits"),
+    ("0 - deliver -1", "message \"-1\" is not decimal digits"),
+    (
+        "0 - deliver 18446744073709551616",
+        "message is not below 2^64",
+    ),
 ];
 
 #[test]

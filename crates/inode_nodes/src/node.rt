@@ -21,6 +21,7 @@ use std::marker::Model;
 
 /// A file, or a directory with what it holds.
 #[cycle(node)]
+#[derive(Drop)]
 pub struct Node {
     pub owner: Who,
     pub group: Who,
@@ -28,34 +29,11 @@ pub struct Node {
     pub held: Held,
 }
 
-impl Drop for Node {
-    fn drop(self) {
-        let Node {
-            owner,
-            group,
-            acl,
-            held,
-        } = self;
-        drop(owner);
-        drop(group);
-        drop(acl);
-        drop(held);
-    }
-}
-
 #[cycle(node)]
+#[derive(Drop)]
 pub enum Held {
     File(FileRow),
     Directory(BTreeMap<Name, Node>),
-}
-
-impl Drop for Held {
-    fn drop(self) {
-        match self {
-            Held::File(part) => drop(part),
-            Held::Directory(part) => drop(part),
-        }
-    }
 }
 
 impl Model for Node {

@@ -1,2 +1,3 @@
 pub mod Signs
 pub mod Nodes
+pub mod Spelled

@@ -1,13 +1,15 @@
-ghost use Rattle.std.specs.Prelude.{◌≡◌, [], ◌∷◌, map};
+ghost use Rattle.std.specs.Prelude.{◌≡◌, ◌*◌, [], ◌∷◌, length, if◌then◌else◌};
+ghost use Rattle.std.specs.Option.{unwrap_or};
+ghost use Rattle.std.specs.Result.{result_ok};
+ghost use Rattle.hex.specs.Hex.{decode_pairs, hex_digit_value};
 ghost use Rattle.hdfs_values.specs.Parsed.{ParsesInParts};
 ghost use Rattle.script_words.specs.LineForms.{Forms};
+ghost use Rattle.script_words.specs.Words.{pieces_at};
 ghost use Rattle.node_words.specs.Words as spec;
 
 use hdfs_values::fault::{IllFormed, ParseFault};
 use hdfs_values::number::number_of;
-use hex::FromHexError;
 use node_calls::block_bytes::BlockBytes;
-use script_words::words::pieces_between;
 use std::alloc::Global;
 
 /// The byte that two hexadecimal digits spell.
@@ -30,14 +32,47 @@ fn repeated_of(alloc: Global, times: &str, digits: &str) -> Option<BlockBytes>
     Some(BlockBytes::repeated(alloc, byte, times))
 }
 
+/// The value of a hexadecimal digit of either case; 255 of what is none.
+fn value_of(digit: u8) -> u8
+    ensures { result ≡ unwrap_or (hex_digit_value digit) 255 }
+{
+    match digit {
+        b'A'..=b'F' => digit - b'A' + 10,
+        b'a'..=b'f' => digit - b'a' + 10,
+        b'0'..=b'9' => digit - b'0',
+        _ => 255,
+    }
+}
+
+/// Makes the bytes that digits spell, two for each, and says whether all are digits. It goes on behind one that isn't, so that nothing is
+/// asked on the way.
+fn decode_all(digits: &[u8], bytes: &mut [u8]) -> bool
+    requires { length digits.now ≡ 2 * length bytes.old }
+    ensures { result_ok (decode_pairs 0 digits.now) ≡ (if result then Some bytes.new else None) }
+{
+    let mut good = true;
+    for i in 0..bytes.len() {
+        let high = value_of(digits[2 * i]);
+        let low = value_of(digits[2 * i + 1]);
+        good = good & (high < 16) & (low < 16);
+        bytes[i] = high.wrapping_mul(16).wrapping_add(low);
+    }
+    good
+}
+
+#[tactic(auto, using(crate::proofs::Spelled::odd_digits, crate::proofs::Spelled::even_digits))]
 fn listed(alloc: Global, digits: &str) -> Result<BlockBytes, ParseFault>
     ensures { ParsesInParts IllFormed.BadLine result (spec.bytes_by (digits.now ∷ [])) }
 {
-    match hex::decode(alloc, digits) {
-        Ok(bytes) => Ok(BlockBytes::new(bytes)),
-        Err(FromHexError::OutOfMemory) => Err(ParseFault::OutOfMemory),
-        Err(_) => Err(ParseFault::IllFormed(IllFormed::BadLine)),
+    let digits = digits.as_bytes();
+    if digits.len() % 2 != 0 {
+        return Err(ParseFault::IllFormed(IllFormed::BadLine));
     }
+    let mut bytes = vec![in alloc; 0u8; digits.len() / 2]?;
+    if !decode_all(digits, &mut bytes) {
+        return Err(ParseFault::IllFormed(IllFormed::BadLine));
+    }
+    Ok(BlockBytes::new(bytes))
 }
 
 fn repeated(alloc: Global, times: &str, digits: &str) -> Result<BlockBytes, ParseFault>
@@ -49,13 +84,22 @@ fn repeated(alloc: Global, times: &str, digits: &str) -> Result<BlockBytes, Pars
     }
 }
 
-fn bytes_by(alloc: Global, pieces: &[&str]) -> Result<BlockBytes, ParseFault>
-    ensures { ParsesInParts IllFormed.BadLine result (spec.bytes_by (map (λ piece. piece.now) pieces.now)) }
+/// What a number and what stands behind the `*` spell: nothing where there is another `*`.
+fn repeated_once(alloc: Global, times: &str, digits: &str) -> Result<BlockBytes, ParseFault>
+    ensures { ParsesInParts IllFormed.BadLine result (spec.bytes_by (times.now ∷ pieces_at 42 digits.now)) }
 {
-    match pieces {
-        [digits] => listed(alloc, digits),
-        [times, digits] => repeated(alloc, times, digits),
-        _ => Err(ParseFault::IllFormed(IllFormed::BadLine)),
+    match digits.split_once('*') {
+        Some(_) => Err(ParseFault::IllFormed(IllFormed::BadLine)),
+        None => repeated(alloc, times, digits),
+    }
+}
+
+fn bytes_in(alloc: Global, word: &str) -> Result<BlockBytes, ParseFault>
+    ensures { ParsesInParts IllFormed.BadLine result (spec.bytes_by (pieces_at 42 word.now)) }
+{
+    match word.split_once('*') {
+        Some((times, digits)) => repeated_once(alloc, times, digits),
+        None => listed(alloc, word),
     }
 }
 
@@ -67,6 +111,5 @@ fn bytes_by(alloc: Global, pieces: &[&str]) -> Result<BlockBytes, ParseFault>
 pub fn bytes_word(alloc: Global, word: &str) -> Result<BlockBytes, ParseFault>
     ensures { Forms result (spec.bytes_word word.now) }
 {
-    let pieces = pieces_between(alloc, word, '*')?;
-    bytes_by(alloc, &pieces)
+    bytes_in(alloc, word)
 }

@@ -1,4 +1,4 @@
+pub mod Blanks
 pub mod Forming
 pub mod Groups
-pub mod Pieces
 pub mod Returns

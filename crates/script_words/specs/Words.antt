@@ -1,5 +1,5 @@
 -- The lines of a script, and the words of a line.
-use Rattle.std.specs.Prelude.{ℕ, Bool, true, not, List, [], ◌∷◌, length, ◌==◌, filter, if◌then◌else◌}
+use Rattle.std.specs.Prelude.{ℕ, Bool, true, not, ◌||◌, List, [], ◌∷◌, length, ◌==◌, filter, if◌then◌else◌}
 use Rattle.std.specs.List.{slice_split, flat_map}
 
 abbrev pub pieces_at : ℕ → List ℕ → List (List ℕ)
@@ -22,6 +22,14 @@ is_skipped (byte ∷ line) = byte == 35
 
 abbrev pub is_filled : List ℕ → Bool
 is_filled word = not (length word == 0)
+
+-- a space or a tab
+abbrev pub is_blank : ℕ → Bool
+is_blank byte = byte == 32 || byte == 9
+
+-- what stands between each two blanks, which may be nothing
+abbrev pub blank_pieces : List ℕ → List (List ℕ)
+blank_pieces text = slice_split is_blank text
 
 -- words are separated by spaces and tabs
 abbrev pub words_of : List ℕ → List (List ℕ)

@@ -1,4 +1,5 @@
-ghost use Rattle.std.specs.Prelude.{◌≡◌, ◌≢◌, ◌<◌, ℕ, List, [], ◌∷◌, ◌++◌, IfOk, OnOk, MatchOption, map, filter};
+ghost use Rattle.std.specs.Prelude.{◌≡◌, ◌≢◌, ◌<◌, ◌≤◌, ℕ, List, [], ◌∷◌, ◌++◌, IfOk, IfSome, OnOk, MatchOption, length, map, filter};
+ghost use Rattle.std.specs.List.{position_or_len};
 ghost use Rattle.hdfs_values.specs.Text.{same};
 ghost use Rattle.script_words.specs.Words as spec;
 
@@ -12,41 +13,65 @@ pub fn pieces_between(alloc: Global, text: &str, separator: char) -> Result<Vec<
     text.split(separator).collect(alloc)
 }
 
-fn push_filled<'a>(words: &mut Vec<&'a str>, pieces: &[&'a str]) -> Result<(), AllocError>
-    ensures { OnOk result (map (λ word. word.now) words.new.items
-        ≡ map (λ word. word.now) words.old.items ++ filter spec.is_filled (map (λ piece. piece.now) pieces.now)) }
+/// Whether a byte stands between words: a space or a tab.
+fn is_blank(byte: u8) -> bool
+    ensures { result ≡ spec.is_blank byte }
 {
-    for piece in pieces {
-        if !piece.is_empty() {
-            words.push(*piece)?;
+    byte == b' ' || byte == b'\t'
+}
+
+/// Where the first blank stands; the length where there is none.
+fn blank_at(text: &[u8]) -> usize
+    ensures place { result ≡ position_or_len spec.is_blank text.now }
+    ensures bound { result ≤ length text.now }
+{
+    let mut at = 0;
+    while at < text.len() {
+        if is_blank(text[at]) {
+            return at;
         }
+        at += 1;
+    }
+    at
+}
+
+/// What stands before the first blank, and what stands behind it.
+fn cut_at_blank(text: &str) -> Option<(&str, &str)>
+    ensures pieces { MatchOption result (spec.blank_pieces text.now ≡ text.now ∷ [])
+        (λ cut. spec.blank_pieces text.now ≡ cut.0.now ∷ spec.blank_pieces cut.1.now) }
+    ensures shorter { IfSome result (λ cut. length cut.1.now < length text.now) }
+{
+    let at = blank_at(text.as_bytes());
+    if at == text.len() {
+        return None;
+    }
+    Some((&text[..at], &text[at + 1..]))
+}
+
+fn push_filled<'a>(words: &mut Vec<&'a str>, piece: &'a str) -> Result<(), AllocError>
+    ensures { OnOk result (map (λ word. word.now) words.new.items
+        ≡ map (λ word. word.now) words.old.items ++ filter spec.is_filled (piece.now ∷ [])) }
+{
+    if !piece.is_empty() {
+        words.push(piece)?;
     }
     Ok(())
 }
 
-/// Adds the words of a piece, which tabs separate. One without a tab, as nearly all are, is cut into no list.
-fn push_words<'a>(alloc: Global, words: &mut Vec<&'a str>, piece: &'a str) -> Result<(), AllocError>
-    ensures { OnOk result (map (λ word. word.now) words.new.items
-        ≡ map (λ word. word.now) words.old.items ++ filter spec.is_filled (spec.pieces_at 9 piece.now)) }
-{
-    if piece.as_bytes().contains(&b'\t') {
-        let parts = pieces_between(alloc, piece, '\t')?;
-        return push_filled(words, &parts);
-    }
-    push_filled(words, &[piece])
-}
+/// As many words as nearly all lines have at most: a packet's has ten.
+const USUAL_WORDS: usize = 12;
 
-/// As many words as nearly all lines have at most.
-const USUAL_WORDS: usize = 8;
-
-/// The words of a line, which spaces and tabs separate.
+/// The words of a line, which spaces and tabs separate. Costs the line.
 pub fn words_in(alloc: Global, line: &str) -> Result<Vec<&str>, AllocError>
     ensures { IfOk result (λ words. map (λ word. word.now) words.items ≡ spec.words_of line.now) }
 {
     let mut words = Vec::with_capacity(alloc, USUAL_WORDS)?;
-    for piece in line.split(' ') {
-        push_words(alloc, &mut words, piece)?;
+    let mut rest = line;
+    while let Some((piece, behind)) = cut_at_blank(rest) {
+        push_filled(&mut words, piece)?;
+        rest = behind;
     }
+    push_filled(&mut words, rest)?;
     Ok(words)
 }
 

@@ -1,9 +1,0 @@
-use Rattle.std.proofs.Common.{◌≡◌, take}
-use Rattle.std.specs.List.{flat_map}
-use Rattle.std.specs.String.{string_bytes}
-use Rattle.hex.specs.Hex.{encode_lower}
-use Rattle.cluster_text.proofs.node_reply.digits_of.Given as goal
-
--- the digits of the pieces so far
-abbrev pub invariant-loop-piece : goal.invariant-loop-piece
-invariant-loop-piece l = string_bytes l.digits ≡ encode_lower (flat_map (λ piece. piece) (take l.piece-index l.pieces))
