@@ -24,7 +24,6 @@ use Rattle.cluster_trace.proofs.Each.{some_is, never_some}
 use Rattle.cluster_core.specs.Past.{Past}
 use Rattle.cluster_core.specs.World.{state_after, stepped}
 use Rattle.cluster_text.specs.EventLine.{is_call, place_of, presented_of, begin_of, packet_of, finalize_of, read_of, going_on, is_that, led_of, call_of, asker_of, asked_by, node_event, is_delivery, delivery_event, names_node, event_of}
-use Rattle.cluster_text.specs.declared.event_line.NodeAsker.{NodeAsker}
 use Rattle.forgery_laws.specs.Forgeries.{IsTokenOf, Shows, PresentsOf, AllPresentGranted, ScriptsForgeNothing}
 use Rattle.forgery_laws.proofs.Sent.{nothing_is_forged}
 use Rattle.cluster_runs.specs.Output.{State, no_lines, ledger_after, answered, event_in, after_answer, after_line}
@@ -105,14 +104,14 @@ module _ (rows : List LedgerRow) where
       by b s true = tt
       by b s false = tt
 
-  led_has : (asker : NodeAsker) (verb block stamp : List ℕ) → IfOk (led_of asker verb block stamp) CallShows
+  led_has : (asker : _) (verb block stamp : List ℕ) → IfOk (led_of asker verb block stamp) CallShows
   led_has asker verb block stamp = by (is_that asker.node (node_of asker.caller))
     where
       by : (own : Bool) → IfOk (if own then going_on verb block stamp else Err BadLine) CallShows
       by true = going_on_has verb block stamp
       by false = tt
 
-  call_has : (asker : NodeAsker) (verb : List ℕ) (words : List (List ℕ)) → IfOk (call_of rows asker verb words) CallShows
+  call_has : (asker : _) (verb : List ℕ) (words : List (List ℕ)) → IfOk (call_of rows asker verb words) CallShows
   call_has asker verb [] = tt
   call_has asker verb (a ∷ []) = tt
   call_has asker verb (a ∷ b ∷ []) = led_has asker verb a b
@@ -124,7 +123,7 @@ module _ (rows : List LedgerRow) where
 
   -- ---- events
 
-  asked_has : (asker : NodeAsker) (verb : List ℕ) (words : List (List ℕ)) → IfOk (asked_by rows asker verb words) (PresentsOf rows)
+  asked_has : (asker : _) (verb : List ℕ) (words : List (List ℕ)) → IfOk (asked_by rows asker verb words) (PresentsOf rows)
   asked_has asker verb words = then_uses (PresentsOf rows) CallShows (call_of rows asker verb words) _ (call_has asker verb words) (λ call h. h)
 
   data_has : (is : Bool) (moment caller node verb : List ℕ) (words : List (List ℕ))
