@@ -1,12 +1,11 @@
 -- Messages carry what plans decided.
-use Rattle.std.proofs.Common.{◌≡◌, ℕ, ◌==◌, Bool, true, false, ◌||◌, ◌&&◌, List, [], ◌∷◌, ◌++◌, map, Option, Some, None, unwrap_or, refl, sym, ap, ◌∙◌, subst, cond}
+use Rattle.std.proofs.Common.{◌≡◌, ℕ, ◌==◌, Bool, true, false, ◌||◌, ◌&&◌, List, [], ◌∷◌, ◌++◌, map, Option, Some, None, unwrap_or, refl, ap, ◌∙◌, subst, cond}
 use Rattle.std.proofs.lemmas.Bool.{eq-eqb}
 use Rattle.std.specs.Bool.{⊤}
 use Rattle.std.specs.List.{AllByRecursion}
-use Rattle.std.specs.Map.{set_value}
 use Rattle.std.specs.Option.{is_some, option_map}
 use Rattle.block_records.specs.Numbers.{is_number, has_number, entry_at}
-use Rattle.block_recovery.specs.Plans.{PlanTable, plan_at, changed, refused_without, refused_commit, commit_of, decision_for, with_decision}
+use Rattle.block_recovery.specs.Plans.{PlanTable, plan_at, changed, refused_without, refused_commit, decision_for, with_decision}
 use Rattle.block_recovery.specs.declared.decision.Commit.{Commit}
 use Rattle.block_recovery.specs.declared.decision.Decision.{Decision}
 use Rattle.block_recovery.specs.declared.fault.PlanRefusal.{PlanRefusal}

@@ -17,11 +17,11 @@ use Rattle.node_calls.specs.declared.call.PlanCall.{PlanCall}
 use Rattle.node_calls.specs.declared.call.PlanCall.TheVariants as plan
 use Rattle.datanode.specs.NodeStep.{Node, node_after}
 use Rattle.plan_steps.specs.PlanStep.{recover_of, answer_of, plan_refusal, plans_with, left_unless, plans_after}
-use Rattle.cluster_trace.specs.Trace.{State, Opening, start, new_node, with_new_node, with_no_plan, happened, happens, after}
+use Rattle.cluster_trace.specs.Trace.{State, Opening, new_node, with_new_node, with_no_plan, happened, happens, after}
 use Rattle.cluster_trace.specs.declared.event.Event.{Event}
-use Rattle.cluster_trace.proofs.Each.{some_is, AllValues, values_at, values_set, values_inserted}
+use Rattle.cluster_trace.proofs.Each.{AllValues, values_at, values_set, values_inserted}
 use Rattle.fencing_laws.specs.Fencing.{plan_in, NodesLead, PlansStay, PlansAreRight}
-use Rattle.fencing_laws.proofs.Behind.{set_there, NodeBehind, NodesBehind, event_nodes, PlanBehind, PlansBehind, event_plans}
+use Rattle.fencing_laws.proofs.Behind.{set_there, NodesBehind, event_nodes, PlansBehind, event_plans}
 
 -- ---- one call of one DataNode
 

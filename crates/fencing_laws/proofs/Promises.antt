@@ -1,7 +1,6 @@
 -- What was promised stays, and no replica falls below the stamp of one before it.
 use Rattle.std.proofs.Common.{◌≡◌, ℕ, ◌≤◌, List, [], ◌∷◌, ◌++◌, Option, Some, None, refl, sym, ap, ◌∙◌, subst, fold, arith}
 use Rattle.std.specs.Prelude.{option_map}
-use Rattle.std.specs.Bool.{⊤}
 use Rattle.block_records.specs.Numbers.{entry_at}
 use Rattle.node_calls.specs.declared.call.NodeCall.{NodeCall}
 use Rattle.replicas.specs.ReplicaStep.{held_at}

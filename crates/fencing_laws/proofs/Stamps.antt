@@ -1,5 +1,5 @@
 -- What one call leaves of the stamps that a DataNode holds of a block.
-use Rattle.std.proofs.Common.{◌≡◌, ℕ, ◌≤◌, ◌==◌, Bool, true, false, not, nat_le, nat_lt, List, [], ◌∷◌, length, Option, Some, None, unwrap_or, refl, sym, ap, ◌∙◌, cond, subst, arith}
+use Rattle.std.proofs.Common.{◌≡◌, ℕ, ◌≤◌, ◌==◌, Bool, true, false, not, nat_le, nat_lt, List, [], length, Option, Some, None, unwrap_or, refl, sym, ap, ◌∙◌, cond, subst, arith}
 use Rattle.std.proofs.lemmas.Bool.{leb-false, ltb-false, eqb-true}
 use Rattle.std.specs.Bool.{⊤}
 use Rattle.std.specs.BTreeMap.{insert_entry}
@@ -10,7 +10,6 @@ use Rattle.block_recovery.proofs.Lookups.{lookup_inserted}
 use Rattle.block_tokens.specs.TokenTest.{token_test}
 use Rattle.node_calls.specs.declared.call.NodeCall.{NodeCall}
 use Rattle.node_calls.specs.declared.call.NodeCall.TheVariants.{Presenting, Invalidate, Keys}
-use Rattle.node_calls.specs.declared.call.ReplicaState.{ReplicaState}
 use Rattle.node_calls.specs.declared.call.ReplicaState.TheVariants.{Writing, Finalized}
 use Rattle.node_calls.specs.declared.call.TokenCall.{TokenCall}
 use Rattle.node_calls.specs.declared.call.TokenCall.TheVariants as call
@@ -19,7 +18,7 @@ use Rattle.node_calls.specs.declared.refusal.NodeRefusal.{NodeRefusal}
 use Rattle.node_calls.specs.declared.refusal.ReplicaRefusal.{ReplicaRefusal}
 use Rattle.node_calls.specs.declared.refusal.ReplicaRefusal.TheVariants.{NoReplica, StampDiffers, OutOfRange, NotWritable, ReplicaExists}
 use Rattle.node_replies.specs.Asking.{asked_by}
-use Rattle.replicas.specs.ReplicaStep.{Blocks, nothing, held_at, refused_where, replica_refusal, removal_refusal, placed, with_replica, appended, finalized, promising, updated, removed, changed, changed_by, blocks_after}
+use Rattle.replicas.specs.ReplicaStep.{Blocks, nothing, held_at, refused_where, replica_refusal, removal_refusal, placed, appended, finalized, promising, updated, removed, changed, changed_by, blocks_after}
 use Rattle.replicas.specs.declared.held.Held.{Held}
 use Rattle.replicas.specs.declared.replica.Replica.{Replica}
 use Rattle.datanode.specs.NodeStep.{Node, node_after, presented_after, presented_by, removed_by, clock_with, call_refusal, access_of}

@@ -1,10 +1,9 @@
 -- A DataNode that has let a recovery begin takes no packet of an older stamp.
-use Rattle.std.proofs.Common.{◌≡◌, ℕ, ◌≤◌, Bool, true, false, nat_le, List, [], ◌∷◌, ◌++◌, Option, Some, None, Result, Ok, Err, unwrap_or, refl, sym, ap, ◌∙◌, subst, cond, arith}
+use Rattle.std.proofs.Common.{◌≡◌, ℕ, ◌≤◌, ◌∷◌, ◌++◌, Option, Some, None, Result, Ok, Err, unwrap_or, refl, sym, ap, ◌∙◌, subst, cond, arith}
 use Rattle.std.specs.Map.{set_value}
 use Rattle.block_records.specs.Numbers.{is_number, entry_at}
 use Rattle.block_recovery.proofs.Tables.{itself}
 use Rattle.block_tokens.specs.TokenTest.{token_test}
-use Rattle.hdfs_types.specs.declared.op.Request.{Request}
 use Rattle.node_calls.specs.declared.call.NodeCall.{NodeCall}
 use Rattle.node_calls.specs.declared.call.NodeCall.TheVariants.{Presenting}
 use Rattle.node_calls.specs.declared.call.TokenCall.TheVariants as call
@@ -22,14 +21,13 @@ use Rattle.datanode_laws.proofs.Records.{fenced}
 use Rattle.datanode_laws.proofs.Steps.{never}
 use Rattle.cluster_trace.specs.DataCall.{as_message}
 use Rattle.cluster_trace.specs.Provenance.{CallAt, call_brought, call_of}
-use Rattle.cluster_trace.specs.Trace.{State, Opening, Happened, called, called_at, delivered, message_at, happened, after}
+use Rattle.cluster_trace.specs.Trace.{State, Happened, called, called_at, delivered, message_at, happened, after}
 use Rattle.cluster_trace.specs.declared.event.Event.{Event}
 use Rattle.cluster_trace.specs.declared.event.Event.TheVariants.{Name, Deliver, Data}
 use Rattle.cluster_trace.specs.declared.outcome.ClusterRefusal.TheVariants.{NoNode}
-use Rattle.cluster_trace.specs.declared.outcome.EventAnswer.{EventAnswer}
 use Rattle.cluster_trace.specs.declared.outcome.EventAnswer.TheVariants.{Called, Lost}
 use Rattle.cluster_trace.proofs.Each.{some_is, never_some}
-use Rattle.fencing_laws.specs.Fencing.{Serves, OldWritersAreFenced}
+use Rattle.fencing_laws.specs.Fencing.{OldWritersAreFenced}
 use Rattle.fencing_laws.proofs.Behind.{Holds, later_holds, set_there}
 use Rattle.fencing_laws.proofs.Promises.{HasPromised, promise_stays}
 

@@ -1,5 +1,5 @@
 -- What is in a list.
-use Rattle.std.proofs.Common.{◌≡◌, inl, inr, List, [], ◌∷◌, ◌++◌, map, refl, ap}
+use Rattle.std.proofs.Common.{inl, inr, List, [], ◌∷◌, ◌++◌, map, refl, ap}
 use Rattle.std.specs.List.{AllByRecursion}
 use Rattle.cluster_trace.specs.Provenance.{IsIn}
 use Rattle.cluster_trace.proofs.Each.{each_more}

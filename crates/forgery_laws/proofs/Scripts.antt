@@ -21,8 +21,7 @@ use Rattle.cluster_trace.specs.Provenance.{IsIn}
 use Rattle.cluster_trace.specs.Trace.{Opening, after}
 use Rattle.cluster_trace.specs.declared.event.Event.{Event}
 use Rattle.cluster_trace.proofs.Each.{some_is, never_some}
-use Rattle.cluster_core.specs.Past.{Past}
-use Rattle.cluster_core.specs.World.{state_after, stepped}
+use Rattle.cluster_core.specs.World.{state_after}
 use Rattle.cluster_text.specs.EventLine.{is_call, place_of, presented_of, begin_of, packet_of, finalize_of, read_of, going_on, is_that, led_of, call_of, asker_of, asked_by, node_event, is_delivery, delivery_event, names_node, event_of}
 use Rattle.forgery_laws.specs.Forgeries.{IsTokenOf, Shows, PresentsOf, AllPresentGranted, ScriptsForgeNothing}
 use Rattle.forgery_laws.proofs.Sent.{nothing_is_forged}

@@ -37,9 +37,9 @@ use Rattle.datanode.specs.NodeStep.{Node, node_answer, presented_answer, told_by
 use Rattle.block_recovery.specs.Plans.{PlanTable, plan_at, new_plan, with_answer, with_decision, with_updated}
 use Rattle.block_recovery.specs.declared.fault.PlanRefusal.{PlanRefusal}
 use Rattle.block_recovery.specs.declared.plan.Plan.{Plan}
-use Rattle.plan_steps.specs.PlanStep.{recover_of, plan_refusal, answer_of, plans_with, left_unless, plans_after, no_plan, plan_there, decided, presenting, to_each, plan_sends, told_unless, plan_answer}
+use Rattle.plan_steps.specs.PlanStep.{recover_of, plan_refusal, answer_of, plans_with, left_unless, plans_after, no_plan, decided, presenting, to_each, plan_sends, told_unless, plan_answer}
 use Rattle.cluster_trace.specs.DataCall.{DataCall, as_message, BeginWrite, Packet, Finalize, Read, Decide, Commit}
-use Rattle.cluster_trace.specs.Provenance.{IsIn, CallAt, call_brought, call_of}
+use Rattle.cluster_trace.specs.Provenance.{call_brought, call_of}
 use Rattle.cluster_trace.specs.Trace.{State, Opening, Happened, start, with_no_plan, lost, named, entry_of, called, called_at, led, led_at, delivered, message_at, reporting, is_from_outside, recover_message, removal_message, copy_message, command_messages, told_messages, sent_by, happened, left_by, after}
 use Rattle.cluster_trace.specs.declared.event.Event.{Event}
 use Rattle.cluster_trace.specs.declared.event.Event.TheVariants.{Name, Deliver, Data}
@@ -48,7 +48,7 @@ use Rattle.cluster_trace.specs.declared.outcome.ClusterRefusal.TheVariants.{NoMe
 use Rattle.cluster_trace.proofs.Each.{some_is, each_append, each_more, each_map, in_append, AllValues, values_at, values_set, values_inserted}
 use Rattle.cluster_trace.proofs.EachPlan.{EachPlan, plan_has, with_plan_has, changed_has}
 use Rattle.cluster_trace.proofs.Sound.{message_brings}
-use Rattle.cluster_laws.specs.Laws.{NothingIsForged, IsForgery, PresentsForged}
+use Rattle.cluster_laws.specs.Laws.{IsForgery, PresentsForged}
 use Rattle.forgery_laws.specs.Forgeries.{IsTokenOf, Shows, granted_in, PresentsOf, AllPresentGranted, ClientsAloneForge}
 use Rattle.forgery_laws.proofs.Members.{in_behind, each_of_map}
 use Rattle.forgery_laws.proofs.Orders.{CommandsGranted, TellsGranted, request_granted}

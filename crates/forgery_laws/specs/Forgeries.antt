@@ -3,7 +3,6 @@ use Rattle.std.specs.Prelude.{◌≡◌, ℕ, List, [], ◌∷◌}
 use Rattle.std.specs.Bool.{⊤}
 use Rattle.grant_ledger.specs.declared.ledger.LedgerRow.{LedgerRow}
 use Rattle.history.specs.Grants.{ledger_of}
-use Rattle.node_calls.specs.declared.presented.Presented.{Presented}
 use Rattle.cluster_trace.specs.DataCall.{DataCall, BeginWrite, Packet, Finalize, Read, Decide, Commit}
 use Rattle.cluster_trace.specs.Trace.{State, Opening, after}
 use Rattle.cluster_trace.specs.Provenance.{IsIn}
