@@ -53,7 +53,7 @@ adds_delivered state now None = adds_none state.entries
 adds_delivered state now (Some (message.Node node asked)) = adds_called state node now asked (entry_at node state.nodes)
 adds_delivered state now (Some (message.Plan node asked)) = adds_led state node asked (entry_at node state.plans)
 adds_delivered state now (Some (message.Reported node block stamp bytes)) = adds_named state (trace.reporting node now block stamp bytes)
-adds_delivered state now (Some (message.CommitRecovery node block stamp bytes nodes)) = adds_none state.entries
+adds_delivered state now (Some (message.CommitRecovery node block stamp bytes nodes)) = adds_named state (trace.committing node now block stamp bytes nodes)
 
 adds_asked : (state : trace.State) (request : Request) → Adds state.entries (trace.happened state (Name request)).entries
 adds_asked state request = by (trace.is_from_outside request.op)

@@ -52,6 +52,7 @@ asked_of op.Renew = bare (codes "renew")
 asked_of op.Tick = bare (codes "tick")
 asked_of op.Heartbeat = bare (codes "heartbeat")
 asked_of (op.Reported replica) = bare (codes "reported")
+asked_of (op.CommitRecovery recovered) = bare (codes "commitrecovery")
 
 -- ---- what a line tells of a verdict
 

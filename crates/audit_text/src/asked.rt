@@ -74,5 +74,6 @@ pub(crate) fn asked_of(op: &Op) -> Asked<'_>
         Op::Tick => bare("tick"),
         Op::Heartbeat => bare("heartbeat"),
         Op::Reported(_) => bare("reported"),
+        Op::CommitRecovery(_) => bare("commitrecovery"),
     }
 }

@@ -13,7 +13,7 @@ use Rattle.hdfs_types.specs.LocatedBlocks.{AddedBlock}
 use Rattle.block_records.specs.Numbers.{has_number}
 use Rattle.block_records.specs.declared.block_record.BlockRecord.{BlockRecord}
 use Rattle.known_blocks.specs.Known.{Known, block_of}
-use Rattle.block_map.specs.BlockFacts.{BlockFacts}
+use Rattle.block_map.specs.BlockFacts.{BlockFacts, newest_stamp}
 use Rattle.block_effect_laws.specs.Laws.{Becomes, IsKept}
 use Rattle.namespace_rows.specs.declared.file_row.FileBlock.{FileBlock}
 use Rattle.namespace_rows.specs.declared.row.Row.{Row}
@@ -21,10 +21,10 @@ use Rattle.history.specs.declared.entry.HistoryEntry.{HistoryEntry}
 use Rattle.history.specs.Config.{Opening}
 use Rattle.history.specs.LegalHistory.{now_at, IsLegal}
 use Rattle.history.specs.State.{users_of, rows_of, blocks_of, facts_of}
-use Rattle.block_laws.specs.Laws.{blocks_by, new_blocks, ids_given, stamps_given, LengthsAre, IdsAscend, StampsAscend, KnownBlocksWereGiven, StampsAreOwn, StampsNeverFall, LengthsStay, BlocksStandOnce, BlocksAreBelow, FilesTellLengths, RowsAreNamespace}
+use Rattle.block_laws.specs.Laws.{blocks_by, new_blocks, ids_given, stamps_given, LengthsAre, IdsAscend, StampsAscend, KnownBlocksWereGiven, StampsAreOwn, StampsAreOwnAtAllTimes, StampsNeverFall, LengthsStay, BlocksStandOnce, BlocksAreBelow, FilesTellLengths, RowsAreNamespace}
 use Rattle.block_laws.proofs.Totals.{bit, total, own, in_rows, times_in}
 use Rattle.block_laws.proofs.Told.{told_by, told}
-use Rattle.block_laws.proofs.Standing.{same_length, length_told, wrong}
+use Rattle.block_laws.proofs.Standing.{same_length, length_told, length_of, wrong}
 use Rattle.block_laws.proofs.Steps.{Gives, Standing, Turned, turned}
 
 -- ---- one entry more
@@ -38,12 +38,13 @@ module _ (opening : Opening) where
   turned_behind entry earlier legal standing =
       turned (facts_of opening earlier (now_at earlier entry.request)) (rows_of opening earlier) (users_of earlier) entry.request.caller entry.request.op standing entry.verdict legal.1
 
-  stands : (entries : List HistoryEntry) → IsLegal opening entries → Standing (rows_of opening entries) (known_behind entries)
+  pub stands : (entries : List HistoryEntry) → IsLegal opening entries → Standing (rows_of opening entries) (known_behind entries)
   unfolding IsStrictlySortedBy
   stands [] legal = record {
     namespace = refl;
     sound = record { once = tt; each = λ block own there. cc; apart = λ block other own also there. cc };
     agree = record { once = λ number. refl; right = refl };
+    recover = record { runs = λ number v. refl; right = refl };
   }
   stands (entry ∷ earlier) legal = (turned_behind entry earlier legal (stands earlier legal.2)).standing
 
@@ -197,6 +198,55 @@ stamps_are_own opening entries block other stamp legal x y =
     let also = with_stamp stamp (block_of (known_behind opening entries) other) y in
     (stands opening entries legal).sound.apart block other own.0 also.0 own.1 also.1 (own.2 ∙ sym also.2)
 
+-- a stamp that was given before is no new one: it was that of the block then
+was_stamp : (before : Known) (block bound stamp : ℕ) → bound ≤ before.next_stamp → stamp < bound → (a b : Option BlockRecord) → Becomes before block a b
+    → option_map (λ (own : BlockRecord). own.stamp) b ≡ Some stamp → option_map (λ (own : BlockRecord). own.stamp) a ≡ Some stamp
+was_stamp before block bound stamp le less a None turn y = cc
+was_stamp before block bound stamp le less None (Some own) turn y = let is : own.stamp ≡ stamp = cc in let new = turn.1 in absurd (omega (arith, le, less, is, new))
+was_stamp before block bound stamp le less (Some old) (Some own) turn y = by turn.stamp
+  where
+    is : own.stamp ≡ stamp
+    is = cc
+
+    by : (own.stamp ≡ old.stamp) ⊎ (before.next_stamp ≤ own.stamp) → Some old.stamp ≡ Some stamp
+    by (inl same) = ap (λ n. Some n) (sym same ∙ is)
+    by (inr new) = absurd (omega (arith, le, less, is, new))
+
+module _ (opening : Opening) (earlier : List HistoryEntry) where
+  -- stamps aren't taken back
+  stamps_go_on : (later : List HistoryEntry) → IsLegal opening (later ++ earlier) → (known_behind opening earlier).next_stamp ≤ (known_behind opening (later ++ earlier)).next_stamp
+  stamps_go_on [] legal = omega arith
+  stamps_go_on (entry ∷ later) legal =
+      let before = stamps_go_on later legal.2 in
+      let next = (turns opening entry (later ++ earlier) legal).kept.next_stamp in
+      onward (known_behind opening earlier).next_stamp (known_behind opening (later ++ earlier)).next_stamp (known_behind opening (entry ∷ (later ++ earlier))).next_stamp before next
+    where
+      onward : (a b c : ℕ) → a ≤ b → b ≤ c → a ≤ c
+      onward a b c h k = omega (arith, h, k)
+
+  had_stamp : (later : List HistoryEntry) (block stamp : ℕ) → IsLegal opening (later ++ earlier) → stamp < (known_behind opening earlier).next_stamp
+      → newest_stamp (blocks_of opening (later ++ earlier)) block ≡ Some stamp → newest_stamp (blocks_of opening earlier) block ≡ Some stamp
+  had_stamp [] block stamp legal less y = y
+  had_stamp (entry ∷ later) block stamp legal less y =
+      had_stamp later block stamp legal.2 less
+      (was_stamp (known_behind opening (later ++ earlier)) block (known_behind opening earlier).next_stamp stamp (stamps_go_on later legal.2) less
+      (block_of (known_behind opening (later ++ earlier)) block) (block_of (known_behind opening (entry ∷ (later ++ earlier))) block)
+      ((turns opening entry (later ++ earlier) legal).kept.blocks block) y)
+
+  legal_before : (later : List HistoryEntry) → IsLegal opening (later ++ earlier) → IsLegal opening earlier
+  legal_before [] legal = legal
+  legal_before (entry ∷ later) legal = legal_before later legal.2
+
+pub stamps_are_own_ever : StampsAreOwnAtAllTimes
+stamps_are_own_ever opening later earlier block other stamp legal x y =
+    let before = legal_before opening earlier later legal in
+    let own = with_stamp stamp (block_of (known_behind opening earlier) block) x in
+    let less : stamp < (known_behind opening earlier).next_stamp = below own.0.stamp stamp (known_behind opening earlier).next_stamp own.2 ((stands opening earlier before).sound.each block own.0 own.1).stamped in
+    stamps_are_own opening earlier block other stamp before x (had_stamp opening earlier later other stamp legal less y)
+  where
+    below : (a b c : ℕ) → a ≡ b → a < c → b < c
+    below a b c h k = omega (arith, h, k)
+
 stamp_stays : (before : Known) (block stamp later : ℕ) (a b : Option BlockRecord) → ((own : BlockRecord) → a ≡ Some own → own.stamp < before.next_stamp) → Becomes before block a b
     → option_map (λ (own : BlockRecord). own.stamp) a ≡ Some stamp → option_map (λ (own : BlockRecord). own.stamp) b ≡ Some later → stamp ≤ later
 stamp_stays before block stamp later None b given turn x y = cc
@@ -245,10 +295,6 @@ are_below opening entries block legal there = by (block_of (known_behind opening
     by (Some own) is h = ((stands opening entries legal).sound.each block own is).given
 
 -- no block is counted as wrong
-length_of : (found : Option BlockRecord) → option_and_then (λ (own : BlockRecord). own.committed) found ≡ length_told (told_by found)
-length_of None = refl
-length_of (Some own) = refl
-
 same_is : (a b : Option ℕ) → same_length a b ≡ true → a ≡ b
 same_is None None h = refl
 same_is None (Some b) h = cc

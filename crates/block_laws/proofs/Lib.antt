@@ -1,10 +1,17 @@
 pub mod Unrefused
 pub mod Suiting
 pub mod Namespaces
+pub mod Sums
 pub mod Totals
 pub mod Changes
+pub mod Keeping
 pub mod Told
 pub mod Standing
+pub mod Recoveries
+pub mod Ticks
+pub mod Ends
 pub mod Operations
+pub mod Running
 pub mod Steps
 pub mod Histories
+pub mod Overdue

@@ -17,7 +17,7 @@ use Rattle.namespace_rows.specs.declared.row.Row.{Row}
 use Rattle.namespace_rows.specs.declared.row.Change.{Change}
 use Rattle.namespace_rows.specs.declared.row.Change.TheVariants as change
 use Rattle.namespace_rows.specs.First.{first}
-use Rattle.namespace_rows.specs.Files.{with_block, new_file}
+use Rattle.namespace_rows.specs.Files.{with_block, new_file, recovered_at}
 use Rattle.namespace_rows.specs.Rows.{is_directory, is_none, row_at, file_above, ancestor, if_directory, directory_of}
 use Rattle.namespace_rows.specs.Namespace.{IsNamespace, is_child, has_parent, suits_kind}
 use Rattle.namespace_rows.proofs.Tests.{or_right}
@@ -25,13 +25,15 @@ use Rattle.namespace_rows.proofs.PathOrders.{same_path_is}
 use Rattle.namespace_rows.proofs.Namespaces.{namespace_tests, with_sub_tree_namespace}
 use Rattle.flat_rows.specs.BlockOutcome.{last_committed}
 use Rattle.flat_rows.specs.Changes.{rewritten, suits_change, block_added}
-use Rattle.flat_rows.specs.FileOutcome.{is_expired, directory_there, file_there, state_after_append, holder_at}
+use Rattle.flat_rows.specs.FileOutcome.{directory_there, file_there, holder_at}
+use Rattle.flat_rows.specs.Takeover.{unfinished_at, state_after_append, begun_in}
 use Rattle.flat_rows.specs.Facts.{Facts}
 use Rattle.flat_rows.specs.Outcome.{first_refusal, file_at, rows_after, with_new, made_at, new_rows, with_mode_at, with_owner_at, with_acl_at, with_list_at}
-use Rattle.flat_rows.proofs.Changes.{without_namespace, rewritten_namespace, edited_namespace, closed_namespace}
+use Rattle.flat_rows.proofs.Changes.{without_namespace, rewritten_namespace, edited_namespace}
 use Rattle.flat_rows.proofs.Firsts.{first_passes}
 use Rattle.flat_rows.proofs.Moves.{moved_namespace}
 use Rattle.flat_rows.proofs.NewDirectories.{missing_fit}
+use Rattle.flat_rows.proofs.Takeovers.{ticked_namespace}
 use Rattle.block_laws.proofs.Suiting.{list_of_mode_suits, changed_list_suits}
 use Rattle.block_laws.proofs.Unrefused.{made_above, deleted_below_root, renamed_to_free}
 
@@ -129,7 +131,7 @@ module _ (facts : Facts) (caller : List ℕ) (rows : List Row) (users : Users) (
       new_namespace rows namespace path mode (Some (new_file replication caller)) caller
       (made_above facts caller path rows users (directory_there (row_at path rows) ∷ file_there over (row_at path rows) ∷ []) h)
   namespace_stays (op.Append path) h =
-      let state = state_after_append caller (holder_at (row_at path rows)) in
+      let state = state_after_append facts.blocks facts.now caller (holder_at (row_at path rows)) (unfinished_at (row_at path rows)) in
       rewritten_namespace path (change.State state) rows namespace (always (change.State state) (λ row. refl) (row_at path rows))
   namespace_stays (op.AddBlock path last) h =
       let block = facts.blocks.known.next_block in
@@ -138,5 +140,6 @@ module _ (facts : Facts) (caller : List ℕ) (rows : List Row) (users : Users) (
       committed_namespace path last (rewritten path (change.State Closed) rows)
       (rewritten_namespace path (change.State Closed) rows namespace (always (change.State Closed) (λ row. refl) (row_at path rows)))
   namespace_stays (op.SetReplication path replication) h = rewritten_namespace path (change.Replication replication) rows namespace (always (change.Replication replication) (λ row. refl) (row_at path rows))
-  namespace_stays op.Tick h = closed_namespace (is_expired facts.leases) Closed rows namespace
+  namespace_stays op.Tick h = ticked_namespace facts (begun_in facts rows) rows namespace
+  namespace_stays (op.CommitRecovery own) h = edited_namespace (recovered_at own.block own.length) (λ row. true) rows namespace
   namespace_stays _ h = namespace

@@ -1,19 +1,13 @@
 -- What an operation that is done leaves of blocks: what was sound is, and files and block facts agree.
-use Rattle.std.proofs.Common.{◌≡◌, ℕ, ◌+◌, ◌-◌, ◌≤◌, Bool, true, false, List, [], ◌∷◌, map, length, is_some, Option, Some, None, Result, Ok, Err, refl, sym, ap, ◌∙◌, subst, cond, arith}
-use Rattle.std.specs.Prelude.{unwrap_or}
-use Rattle.std.proofs.lemmas.Bool.{eqb-true}
+use Rattle.std.proofs.Common.{◌≡◌, ℕ, ◌+◌, ◌-◌, ◌≤◌, Bool, true, false, List, [], ◌∷◌, map, length, is_some, Option, Some, None, refl, sym, ap, ◌∙◌, subst, cond, arith}
+use Rattle.std.proofs.lemmas.Bool.{eq-eqb, eqb-true}
 use Rattle.std.specs.Option.{option_map}
 use Rattle.hdfs_values.specs.NodeId.{node_of}
 use Rattle.hdfs_values.specs.PathOrder.{same_path}
-use Rattle.permission_specs.specs.declared.acl_change.AclChange.{AclChange}
 use Rattle.hdfs_types.specs.declared.file.FileState.TheVariants.{Closed}
 use Rattle.hdfs_types.specs.declared.op.Op.{Op}
 use Rattle.hdfs_types.specs.declared.op.Op.TheVariants as op
-use Rattle.hdfs_types.specs.declared.reply.Refusal.{Refusal}
-use Rattle.hdfs_types.specs.declared.reply.Refusal.TheVariants.{IsDirectory}
 use Rattle.hdfs_types.specs.declared.replica.ReportedReplica.{ReportedReplica}
-use Rattle.acl_entries.specs.Acl.{Acl}
-use Rattle.partial_acl.specs.AclChange.{acl_change, with_mode}
 use Rattle.block_records.specs.Numbers.{is_number}
 use Rattle.block_records.specs.declared.block_record.BlockRecord.{BlockRecord}
 use Rattle.block_records.specs.declared.last_block.LastBlock.{LastBlock}
@@ -24,29 +18,34 @@ use Rattle.block_map.specs.BlockFacts.{BlockFacts, chosen_targets}
 use Rattle.block_map.specs.BlockEffects.{replicated, committed_last, refused_last}
 use Rattle.block_effect_laws.specs.Laws.{IsSound, IsKept}
 use Rattle.block_effect_laws.proofs.Turning.{kept_same, kept_in_turn}
-use Rattle.block_effect_laws.proofs.Effects.{removals, replication_keeps, commit_keeps, request_keeps, heartbeat_keeps, report_keeps}
+use Rattle.block_effect_laws.proofs.Effects.{removals, replication_keeps, commit_keeps, request_keeps, begin_keeps, begins_keep, recovery_keeps, heartbeat_keeps, report_keeps}
 use Rattle.principals.specs.Users.{Users}
 use Rattle.namespace_rows.specs.declared.file_row.FileBlock.{FileBlock}
 use Rattle.namespace_rows.specs.declared.row.Row.{Row}
 use Rattle.namespace_rows.specs.declared.row.Change.TheVariants as change
 use Rattle.namespace_rows.specs.Files.{blocks_in, with_block, new_file, new_block, last_of}
 use Rattle.namespace_rows.specs.Namespace.{IsNamespace}
-use Rattle.namespace_rows.specs.Rows.{is_none, row_at, ancestor}
+use Rattle.namespace_rows.specs.Rows.{row_at, ancestor}
 use Rattle.namespace_rows.proofs.Namespaces.{namespace_tests}
 use Rattle.flat_rows.specs.BlockOutcome as file
 use Rattle.flat_rows.specs.BlockOutcome.{is_last, is_named, replication_of, replication_at, ids_at, with_block_at, ended_at}
 use Rattle.flat_rows.specs.Changes.{rows_under, without, changed, edited, rewritten, block_added}
-use Rattle.flat_rows.specs.FileOutcome.{directory_there, state_after_append, holder_at}
+use Rattle.flat_rows.specs.FileOutcome.{holder_at}
+use Rattle.flat_rows.specs.Takeover.{unfinished_at, state_after_append, sought_blocks}
 use Rattle.flat_rows.specs.Facts.{Facts}
-use Rattle.flat_rows.specs.Outcome.{first_refusal, rows_after, with_new, made_at, with_mode_at, with_owner_at, with_acl_at, with_list_at}
+use Rattle.flat_rows.specs.Outcome.{first_refusal, rows_after, with_new, made_at, with_mode_at, with_owner_at, with_acl_at}
 use Rattle.flat_rows.proofs.Blocks.{row_at_map}
-use Rattle.history.specs.Blocks.{heard_of, reported_of, extended, ended, all_replicated, blocks_after}
-use Rattle.history.proofs.Apart.{missing_apart, none_under, no_ancestor}
-use Rattle.block_laws.proofs.Totals.{Weight, total, own, in_rows, has, total_append, rows_without}
-use Rattle.block_laws.proofs.Changes.{owner_blocks, state_blocks, replication_blocks, rows_rewritten, rows_closed, rows_new, rows_moved, rows_added, rows_committed, counted}
-use Rattle.block_laws.proofs.Told.{told, TellTheSame, same_replicated, same_told_node, same_reported, told_added, told_committed, last_known, added_first, told_removed}
-use Rattle.block_laws.proofs.Standing.{Agree, bit_few, agree_same, agree_taken, agree_added, agree_committed}
-use Rattle.block_laws.proofs.Unrefused.{IsFileAt, created_on_no_directory, renamed_to_free, block_asked, file_completed}
+use Rattle.history.specs.Blocks.{heard_of, reported_of, extended, ended, all_replicated, taken_over, blocks_after}
+use Rattle.block_laws.proofs.Sums.{sum_moved}
+use Rattle.block_laws.proofs.Totals.{bit, Weight, total, own, by_blocks, in_rows, has, total_append}
+use Rattle.block_laws.proofs.Changes.{state_blocks, replication_blocks, rows_rewritten, rows_added, rows_committed, counted}
+use Rattle.block_laws.proofs.Keeping.{AreKept, mode_keeps, owner_keeps, list_keeps, made_keeps, created_sum, without_sum}
+use Rattle.block_laws.proofs.Told.{seen_added, seen_removed, same_replicated, same_heard, same_reported_of, next_unknown, committed_of, told, TellTheSame, lengths_ignore, told_committed, same_begun, same_all_begun, last_known, added_first}
+use Rattle.block_laws.proofs.Standing.{Agree, bit_few, length_of, agree_same, agree_taken, agree_added, agree_committed}
+use Rattle.block_laws.proofs.Unrefused.{IsFileAt, created_on_no_directory, renamed_to_free, block_asked, file_completed, recovery_ran}
+use Rattle.block_laws.proofs.Recoveries.{Recover, uncommitted}
+use Rattle.block_laws.proofs.Ticks.{ticked_blocks}
+use Rattle.block_laws.proofs.Ends.{one_recovers, agree_ended}
 
 -- ---- block facts
 
@@ -70,95 +69,35 @@ module _ (facts : BlockFacts) (now : ℕ) (sound : IsSound facts.known) where
   kept_heard None = kept_same facts.known sound
   kept_heard (Some node) = heartbeat_keeps facts node now sound
 
+  kept_taken : (holder : Option (List ℕ)) (block : Option ℕ) → IsKept facts.known (taken_over holder block now facts).known
+  kept_taken None None = kept_same facts.known sound
+  kept_taken (Some holder) None = kept_same facts.known sound
+  kept_taken None (Some block) = kept_same facts.known sound
+  kept_taken (Some holder) (Some block) = begin_keeps facts block now sound
+
   kept_reported : (node : Option ℕ) (replica : ReportedReplica) → IsKept facts.known (reported_of node replica facts).known
   kept_reported None replica = kept_same facts.known sound
   kept_reported (Some node) replica = report_keeps facts node replica.block replica.stamp replica.length sound
 
-same_heard : (facts : BlockFacts) (node : Option ℕ) (now : ℕ) → TellTheSame facts.known (heard_of node now facts).known
-same_heard facts None now number = refl
-same_heard facts (Some node) now number = same_told_node facts node now number
-
-same_reported_of : (facts : BlockFacts) (node : Option ℕ) (replica : ReportedReplica) → TellTheSame facts.known (reported_of node replica facts).known
-same_reported_of facts None replica number = refl
-same_reported_of facts (Some node) replica number = same_reported facts node replica.block replica.stamp replica.length number
-
--- the number that is given next is that of no block
-next_unknown : (own : Known) → IsSound own → told own own.next_block ≡ None
-next_unknown own sound = by (block_of own own.next_block) refl
-  where
-    by : (found : Option BlockRecord) → block_of own own.next_block ≡ found → option_map (λ (one : BlockRecord). one.committed) found ≡ None
-    by None is = refl
-    by (Some one) is = absurd (omega (arith, (sound.each own.next_block one is).given))
-
--- ---- rows that keep their blocks
-
-abbrev AreKept : List Row → List Row → Type 0
-AreKept rows left = (w : Weight) → in_rows w left ≡ in_rows w rows
-
-module _ (rows : List Row) where
-  mode_keeps : (path : List (List ℕ)) (mode : ℕ) (at : Option Row) → AreKept rows (with_mode_at path mode at rows)
-  mode_keeps path mode None w = refl
-  mode_keeps path mode (Some row) w = rows_rewritten w path (change.List (with_mode mode row.kind row.acl)) (λ r. refl) rows
-
-  owner_keeps : (path : List (List ℕ)) (owner group : Option (List ℕ)) (at : Option Row) → AreKept rows (with_owner_at path owner group at rows)
-  owner_keeps path owner group None w = refl
-  owner_keeps path owner group (Some row) w =
-      rows_rewritten w path (change.Owner (unwrap_or owner row.owner) (unwrap_or group row.group)) (owner_blocks (unwrap_or owner row.owner) (unwrap_or group row.group)) rows
-
-  list_keeps : (path : List (List ℕ)) (form : AclChange) (at : Option Row) → AreKept rows (with_acl_at path form at rows)
-  list_keeps path form None w = refl
-  list_keeps path form (Some row) w = by (acl_change form row.kind row.acl)
-    where
-      by : (made : Result Acl Refusal) → in_rows w (with_list_at path made rows) ≡ in_rows w rows
-      by (Ok acl) = rows_rewritten w path (change.List acl) (λ r. refl) rows
-      by (Err refusal) = refl
-
-  module _ (namespace : IsNamespace rows) where
-    -- a directory is made where nothing is
-    made_keeps : (path : List (List ℕ)) (mode : ℕ) (owner : List ℕ) (at : Option Row) → row_at path rows ≡ at → AreKept rows (made_at path mode owner at rows)
-    made_keeps path mode owner (Some row) e w = refl
-    made_keeps path mode owner None e w = by (ancestor path rows) refl
-      where
-        sum : (a b c : ℕ) → a + b ≡ 0 + c → b ≡ 0 → a ≡ c
-        sum a b c h k = omega (arith, h, k)
-
-        free : rows_under path rows ≡ []
-        free = none_under path rows (missing_apart rows path namespace (ap is_none e))
-
-        by : (above : Option Row) → ancestor path rows ≡ above → in_rows w (with_new path mode None owner above rows) ≡ in_rows w rows
-        by None k = refl
-        by (Some above) k =
-            sum (in_rows w (with_new path mode None owner (Some above) rows)) (in_rows w (rows_under path rows)) (in_rows w rows) (rows_new w path mode None owner rows above namespace k) (ap (in_rows w) free)
-
-    -- a new file has no block, and takes the place of what is there
-    created_sum : (path : List (List ℕ)) (mode replication : ℕ) (caller : List ℕ) → directory_there (row_at path rows) ≡ None
-        → (w : Weight) → in_rows w (with_new path mode (Some (new_file replication caller)) caller (ancestor path rows) rows) + in_rows w (rows_under path rows) ≡ in_rows w rows
-    created_sum path mode replication caller plain w = by (ancestor path rows) refl
-      where
-        nothing : (n : ℕ) → 0 + n ≡ n
-        nothing n = omega arith
-
-        apart : Some IsDirectory ≡ None → ⊥
-        apart e = cc
-
-        by : (above : Option Row) → ancestor path rows ≡ above → in_rows w (with_new path mode (Some (new_file replication caller)) caller above rows) + in_rows w (rows_under path rows) ≡ in_rows w rows
-        by None k = absurd (apart (sym (no_ancestor path rows namespace k) ∙ plain))
-        by (Some above) k = rows_new w path mode (Some (new_file replication caller)) caller rows above namespace k ∙ nothing (in_rows w rows)
-
-without_sum : (path : List (List ℕ)) (rows : List Row) (w : Weight) → in_rows w (without path rows) + in_rows w (rows_under path rows) ≡ in_rows w rows
-without_sum path rows w = turned (in_rows w (rows_under path rows)) (in_rows w (without path rows)) (in_rows w rows) (rows_without w path rows)
-  where
-    turned : (a b c : ℕ) → a + b ≡ c → b + a ≡ c
-    turned a b c h = omega (arith, h)
+-- what the block facts tell of lengths where a file is taken
+same_taken : (holder : Option (List ℕ)) (block : Option ℕ) (now : ℕ) (facts : BlockFacts) → TellTheSame facts.known (taken_over holder block now facts).known
+same_taken None None now facts number = refl
+same_taken (Some holder) None now facts number = refl
+same_taken None (Some block) now facts number = refl
+same_taken (Some holder) (Some block) now facts number = same_begun block now facts.known number
 
 -- ---- the last block of a file
 
 last_counted : (last : LastBlock) (blocks : List FileBlock) → is_last (Some last) blocks ≡ true → 1 ≤ total (has last.block) blocks
 last_counted last blocks h = by (last_of blocks) refl h
   where
+    more : (a b : ℕ) → a ≤ b → a ≡ 1 → 1 ≤ b
+    more a b le is = omega (arith, le, is)
+
     by : (found : Option FileBlock) → last_of blocks ≡ found → is_named last.block found ≡ true → 1 ≤ total (has last.block) blocks
     by None at named = cc
-    by (Some block) at named = counted last.block blocks (length blocks - 1) block at (sym (eqb-true last.block block.id named))
+    by (Some block) at named =
+        more (has last.block block) (total (has last.block) blocks) (counted (has last.block) blocks (length blocks - 1) block at) (ap bit (eq-eqb block.id last.block (sym (eqb-true last.block block.id named))))
 
 -- where it is the last of the file at the path, and known, its length is committed in both
 commit_agrees : (now : Known) (path : List (List ℕ)) (last : LastBlock) (rows : List Row) (row : Row) → Agree (told now) rows → is_some (told now last.block) ≡ true
@@ -193,12 +132,12 @@ module _ (path : List (List ℕ)) (f : Row → Row) (paths : (row : Row) → (f 
 
 -- ---- each operation
 
-module _ (facts : Facts) (caller : List ℕ) (rows : List Row) (users : Users) (namespace : IsNamespace rows) (sound : IsSound facts.blocks.known) where
+module _ (facts : Facts) (caller : List ℕ) (rows : List Row) (users : Users) (namespace : IsNamespace rows) (sound : IsSound facts.blocks.known) (agree : Agree (told facts.blocks.known) rows) (recover : Recover facts.blocks.known rows) where
   abbrev before : Known
   before = facts.blocks.known
 
   abbrev after : Op → Known
-  after what = (blocks_after what caller facts.now rows facts.blocks).known
+  after what = (blocks_after facts what caller rows facts.blocks).known
 
   pub blocks_kept : (what : Op) → first_refusal facts caller what rows users ≡ None → IsKept before (after what)
   blocks_kept (op.Create path mode replication over) h = removals before (blocks_in (rows_under path rows)) sound
@@ -206,105 +145,120 @@ module _ (facts : Facts) (caller : List ℕ) (rows : List Row) (users : Users) (
   blocks_kept (op.AddBlock path last) h = kept_extended facts.blocks facts.now sound last (replication_at (row_at path rows)) (block_asked facts caller path last rows users namespace h).1
   blocks_kept (op.Complete path last) h = kept_ended facts.blocks facts.now sound last (file_completed facts caller path last rows users namespace h).1
   blocks_kept (op.SetReplication path replication) h = all_replicated_keeps replication (ids_at (row_at path rows)) facts.blocks sound
+  blocks_kept (op.Append path) h = kept_taken facts.blocks facts.now sound (holder_at (row_at path rows)) (unfinished_at (row_at path rows))
+  blocks_kept op.Tick h = begins_keep facts.blocks (sought_blocks facts rows) facts.now sound
+  blocks_kept (op.CommitRecovery own) h =
+      recovery_keeps facts.blocks own.block own.length own.nodes
+      (length_of (block_of before own.block)
+      ∙ uncommitted (told before) rows own.block agree recover.right
+      (subst (λ n. 1 ≤ n) (sym (one_recovers own.block own.length before rows agree recover own.stamp (recovery_ran facts caller own rows users h))) (omega arith)))
+      sound
   blocks_kept op.Heartbeat h = kept_heard facts.blocks facts.now sound (node_of caller)
   blocks_kept (op.Reported replica) h = kept_reported facts.blocks facts.now sound (node_of caller) replica
   blocks_kept _ h = kept_same before sound
 
-  module _ (agree : Agree (told before) rows) where
-    -- the rows keep their blocks, and the block facts are as before
-    rows_alone : (left : List Row) → AreKept rows left → Agree (told before) left
-    rows_alone left same = agree_same (told before) (told before) rows left agree (λ number. refl) same
+  -- the rows keep their blocks, and the block facts are as before
+  rows_alone : (left : List Row) → ((w : Weight) → in_rows w left ≡ in_rows w rows) → Agree (told before) left
+  rows_alone left same = agree_same (told before) (told before) rows left agree (λ number. refl) same
 
-    facts_alone : (later : Known) → TellTheSame before later → Agree (told later) rows
-    facts_alone later same = agree_same (told before) (told later) rows rows agree same (λ w. refl)
+  rows_kept : (left : List Row) → AreKept rows left → Agree (told before) left
+  rows_kept left same = rows_alone left (λ w. same (by_blocks w) refl)
 
-    taken : (path : List (List ℕ)) (left : List Row) → ((w : Weight) → in_rows w left + in_rows w (rows_under path rows) ≡ in_rows w rows)
-        → Agree (told (known.all_removed before (blocks_in (rows_under path rows)))) left
-    taken path left parts =
-        agree_taken (told before) (told (known.all_removed before (blocks_in (rows_under path rows)))) rows left agree (rows_under path rows)
-        (told_removed (blocks_in (rows_under path rows)) before sound.once) parts
+  facts_alone : (later : Known) → TellTheSame before later → Agree (told later) rows
+  facts_alone later same = agree_same (told before) (told later) rows rows agree same (λ w. refl)
 
-    -- a writer asks for a block behind the last one of his file
-    module _ (path : List (List ℕ)) (at : IsFileAt path rows) where
-      abbrev longer : List Row
-      longer = block_added path before.next_block rows
+  taken : (path : List (List ℕ)) (left : List Row) → ((w : Weight) → in_rows w left + in_rows w (rows_under path rows) ≡ in_rows w rows)
+      → Agree (told (known.all_removed before (blocks_in (rows_under path rows)))) left
+  taken path left parts =
+      agree_taken (told before) (told (known.all_removed before (blocks_in (rows_under path rows)))) rows left agree (rows_under path rows)
+      (seen_removed committed_of (blocks_in (rows_under path rows)) before sound.once) parts
 
-      more : (targets : List ℕ) (replication : ℕ) → Agree (told (known.added before targets replication)) longer
-      more targets replication =
-          agree_added (told before) (told (known.added before targets replication)) rows longer agree before.next_block (next_unknown before sound) (told_added before targets replication)
-          (λ w. rows_added w path before.next_block rows at.row at.its (namespace_tests rows namespace).ascending at.there at.file)
+  -- a writer asks for a block behind the last one of his file
+  module _ (path : List (List ℕ)) (at : IsFileAt path rows) where
+    abbrev longer : List Row
+    longer = block_added path before.next_block rows
 
-      its_count : (number : ℕ) → 1 ≤ total (has number) at.its.blocks → 1 ≤ total (has number) (own at.row)
-      its_count number h = subst (λ o. 1 ≤ total (has number) (file.blocks_of o)) (sym at.file) h
+    more : (targets : List ℕ) (replication : ℕ) → Agree (told (known.added before targets replication)) longer
+    more targets replication =
+        agree_added (told before) (told (known.added before targets replication)) rows longer agree before.next_block (next_unknown committed_of before sound) (seen_added committed_of before targets replication)
+        (λ w. rows_added w path before.next_block rows at.row at.its (namespace_tests rows namespace).ascending at.there at.file)
 
-      longer_count : (number : ℕ) → 1 ≤ total (has number) at.its.blocks → 1 ≤ total (has number) (own (edited (with_block before.next_block) at.row))
-      longer_count number h =
-          subst (λ o. 1 ≤ total (has number) (file.blocks_of (option_map (with_block before.next_block) o))) (sym at.file)
-          (subst (λ n. 1 ≤ n) (sym (total_append (has number) at.its.blocks (new_block before.next_block ∷ []))) (enough (total (has number) at.its.blocks) (total (has number) (new_block before.next_block ∷ [])) h))
-        where
-          enough : (a b : ℕ) → 1 ≤ a → 1 ≤ a + b
-          enough a b h = omega (arith, h)
+    its_count : (number : ℕ) → 1 ≤ total (has number) at.its.blocks → 1 ≤ total (has number) (own at.row)
+    its_count number h = subst (λ o. 1 ≤ total (has number) (file.blocks_of o)) (sym at.file) h
 
-      still_some : (b : Bool) (t : Option (Option ℕ)) → is_some t ≡ true → is_some (cond b (Some None) t) ≡ true
-      still_some true t h = refl
-      still_some false t h = h
+    longer_count : (number : ℕ) → 1 ≤ total (has number) at.its.blocks → 1 ≤ total (has number) (own (edited (with_block before.next_block) at.row))
+    longer_count number h =
+        subst (λ o. 1 ≤ total (has number) (file.blocks_of (option_map (with_block before.next_block) o))) (sym at.file)
+        (subst (λ n. 1 ≤ n) (sym (total_append (has number) at.its.blocks (new_block before.next_block ∷ []))) (enough (total (has number) at.its.blocks) (total (has number) (new_block before.next_block ∷ [])) h))
+      where
+        enough : (a b : ℕ) → 1 ≤ a → 1 ≤ a + b
+        enough a b h = omega (arith, h)
 
-      told_some : (found : Option BlockRecord) → is_some found ≡ true → is_some (option_map (λ (one : BlockRecord). one.committed) found) ≡ true
-      told_some None h = cc
-      told_some (Some one) h = refl
+    still_some : (b : Bool) (t : Option (Option ℕ)) → is_some t ≡ true → is_some (cond b (Some None) t) ≡ true
+    still_some true t h = refl
+    still_some false t h = h
 
-      asked : (last : Option LastBlock) (replication : ℕ) → is_last last at.its.blocks ≡ true → refused_last facts.blocks last ≡ None
-          → Agree (told (extended last facts.now (Some replication) facts.blocks).known) (with_block_at path last before.next_block rows)
-      asked None replication named h = more (chosen_targets (committed_last facts.blocks None) facts.now replication) replication
-      asked (Some last) replication named h =
-          let targets = chosen_targets (committed_last facts.blocks (Some last)) facts.now replication in
-          let between = known.added before targets replication in
-          let count = last_counted last at.its.blocks named in
-          subst (λ own. Agree (told own) (with_block_at path (Some last) before.next_block rows)) (sym (added_first facts.blocks last facts.now replication sound h))
-          (commit_agrees between path last longer (at_path path (edited (with_block before.next_block)) (λ row. refl) rows at.row) (more targets replication)
-          (subst (λ t. is_some t ≡ true) (sym (told_added before targets replication last.block))
-          (still_some (is_number before.next_block last.block) (told before last.block) (told_some (block_of before last.block) (last_known facts.blocks last h))))
-          (found_anew path (edited (with_block before.next_block)) (λ row. refl) rows at.row at.there)
-          (counts_still path (edited (with_block before.next_block)) (λ row. refl) rows last.block at.row (its_count last.block count) (longer_count last.block count)))
+    told_some : (found : Option BlockRecord) → is_some found ≡ true → is_some (option_map (λ (one : BlockRecord). one.committed) found) ≡ true
+    told_some None h = cc
+    told_some (Some one) h = refl
 
-      -- a writer completes his file
-      completed : (last : Option LastBlock) → is_last last at.its.blocks ≡ true → refused_last facts.blocks last ≡ None → Agree (told (ended last facts.blocks).known) (ended_at path last rows)
-      completed None named h = rows_alone (rewritten path (change.State Closed) rows) (λ w. rows_rewritten w path (change.State Closed) (state_blocks Closed) rows)
-      completed (Some last) named h =
-          let left = rewritten path (change.State Closed) rows in
-          let count = its_count last.block (last_counted last at.its.blocks named) in
-          commit_agrees before path last left (at_path path (changed (change.State Closed)) (λ row. refl) rows at.row)
-          (rows_alone left (λ w. rows_rewritten w path (change.State Closed) (state_blocks Closed) rows))
-          (told_some (block_of before last.block) (last_known facts.blocks last h))
-          (found_anew path (changed (change.State Closed)) (λ row. refl) rows at.row at.there)
-          (counts_still path (changed (change.State Closed)) (λ row. refl) rows last.block at.row count (subst (λ blocks. 1 ≤ total (has last.block) blocks) (sym (state_blocks Closed at.row)) count))
+    asked : (last : Option LastBlock) (replication : ℕ) → is_last last at.its.blocks ≡ true → refused_last facts.blocks last ≡ None
+        → Agree (told (extended last facts.now (Some replication) facts.blocks).known) (with_block_at path last before.next_block rows)
+    asked None replication named h = more (chosen_targets (committed_last facts.blocks None) facts.now replication) replication
+    asked (Some last) replication named h =
+        let targets = chosen_targets (committed_last facts.blocks (Some last)) facts.now replication in
+        let between = known.added before targets replication in
+        let count = last_counted last at.its.blocks named in
+        subst (λ own. Agree (told own) (with_block_at path (Some last) before.next_block rows)) (sym (added_first facts.blocks last facts.now replication sound h))
+        (commit_agrees between path last longer (at_path path (edited (with_block before.next_block)) (λ row. refl) rows at.row) (more targets replication)
+        (subst (λ t. is_some t ≡ true) (sym (seen_added committed_of before targets replication last.block))
+        (still_some (is_number before.next_block last.block) (told before last.block) (told_some (block_of before last.block) (last_known facts.blocks last h))))
+        (found_anew path (edited (with_block before.next_block)) (λ row. refl) rows at.row at.there)
+        (counts_still path (edited (with_block before.next_block)) (λ row. refl) rows last.block at.row (its_count last.block count) (longer_count last.block count)))
 
-    pub agree_stays : (what : Op) → first_refusal facts caller what rows users ≡ None → Agree (told (after what)) (rows_after facts what caller rows)
-    agree_stays (op.Mkdirs path mode) h = rows_alone (made_at path mode caller (row_at path rows) rows) (made_keeps rows namespace path mode caller (row_at path rows) refl)
-    agree_stays (op.Delete path recursive) h = taken path (without path rows) (without_sum path rows)
-    agree_stays (op.Rename from to) h = rows_alone (rows_after facts (op.Rename from to) caller rows) (λ w. rows_moved w from to rows namespace (renamed_to_free facts caller from to rows users h).missing)
-    agree_stays (op.SetMode path mode) h = rows_alone (with_mode_at path mode (row_at path rows) rows) (mode_keeps rows path mode (row_at path rows))
-    agree_stays (op.SetOwner path owner group) h = rows_alone (with_owner_at path owner group (row_at path rows) rows) (owner_keeps rows path owner group (row_at path rows))
-    agree_stays (op.SetAcl path form) h = rows_alone (with_acl_at path form (row_at path rows) rows) (list_keeps rows path form (row_at path rows))
-    agree_stays (op.Create path mode replication over) h =
-        taken path (with_new path mode (Some (new_file replication caller)) caller (ancestor path rows) rows)
-        (created_sum rows namespace path mode replication caller (created_on_no_directory facts caller path rows users mode replication over h))
-    agree_stays (op.Append path) h =
-        let state = state_after_append caller (holder_at (row_at path rows)) in
-        rows_alone (rewritten path (change.State state) rows) (λ w. rows_rewritten w path (change.State state) (state_blocks state) rows)
-    agree_stays (op.AddBlock path last) h =
-        let parts = block_asked facts caller path last rows users namespace h in
-        let at = parts.0.at in
-        subst (λ replication. Agree (told (extended last facts.now replication facts.blocks).known) (with_block_at path last before.next_block rows))
-        (sym (ap replication_at at.there ∙ ap replication_of at.file)) (asked path at last at.its.replication parts.0.named parts.1)
-    agree_stays (op.Complete path last) h =
-        let parts = file_completed facts caller path last rows users namespace h in
-        completed path parts.0.at last parts.0.named parts.1
-    agree_stays (op.SetReplication path replication) h =
-        let later = (all_replicated replication (ids_at (row_at path rows)) facts.blocks).known in
-        agree_same (told before) (told later) rows (rewritten path (change.Replication replication) rows) agree (same_replicated replication (ids_at (row_at path rows)) facts.blocks)
-        (λ w. rows_rewritten w path (change.Replication replication) (replication_blocks replication) rows)
-    agree_stays op.Tick h = rows_alone (rows_after facts op.Tick caller rows) (λ w. rows_closed w facts.leases rows)
-    agree_stays op.Heartbeat h = facts_alone (after op.Heartbeat) (same_heard facts.blocks (node_of caller) facts.now)
-    agree_stays (op.Reported replica) h = facts_alone (after (op.Reported replica)) (same_reported_of facts.blocks (node_of caller) replica)
-    agree_stays _ h = agree
+    -- a writer completes his file
+    completed : (last : Option LastBlock) → is_last last at.its.blocks ≡ true → refused_last facts.blocks last ≡ None → Agree (told (ended last facts.blocks).known) (ended_at path last rows)
+    completed None named h = rows_alone (rewritten path (change.State Closed) rows) (λ w. rows_rewritten w path (change.State Closed) (state_blocks Closed) rows)
+    completed (Some last) named h =
+        let left = rewritten path (change.State Closed) rows in
+        let count = its_count last.block (last_counted last at.its.blocks named) in
+        commit_agrees before path last left (at_path path (changed (change.State Closed)) (λ row. refl) rows at.row)
+        (rows_alone left (λ w. rows_rewritten w path (change.State Closed) (state_blocks Closed) rows))
+        (told_some (block_of before last.block) (last_known facts.blocks last h))
+        (found_anew path (changed (change.State Closed)) (λ row. refl) rows at.row at.there)
+        (counts_still path (changed (change.State Closed)) (λ row. refl) rows last.block at.row count (subst (λ blocks. 1 ≤ total (has last.block) blocks) (sym (state_blocks Closed at.row)) count))
+
+  pub agree_stays : (what : Op) → first_refusal facts caller what rows users ≡ None → Agree (told (after what)) (rows_after facts what caller rows)
+  agree_stays (op.Mkdirs path mode) h = rows_kept (made_at path mode caller (row_at path rows) rows) (made_keeps rows namespace path mode caller (row_at path rows) refl)
+  agree_stays (op.Delete path recursive) h = taken path (without path rows) (λ w. without_sum path rows (by_blocks w))
+  agree_stays (op.Rename from to) h = rows_kept (rows_after facts (op.Rename from to) caller rows) (λ c none. sum_moved c from to rows namespace (renamed_to_free facts caller from to rows users h).missing)
+  agree_stays (op.SetMode path mode) h = rows_kept (with_mode_at path mode (row_at path rows) rows) (mode_keeps rows path mode (row_at path rows))
+  agree_stays (op.SetOwner path owner group) h = rows_kept (with_owner_at path owner group (row_at path rows) rows) (owner_keeps rows path owner group (row_at path rows))
+  agree_stays (op.SetAcl path form) h = rows_kept (with_acl_at path form (row_at path rows) rows) (list_keeps rows path form (row_at path rows))
+  agree_stays (op.Create path mode replication over) h =
+      taken path (with_new path mode (Some (new_file replication caller)) caller (ancestor path rows) rows)
+      (λ w. created_sum rows namespace path mode replication caller (created_on_no_directory facts caller path rows users mode replication over h) (by_blocks w) refl refl)
+  agree_stays (op.Append path) h =
+      let holder = holder_at (row_at path rows) in
+      let block = unfinished_at (row_at path rows) in
+      let state = state_after_append facts.blocks facts.now caller holder block in
+      agree_same (told before) (told (after (op.Append path))) rows (rewritten path (change.State state) rows) agree (same_taken holder block facts.now facts.blocks)
+      (λ w. rows_rewritten w path (change.State state) (state_blocks state) rows)
+  agree_stays (op.AddBlock path last) h =
+      let parts = block_asked facts caller path last rows users namespace h in
+      let at = parts.0.at in
+      subst (λ replication. Agree (told (extended last facts.now replication facts.blocks).known) (with_block_at path last before.next_block rows))
+      (sym (ap replication_at at.there ∙ ap replication_of at.file)) (asked path at last at.its.replication parts.0.named parts.1)
+  agree_stays (op.Complete path last) h =
+      let parts = file_completed facts caller path last rows users namespace h in
+      completed path parts.0.at last parts.0.named parts.1
+  agree_stays (op.SetReplication path replication) h =
+      let later = (all_replicated replication (ids_at (row_at path rows)) facts.blocks).known in
+      agree_same (told before) (told later) rows (rewritten path (change.Replication replication) rows) agree (same_replicated committed_of lengths_ignore replication (ids_at (row_at path rows)) facts.blocks)
+      (λ w. rows_rewritten w path (change.Replication replication) (replication_blocks replication) rows)
+  agree_stays op.Tick h =
+      agree_same (told before) (told (after op.Tick)) rows (rows_after facts op.Tick caller rows) agree (same_all_begun (sought_blocks facts rows) facts.now facts.blocks) (ticked_blocks facts rows)
+  agree_stays (op.CommitRecovery own) h = agree_ended own.block own.length before rows agree recover own.stamp (recovery_ran facts caller own rows users h) own.nodes
+  agree_stays op.Heartbeat h = facts_alone (after op.Heartbeat) (same_heard committed_of lengths_ignore facts.blocks (node_of caller) facts.now)
+  agree_stays (op.Reported replica) h = facts_alone (after (op.Reported replica)) (same_reported_of committed_of lengths_ignore facts.blocks (node_of caller) replica)
+  agree_stays _ h = agree

@@ -1,8 +1,9 @@
 -- Files and block facts agree, and go on agreeing where both change alike.
 use Rattle.std.proofs.Common.{◌≡◌, ℕ, ◌+◌, ◌≤◌, ◌==◌, Bool, true, false, not, List, is_some, Option, Some, None, refl, sym, ap, ◌∙◌, subst, cond, arith}
 use Rattle.std.proofs.lemmas.Bool.{eq-eqb}
-use Rattle.std.specs.Option.{option_map}
+use Rattle.std.specs.Option.{option_map, option_and_then}
 use Rattle.block_records.specs.Numbers.{is_number, has_number}
+use Rattle.block_records.specs.declared.block_record.BlockRecord.{BlockRecord}
 use Rattle.block_records.proofs.Numbers.{number_is}
 use Rattle.block_records.proofs.Reporting.{number_eq}
 use Rattle.namespace_rows.specs.declared.file_row.FileBlock.{FileBlock}
@@ -11,7 +12,7 @@ use Rattle.namespace_rows.specs.Files.{blocks_in, has_id, with_length, new_block
 use Rattle.block_laws.specs.Laws.{times}
 use Rattle.block_laws.proofs.Totals.{bit, Weight, in_rows, has, rows_same, rows_less, rows_where, rows_apart, is_gone, times_in, times_some, times_none}
 use Rattle.block_laws.proofs.Changes.{committed}
-use Rattle.block_laws.proofs.Told.{number_equal}
+use Rattle.block_laws.proofs.Told.{number_equal, told_by}
 
 abbrev pub Tells : Type 0
 Tells = ℕ → Option (Option ℕ)
@@ -25,6 +26,10 @@ same_length (Some length) (Some other) = length == other
 abbrev pub length_told : Option (Option ℕ) → Option ℕ
 length_told None = None
 length_told (Some committed) = committed
+
+pub length_of : (found : Option BlockRecord) → option_and_then (λ (own : BlockRecord). own.committed) found ≡ length_told (told_by found)
+length_of None = refl
+length_of (Some own) = refl
 
 -- a block of which the file has another length
 abbrev pub wrong : Tells → Weight

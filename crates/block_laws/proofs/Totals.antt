@@ -1,27 +1,20 @@
--- Sums over the blocks of files, through each change of the rows.
-use Rattle.std.proofs.Common.{◌≡◌, ℕ, ◌+◌, ◌≤◌, ◌==◌, Bool, true, false, ◌&&◌, ◌||◌, not, List, [], ◌∷◌, ◌++◌, map, filter, length, cond, Option, Some, None, refl, sym, ap, ◌∙◌, Ordering, Less, Equal, Greater, is_gt, is_lt, arith}
+-- Sums over the blocks of files.
+use Rattle.std.proofs.Common.{◌≡◌, ℕ, ◌+◌, ◌≤◌, ◌==◌, Bool, true, false, ◌||◌, List, [], ◌∷◌, ◌++◌, map, filter, length, cond, Option, Some, None, refl, ap, ◌∙◌, arith}
 use Rattle.std.proofs.lemmas.Bool.{eq-eqb}
 use Rattle.std.proofs.lemmas.List.Elements.{filter-append}
 use Rattle.std.proofs.lemmas.List.{length-append}
-use Rattle.hdfs_values.specs.Path.{is_prefix}
-use Rattle.hdfs_values.specs.PathOrder.{path_cmp}
 use Rattle.block_records.specs.Numbers.{has_number}
 use Rattle.namespace_rows.specs.declared.file_row.FileBlock.{FileBlock}
 use Rattle.namespace_rows.specs.declared.file_row.FileRow.{FileRow}
 use Rattle.namespace_rows.specs.declared.row.Row.{Row}
 use Rattle.namespace_rows.specs.Files.{ids_in, blocks_in}
-use Rattle.namespace_rows.specs.Rows.{is_before, is_beyond, replaced}
-use Rattle.namespace_rows.proofs.PathOrders.{starts_upto, tied_starts}
 use Rattle.flat_rows.specs.BlockOutcome as file
-use Rattle.flat_rows.specs.Changes.{rows_under, without}
 use Rattle.block_laws.specs.Laws.{times}
+use Rattle.block_laws.proofs.Sums.{Count, sum_files, sum_same, sum_less}
 
 abbrev pub bit : Bool → ℕ
 bit true = 1
 bit false = 0
-
-differ : true ≡ false → ⊥
-differ e = cc
 
 -- what each block counts
 abbrev pub Weight : Type 0
@@ -34,9 +27,12 @@ total w (block ∷ blocks) = w block + total w blocks
 abbrev pub own : Row → List FileBlock
 own row = file.blocks_of row.file
 
+-- what each file counts by its blocks
+abbrev pub by_blocks : Weight → Count
+by_blocks w its = total w (file.blocks_of its)
+
 abbrev pub in_rows : Weight → List Row → ℕ
-in_rows w [] = 0
-in_rows w (row ∷ rows) = total w (own row) + in_rows w rows
+in_rows w rows = sum_files (by_blocks w) rows
 
 -- how often a number stands
 abbrev pub has : ℕ → Weight
@@ -63,72 +59,10 @@ total_less w v h [] = omega arith
 total_less w v h (block ∷ blocks) = both_less (w block) (v block) (total w blocks) (total v blocks) (h block) (total_less w v h blocks)
 
 pub rows_same : (w v : Weight) → ((block : FileBlock) → w block ≡ v block) → (rows : List Row) → in_rows w rows ≡ in_rows v rows
-rows_same w v h [] = refl
-rows_same w v h (row ∷ rows) = ap (λ n. n + in_rows w rows) (total_same w v h (own row)) ∙ ap (λ n. total v (own row) + n) (rows_same w v h rows)
+rows_same w v h rows = sum_same (by_blocks w) (by_blocks v) (λ its. total_same w v h (file.blocks_of its)) rows
 
 pub rows_less : (w v : Weight) → ((block : FileBlock) → w block ≤ v block) → (rows : List Row) → in_rows w rows ≤ in_rows v rows
-rows_less w v h [] = omega arith
-rows_less w v h (row ∷ rows) = both_less (total w (own row)) (total v (own row)) (in_rows w rows) (in_rows v rows) (total_less w v h (own row)) (rows_less w v h rows)
-
-pub rows_append : (w : Weight) (xs ys : List Row) → in_rows w (xs ++ ys) ≡ in_rows w xs + in_rows w ys
-rows_append w [] ys = omega arith
-rows_append w (x ∷ xs) ys = ap (λ n. total w (own x) + n) (rows_append w xs ys) ∙ two (total w (own x)) (in_rows w xs) (in_rows w ys)
-
--- rows whose files keep their blocks
-pub rows_map : (w : Weight) (f : Row → Row) → ((row : Row) → own (f row) ≡ own row) → (rows : List Row) → in_rows w (map f rows) ≡ in_rows w rows
-rows_map w f h [] = refl
-rows_map w f h (row ∷ rows) = ap (λ blocks. total w blocks + in_rows w (map f rows)) (h row) ∙ ap (λ n. total w (own row) + n) (rows_map w f h rows)
-
--- ---- parts of the rows
-
-module _ (w : Weight) (path : List (List ℕ)) where
-  first_of_two : (a b c d : ℕ) → b + c ≡ d → (a + b) + c ≡ a + d
-  first_of_two a b c d h = omega (arith, h)
-
-  second_of_two : (a b c d : ℕ) → b + c ≡ d → b + (a + c) ≡ a + d
-  second_of_two a b c d h = omega (arith, h)
-
-  pub rows_without : (rows : List Row) → in_rows w (rows_under path rows) + in_rows w (without path rows) ≡ in_rows w rows
-  rows_without [] = refl
-  rows_without (row ∷ rows) = by (is_prefix path row.path) (rows_without rows)
-    where
-      by : (b : Bool) → in_rows w (rows_under path rows) + in_rows w (without path rows) ≡ in_rows w rows
-          → in_rows w (cond b (row ∷ rows_under path rows) (rows_under path rows)) + in_rows w (cond (not b) (row ∷ without path rows) (without path rows)) ≡ in_rows w (row ∷ rows)
-      by true rest = first_of_two (total w (own row)) (in_rows w (rows_under path rows)) (in_rows w (without path rows)) (in_rows w rows) rest
-      by false rest = second_of_two (total w (own row)) (in_rows w (rows_under path rows)) (in_rows w (without path rows)) (in_rows w rows) rest
-
-  before_all : (a b c d e : ℕ) → (b + c) + d ≡ e → ((a + b) + c) + d ≡ a + e
-  before_all a b c d e h = omega (arith, h)
-
-  under_all : (a b c d e : ℕ) → (b + c) + d ≡ e → (b + (a + c)) + d ≡ a + e
-  under_all a b c d e h = omega (arith, h)
-
-  beyond_all : (a b c d e : ℕ) → (b + c) + d ≡ e → (b + c) + (a + d) ≡ a + e
-  beyond_all a b c d e h = omega (arith, h)
-
-  -- before the path, at or beneath it, and beyond
-  rows_parted : (rows : List Row) → (in_rows w (filter (is_before path) rows) + in_rows w (rows_under path rows)) + in_rows w (filter (is_beyond path) rows) ≡ in_rows w rows
-  rows_parted [] = refl
-  rows_parted (row ∷ rows) =
-      by (path_cmp path row.path) (is_prefix path row.path) (starts_upto path row.path) (tied_starts path row.path) (filter (is_before path) rows) (rows_under path rows) (filter (is_beyond path) rows) (rows_parted rows)
-    where
-      by : (o : Ordering) (s : Bool) → (s ≡ true → is_gt o ≡ false) → (o ≡ Equal → s ≡ true) → (lows unders highs : List Row)
-          → (in_rows w lows + in_rows w unders) + in_rows w highs ≡ in_rows w rows
-          → (in_rows w (cond (is_gt o) (row ∷ lows) lows) + in_rows w (cond s (row ∷ unders) unders)) + in_rows w (cond (is_lt o && not s) (row ∷ highs) highs) ≡ in_rows w (row ∷ rows)
-      by Less true upto tied lows unders highs rest = under_all (total w (own row)) (in_rows w lows) (in_rows w unders) (in_rows w highs) (in_rows w rows) rest
-      by Less false upto tied lows unders highs rest = beyond_all (total w (own row)) (in_rows w lows) (in_rows w unders) (in_rows w highs) (in_rows w rows) rest
-      by Equal true upto tied lows unders highs rest = under_all (total w (own row)) (in_rows w lows) (in_rows w unders) (in_rows w highs) (in_rows w rows) rest
-      by Equal false upto tied lows unders highs rest = absurd (differ (sym (tied refl)))
-      by Greater true upto tied lows unders highs rest = absurd (differ (upto refl))
-      by Greater false upto tied lows unders highs rest = before_all (total w (own row)) (in_rows w lows) (in_rows w unders) (in_rows w highs) (in_rows w rows) rest
-
-  pub rows_replaced : (block rows : List Row) → in_rows w (replaced path block rows) + in_rows w (rows_under path rows) ≡ in_rows w block + in_rows w rows
-  rows_replaced block rows =
-      sum (in_rows w (filter (is_before path) rows)) (in_rows w block) (in_rows w (filter (is_beyond path) rows)) (in_rows w (rows_under path rows)) (in_rows w rows) (in_rows w (block ++ filter (is_beyond path) rows)) (in_rows w (replaced path block rows))
-      (rows_append w (filter (is_before path) rows) (block ++ filter (is_beyond path) rows)) (rows_append w block (filter (is_beyond path) rows)) (rows_parted rows)
-    where
-      sum : (before block beyond under all rest whole : ℕ) → whole ≡ before + rest → rest ≡ block + beyond → (before + under) + beyond ≡ all → whole + under ≡ block + all
-      sum before block beyond under all rest whole a b c = omega (arith, a, b, c)
+rows_less w v h rows = sum_less (by_blocks w) (by_blocks v) (λ its. total_less w v h (file.blocks_of its)) rows
 
 -- ---- how often a number stands
 

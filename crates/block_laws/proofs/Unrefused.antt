@@ -1,20 +1,28 @@
 -- What an operation that is done had: no refusal of its list applied.
-use Rattle.std.proofs.Common.{◌≡◌, ℕ, Bool, true, false, List, [], ◌∷◌, ◌++◌, Option, Some, None, refl, sym, ap, ◌∙◌, subst, cond}
+use Rattle.std.proofs.Common.{◌≡◌, ℕ, ◌==◌, Bool, true, false, not, List, [], ◌∷◌, ◌++◌, is_some, Option, Some, None, refl, sym, ap, ◌∙◌, subst, cond}
+use Rattle.std.proofs.lemmas.Bool.{eqb-true}
 use Rattle.std.specs.Option.{option_map, option_or}
 use Rattle.block_records.specs.declared.last_block.LastBlock.{LastBlock}
+use Rattle.block_records.specs.declared.block_record.BlockRecord.{BlockRecord}
 use Rattle.block_records.specs.declared.fault.BlockRefusal.{BlockRefusal}
+use Rattle.block_records.specs.declared.fault.BlockRefusal.TheVariants.{NotOpen, StaleStamp}
+use Rattle.hdfs_types.specs.declared.file.FileState.{FileState}
+use Rattle.hdfs_types.specs.declared.file.FileState.TheVariants.{Closed, Open, Recovering}
 use Rattle.hdfs_types.specs.declared.op.Op.{Op}
 use Rattle.hdfs_types.specs.declared.op.Op.TheVariants as op
+use Rattle.hdfs_types.specs.declared.replica.RecoveredBlock.{RecoveredBlock}
 use Rattle.hdfs_types.specs.declared.reply.Reply.{Reply}
 use Rattle.hdfs_types.specs.declared.reply.Refusal.{Refusal}
 use Rattle.hdfs_types.specs.declared.reply.Refusal.TheVariants.{IsDirectory, NotDirectory, NotYetReplicated}
 use Rattle.hdfs_values.specs.Path.{is_prefix}
-use Rattle.block_map.specs.BlockFacts.{refused_commit, refused_targets}
+use Rattle.begun_recoveries.specs.Ends.{refused_recovered_by}
+use Rattle.block_map.specs.BlockFacts.{refused_commit, refused_targets, refused_recovered}
 use Rattle.block_map.specs.BlockEffects as effect
-use Rattle.known_blocks.specs.Known.{refused_new_block}
+use Rattle.known_blocks.specs.Known.{Known, block_of, refused_new_block}
 use Rattle.principals.specs.Users.{Users}
 use Rattle.namespace_rows.specs.declared.file_row.FileRow.{FileRow}
 use Rattle.namespace_rows.specs.declared.row.Row.{Row}
+use Rattle.namespace_rows.specs.Files.{unfinished}
 use Rattle.namespace_rows.specs.Namespace.{IsNamespace, is_root, suits_parts, suits_kind}
 use Rattle.namespace_rows.specs.Rows.{is_directory, is_none, is_missing, row_at, file_above, directory_of}
 use Rattle.namespace_rows.proofs.Namespaces.{namespace_tests}
@@ -23,7 +31,8 @@ use Rattle.flat_rows.specs.Denial as denied
 use Rattle.flat_rows.specs.Decision.{decision}
 use Rattle.flat_rows.specs.Facts.{Facts}
 use Rattle.flat_rows.specs.BlockOutcome.{is_last, refused_last, refused_by, refused_new, refused_end}
-use Rattle.flat_rows.specs.FileOutcome.{directory_there, of_file, if_some_file, refused_write}
+use Rattle.flat_rows.specs.FileOutcome.{directory_there, of_file, if_some_file, refused_by_state, refused_write}
+use Rattle.flat_rows.specs.Takeover.{refused_state, refused_append}
 use Rattle.flat_rows.specs.Outcome.{step, denied_or_outcome, refused_or_done, first_refusal, first_some, refusals_of_file, refused_where, nothing_at, something_at, beneath_file, reply_of}
 use Rattle.flat_rows.proofs.Firsts.{first_passes}
 
@@ -138,13 +147,29 @@ renamed_to_free facts caller from to rows users h =
 
 -- ---- blocks
 
--- the file at the path, and its last block as the writer names it
+-- the last block of a file is recovered
+abbrev pub is_recovery : FileState → Bool
+is_recovery Closed = false
+is_recovery (Open client) = false
+is_recovery (Recovering block stamp begun) = true
+
+-- the file at the path, which isn't in recovery, and its last block as the writer names it
 pub record IsWritten (path : List (List ℕ)) (last : Option LastBlock) (rows : List Row) : Type 0 where
   pub at : IsFileAt path rows
   pub named : is_last last at.its.blocks ≡ true
+  pub quiet : is_recovery at.its.state ≡ false
+
+-- what refuses nothing of the file at the path
+of_file_at : (path : List (List ℕ)) (rows : List Row) (at : IsFileAt path rows) (refused : FileRow → Option Refusal) → of_file refused (row_at path rows) ≡ None → refused at.its ≡ None
+of_file_at path rows at refused h = ap (if_some_file refused) (sym at.file) ∙ (ap (of_file refused) (sym at.there) ∙ h)
+
+not_recovered : (caller : List ℕ) (state : FileState) → refused_by_state caller state ≡ None → is_recovery state ≡ false
+not_recovered caller Closed h = refl
+not_recovered caller (Open client) h = refl
+not_recovered caller (Recovering block stamp begun) h = cc
 
 last_named : (path : List (List ℕ)) (last : Option LastBlock) (rows : List Row) (at : IsFileAt path rows) → of_file (refused_last last) (row_at path rows) ≡ None → is_last last at.its.blocks ≡ true
-last_named path last rows at h = by (is_last last at.its.blocks) (ap (if_some_file (refused_last last)) (sym at.file) ∙ (ap (of_file (refused_last last)) (sym at.there) ∙ h))
+last_named path last rows at h = by (is_last last at.its.blocks) (of_file_at path rows at (refused_last last) h)
   where
     by : (b : Bool) → cond b None (Some NotYetReplicated) ≡ None → b ≡ true
     by true h = refl
@@ -164,7 +189,8 @@ module _ (facts : Facts) (caller : List ℕ) (path : List (List ℕ)) (last : Op
       let d = neither (of_file (refused_write caller) (row_at path rows)) _ c.1 in
       let e = neither (of_file (refused_last last) (row_at path rows)) _ d.1 in
       let at = file_there_is path rows namespace b.0 c.0 in
-      (record { at = at; named = last_named path last rows at e.0 }, (neither own None e.1).0)
+      let quiet = not_recovered caller at.its.state (of_file_at path rows at (refused_write caller) d.0) in
+      (record { at = at; named = last_named path last rows at e.0; quiet = quiet }, (neither own None e.1).0)
 
   pub block_asked : first_refusal facts caller (op.AddBlock path last) rows users ≡ None → IsWritten path last rows × (effect.refused_last facts.blocks last ≡ None)
   block_asked h =
@@ -178,3 +204,49 @@ module _ (facts : Facts) (caller : List ℕ) (path : List (List ℕ)) (last : Op
 
   pub file_completed : first_refusal facts caller (op.Complete path last) rows users ≡ None → IsWritten path last rows × (effect.refused_last facts.blocks last ≡ None)
   file_completed h = let parts = written (refused_end facts.blocks last) h in (parts.0, completed_last last parts.1)
+
+-- ---- files that are taken, and recoveries that end
+
+module _ (facts : Facts) (caller : List ℕ) (path : List (List ℕ)) (rows : List Row) (users : Users) (namespace : IsNamespace rows) where
+  pub file_appended : first_refusal facts caller (op.Append path) rows users ≡ None → (at : IsFileAt path rows) × (is_recovery at.its.state ≡ false)
+  file_appended h =
+      let a = neither (beneath_file path rows) _ h in
+      let b = neither (nothing_at (row_at path rows)) _ a.1 in
+      let c = neither (directory_there (row_at path rows)) _ b.1 in
+      let d = neither (of_file (refused_append facts caller) (row_at path rows)) None c.1 in
+      let at = file_there_is path rows namespace b.0 c.0 in
+      (at, not_taken (unfinished at.its.blocks) at.its.state (of_file_at path rows at (refused_append facts caller) d.0))
+    where
+      not_taken : (block : Option ℕ) (state : FileState) → refused_state facts caller block state ≡ None → is_recovery state ≡ false
+      not_taken block Closed h = refl
+      not_taken block (Open holder) h = refl
+      not_taken block (Recovering own stamp begun) h = cc
+
+-- a recovery of the block runs, under this stamp
+pub record IsRunning (own : Known) (block stamp : ℕ) : Type 0 where
+  pub known : BlockRecord
+  pub since : ℕ
+  pub there : block_of own block ≡ Some known
+  pub stamped : stamp ≡ known.stamp
+  pub begun : known.recovering ≡ Some since
+
+running_by : (own : Known) (block stamp : ℕ) → refused_recovered_by (block_of own block) stamp ≡ None → IsRunning own block stamp
+running_by own block stamp h = by (block_of own block) refl h
+  where
+    by_since : (known : BlockRecord) → block_of own block ≡ Some known → stamp ≡ known.stamp → (since : Option ℕ) → known.recovering ≡ since → cond (is_some since) None (Some NotOpen) ≡ None → IsRunning own block stamp
+    by_since known is same None e h = cc
+    by_since known is same (Some since) e h = record { known = known; since = since; there = is; stamped = same; begun = e }
+
+    by_stamp : (known : BlockRecord) → block_of own block ≡ Some known → (b : Bool) → (stamp == known.stamp) ≡ b
+        → cond (not b) (Some (StaleStamp known.stamp)) (cond (is_some known.recovering) None (Some NotOpen)) ≡ None → IsRunning own block stamp
+    by_stamp known is true e h = by_since known is (eqb-true stamp known.stamp e) known.recovering refl h
+    by_stamp known is false e h = cc
+
+    by : (found : Option BlockRecord) → block_of own block ≡ found → refused_recovered_by found stamp ≡ None → IsRunning own block stamp
+    by None is h = cc
+    by (Some known) is h = by_stamp known is (stamp == known.stamp) refl h
+
+pub recovery_ran : (facts : Facts) (caller : List ℕ) (recovered : RecoveredBlock) (rows : List Row) (users : Users) → first_refusal facts caller (op.CommitRecovery recovered) rows users ≡ None
+    → IsRunning facts.blocks.known recovered.block recovered.stamp
+recovery_ran facts caller recovered rows users h =
+    running_by facts.blocks.known recovered.block recovered.stamp (unrefused_by (refused_recovered facts.blocks recovered.block recovered.stamp) h)

@@ -1,19 +1,28 @@
--- What holds of blocks in every history: a number is given once, a newest stamp doesn't fall, a committed length stays, and no block stands
--- in two places.
+-- What holds of blocks in every history: a number is given once, a newest stamp doesn't fall, a committed length stays, no block stands
+-- in two places, and the recoveries that run are those of files.
 -- (HDFS Architecture, "The File System Namespace" and "Data Replication"; HDFS-265 for generation stamps.)
-use Rattle.std.specs.Prelude.{◌≡◌, ℕ, ◌<◌, ◌≤◌, ◌==◌, Bool, true, List, [], ◌∷◌, ◌++◌, map, filter, length, is_some, if◌then◌else◌, Some}
-use Rattle.std.specs.List.{AllByRecursion}
+use Rattle.std.specs.Prelude.{◌≡◌, ℕ, ◌-◌, ◌<◌, ◌≤◌, ◌==◌, Bool, true, false, nat_lt, List, [], ◌∷◌, ◌++◌, map, filter, length, is_some, if◌then◌else◌, Option, Some, None}
+use Rattle.std.specs.Bool.{⊤}
+use Rattle.std.specs.List.{AllByRecursion, flat_map}
 use Rattle.std.specs.List.Sorted.{IsStrictlyIncreasing}
+use Rattle.std.specs.Option.{option_map, option_and_then, option_to_list}
+use Rattle.hdfs_types.specs.declared.file.FileState.{FileState}
+use Rattle.hdfs_types.specs.declared.file.FileState.TheVariants.{Closed, Open, Recovering}
 use Rattle.hdfs_types.specs.LocatedBlocks.{AddedBlock}
 use Rattle.hdfs_types.specs.declared.reply.Reply.{Reply}
 use Rattle.hdfs_types.specs.declared.reply.Reply.TheVariants as reply
 use Rattle.block_records.specs.Numbers.{has_number}
-use Rattle.block_map.specs.BlockFacts.{BlockFacts, block_of, newest_stamp, committed_length}
+use Rattle.block_records.specs.declared.block_record.BlockRecord.{BlockRecord}
+use Rattle.block_map.specs.BlockFacts.{BlockFacts, block_of, newest_stamp, committed_length, due_recoveries}
 use Rattle.namespace_rows.specs.declared.file_row.FileBlock.{FileBlock}
+use Rattle.namespace_rows.specs.declared.file_row.FileRow.{FileRow}
 use Rattle.namespace_rows.specs.declared.row.Row.{Row}
-use Rattle.namespace_rows.specs.Files.{blocks_in}
+use Rattle.namespace_rows.specs.Files.{blocks_in, unfinished, state_recovers}
+use Rattle.namespace_rows.specs.Rows.{row_at}
 use Rattle.namespace_rows.specs.Namespace.{IsNamespace}
 use Rattle.flat_rows.specs.BlockOutcome as file
+use Rattle.flat_rows.specs.Changes.{is_recovered, recovers_nowhere_else}
+use Rattle.flat_rows.specs.Takeover.{sought_of}
 use Rattle.flat_rows.specs.declared.verdict.Verdict.{Verdict}
 use Rattle.flat_rows.specs.declared.verdict.Verdict.TheVariants.{Done, Denied, Refused}
 use Rattle.history.specs.declared.entry.HistoryEntry.{HistoryEntry}
@@ -67,6 +76,11 @@ abbrev pub StampsAreOwn : Type 0
 StampsAreOwn = (opening : Opening) (entries : List HistoryEntry) (block other stamp : ℕ) → IsLegal opening entries
     → newest_stamp (blocks_of opening entries) block ≡ Some stamp → newest_stamp (blocks_of opening entries) other ≡ Some stamp → block ≡ other
 
+-- nor was it that of another at any time before
+abbrev pub StampsAreOwnAtAllTimes : Type 0
+StampsAreOwnAtAllTimes = (opening : Opening) (later earlier : List HistoryEntry) (block other stamp : ℕ) → IsLegal opening (later ++ earlier)
+    → newest_stamp (blocks_of opening earlier) block ≡ Some stamp → newest_stamp (blocks_of opening (later ++ earlier)) other ≡ Some stamp → block ≡ other
+
 -- behind an entry more the newest stamp of a block isn't less
 abbrev pub StampsNeverFall : Type 0
 StampsNeverFall = (opening : Opening) (entry : HistoryEntry) (earlier : List HistoryEntry) (block stamp later : ℕ) → IsLegal opening (entry ∷ earlier)
@@ -104,3 +118,50 @@ FilesTellLengths = (opening : Opening) (entries : List HistoryEntry) → IsLegal
 -- the rows of a legal history are a namespace
 abbrev pub RowsAreNamespace : Type 0
 RowsAreNamespace = (opening : Opening) (entries : List HistoryEntry) → IsLegal opening entries → IsNamespace (rows_of opening entries)
+
+-- ---- recoveries
+
+-- the recovery of a block that runs, as the state of a file
+abbrev pub running_since : ℕ → ℕ → Option ℕ → Option FileState
+running_since block stamp since = option_map (Recovering block stamp) since
+
+abbrev pub running : BlockFacts → ℕ → Option FileState
+running facts block = option_and_then (λ (own : BlockRecord). running_since block own.stamp own.recovering) (block_of facts block)
+
+-- the states of files in which the block is recovered
+abbrev pub recovery_in : ℕ → Option FileRow → List FileState
+recovery_in block None = []
+recovery_in block (Some file) = if state_recovers block file.state then file.state ∷ [] else []
+
+abbrev pub recoveries_in : ℕ → List Row → List FileState
+recoveries_in block rows = flat_map (λ row. recovery_in block row.file) rows
+
+-- a block is in recovery where one file recovers it, and this since the same moment under the block's stamp; no other file recovers it
+abbrev pub RecoveriesAreThoseOfFiles : Type 0
+RecoveriesAreThoseOfFiles = (opening : Opening) (entries : List HistoryEntry) (block : ℕ) → IsLegal opening entries
+    → recoveries_in block (rows_of opening entries) ≡ option_to_list (running (blocks_of opening entries) block)
+
+abbrev pub OneFileRecovers : Type 0
+OneFileRecovers = (opening : Opening) (entries : List HistoryEntry) (path : List (List ℕ)) (row : Row) (block : ℕ) → IsLegal opening entries
+    → row_at path (rows_of opening entries) ≡ Some row → is_recovered block row.file ≡ true → recovers_nowhere_else path block (rows_of opening entries) ≡ true
+
+-- a file that is in recovery recovers its last block, whose length isn't committed
+abbrev pub RecoversLast : Option ℕ → FileState → Type 0
+RecoversLast block Closed = ⊤
+RecoversLast block (Open client) = ⊤
+RecoversLast block (Recovering own stamp begun) = block ≡ Some own
+
+abbrev pub FileRecoversLast : Option FileRow → Type 0
+FileRecoversLast None = ⊤
+FileRecoversLast (Some file) = RecoversLast (unfinished file.blocks) file.state
+
+abbrev pub FilesRecoverLast : Type 0
+FilesRecoverLast = (opening : Opening) (entries : List HistoryEntry) → IsLegal opening entries → AllByRecursion (λ (row : Row). FileRecoversLast row.file) (rows_of opening entries)
+
+-- as many files as blocks are in a recovery that began longer ago than the retry limit
+abbrev pub is_overdue : ℕ → ℕ → Row → Bool
+is_overdue retry now row = is_some (sought_of (λ client. false) (λ begun. nat_lt retry (now - begun)) row.file)
+
+abbrev pub OverdueFilesAreDue : Type 0
+OverdueFilesAreDue = (opening : Opening) (entries : List HistoryEntry) (now : ℕ) → IsLegal opening entries
+    → length (filter (is_overdue (blocks_of opening entries).retry now) (rows_of opening entries)) ≡ length (due_recoveries (blocks_of opening entries) now)

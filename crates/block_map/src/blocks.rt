@@ -344,6 +344,13 @@ impl Blocks {
         self.known.begin_all(planned, now, &mut self.queue)
     }
 
+    /// The retry limit, in milliseconds. Takes no memory.
+    pub fn retry(&self) -> u32
+        ensures { result ≡ self.now.retry }
+    {
+        self.retry
+    }
+
     /// The blocks whose recovery began more than the retry limit ago, by their ids: it is to be begun anew. Costs a look-up for each
     /// recovery that runs.
     ///

@@ -17,7 +17,7 @@ use Rattle.plan_steps.specs.declared.answered.PlanAnswered.{PlanAnswered}
 use Rattle.cluster_trace.specs.DataCall.{DataCall, as_message}
 use Rattle.cluster_trace.specs.Kept.{brought_as}
 use Rattle.cluster_trace.specs.Provenance.{call_brought, call_of}
-use Rattle.cluster_trace.specs.Trace.{State, Happened, lost, named, reporting, called, called_at, led, led_at, delivered, is_from_outside, happened, left_by, happens, outcome_of, outcome}
+use Rattle.cluster_trace.specs.Trace.{State, Happened, lost, named, reporting, committing, called, called_at, led, led_at, delivered, is_from_outside, happened, left_by, happens, outcome_of, outcome}
 use Rattle.cluster_trace.specs.Typed.{CallFits}
 use Rattle.cluster_trace.specs.declared.data_call.Asked.{Asked}
 use Rattle.cluster_trace.specs.declared.event.Event.TheVariants.{Name, Data}
@@ -75,7 +75,7 @@ module _ (own : core.NameCore) (nodes : List (ℕ × Node)) (plans : List (ℕ �
   nowhere_outcome now (Some (message.Node node asked)) e = cc
   nowhere_outcome now (Some (message.Plan node asked)) e = cc
   nowhere_outcome now (Some (message.Reported node block stamp bytes)) e = cc
-  nowhere_outcome now (Some (message.CommitRecovery node block stamp bytes others)) e = lost_outcome NoMessage
+  nowhere_outcome now (Some (message.CommitRecovery node block stamp bytes others)) e = cc
 
   pub carried_outcome : (now : ℕ) (found : Option Message) (answered : Option Answered) → carried_out nodes plans now found ≡ carried.Called answered → answer_outcome count answered ≡ outcome_of state (delivered state now found)
   carried_outcome now None answered e = cc
@@ -95,39 +95,34 @@ module _ (own : core.NameCore) (nodes : List (ℕ × Node)) (plans : List (ℕ �
   carried_led now (Some (message.Reported node block stamp bytes)) answered e = cc
   carried_led now (Some (message.CommitRecovery node block stamp bytes others)) answered e = cc
 
--- ---- reports
+-- ---- what the NameNode is told
 
-pub reports : (state : State) (now : ℕ) (found : Option Message) (node block stamp bytes : ℕ) → carried_out state.nodes state.plans now found ≡ carried.Report node block stamp bytes
-    → named state (reporting node now block stamp bytes) ≡ delivered state now found
-reports state now None node block stamp bytes e = cc
-reports state now (Some (message.Node id asked)) node block stamp bytes e = cc
-reports state now (Some (message.Plan id asked)) node block stamp bytes e = cc
-reports state now (Some (message.Reported id own at count)) node block stamp bytes e =
-    let a : node ≡ id = cc in
-    let b : block ≡ own = cc in
-    let d : stamp ≡ at = cc in
-    let f : bytes ≡ count = cc in
-    ap (λ n. named state (reporting n now block stamp bytes)) a
-    ∙ ap (λ n. named state (reporting id now n stamp bytes)) b
-    ∙ ap (λ n. named state (reporting id now own n bytes)) d
-    ∙ ap (λ n. named state (reporting id now own at n)) f
-reports state now (Some (message.CommitRecovery id own at count others)) node block stamp bytes e = cc
+pub told_is : (state : State) (now : ℕ) (found : Option Message) (request : Request) → carried_out state.nodes state.plans now found ≡ carried.Told request → named state request ≡ delivered state now found
+told_is state now None request e = cc
+told_is state now (Some (message.Node id asked)) request e = cc
+told_is state now (Some (message.Plan id asked)) request e = cc
+told_is state now (Some (message.Reported id own at count)) request e =
+    let is : request ≡ reporting id now own at count = cc in
+    ap (named state) is
+told_is state now (Some (message.CommitRecovery id own at count others)) request e =
+    let is : request ≡ committing id now own at count others = cc in
+    ap (named state) is
 
 -- no node has changed
-pub reports_stay : (nodes : List (ℕ × Node)) (plans : List (ℕ × PlanTable)) (now : ℕ) (found : Option Message) (node block stamp bytes : ℕ) → carried_out nodes plans now found ≡ carried.Report node block stamp bytes → nodes_carried nodes now found ≡ nodes
-reports_stay nodes plans now None node block stamp bytes e = refl
-reports_stay nodes plans now (Some (message.Node id asked)) node block stamp bytes e = cc
-reports_stay nodes plans now (Some (message.Plan id asked)) node block stamp bytes e = cc
-reports_stay nodes plans now (Some (message.Reported id own at count)) node block stamp bytes e = refl
-reports_stay nodes plans now (Some (message.CommitRecovery id own at count others)) node block stamp bytes e = refl
+pub told_stays : (nodes : List (ℕ × Node)) (plans : List (ℕ × PlanTable)) (now : ℕ) (found : Option Message) (request : Request) → carried_out nodes plans now found ≡ carried.Told request → nodes_carried nodes now found ≡ nodes
+told_stays nodes plans now None request e = refl
+told_stays nodes plans now (Some (message.Node id asked)) request e = cc
+told_stays nodes plans now (Some (message.Plan id asked)) request e = cc
+told_stays nodes plans now (Some (message.Reported id own at count)) request e = refl
+told_stays nodes plans now (Some (message.CommitRecovery id own at count others)) request e = refl
 
 -- and no plan
-pub reports_leave : (nodes : List (ℕ × Node)) (plans : List (ℕ × PlanTable)) (now : ℕ) (found : Option Message) (node block stamp bytes : ℕ) → carried_out nodes plans now found ≡ carried.Report node block stamp bytes → plans_carried plans found ≡ plans
-reports_leave nodes plans now None node block stamp bytes e = refl
-reports_leave nodes plans now (Some (message.Node id asked)) node block stamp bytes e = refl
-reports_leave nodes plans now (Some (message.Plan id asked)) node block stamp bytes e = cc
-reports_leave nodes plans now (Some (message.Reported id own at count)) node block stamp bytes e = refl
-reports_leave nodes plans now (Some (message.CommitRecovery id own at count others)) node block stamp bytes e = refl
+pub told_leaves : (nodes : List (ℕ × Node)) (plans : List (ℕ × PlanTable)) (now : ℕ) (found : Option Message) (request : Request) → carried_out nodes plans now found ≡ carried.Told request → plans_carried plans found ≡ plans
+told_leaves nodes plans now None request e = refl
+told_leaves nodes plans now (Some (message.Node id asked)) request e = refl
+told_leaves nodes plans now (Some (message.Plan id asked)) request e = cc
+told_leaves nodes plans now (Some (message.Reported id own at count)) request e = refl
+told_leaves nodes plans now (Some (message.CommitRecovery id own at count others)) request e = refl
 
 -- ---- requests from outside
 

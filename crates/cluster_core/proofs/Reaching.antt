@@ -12,7 +12,7 @@ use Rattle.hdfs_types.specs.declared.op.Request.{Request}
 use Rattle.node_calls.specs.declared.call.PlanCall.{PlanCall}
 use Rattle.block_recovery.specs.Plans.{PlanTable}
 use Rattle.cluster_trace.specs.DataCall.{DataCall, as_message, BeginWrite, Packet, Finalize, Read, Decide, Commit}
-use Rattle.cluster_trace.specs.Trace.{State, lost, entry_of, named, reporting, called, called_at, led, led_at, message_at, delivered, is_from_outside, left_by, happens, outcome}
+use Rattle.cluster_trace.specs.Trace.{State, lost, entry_of, named, reporting, committing, called, called_at, led, led_at, message_at, delivered, is_from_outside, left_by, happens, outcome}
 use Rattle.cluster_trace.specs.Provenance.{AllRight, call_of}
 use Rattle.cluster_trace.specs.Typed.{GrantsFit, CallFits, AreTyped}
 use Rattle.cluster_trace.specs.declared.event.Event.{Event}
@@ -54,7 +54,7 @@ grows_delivered state now None = stays state.entries
 grows_delivered state now (Some (message.Node node asked)) = grows_called state node now asked (entry_at node state.nodes)
 grows_delivered state now (Some (message.Plan node asked)) = grows_led state node asked (entry_at node state.plans)
 grows_delivered state now (Some (message.Reported node block stamp bytes)) = record { more = entry_of state (reporting node now block stamp bytes) ∷ []; is = refl }
-grows_delivered state now (Some (message.CommitRecovery node block stamp bytes nodes)) = stays state.entries
+grows_delivered state now (Some (message.CommitRecovery node block stamp bytes nodes)) = record { more = entry_of state (committing node now block stamp bytes nodes) ∷ []; is = refl }
 
 grows_asked : (state : State) (request : Request) (outside : Bool) → Grows state.entries (cond outside (named state request) (lost state NotFromOutside)).entries
 grows_asked state request true = grows_named state request

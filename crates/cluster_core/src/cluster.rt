@@ -9,7 +9,7 @@ ghost use Rattle.cluster_trace.specs.Typed.{GrantsFit, PresentsBytes, CallFits};
 ghost use Rattle.cluster_core.specs.Cluster.{answer_outcome, answer_messages, led_outcome, led_messages};
 ghost use Rattle.cluster_parts.specs.Sent.{messages_of, AreLaid};
 
-use cluster_parts::carried::{Carried, carry_out, report};
+use cluster_parts::carried::{Carried, carry_out};
 use cluster_parts::found::{entry_count, find};
 use cluster_parts::leaders::Leaders;
 use cluster_parts::nodes::Nodes;
@@ -45,7 +45,7 @@ fn last_count(core: &NameCore) -> u64
 pub(crate) fn is_from_outside(op: &Op) -> bool
     ensures { result ≡ spec.is_from_outside op.now }
 {
-    !matches!(op, Op::Reported(_))
+    !matches!(op, Op::Reported(_) | Op::CommitRecovery(_))
 }
 
 // What comes of an event that does nothing.
@@ -262,10 +262,7 @@ impl Cluster {
             Carried::Nowhere => Ok(note_nothing(&self.sent, ClusterRefusal::NoMessage)),
             Carried::Called(answered) => Ok(note_answer(&mut self.sent, answered)),
             Carried::Led(answered) => Ok(note_led(&mut self.sent, answered)),
-            Carried::Report(node, block, stamp, length) => {
-                let request = report(self.alloc, node, now, block, stamp, length)?;
-                self.name(request)
-            }
+            Carried::Told(request) => self.name(request),
         }
     }
 

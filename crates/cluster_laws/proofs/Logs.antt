@@ -24,7 +24,7 @@ use Rattle.datanode.specs.NodeStep.{Node, node_after, node_answer, presented_aft
 use Rattle.block_recovery.specs.Plans.{PlanTable}
 use Rattle.cluster_trace.specs.DataCall.{as_message}
 use Rattle.cluster_trace.specs.Provenance.{IsIn, granted, IsForged, IsGranted, IsCoveredWhere, call_brought, call_of, IsServedRightly, AllRight}
-use Rattle.cluster_trace.specs.Trace.{State, Opening, Happened, with_new_node, new_node, lost, named, entry_of, called_at, led, led_at, delivered, message_at, reporting, is_from_outside, happened, after}
+use Rattle.cluster_trace.specs.Trace.{State, Opening, Happened, with_new_node, new_node, lost, named, entry_of, called_at, led, led_at, delivered, message_at, reporting, committing, is_from_outside, happened, after}
 use Rattle.cluster_trace.specs.Typed.{AreTyped}
 use Rattle.cluster_trace.specs.declared.event.Event.{Event}
 use Rattle.cluster_trace.specs.declared.event.Event.TheVariants.{Name, Deliver, Data}
@@ -128,7 +128,7 @@ delivered_rest state now None all honest served = all
 delivered_rest state now (Some (message.Node node asked)) all honest served = called_rest state node now asked (entry_at node state.nodes) refl all honest served
 delivered_rest state now (Some (message.Plan node asked)) all honest served = led_rest state node asked all
 delivered_rest state now (Some (message.Reported node block stamp bytes)) all honest served = named_rest state (reporting node now block stamp bytes) all
-delivered_rest state now (Some (message.CommitRecovery node block stamp bytes others)) all honest served = all
+delivered_rest state now (Some (message.CommitRecovery node block stamp bytes others)) all honest served = named_rest state (committing node now block stamp bytes others) all
 
 event_rest : (state : State) (event : Event) → AllRest (granted state) state.nodes → (IsForgery state (call_of state event) → ⊥) → IsServedRightly state (call_of state event) (happened state event).answer → LeavesRest state (happened state event)
 event_rest state (Name request) all honest served = by (is_from_outside request.op)

@@ -13,7 +13,7 @@ use Rattle.node_calls.specs.declared.message.Message.{Message}
 use Rattle.node_calls.specs.declared.message.Message.TheVariants as message
 use Rattle.datanode.specs.NodeStep.{Node}
 use Rattle.block_recovery.specs.Plans.{PlanTable}
-use Rattle.cluster_trace.specs.Trace.{recover_message, removal_message, copy_message}
+use Rattle.cluster_trace.specs.Trace.{recover_message, removal_message, copy_message, reporting, committing}
 use Rattle.cluster_parts.specs.Leaders.{plans_led, answer_led}
 use Rattle.cluster_parts.specs.Nodes.{nodes_after, answer_at}
 use Rattle.cluster_parts.specs.declared.found.Found.{Found}
@@ -48,13 +48,13 @@ commands_for entry = verdict_for (node_of entry.request.caller) entry.verdict
 abbrev pub commands_seen : Option (ℕ × Bor Commands) → Option (ℕ × Commands)
 commands_seen found = option_map (λ (own : ℕ × Bor Commands). (own.0, own.1.now)) found
 
--- what comes of it: a DataNode is called, also about the recoveries that it leads, or a report is to be told
+-- what comes of it: a DataNode is called, also about the recoveries that it leads, or the NameNode is told something, by a request in the node's name
 abbrev pub carried_out : List (ℕ × Node) → List (ℕ × PlanTable) → ℕ → Option Message → Carried
 carried_out nodes plans now None = carried.Nowhere
 carried_out nodes plans now (Some (message.Node node asked)) = carried.Called (answer_at node now asked nodes)
 carried_out nodes plans now (Some (message.Plan node asked)) = carried.Led (answer_led node asked plans)
-carried_out nodes plans now (Some (message.Reported node block stamp bytes)) = carried.Report node block stamp bytes
-carried_out nodes plans now (Some (message.CommitRecovery node block stamp bytes others)) = carried.Nowhere
+carried_out nodes plans now (Some (message.Reported node block stamp bytes)) = carried.Told (reporting node now block stamp bytes)
+carried_out nodes plans now (Some (message.CommitRecovery node block stamp bytes others)) = carried.Told (committing node now block stamp bytes others)
 
 abbrev pub nodes_carried : List (ℕ × Node) → ℕ → Option Message → List (ℕ × Node)
 nodes_carried nodes now None = nodes

@@ -2,7 +2,7 @@ ghost use Rattle.std.specs.Prelude.{◌≡◌, IfOk, OnOk, OnErr, Some};
 ghost use Rattle.node_calls.specs.declared.call.NodeCall.TheVariants as asked;
 ghost use Rattle.node_calls.specs.declared.call.PlanCall.TheVariants as plan;
 ghost use Rattle.datanode.specs.NodeStep.{copying};
-ghost use Rattle.cluster_trace.specs.Trace.{reporting};
+ghost use Rattle.cluster_trace.specs.Trace.{reporting, committing};
 ghost use Rattle.cluster_trace.specs.Typed.{PresentsBytes, CallFits};
 ghost use Rattle.cluster_trace.specs.Provenance.{call_brought};
 ghost use Rattle.cluster_parts.specs.Carried.{seen, found_message, carried_out, nodes_carried, plans_carried};
@@ -13,11 +13,12 @@ use crate::found::Found;
 use crate::leaders::Leaders;
 use crate::nodes::Nodes;
 use crate::ranges::read_call;
+use block_records::node_set::NodeSet;
 use datanode::answered::Answered;
 use hdfs_types::commands::{CopyOrder, Recover, Removal};
 use hdfs_types::key_list::KeyList;
 use hdfs_types::op::{Op, Request};
-use hdfs_types::replica::ReportedReplica;
+use hdfs_types::replica::{RecoveredBlock, ReportedReplica};
 use hdfs_values::ids::{BlockId, Stamp};
 use hdfs_values::moment::Moment;
 use hdfs_values::node_id::NodeId;
@@ -37,15 +38,12 @@ pub enum Carried {
     Called(Option<Answered>),
     /// What a DataNode answers that leads recoveries; nothing where there is no such node.
     Led(Option<PlanAnswered>),
-    /// A DataNode's report is to be told to the NameNode.
-    Report(NodeId, BlockId, Stamp, u64),
+    /// A DataNode tells the NameNode something: the request, in the node's own name.
+    Told(Request),
 }
 
-/// The request that a report is, in the node's own name.
-///
-/// # Errors
-/// Out of memory.
-pub fn report(
+// The request that a report is.
+fn report(
     alloc: Global,
     node: NodeId,
     now: Moment,
@@ -62,6 +60,31 @@ pub fn report(
             block,
             stamp,
             length,
+        }),
+    })
+}
+
+// The request by which a node ends a recovery that it led.
+fn commit(
+    alloc: Global,
+    node: NodeId,
+    now: Moment,
+    block: BlockId,
+    stamp: Stamp,
+    length: u64,
+    nodes: &NodeSet,
+) -> Result<Request, AllocError>
+    ensures { IfOk result (λ request. request ≡ committing node now block stamp length nodes.now) }
+{
+    let nodes = nodes.clone()?;
+    Ok(Request {
+        caller: principal_of(alloc, node)?,
+        moment: now,
+        op: Op::CommitRecovery(RecoveredBlock {
+            block,
+            stamp,
+            length,
+            nodes,
         }),
     })
 }
@@ -98,6 +121,7 @@ fn call(
 
 // Carries out a message that is kept on its own.
 fn carry_message(
+    alloc: Global,
     nodes: &mut Nodes,
     leaders: &mut Leaders,
     now: Moment,
@@ -116,9 +140,13 @@ fn carry_message(
             Ok(Carried::Led(answered))
         }
         Message::Reported(node, block, stamp, length) => {
-            Ok(Carried::Report(*node, *block, *stamp, *length))
+            let request = report(alloc, *node, now, *block, *stamp, *length)?;
+            Ok(Carried::Told(request))
         }
-        Message::CommitRecovery(_, _, _, _, _) => Ok(Carried::Nowhere),
+        Message::CommitRecovery(node, block, stamp, length, held_by) => {
+            let request = commit(alloc, *node, now, *block, *stamp, *length, held_by)?;
+            Ok(Carried::Told(request))
+        }
     }
 }
 
@@ -194,7 +222,7 @@ fn carry_found(
     ensures err { OnErr result ((nodes.new ≡ nodes.old) × (leaders.new ≡ leaders.old)) }
 {
     match found {
-        Found::Kept(message) => carry_message(nodes, leaders, now, message),
+        Found::Kept(message) => carry_message(alloc, nodes, leaders, now, message),
         Found::Keys(node, keys) => carry_keys(nodes, *node, now, keys),
         Found::Recovery(node, own) => carry_recovery(leaders, *node, own),
         Found::Removal(node, own) => carry_removal(nodes, *node, now, *own),

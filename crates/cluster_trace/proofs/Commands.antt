@@ -23,9 +23,10 @@ use Rattle.flat_rows.specs.BlockOutcome.{added_to, replication_at}
 use Rattle.flat_rows.specs.Decision.{decision}
 use Rattle.flat_rows.specs.Denial as denied
 use Rattle.flat_rows.specs.Facts.{Facts}
-use Rattle.flat_rows.specs.FileOutcome.{appended_reply, holder_at}
+use Rattle.flat_rows.specs.FileOutcome.{holder_at}
 use Rattle.flat_rows.specs.NodeOutcome.{heartbeat_reply}
 use Rattle.flat_rows.specs.Outcome.{reply_of, status_of, acl_status_of, serial_reply, first_refusal, refused_or_done, denied_or_outcome, step}
+use Rattle.flat_rows.specs.Takeover.{unfinished_at, appended_reply}
 use Rattle.principals.specs.Users.{Users}
 use Rattle.flat_rows.specs.declared.verdict.Verdict.{Verdict}
 use Rattle.flat_rows.specs.declared.verdict.Verdict.TheVariants.{Done, Denied, Refused}
@@ -97,9 +98,10 @@ module _ (P : KeyList → Type 0) where
   acl_tells None = tt
   acl_tells (Some row) = tt
 
-  append_tells : (holder : Option (List ℕ)) → TellsKeys P (appended_reply holder)
-  append_tells None = tt
-  append_tells (Some holder) = tt
+  append_tells : (facts : Facts) (holder : Option (List ℕ)) (block : Option ℕ) → TellsKeys P (appended_reply facts.blocks holder block)
+  append_tells facts None block = tt
+  append_tells facts (Some holder) None = tt
+  append_tells facts (Some holder) (Some block) = tt
 
   serial_tells : (serial : Option ℕ) → TellsKeys P (serial_reply serial)
   serial_tells None = tt
@@ -116,7 +118,7 @@ module _ (P : KeyList → Type 0) where
   reply_tells : (facts : Facts) (caller : List ℕ) (what : Op) (rows : List Row) → P facts.keys → TellsKeys P (reply_of facts caller what rows)
   reply_tells facts caller (op.Stat path) rows h = status_tells (row_at path rows)
   reply_tells facts caller (op.GetAcl path) rows h = acl_tells (row_at path rows)
-  reply_tells facts caller (op.Append path) rows h = append_tells (holder_at (row_at path rows))
+  reply_tells facts caller (op.Append path) rows h = append_tells facts (holder_at (row_at path rows)) (unfinished_at (row_at path rows))
   reply_tells facts caller (op.AddBlock path last) rows h = added_tells facts caller last (replication_at (row_at path rows))
   reply_tells facts caller (op.RollKey key) rows h = serial_tells facts.next_serial
   reply_tells facts caller op.Heartbeat rows h = heartbeat_tells facts caller (node_of caller) h

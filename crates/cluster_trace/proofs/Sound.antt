@@ -26,7 +26,7 @@ use Rattle.block_recovery.specs.Plans.{PlanTable}
 use Rattle.block_recovery.specs.declared.fault.PlanRefusal.{PlanRefusal}
 use Rattle.plan_steps.specs.PlanStep.{plan_refusal, plan_there, decided, presenting, to_each, plan_sends, told_unless, plan_answer}
 use Rattle.cluster_trace.specs.DataCall.{DataCall, as_message, BeginWrite, Packet, Finalize, Read, Decide, Commit}
-use Rattle.cluster_trace.specs.Trace.{State, Opening, Happened, start, with_new_node, new_node, lost, named, entry_of, called, called_at, led, led_at, delivered, message_at, reporting, is_from_outside, happened, left_by, after}
+use Rattle.cluster_trace.specs.Trace.{State, Opening, Happened, start, with_new_node, new_node, lost, named, entry_of, called, called_at, led, led_at, delivered, message_at, reporting, committing, is_from_outside, happened, left_by, after}
 use Rattle.cluster_trace.specs.declared.event.Event.{Event}
 use Rattle.cluster_trace.specs.declared.event.Event.TheVariants.{Name, Deliver, Data}
 use Rattle.cluster_trace.specs.declared.outcome.ClusterRefusal.{ClusterRefusal}
@@ -184,7 +184,7 @@ delivered_keeps state now None sound brings = lost_keeps state NoMessage sound
 delivered_keeps state now (Some (message.Node node asked)) sound brings = called_keeps state node now asked sound (brings (message.Node node asked) refl)
 delivered_keeps state now (Some (message.Plan node asked)) sound brings = led_keeps state node asked sound
 delivered_keeps state now (Some (message.Reported node block stamp bytes)) sound brings = named_keeps state (reporting node now block stamp bytes) sound
-delivered_keeps state now (Some (message.CommitRecovery node block stamp bytes nodes)) sound brings = lost_keeps state NoMessage sound
+delivered_keeps state now (Some (message.CommitRecovery node block stamp bytes nodes)) sound brings = named_keeps state (committing node now block stamp bytes nodes) sound
 
 event_keeps : (state : State) (event : Event) → IsSound state → Keeps state (happened state event)
 event_keeps state (Name request) sound = by (is_from_outside request.op)

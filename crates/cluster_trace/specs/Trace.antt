@@ -141,6 +141,7 @@ named state request = record {
 -- messages alone bring what DataNodes report
 abbrev pub is_from_outside : Op → Bool
 is_from_outside (op.Reported replica) = false
+is_from_outside (op.CommitRecovery recovered) = false
 is_from_outside _ = true
 
 -- ---- calls of a DataNode
@@ -191,13 +192,17 @@ abbrev pub reporting : ℕ → ℕ → ℕ → ℕ → ℕ → Request
 reporting node now block stamp bytes =
     record { caller = node_principal node; moment = now; op = op.Reported (record { block = block; stamp = stamp; length = bytes }) }
 
--- the NameNode is told of no recovery yet
+-- and so is the end of a recovery that it led
+abbrev pub committing : ℕ → ℕ → ℕ → ℕ → ℕ → List ℕ → Request
+committing node now block stamp bytes nodes =
+    record { caller = node_principal node; moment = now; op = op.CommitRecovery (record { block = block; stamp = stamp; length = bytes; nodes = nodes }) }
+
 abbrev pub delivered : State → ℕ → Option Message → Happened
 delivered state now None = lost state NoMessage
 delivered state now (Some (message.Node node asked)) = called state node now asked
 delivered state now (Some (message.Plan node asked)) = led state node asked
 delivered state now (Some (message.Reported node block stamp bytes)) = named state (reporting node now block stamp bytes)
-delivered state now (Some (message.CommitRecovery node block stamp bytes nodes)) = lost state NoMessage
+delivered state now (Some (message.CommitRecovery node block stamp bytes nodes)) = named state (committing node now block stamp bytes nodes)
 
 -- ---- events
 

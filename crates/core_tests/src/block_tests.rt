@@ -33,7 +33,7 @@ fn write_removals(verdict: &Verdict, text: &mut String) -> Result<(), Fail> {
 }
 
 // What the last entry tells, as a script would print it, with the tokens numbered behind so many rows.
-fn write_last(core: &NameCore, rows: usize, text: &mut String) -> Result<(), Fail> {
+pub(crate) fn write_last(core: &NameCore, rows: usize, text: &mut String) -> Result<(), Fail> {
     let Some(entry) = core.last() else {
         return Ok(());
     };
@@ -53,7 +53,12 @@ fn step(core: &mut NameCore, text: &mut String, request: Request) -> Result<(), 
 }
 
 // Steps the request of a line, and writes what it is answered.
-fn ask(core: &mut NameCore, text: &mut String, alloc: Global, line: &str) -> Result<(), Fail> {
+pub(crate) fn ask(
+    core: &mut NameCore,
+    text: &mut String,
+    alloc: Global,
+    line: &str,
+) -> Result<(), Fail> {
     match read_line(alloc, line)? {
         Ok(request) => step(core, text, request),
         Err(_) => Ok(text.push_str("bad\n")?),
@@ -93,7 +98,12 @@ fn report(
     Ok(core.append(0, 0, request)?)
 }
 
-fn ask_all(core: &mut NameCore, text: &mut String, alloc: Global, lines: &str) -> Result<(), Fail> {
+pub(crate) fn ask_all(
+    core: &mut NameCore,
+    text: &mut String,
+    alloc: Global,
+    lines: &str,
+) -> Result<(), Fail> {
     for line in lines.lines() {
         ask(core, text, alloc, line)?;
     }
@@ -145,7 +155,7 @@ fn gone_blocks(core: &mut NameCore, text: &mut String, alloc: Global) -> Result<
     )
 }
 
-fn open(alloc: Global) -> Result<NameCore, Fail> {
+pub(crate) fn open(alloc: Global) -> Result<NameCore, Fail> {
     Ok(NameCore::open(alloc, Config::standard(), Key::new([1; 20]))?)
 }
 

@@ -1,10 +1,4 @@
-ghost use Rattle.std.specs.Prelude.{◌≡◌, ◌≤◌, IfOk, OnOk};
-ghost use Rattle.lease_manager.specs.Leases.{latest_moment};
-
-use block_map::blocks::Blocks;
-use block_tokens::ring::KeyRing;
 use flat_rows::verdict::Verdict;
-use grant_ledger::ledger::Ledger;
 use hdfs_types::key::Key;
 use hdfs_types::op::{Op, Request};
 use hdfs_types::reply::{Counter, Refusal, Reply};
@@ -12,16 +6,10 @@ use hdfs_values::ids::Serial;
 use hdfs_values::moment::Moment;
 use hdfs_values::node_id::NodeId;
 use hdfs_values::path::Path;
-use hdfs_values::replication::Repl;
 use hdfs_values::who::Who;
 use history::config::{Config, Counters};
-use inode_tree::tree::Tree;
 use lease_manager::open_paths::OpenPaths;
-use lease_manager::writers::Writers;
 use name_core::namenode::NameCore;
-use name_core::namesystem::{Namesystem, perform};
-use permission_specs::mode::Mode;
-use principals::users::Users;
 use std::alloc::Global;
 use std::fmt::Write;
 use std::test::Fail;
@@ -113,7 +101,7 @@ fn delete(
 ) -> Result<(), Fail> {
     let path = path(alloc, text)?;
     let clients = vec![in alloc; client.clone()?, other.clone()?]?;
-    paths.delete(&path, &clients);
+    paths.delete(&path, &clients, &[]);
     Ok(())
 }
 
@@ -150,114 +138,6 @@ fn files_are_known_as_long_as_they_are_open(rt: HostRuntime) -> Result<(), Fail>
     drop(other);
     told?;
     assert_eq!(rt; text.as_str(), "/a-b ./a-b ..");
-    Ok(())
-}
-
-fn creating(alloc: Global, caller: &str, text: &str) -> Result<Request, Fail> {
-    let mode = Mode::new(0o644).ok_or("a mode")?;
-    let replication = Repl::new(1).ok_or("a replication")?;
-    let moment = Moment::new(0).ok_or("a moment")?;
-    let caller = who(alloc, caller)?;
-    let path = path(alloc, text)?;
-    Ok(Request {
-        caller,
-        moment,
-        op: Op::Create(path, mode, replication, false),
-    })
-}
-
-fn ticking(alloc: Global, caller: &str) -> Result<Request, Fail> {
-    let moment = Moment::new(0).ok_or("a moment")?;
-    let caller = who(alloc, caller)?;
-    Ok(Request {
-        caller,
-        moment,
-        op: Op::Tick,
-    })
-}
-
-fn system(alloc: Global) -> Result<Namesystem, Fail>
-    ensures { IfOk result (λ system. latest_moment system.writers.leases.renewals ≡ 0) }
-{
-    let (superuser, supergroup) = (who(alloc, "hdfs")?, who(alloc, "supergroup")?);
-    Ok(Namesystem {
-        tree: Tree::new(alloc, superuser.clone()?, supergroup.clone()?),
-        users: Users::new(alloc, superuser, supergroup),
-        writers: Writers::new(alloc, 60_000, 1_200_000),
-        ring: KeyRing::new(alloc, Serial::new(1), Key::new([0; 20]), 36_000_000),
-        blocks: Blocks::new(alloc, 630_000, 60_000, 1, 1001),
-    })
-}
-
-// How many files are told to be closed.
-fn closed_by(verdict: &Verdict) -> u64 {
-    match verdict {
-        Verdict::Done(Reply::Expired(expired)) => expired.closed,
-        _ => 0,
-    }
-}
-
-// How many files a request has closed, where no file is known.
-fn closed(
-    alloc: Global,
-    system: &mut Namesystem,
-    request: &Request,
-    now: Moment,
-) -> Result<u64, Fail>
-    requires { latest_moment system.old.writers.leases.renewals ≤ now }
-    ensures { OnOk result (latest_moment system.new.writers.leases.renewals ≤ now) }
-{
-    let _root = system.tree.root();
-    let verdict = perform(
-        alloc,
-        system,
-        &mut OpenPaths::new(alloc),
-        &mut Ledger::new(alloc),
-        1,
-        request,
-        now,
-    )?;
-    let closed = closed_by(&verdict);
-    drop(verdict);
-    Ok(closed)
-}
-
-// Makes a file, and leaves it open.
-fn make(alloc: Global, system: &mut Namesystem, now: Moment) -> Result<u64, Fail>
-    requires { latest_moment system.old.writers.leases.renewals ≤ now }
-    ensures { OnOk result (latest_moment system.new.writers.leases.renewals ≤ now) }
-{
-    let request = creating(alloc, "hdfs", "/a/b")?;
-    let made = closed(alloc, system, &request, now);
-    drop(request);
-    made
-}
-
-// How many files a tick closes that knows of none.
-fn closed_unknown(alloc: Global, system: &mut Namesystem, now: Moment) -> Result<u64, Fail>
-    requires { latest_moment system.old.writers.leases.renewals ≤ now }
-{
-    let request = ticking(alloc, "hdfs")?;
-    let closed = closed(alloc, system, &request, now);
-    drop(request);
-    closed
-}
-
-// How many files a tick closes that knows of none, of one that is open.
-fn closed_of_one(alloc: Global, system: &mut Namesystem) -> Result<u64, Fail>
-    requires { latest_moment system.old.writers.leases.renewals ≡ 0 }
-{
-    make(alloc, system, Moment::new(0).ok_or("a moment")?)?;
-    let late = Moment::new(1_200_001).ok_or("a moment")?;
-    closed_unknown(alloc, system, late)
-}
-
-#[test]
-fn files_are_closed_that_are_not_known(rt: HostRuntime) -> Result<(), Fail> {
-    let mut system = system(rt.alloc())?;
-    let closed = closed_of_one(rt.alloc(), &mut system);
-    drop(system);
-    assert_eq!(rt; closed?, 1);
     Ok(())
 }
 

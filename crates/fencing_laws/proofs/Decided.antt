@@ -44,7 +44,7 @@ use Rattle.plan_steps.specs.PlanStep.{plan_refusal, plans_with, left_unless, pla
 use Rattle.cluster_trace.specs.DataCall.{DataCall, as_message}
 use Rattle.cluster_trace.specs.DataCall as outside
 use Rattle.cluster_trace.specs.Provenance.{CallAt, call_brought, call_of}
-use Rattle.cluster_trace.specs.Trace.{State, Opening, Happened, lost, named, called_at, led_at, delivered, message_at, is_from_outside, reporting, recover_message, removal_message, copy_message, command_messages, told_messages, sent_by, happened, left_by, happens, after}
+use Rattle.cluster_trace.specs.Trace.{State, Opening, Happened, lost, named, called_at, led_at, delivered, message_at, is_from_outside, reporting, committing, recover_message, removal_message, copy_message, command_messages, told_messages, sent_by, happened, left_by, happens, after}
 use Rattle.cluster_trace.specs.declared.event.Event.{Event}
 use Rattle.cluster_trace.specs.declared.event.Event.TheVariants.{Name, Deliver, Data}
 use Rattle.cluster_trace.specs.declared.outcome.ClusterRefusal.TheVariants.{NotFromOutside}
@@ -277,7 +277,7 @@ delivered_carries state now None = tt
 delivered_carries state now (Some (message.Node node asked)) = called_carries state node now asked (entry_at node state.nodes)
 delivered_carries state now (Some (message.Plan node asked)) = led_carries state node asked (entry_at node state.plans) refl
 delivered_carries state now (Some (message.Reported node block stamp count)) = named_carries state (reporting node now block stamp count)
-delivered_carries state now (Some (message.CommitRecovery node block stamp count nodes)) = tt
+delivered_carries state now (Some (message.CommitRecovery node block stamp count nodes)) = named_carries state (committing node now block stamp count nodes)
 
 asked_carries : (state : State) (request : Request) (outside : Bool) → SentCarries state (cond outside (named state request) (lost state NotFromOutside))
 asked_carries state request true = named_carries state request

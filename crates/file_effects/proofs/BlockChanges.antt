@@ -1,5 +1,5 @@
 -- Changes of the blocks of files leave each client's files open as they were.
-use Rattle.std.proofs.Common.{◌≡◌, ℕ, Bool, true, false, List, [], map, length, Option, Some, None, refl, sym, ap, ◌∙◌, cond}
+use Rattle.std.proofs.Common.{◌≡◌, ℕ, Bool, true, false, List, [], length, Option, Some, None, refl, sym, ap, ◌∙◌, cond}
 use Rattle.hdfs_values.specs.PathOrder.{same_path}
 use Rattle.block_records.specs.declared.last_block.LastBlock.{LastBlock}
 use Rattle.block_records.specs.declared.fault.BlockRefusal.{BlockRefusal}
@@ -9,10 +9,10 @@ use Rattle.namespace_rows.specs.declared.row.Row.{Row}
 use Rattle.namespace_rows.specs.declared.row.Change.TheVariants as change
 use Rattle.namespace_rows.specs.Namespace.{IsNamespace}
 use Rattle.namespace_rows.specs.Rows.{is_missing}
-use Rattle.namespace_rows.specs.Files.{is_client, holder_of_file, is_open_by, open_files, blocks_in, with_block, committed_at}
+use Rattle.namespace_rows.specs.Files.{is_client, is_open_by, open_files, blocks_in, with_block, committed_at}
 use Rattle.flat_rows.specs.Changes.{rows_under, edited, rewritten, block_added}
-use Rattle.flat_rows.specs.BlockOutcome.{refused_by, refused_end, last_committed, with_block_at}
-use Rattle.flat_rows.proofs.Holders.{tally, tally_map, tally_rewritten, kept_file}
+use Rattle.flat_rows.specs.BlockOutcome.{refused_by, refused_end}
+use Rattle.flat_rows.proofs.Holders.{tally_map, tally_rewritten, kept_file}
 use Rattle.history.proofs.Apart.{missing_apart, none_under}
 use Rattle.lease_manager.specs.declared.writers.Writers.{Writers}
 use Rattle.file_effects.specs.Effected.{IsExact}

@@ -1,8 +1,9 @@
 -- What an operation leaves, from what its calls leave.
-use Rattle.std.proofs.Common.{◌≡◌, ℕ, Bool, List, length, filter, map, Option, Some, None, refl, sym, ap, ◌∙◌, subst, Result, Ok, Err, OnOk}
+use Rattle.std.proofs.Common.{◌≡◌, ℕ, Bool, true, List, Option, Some, None, ap, ◌∙◌, subst, Result, Ok, Err, OnOk}
 use Rattle.hdfs_types.specs.declared.op.Op.TheVariants as op
 use Rattle.block_records.specs.declared.last_block.LastBlock.{LastBlock}
-use Rattle.hdfs_types.specs.declared.file.FileState.TheVariants.{Closed, Open}
+use Rattle.hdfs_types.specs.declared.file.FileState.{FileState}
+use Rattle.hdfs_types.specs.declared.file.FileState.TheVariants.{Open}
 use Rattle.hdfs_values.specs.Text.{same}
 use Rattle.lease_manager.specs.Leases.{Leases, renewals_with}
 use Rattle.principals.specs.Users.{Users}
@@ -10,18 +11,17 @@ use Rattle.namespace_rows.specs.declared.row.Row.{Row}
 use Rattle.namespace_rows.specs.declared.row.Change.TheVariants as change
 use Rattle.namespace_rows.specs.Rows.{row_at, ancestor}
 use Rattle.namespace_rows.specs.Namespace.{IsNamespace}
-use Rattle.namespace_rows.specs.Files.{new_file, holders}
-use Rattle.flat_rows.specs.FileOutcome.{LeaseFacts, holder_at, state_after_append, appended_reply, is_expired, closed_where_expired}
+use Rattle.namespace_rows.specs.Files.{new_file, holder_of, holder_of_file, holders}
+use Rattle.flat_rows.specs.FileOutcome.{holder_at}
 use Rattle.flat_rows.specs.BlockOutcome.{ended_at}
 use Rattle.flat_rows.specs.Outcome.{with_new}
 use Rattle.flat_rows.specs.Changes.{rows_under, rewritten, without}
-use Rattle.history.specs.ClockAndLease.{has_opened}
 use Rattle.lease_manager.specs.declared.writers.Writers.{Writers}
 use Rattle.lease_manager.specs.Writers.{count_of, IsLeased, renewed_at}
 use Rattle.file_effects.specs.Effected.{IsCreated, IsExact, IsFree, IsEffected, renewed_where}
 use Rattle.lease_manager.proofs.Leasing.{leased_open, more_after}
-use Rattle.file_effects.proofs.Effects.{OneMore, OneLess, EachLess, free_create, free_append, counted_create, counted_reopen, counted_close, counted_delete}
-use Rattle.file_effects.proofs.Expiring.{counted_expire, holders_counted}
+use Rattle.file_effects.proofs.Effects.{OneMore, OneLess, EachLess, free_create, counted_create, counted_reopen, counted_close, counted_delete}
+use Rattle.file_effects.specs.Taken.{IsClosedFile}
 
 abbrev pub KeepsLeased : Writers → Writers → Type 0
 KeepsLeased before after = (last : List ℕ → Option ℕ) → IsLeased last before → IsLeased last after
@@ -56,23 +56,15 @@ effected_create path mode replication over caller now rows left clients before b
       };
     }
 
-pub effected_reopen : (path : List (List ℕ)) (client caller : List ℕ) (now : ℕ) (rows left : List Row) (before after : Writers) (users : Users) → IsNamespace rows → IsFree (op.Append path) caller rows users
-    → holder_at (row_at path rows) ≡ None → client ≡ caller → left ≡ rewritten path (change.State (Open client)) rows → OneMore caller before after
-    → ((last : List ℕ → Option ℕ) → IsLeased last before → IsLeased (renewed_at caller now last) after) → IsEffected (op.Append path) caller now rows before left after
-effected_reopen path client caller now rows left before after users namespace free closed is made more renews =
-    let made_by : left ≡ rewritten path (change.State (Open caller)) rows = made ∙ ap (λ who. rewritten path (change.State (Open who)) rows) is in
+-- a closed file is opened by a client
+pub exact_reopen : (path : List (List ℕ)) (client caller : List ℕ) (now : ℕ) (rows left : List Row) (before after : Writers) → IsNamespace rows → IsClosedFile path rows
+    → client ≡ caller → left ≡ rewritten path (change.State (Open client)) rows → OneMore caller before after
+    → ((last : List ℕ → Option ℕ) → IsLeased last before → IsLeased (renewed_at caller now last) after) → (last : List ℕ → Option ℕ) → IsExact last rows before → IsExact (renewed_where true caller now last) left after
+exact_reopen path client caller now rows left before after namespace found is made more renews last exact =
     record {
-      tree = λ leases. made_by ∙ ap (λ h. rewritten path (change.State (state_after_append caller h)) rows) (sym closed);
-      exact = λ leases last exact. subst (λ h. IsExact (renewed_where (has_opened (appended_reply h)) caller now last) left after) (sym closed)
-          (record { files = counted_reopen path caller rows left before after namespace (free_append path caller rows users namespace free) closed made_by exact.files more; leased = renews last exact.leased });
-    }
-
-pub effected_release : (path : List (List ℕ)) (holder caller : List ℕ) (now : ℕ) (rows left : List Row) (before after : Writers) → holder_at (row_at path rows) ≡ Some holder
-    → left ≡ rewritten path (change.State Closed) rows → KeepsExact rows before left after → IsEffected (op.Append path) caller now rows before left after
-effected_release path holder caller now rows left before after held made kept =
-    record {
-      tree = λ leases. made ∙ ap (λ h. rewritten path (change.State (state_after_append caller h)) rows) (sym held);
-      exact = λ leases last exact. subst (λ h. IsExact (renewed_where (has_opened (appended_reply h)) caller now last) left after) (sym held) (kept last exact);
+      files = counted_reopen path caller rows left before after namespace (record { row = found.row; file = found.file; at = found.at; has = found.has })
+          (ap holder_at found.at ∙ (ap holder_of_file found.has ∙ ap holder_of found.closed)) (made ∙ ap (λ who. rewritten path (change.State (Open who)) rows) is) exact.files more;
+      leased = renews last exact.leased;
     }
 
 pub effected_complete : (path : List (List ℕ)) (stated : Option LastBlock) (caller : List ℕ) (now : ℕ) (rows left : List Row) (before after : Writers)
@@ -93,15 +85,8 @@ effected_delete path recursive caller now rows left clients before after made is
       exact = λ leases last exact. record { files = counted_delete path rows left before after made exact.files (less_of clients (holders (rows_under path rows)) before after is less); leased = kept last exact.leased };
     }
 
-pub exact_close : (path : List (List ℕ)) (holder : List ℕ) (rows left : List Row) (before after : Writers) → IsNamespace rows → holder_at (row_at path rows) ≡ Some holder → left ≡ rewritten path (change.State Closed) rows
+pub exact_close : (path : List (List ℕ)) (state : FileState) (holder : List ℕ) (rows left : List Row) (before after : Writers) → IsNamespace rows → holder_at (row_at path rows) ≡ Some holder → holder_of state ≡ None
+    → left ≡ rewritten path (change.State state) rows
     → OneLess holder before after → KeepsLeased before after → KeepsExact rows before left after
-exact_close path holder rows left before after namespace held made less kept last exact =
-    record { files = counted_close path holder rows left before after namespace held made exact.files less; leased = kept last exact.leased }
-
-pub exact_expire : (leases : LeaseFacts) (rows left : List Row) (clients : List (List ℕ)) (before after : Writers) → left ≡ map (closed_where_expired leases) rows → clients ≡ holders (filter (is_expired leases) rows)
-    → EachLess clients before after → KeepsLeased before after → KeepsExact rows before left after
-exact_expire leases rows left clients before after made is less kept last exact =
-    record { files = counted_expire leases rows left before after made exact.files (less_of clients (holders (filter (is_expired leases) rows)) before after is less); leased = kept last exact.leased }
-
-pub expired_count : (leases : LeaseFacts) (rows : List Row) (clients : List (List ℕ)) (n : ℕ) → n ≡ length clients → clients ≡ holders (filter (is_expired leases) rows) → n ≡ length (filter (is_expired leases) rows)
-expired_count leases rows clients n counted is = counted ∙ (ap length is ∙ holders_counted leases rows)
+exact_close path state holder rows left before after namespace held unheld made less kept last exact =
+    record { files = counted_close path state holder rows left before after namespace held unheld made exact.files less; leased = kept last exact.leased }

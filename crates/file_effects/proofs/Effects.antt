@@ -20,14 +20,13 @@ use Rattle.namespace_rows.specs.Rows.{is_directory, row_at, ancestor, file_above
 use Rattle.namespace_rows.specs.Namespace.{IsNamespace, suits_kind, suits_parts, is_root}
 use Rattle.namespace_rows.specs.Files.{new_file, holder_of, holder_of_file, is_client, open_files, holders}
 use Rattle.flat_rows.specs.FileOutcome.{directory_there, file_there, holder_at, of_file, if_some_file, refused_write, refused_by_state}
-use Rattle.flat_rows.specs.Facts.{Facts}
 use Rattle.flat_rows.specs.Outcome.{beneath_file, nothing_at, with_new, refused_where}
 use Rattle.flat_rows.specs.Changes.{rows_under, without, changed, rewritten}
 use Rattle.namespace_rows.proofs.Tests.{both, all_kept}
 use Rattle.namespace_rows.proofs.Namespaces.{namespace_tests}
 use Rattle.history.proofs.Counting.{count, bit, count_without}
 use Rattle.history.proofs.Apart.{no_ancestor}
-use Rattle.history.proofs.OpenFiles.{count_new, count_rewritten, count_holders, with_holder, closed_row, opens}
+use Rattle.history.proofs.OpenFiles.{count_new, count_rewritten, count_holders, with_holder, unheld_row, opens}
 use Rattle.lease_manager.specs.declared.writers.Writers.{Writers}
 use Rattle.lease_manager.specs.Writers.{count_of}
 use Rattle.file_effects.specs.Effected.{IsFree}
@@ -100,14 +99,6 @@ file_at_path path rows namespace there file = by (row_at path rows) refl there f
     by (Some row) e h k =
         let found = file_of_row row (found_suits path rows row (namespace_tests rows namespace).suit e) (kind_of (is_directory row) k) in
         record { row = row; file = found.0; at = e; has = found.1 }
-
-pub free_append : (path : List (List ℕ)) (caller : List ℕ) (rows : List Row) (users : Users) → IsNamespace rows → IsFree (op.Append path) caller rows users → IsFileAt path rows
-free_append path caller rows users namespace free =
-    let a = beneath_file path rows in
-    let b = nothing_at (row_at path rows) in
-    let c = directory_there (row_at path rows) in
-    let bc = none_then a _ free.1 in
-    file_at_path path rows namespace (none_first b _ bc) (none_first c _ (none_then b _ bc))
 
 pub free_complete : (path : List (List ℕ)) (stated : Option LastBlock) (caller : List ℕ) (rows : List Row) (users : Users) → IsNamespace rows → IsFree (op.Complete path stated) caller rows users → holder_at (row_at path rows) ≡ Some caller
 free_complete path stated caller rows users namespace free =
@@ -201,10 +192,10 @@ counted_reopen path caller rows left before after namespace found closed made co
     total : (w1 w0 c b new p q : ℕ) → w1 ≡ w0 + b → w0 ≡ c → new + p ≡ c + q → p ≡ 0 → q ≡ b → w1 ≡ new
     total w1 w0 c b new p q e1 e2 e3 e4 e5 = omega (arith, e1, e2, e3, e4, e5)
 
--- an open file is closed
-pub counted_close : (path : List (List ℕ)) (holder : List ℕ) (rows left : List Row) (before after : Writers) → IsNamespace rows → holder_at (row_at path rows) ≡ Some holder
-    → left ≡ rewritten path (change.State Closed) rows → AreCounted rows before → OneLess holder before after → AreCounted left after
-counted_close path holder rows left before after namespace held made counted less client = by (row_at path rows) refl held
+-- a file is taken from the client who has it open
+pub counted_close : (path : List (List ℕ)) (state : FileState) (holder : List ℕ) (rows left : List Row) (before after : Writers) → IsNamespace rows → holder_at (row_at path rows) ≡ Some holder → holder_of state ≡ None
+    → left ≡ rewritten path (change.State state) rows → AreCounted rows before → OneLess holder before after → AreCounted left after
+counted_close path state holder rows left before after namespace held unheld made counted less client = by (row_at path rows) refl held
   where
     total : (w1 w0 c b new p q : ℕ) → w1 ≡ w0 - b → w0 ≡ c → new + p ≡ c + q → p ≡ b → q ≡ 0 → w1 ≡ new
     total w1 w0 c b new p q e1 e2 e3 e4 e5 = omega (arith, e1, e2, e3, e4, e5)
@@ -212,9 +203,9 @@ counted_close path holder rows left before after namespace held made counted les
     by : (at : Option Row) → row_at path rows ≡ at → holder_at at ≡ Some holder → count_of after.files client ≡ length (open_files client left)
     by None e h = cc
     by (Some row) e h =
-        total (count_of after.files client) (count_of before.files client) (count (opens client) rows) (bit (same client holder)) (count (opens client) (rewritten path (change.State Closed) rows)) (bit (opens client row)) (bit (opens client (changed (change.State Closed) row)))
-        (less client ∙ minus_one (count_of before.files) holder client) (counted client) (count_rewritten (opens client) path (change.State Closed) rows row (namespace_tests rows namespace).ascending e)
-        (ap (λ h. bit (is_client client h)) h) (ap bit (closed_row client row))
+        total (count_of after.files client) (count_of before.files client) (count (opens client) rows) (bit (same client holder)) (count (opens client) (rewritten path (change.State state) rows)) (bit (opens client row)) (bit (opens client (changed (change.State state) row)))
+        (less client ∙ minus_one (count_of before.files) holder client) (counted client) (count_rewritten (opens client) path (change.State state) rows row (namespace_tests rows namespace).ascending e)
+        (ap (λ h. bit (is_client client h)) h) (ap bit (unheld_row client state unheld row))
         ∙ ap (λ rs. length (open_files client rs)) (sym made)
 
 -- what has a path is deleted

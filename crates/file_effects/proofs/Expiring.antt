@@ -1,30 +1,15 @@
--- The files whose holders' leases are past the hard limit, by the list of these clients and by their last renewals.
-use Rattle.std.proofs.Common.{◌≡◌, ℕ, suc, ◌+◌, ◌-◌, Bool, true, false, ◌&&◌, ◌||◌, nat_lt, not, List, [], ◌∷◌, map, filter, length, Option, Some, None, arith, refl, sym, ap, ◌∙◌, cond}
+-- The clients whose leases are past the hard limit, by the list of these clients and by their last renewals.
+use Rattle.std.proofs.Common.{◌≡◌, ℕ, ◌+◌, Bool, true, false, ◌||◌, nat_lt, List, [], ◌∷◌, ◌++◌, take, drop, filter, Some, refl, sym, ap, ◌∙◌, cond}
+use Rattle.std.proofs.lemmas.List.{take-append-drop}
 use Rattle.std.specs.List.{AllByRecursion, IsDistinct}
 use Rattle.hdfs_values.specs.Text.{same}
-use Rattle.hdfs_values.proofs.Texts.{same_is, same_symm}
-use Rattle.hdfs_types.specs.declared.file.FileState.TheVariants.{Closed}
-use Rattle.std.specs.Option.{option_to_list}
-use Rattle.std.proofs.lemmas.List.{length-append}
+use Rattle.hdfs_values.proofs.Texts.{same_is, same_symm, same_self}
 use Rattle.lease_manager.specs.Leases.{Limits, Renewal, age, renewals_past_hard, clients}
 use Rattle.lease_manager.specs.declared.leases.LeaseState.TheVariants.{Live, PastSoft, PastHard}
-use Rattle.namespace_rows.specs.declared.file_row.FileRow.{FileRow}
-use Rattle.namespace_rows.specs.declared.row.Row.{Row}
-use Rattle.namespace_rows.specs.declared.row.Change.TheVariants as change
-use Rattle.flat_rows.specs.Changes.{changed}
-use Rattle.namespace_rows.proofs.Tests.{both}
-use Rattle.namespace_rows.specs.Files.{holder_of, holder_of_file, holders, ends_uncommitted, open_files}
-use Rattle.flat_rows.specs.FileOutcome.{LeaseFacts, is_expired, is_expired_file, closed_where_expired}
-use Rattle.flat_rows.specs.FileOutcome as outcome
-use Rattle.inode_nodes.specs.Expired.{is_among}
-use Rattle.inode_nodes.specs.Expired as tree
 use Rattle.history.specs.ClockAndLease.{is_past_hard, state_at}
-use Rattle.history.proofs.Counting.{count}
-use Rattle.history.proofs.OpenFiles.{count_closed, count_holders, opens}
-use Rattle.lease_manager.specs.declared.writers.Writers.{Writers}
-use Rattle.lease_manager.specs.Writers.{count_of, moment_of}
+use Rattle.lease_manager.specs.Writers.{moment_of}
 use Rattle.lease_manager.proofs.Moments.{shown}
-use Rattle.file_effects.proofs.Effects.{AreCounted, EachLess}
+use Rattle.file_effects.specs.Expiry.{is_among}
 
 -- ---- clients
 
@@ -63,74 +48,15 @@ module _ (limits : Limits) (now : ℕ) (client : List ℕ) where
       by true false k at rest = ap (λ c. c || is_among (clients (filter hard rs)) client) (same_symm r.client client ∙ at) ∙ rest
       by false false k at rest = rest
 
--- ---- files
+-- ---- one of them
 
-module _ (f g : LeaseFacts) (agree : (client : List ℕ) → f.is_past_hard client ≡ g.is_past_hard client) where
-  same_expired : (row : Row) → is_expired f row ≡ is_expired g row
-  same_expired row = by row.file
-    where
-      by_holder : (holder : Option (List ℕ)) (b : Bool) → (outcome.is_past_hard f holder && b) ≡ (outcome.is_past_hard g holder && b)
-      by_holder None b = refl
-      by_holder (Some holder) b = ap (λ c. c && b) (agree holder)
-
-      by : (file : Option FileRow) → is_expired_file f file ≡ is_expired_file g file
-      by None = refl
-      by (Some file) = by_holder (holder_of file.state) (not (ends_uncommitted file.blocks))
-
-  pub same_closed : (rows : List Row) → map (closed_where_expired f) rows ≡ map (closed_where_expired g) rows
-  same_closed [] = refl
-  same_closed (row ∷ rows) = ap (λ b. cond b (changed (change.State Closed) row) row ∷ map (closed_where_expired f) rows) (same_expired row) ∙ ap (λ rest. closed_where_expired g row ∷ rest) (same_closed rows)
-
-  pub same_filtered : (rows : List Row) → filter (is_expired f) rows ≡ filter (is_expired g) rows
-  same_filtered [] = refl
-  same_filtered (row ∷ rows) = ap (λ b. cond b (row ∷ filter (is_expired f) rows) (filter (is_expired f) rows)) (same_expired row) ∙ ap (λ rest. cond (is_expired g row) (row ∷ rest) rest) (same_filtered rows)
-
-module _ (f : LeaseFacts) where
-  -- each has a holder
-  pub holders_counted : (rows : List Row) → length (holders (filter (is_expired f) rows)) ≡ length (filter (is_expired f) rows)
-  holders_counted [] = refl
-  holders_counted (row ∷ rows) = by (is_expired f row) refl (holders_counted rows)
-    where
-      one : (file : Option FileRow) → is_expired_file f file ≡ true → length (option_to_list (holder_of_file file)) ≡ 1
-      one None e = cc
-      one (Some file) e = held (holder_of file.state) (both (outcome.is_past_hard f (holder_of file.state)) (not (ends_uncommitted file.blocks)) e).0
-        where
-          held : (holder : Option (List ℕ)) → outcome.is_past_hard f holder ≡ true → length (option_to_list holder) ≡ 1
-          held None k = cc
-          held (Some holder) k = refl
-
-      total : (a b c d e : ℕ) → a ≡ b + c → b ≡ 1 → c ≡ d → e ≡ 1 + d → a ≡ e
-      total a b c d e h1 h2 h3 h4 = omega (arith, h1, h2, h3, h4)
-
-      by : (b : Bool) → is_expired f row ≡ b → length (holders (filter (is_expired f) rows)) ≡ length (filter (is_expired f) rows)
-          → length (holders (cond b (row ∷ filter (is_expired f) rows) (filter (is_expired f) rows))) ≡ length (cond b (row ∷ filter (is_expired f) rows) (filter (is_expired f) rows))
-      by true e rest =
-          total _ (length (option_to_list (holder_of_file row.file))) (length (holders (filter (is_expired f) rows))) (length (filter (is_expired f) rows)) _
-          (length-append (option_to_list (holder_of_file row.file)) (holders (filter (is_expired f) rows))) (one row.file e) rest (more (length (filter (is_expired f) rows)))
-        where
-          more : (n : ℕ) → suc n ≡ 1 + n
-          more n = omega arith
-      by false e rest = rest
-
--- no client's lease is past the limit
-pub none_closed : (rows : List Row) → map (closed_where_expired (tree.past_hard [])) rows ≡ rows
-none_closed [] = refl
-none_closed (row ∷ rows) = ap (λ b. cond b (changed (change.State Closed) row) row ∷ map (closed_where_expired (tree.past_hard [])) rows) (by row.file) ∙ ap (λ rest. row ∷ rest) (none_closed rows)
+among_front : (client : List ℕ) (front rest : List (List ℕ)) → is_among ((front ++ client ∷ []) ++ rest) client ≡ true
+among_front client [] rest = ap (λ b. b || is_among rest client) (same_self client)
+among_front client (other ∷ front) rest = by (same other client) (among_front client front rest)
   where
-    by_holder : (holder : Option (List ℕ)) (b : Bool) → (outcome.is_past_hard (tree.past_hard []) holder && b) ≡ false
-    by_holder None b = refl
-    by_holder (Some holder) b = refl
+    by : (b : Bool) → is_among ((front ++ client ∷ []) ++ rest) client ≡ true → (b || is_among ((front ++ client ∷ []) ++ rest) client) ≡ true
+    by true h = refl
+    by false h = h
 
-    by : (file : Option FileRow) → is_expired_file (tree.past_hard []) file ≡ false
-    by None = refl
-    by (Some file) = by_holder (holder_of file.state) (not (ends_uncommitted file.blocks))
-
--- files are closed
-pub counted_expire : (leases : LeaseFacts) (rows left : List Row) (before after : Writers) → left ≡ map (closed_where_expired leases) rows → AreCounted rows before → EachLess (holders (filter (is_expired leases) rows)) before after → AreCounted left after
-counted_expire leases rows left before after made counted less client =
-    total (count_of after.files client) (count_of before.files client) (count (opens client) rows) (length (filter (same client) (holders (filter (is_expired leases) rows)))) (count (opens client) (filter (is_expired leases) rows)) (count (opens client) (map (closed_where_expired leases) rows))
-    (less client) (counted client) (count_holders client (filter (is_expired leases) rows)) (count_closed client leases rows)
-    ∙ ap (λ rs. length (open_files client rs)) (sym made)
-  where
-    total : (w1 w0 c h u new : ℕ) → w1 ≡ w0 - h → w0 ≡ c → h ≡ u → new + u ≡ c → w1 ≡ new
-    total w1 w0 c h u new e1 e2 e3 e4 = omega (arith, e1, e2, e3, e4)
+pub among_each : (clients : List (List ℕ)) (i : ℕ) (client : List ℕ) → take (i + 1) clients ≡ take i clients ++ client ∷ [] → is_among clients client ≡ true
+among_each clients i client next = ap (λ some. is_among some client) (sym (take-append-drop (i + 1) clients) ∙ ap (λ some. some ++ drop (i + 1) clients) next) ∙ among_front client (take i clients) (drop (i + 1) clients)

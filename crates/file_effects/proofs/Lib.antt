@@ -1,6 +1,8 @@
 pub mod Effects
 pub mod Expiring
-pub mod Closing
+pub mod SoughtFiles
+pub mod TakenFiles
+pub mod Recovering
 pub mod Effected
 pub mod Replacing
 pub mod Replacement

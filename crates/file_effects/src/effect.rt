@@ -1,10 +1,11 @@
 ghost use Rattle.std.specs.Prelude.{◌≡◌, ◌≤◌, ◌+◌, ℕ, List, Option, None, Some, Bool, true, [], if◌then◌else◌, map, not, IfOk, OnOk, OnErr};
 ghost use Rattle.std.specs.Option.{IsSome};
 ghost use Rattle.flat_rows.specs.FileOutcome.{holder_at, directory_there};
-ghost use Rattle.namespace_rows.specs.Files.{holders, new_file, blocks_in};
+ghost use Rattle.namespace_rows.specs.Files.{holder_of, holders, new_file, blocks_in};
 ghost use Rattle.flat_rows.specs.Changes.{rows_under, rewritten};
 ghost use Rattle.namespace_rows.specs.declared.row.Change.TheVariants as change;
 ghost use Rattle.namespace_rows.specs.Namespace.{IsNamespace, is_root};
+ghost use Rattle.flat_rows.specs.Facts.{Facts};
 ghost use Rattle.flat_rows.specs.Outcome.{with_new};
 ghost use Rattle.namespace_rows.specs.Rows.{row_at, file_above, ancestor, is_missing};
 ghost use Rattle.hdfs_types.specs.Verb.{write_op};
@@ -56,19 +57,6 @@ fn holders_at(alloc: Global, tree: &Tree, path: &Path) -> Result<Vec<Who>, Alloc
 {
     let clients = tree.holders_under(path)?;
     copies(alloc, &clients)
-}
-
-/// The client who has open the file that has a path.
-fn holder_of(tree: &Tree, path: &Path) -> Result<Option<Who>, AllocError>
-    ensures { IfOk result (λ holder. holder ≡ holder_at (row_at path.now tree.now)) }
-{
-    let Some(inode) = tree.get(path) else {
-        return Ok(None);
-    };
-    match inode.holder() {
-        Some(holder) => Ok(Some(holder.clone()?)),
-        None => Ok(None),
-    }
 }
 
 // ---- files that are opened
@@ -237,49 +225,31 @@ fn create(
         now,
     )?;
     writers.close_each(&clients);
-    open_paths.delete(path, &clients);
-    open_paths.open(path, caller);
-    Ok(())
-}
-
-/// Opens a closed file for the caller to write.
-fn reopen(
-    tree: &mut Tree,
-    writers: &mut Writers,
-    open_paths: &mut OpenPaths,
-    path: &Path,
-    caller: &Who,
-    now: Moment,
-) -> Result<(), AllocError>
-    requires latest { lease.latest_moment writers.old.leases.renewals ≤ now }
-    requires free { (users : Users) × IsFree (op.Append path.now) caller.now tree.old users }
-    requires closed { holder_at (row_at path.now tree.old) ≡ None }
-    requires namespace { IsNamespace tree.old }
-    ensures ok { OnOk result (IsEffected (op.Append path.now) caller.now now tree.old writers.old tree.new writers.new) }
-    ensures limits { writers.new.leases.limits ≡ writers.old.leases.limits }
-    ensures latest { OnOk result (lease.latest_moment writers.new.leases.renewals ≤ now) }
-    ensures err { OnErr result ((tree.new ≡ tree.old) × IsAlike writers.old writers.new) }
-{
-    let client = caller.clone()?;
-    writers.open(caller, now)?;
-    tree.rewrite(path, Change::State(FileState::Open(client)));
+    open_paths.delete(path, &clients, &replaced);
     open_paths.open(path, caller);
     Ok(())
 }
 
 // ---- files that are closed or deleted
 
-/// Closes a file that a client has open. Takes no memory.
-pub(crate) fn close(tree: &mut Tree, writers: &mut Writers, path: &Path, client: &Who)
+/// Ends the writing of a file by the client who has it open: it gets this state. Takes no memory.
+pub(crate) fn end_writing(
+    tree: &mut Tree,
+    writers: &mut Writers,
+    path: &Path,
+    client: &Who,
+    state: FileState,
+)
     requires held { holder_at (row_at path.now tree.old) ≡ Some client.now }
+    requires unheld { holder_of state ≡ None }
     requires namespace { IsNamespace tree.old }
-    ensures tree { tree.new ≡ rewritten path.now (change.State Closed) tree.old }
+    ensures tree { tree.new ≡ rewritten path.now (change.State state) tree.old }
     ensures exact { (last : List ℕ → Option ℕ) → IsExact last tree.old writers.old → IsExact last tree.new writers.new }
     ensures limits { writers.new.leases.limits ≡ writers.old.leases.limits }
     ensures latest { lease.latest_moment writers.new.leases.renewals ≤ lease.latest_moment writers.old.leases.renewals }
 {
     writers.close(client);
-    tree.rewrite(path, Change::State(FileState::Closed));
+    tree.rewrite(path, Change::State(state));
 }
 
 /// Closes a file that a client has open, and notes that. Takes no memory but for the note.
@@ -297,32 +267,8 @@ fn release(
     ensures limits { writers.new.leases.limits ≡ writers.old.leases.limits }
     ensures latest { lease.latest_moment writers.new.leases.renewals ≤ lease.latest_moment writers.old.leases.renewals }
 {
-    close(tree, writers, path, client);
+    end_writing(tree, writers, path, client, FileState::Closed);
     open_paths.close(path, client);
-}
-
-/// Opens a closed file for the caller to write, or closes one that another client has open.
-fn append(
-    tree: &mut Tree,
-    writers: &mut Writers,
-    open_paths: &mut OpenPaths,
-    path: &Path,
-    caller: &Who,
-    now: Moment,
-) -> Result<(), AllocError>
-    requires latest { lease.latest_moment writers.old.leases.renewals ≤ now }
-    requires free { (users : Users) × IsFree (op.Append path.now) caller.now tree.old users }
-    requires namespace { IsNamespace tree.old }
-    ensures ok { OnOk result (IsEffected (op.Append path.now) caller.now now tree.old writers.old tree.new writers.new) }
-    ensures limits { writers.new.leases.limits ≡ writers.old.leases.limits }
-    ensures latest { OnOk result (lease.latest_moment writers.new.leases.renewals ≤ now) }
-    ensures err { OnErr result ((tree.new ≡ tree.old) × IsAlike writers.old writers.new) }
-{
-    let Some(holder) = holder_of(tree, path)? else {
-        return reopen(tree, writers, open_paths, path, caller, now);
-    };
-    release(tree, writers, open_paths, path, &holder);
-    Ok(())
 }
 
 /// Deletes what has a path, with all that is beneath it: its blocks are known no more.
@@ -347,7 +293,7 @@ fn delete(
     blocks.remove_all(&deleted)?;
     writers.close_each(&clients);
     tree.remove(path);
-    open_paths.delete(path, &clients);
+    open_paths.delete(path, &clients, &deleted);
     Ok(())
 }
 
@@ -387,7 +333,7 @@ fn complete(
     }
 }
 
-/// Does a verb that writes a file, or a deletion, where nothing refuses it.
+/// Does a verb that makes or closes a file, or a deletion, where nothing refuses it.
 ///
 /// # Errors
 /// Out of memory, and nothing has changed.
@@ -406,7 +352,7 @@ pub fn effect(
     requires reported { refused_end_of (write_op write.now) blocks.old ≡ None }
     requires namespace { IsNamespace tree.old }
     ensures ok { OnOk result (IsEffected (write_op write.now) caller.now now tree.old writers.old tree.new writers.new) }
-    ensures blocks { OnOk result (blocks.new ≡ blocks_after (write_op write.now) caller.now now tree.old blocks.old) }
+    ensures blocks { (facts : Facts) → OnOk result (blocks.new ≡ blocks_after facts (write_op write.now) caller.now tree.old blocks.old) }
     ensures limits { writers.new.leases.limits ≡ writers.old.leases.limits }
     ensures latest { OnOk result (lease.latest_moment writers.new.leases.renewals ≤ now) }
     ensures err { OnErr result ((tree.new ≡ tree.old) × IsAlike writers.old writers.new) }
@@ -426,7 +372,6 @@ pub fn effect(
             caller,
             now,
         ),
-        Write::Append(path) => append(tree, writers, open_paths, path, caller, now),
         Write::Complete(path, last) => {
             complete(tree, blocks, writers, open_paths, path, *last, caller)
         }

@@ -1,207 +1,197 @@
-ghost use Rattle.std.specs.Prelude.{◌≡◌, ◌≤◌, ℕ, List, Option, true, filter, length, IfOk, OnOk, OnErr, ◌==◌};
-ghost use Rattle.flat_rows.specs.FileOutcome.{is_expired};
-ghost use Rattle.namespace_rows.specs.Files.{holders};
+ghost use Rattle.std.specs.Prelude.{◌≡◌, ◌≤◌, ◌++◌, ℕ, List, Option, Some, None, length, IfOk, OnOk, OnErr};
+ghost use Rattle.std.specs.BTreeMap.{get, values};
+ghost use Rattle.std.specs.Option.{option_to_list};
+ghost use Rattle.std.specs.Ordering.{nat_cmp};
+ghost use Rattle.namespace_rows.specs.Files.{holder_of};
 ghost use Rattle.namespace_rows.specs.Namespace.{IsNamespace};
 ghost use Rattle.namespace_rows.specs.Rows.{row_at};
-ghost use Rattle.inode_nodes.specs.Expired.{is_among, past_hard};
+ghost use Rattle.namespace_rows.specs.declared.row.Change.TheVariants as change;
+ghost use Rattle.flat_rows.specs.Changes.{rewritten};
+ghost use Rattle.flat_rows.specs.FileOutcome.{holder_at};
+ghost use Rattle.flat_rows.specs.Takeover.{stamp_in};
 ghost use Rattle.lease_manager.specs.Leases as lease;
-ghost use Rattle.file_effects.specs.Expiry.{AreClosable, AreExpired, can_close, open_of};
+ghost use Rattle.recovery_queue.specs.declared.begun.BegunRecovery.{BegunRecovery};
 ghost use Rattle.file_effects.specs.Effected.{IsExact};
-ghost use Rattle.lease_manager.specs.Writers.{IsAlike};
+ghost use Rattle.file_effects.specs.Expiry as spec;
 
-use crate::effect::{close, copies};
+use crate::effect::end_writing;
+use crate::sought::sought_files;
+use block_map::blocks::Blocks;
+use flat_rows::takeover::Sought;
+use hdfs_types::file::FileState;
+use hdfs_types::reply::Expired;
+use hdfs_values::ids::{BlockId, Stamp};
+use hdfs_values::moment::Moment;
 use hdfs_values::path::Path;
 use hdfs_values::who::Who;
 use inode_tree::tree::Tree;
 use lease_manager::open_paths::OpenPaths;
 use lease_manager::writers::Writers;
+use namespace_rows::row::Change;
+use recovery_queue::begun::BegunRecovery;
 use std::alloc::{AllocError, Global};
 use std::collections::BTreeMap;
 
-// ---- where the files are known
+// ---- the recoveries
 
-/// Whether a client has open what has a path, and no block of it would have to be recovered. Takes no memory.
-fn can_close(tree: &Tree, path: &Path, client: &Who) -> bool
-    ensures { result ≡ can_close client.now (row_at path.now tree.now) }
+/// Adds the block of a file that is to be recovered, if one is.
+fn push_block(blocks: &mut Vec<BlockId>, file: &Sought) -> Result<(), AllocError>
+    ensures { OnOk result (blocks.new.items ≡ blocks.old.items ++ option_to_list file.now.block) }
 {
-    let Some(inode) = tree.get(path) else {
-        return false;
+    match file.block {
+        Some(block) => Ok(blocks.push(block)?),
+        None => Ok(()),
+    }
+}
+
+/// The blocks that are to be recovered, in the order of the files.
+fn sought_blocks(alloc: Global, files: &BTreeMap<Path, Sought>) -> Result<Vec<BlockId>, AllocError>
+    ensures { IfOk result (λ blocks. blocks.items ≡ spec.blocks_of (values files.now)) }
+{
+    let mut sought = Vec::new(alloc);
+    for file in files.values() {
+        push_block(&mut sought, file)?;
+    }
+    Ok(sought)
+}
+
+/// The stamps under which recoveries begin, by their blocks.
+fn stamps_of(alloc: Global, begun: &[BegunRecovery]) -> Result<BTreeMap<BlockId, Stamp>, AllocError>
+    ensures { IfOk result (λ stamps. (block : ℕ) → get nat_cmp stamps block ≡ stamp_in begun.now block) }
+{
+    let mut stamps = BTreeMap::new(alloc);
+    for recovery in begun {
+        stamps.insert(recovery.block, recovery.stamp)?;
+    }
+    Ok(stamps)
+}
+
+/// The state that a tick gives a file, if it gives one: a recovery that can't begin is passed over. Takes no memory.
+fn state_behind(file: &Sought, stamps: &BTreeMap<BlockId, Stamp>, now: Moment) -> Option<FileState>
+    ensures { result ≡ spec.state_behind (get nat_cmp stamps.now) now file.now.block }
+{
+    let Some(block) = file.block else {
+        return Some(FileState::Closed);
     };
-    let Some(file) = inode.file() else {
-        return false;
+    let stamp = stamps.get(&block)?;
+    Some(FileState::Recovering(block, *stamp, now))
+}
+
+// ---- the files
+
+/// Notes what a file became that a client had open.
+fn note_taken(open_paths: &mut OpenPaths, path: &Path, holder: &Who, block: Option<BlockId>) {
+    match block {
+        Some(block) => open_paths.recover(path, holder, block),
+        None => open_paths.close(path, holder),
+    }
+}
+
+/// Gives a file another state, in which nobody has it open, and notes that. Takes no memory but for the note.
+fn take(
+    tree: &mut Tree,
+    writers: &mut Writers,
+    open_paths: &mut OpenPaths,
+    path: &Path,
+    file: &Sought,
+    state: FileState,
+)
+    requires held { holder_at (row_at path.now tree.old) ≡ file.now.holder }
+    requires unheld { holder_of state ≡ None }
+    requires namespace { IsNamespace tree.old }
+    ensures tree { tree.new ≡ rewritten path.now (change.State state) tree.old }
+    ensures exact { (last : List ℕ → Option ℕ) → IsExact last tree.old writers.old → IsExact last tree.new writers.new }
+    ensures limits { writers.new.leases.limits ≡ writers.old.leases.limits }
+    ensures latest { lease.latest_moment writers.new.leases.renewals ≤ lease.latest_moment writers.old.leases.renewals }
+{
+    let Some(holder) = &file.holder else {
+        tree.rewrite(path, Change::State(state));
+        return;
     };
-    match inode.holder() {
-        Some(holder) => client == holder && !file.blocks.ends_uncommitted(),
-        None => false,
-    }
+    end_writing(tree, writers, path, holder, state);
+    note_taken(open_paths, path, holder, file.block);
 }
 
-/// Adds a file, where the client has it open and it can be closed.
-fn add(
-    tree: &Tree,
-    path: Path,
-    client: &Who,
-    files: &mut BTreeMap<Path, Who>,
-) -> Result<(), AllocError>
-    ensures { (past : List (List ℕ)) → is_among past client.now ≡ true → AreClosable past tree.now files.old → OnOk result (AreClosable past tree.now files.new) }
-{
-    if !can_close(tree, &path, client) {
-        return Ok(());
-    }
-    files.insert(path, client.clone()?)?;
-    Ok(())
-}
-
-/// Adds the files of a client that are known and can be closed.
-fn add_closable(
-    tree: &Tree,
-    open_paths: &OpenPaths,
-    client: &Who,
-    files: &mut BTreeMap<Path, Who>,
-) -> Result<(), AllocError>
-    ensures { (past : List (List ℕ)) → is_among past client.now ≡ true → AreClosable past tree.now files.old → OnOk result (AreClosable past tree.now files.new) }
-{
-    for path in open_paths.of_client(client)? {
-        add(tree, path, client, files)?;
-    }
-    Ok(())
-}
-
-/// The files of these clients that are known and can be closed.
-fn closable(
-    alloc: Global,
-    tree: &Tree,
-    open_paths: &OpenPaths,
-    past: &[Who],
-) -> Result<BTreeMap<Path, Who>, AllocError>
-    ensures { IfOk result (λ files. AreClosable past.now tree.now files) }
-{
-    let mut files = BTreeMap::new(alloc);
-    for client in past {
-        add_closable(tree, open_paths, client, &mut files)?;
-    }
-    Ok(files)
-}
-
-/// Whether these clients have so many files open. Takes no memory.
-fn have_open(writers: &Writers, clients: &[Who], number: usize) -> bool
-    ensures { result ≡ (open_of writers.now.files clients.now == number) }
-{
-    let mut left = number as u64;
-    for client in clients {
-        let count = writers.files.count(client);
-        if count > left {
-            return false;
-        }
-        left -= count;
-    }
-    left == 0
-}
-
-/// Closes these files, which are all that these clients have open, and returns how many. Takes no memory.
-fn expire_known(
+/// Gives a file the state that a tick gives it, if it gives one. Takes no memory but for a note.
+fn take_where(
     tree: &mut Tree,
     writers: &mut Writers,
-    past: &[Who],
-    files: &BTreeMap<Path, Who>,
-) -> u64
+    open_paths: &mut OpenPaths,
+    path: &Path,
+    file: &Sought,
+    state: Option<FileState>,
+)
+    requires held { holder_at (row_at path.now tree.old) ≡ file.now.holder }
+    requires unheld { spec.holder_in state ≡ None }
     requires namespace { IsNamespace tree.old }
-    requires closable { AreClosable past.now tree.old files.now }
-    requires all { open_of writers.old.files past.now ≡ length files.now.entries }
-    ensures done { (last : List ℕ → Option ℕ) → IsExact last tree.old writers.old → AreExpired last past.now tree.old result tree.new writers.new }
+    ensures tree { tree.new ≡ spec.rewritten_where path.now state tree.old }
+    ensures exact { (last : List ℕ → Option ℕ) → IsExact last tree.old writers.old → IsExact last tree.new writers.new }
     ensures limits { writers.new.leases.limits ≡ writers.old.leases.limits }
     ensures latest { lease.latest_moment writers.new.leases.renewals ≤ lease.latest_moment writers.old.leases.renewals }
 {
-    for (path, client) in files.iter() {
-        close(tree, writers, path, client);
+    if let Some(state) = state {
+        take(tree, writers, open_paths, path, file, state);
     }
-    files.len() as u64
 }
 
-// ---- where they are not
-
-/// The holders of the files that are closed where the leases of these clients are past the hard limit, one for each file.
-fn holders_past(alloc: Global, tree: &Tree, past: &[Who]) -> Result<Vec<Who>, AllocError>
-    ensures { IfOk result (λ clients. clients.items ≡ holders (filter (is_expired (past_hard past.now)) tree.now)) }
-{
-    let clients = tree.holders_expired(past)?;
-    copies(alloc, &clients)
-}
-
-/// Closes the files of these clients, but where the length of the last block isn't committed, and returns how many. Costs the
-/// whole tree.
-///
-/// # Errors
-/// Out of memory, and nothing has changed.
-fn expire_all(
-    alloc: Global,
+/// Takes each of these files, which are all that a tick takes. Takes no memory but for notes.
+fn take_each(
     tree: &mut Tree,
     writers: &mut Writers,
-    past: &[Who],
-) -> Result<u64, AllocError>
-    ensures done { IfOk result (λ closed. (last : List ℕ → Option ℕ) → IsExact last tree.old writers.old → AreExpired last past.now tree.old closed tree.new writers.new) }
-    ensures limits { writers.new.leases.limits ≡ writers.old.leases.limits }
-    ensures latest { lease.latest_moment writers.new.leases.renewals ≤ lease.latest_moment writers.old.leases.renewals }
-    ensures err { OnErr result ((tree.new ≡ tree.old) × IsAlike writers.old writers.new) }
-{
-    let clients = holders_past(alloc, tree, past)?;
-    writers.close_each(&clients);
-    tree.close_expired(past);
-    Ok(clients.len() as u64)
-}
-
-// ---- both
-
-/// Closes the files of these clients, whether all of them are known, and can be closed, or not.
-fn expire_where(
-    alloc: Global,
-    tree: &mut Tree,
-    writers: &mut Writers,
-    past: &[Who],
-    files: &BTreeMap<Path, Who>,
-) -> Result<u64, AllocError>
+    open_paths: &mut OpenPaths,
+    files: &BTreeMap<Path, Sought>,
+    stamps: &BTreeMap<BlockId, Stamp>,
+    now: Moment,
+)
     requires namespace { IsNamespace tree.old }
-    requires closable { AreClosable past.now tree.old files.now }
-    ensures done { IfOk result (λ closed. (last : List ℕ → Option ℕ) → IsExact last tree.old writers.old → AreExpired last past.now tree.old closed tree.new writers.new) }
+    requires held { spec.AreHeld tree.old files.now }
+    ensures taken { (expiry : spec.Expiry) (begun : List BegunRecovery) → expiry.now ≡ now → ((block : ℕ) → get nat_cmp stamps.now block ≡ stamp_in begun block) → spec.AreAll expiry tree.old files.now → spec.AreTaken begun expiry tree.old writers.old tree.new writers.new }
     ensures limits { writers.new.leases.limits ≡ writers.old.leases.limits }
     ensures latest { lease.latest_moment writers.new.leases.renewals ≤ lease.latest_moment writers.old.leases.renewals }
-    ensures err { OnErr result ((tree.new ≡ tree.old) × IsAlike writers.old writers.new) }
 {
-    if have_open(writers, past, files.len()) {
-        return Ok(expire_known(tree, writers, past, files));
-    }
-    expire_all(alloc, tree, writers, past)
-}
-
-/// Forgets the files of those of these clients that have none open.
-fn forget_each(writers: &Writers, open_paths: &mut OpenPaths, clients: &[Who]) {
-    for client in clients {
-        if writers.files.count(client) == 0 {
-            open_paths.forget(client);
-        }
+    for (path, file) in files.iter() {
+        let state = state_behind(file, stamps, now);
+        take_where(tree, writers, open_paths, path, file, state);
     }
 }
 
-/// Closes the files of these clients, but where the length of the last block isn't committed, and returns how many. Costs these
-/// files; the whole tree where some of them aren't known or aren't closed.
+/// How many of these files are closed. Takes no memory.
+fn count_closed(files: &BTreeMap<Path, Sought>) -> u64
+    ensures { result ≡ length (spec.closed_of (values files.now)) }
+{
+    files.values().filter(|file| file.block.is_none()).count() as u64
+}
+
+/// Takes the files of these clients from them: each is closed, but where its last block is unfinished, whose recovery begins then; and has
+/// the recoveries begin anew that began longer ago than the retry limit. A recovery that no live node can lead is passed over. Costs these
+/// files and the recoveries that run; the whole tree where some of the files aren't known.
 ///
 /// # Errors
 /// Out of memory, and nothing has changed.
 pub fn expire(
     alloc: Global,
     tree: &mut Tree,
+    blocks: &mut Blocks,
     writers: &mut Writers,
     open_paths: &mut OpenPaths,
     past: &[Who],
-) -> Result<u64, AllocError>
+    now: Moment,
+) -> Result<Expired, AllocError>
     requires namespace { IsNamespace tree.old }
-    ensures done { IfOk result (λ closed. (last : List ℕ → Option ℕ) → IsExact last tree.old writers.old → AreExpired last past.now tree.old closed tree.new writers.new) }
+    requires due { spec.AreDue now tree.old blocks.old }
+    ensures ok { (last : List ℕ → Option ℕ) → IsExact last tree.old writers.old → IfOk result (λ expired. spec.IsExpired last (record { past = past.now; retry = blocks.old.retry; now = now }) tree.old blocks.old expired tree.new blocks.new writers.new) }
     ensures limits { writers.new.leases.limits ≡ writers.old.leases.limits }
     ensures latest { lease.latest_moment writers.new.leases.renewals ≤ lease.latest_moment writers.old.leases.renewals }
-    ensures err { OnErr result ((tree.new ≡ tree.old) × IsAlike writers.old writers.new) }
+    ensures err { OnErr result ((tree.new ≡ tree.old) × (blocks.new ≡ blocks.old) × (writers.new ≡ writers.old)) }
 {
-    let files = closable(alloc, tree, open_paths, past)?;
-    let closed = expire_where(alloc, tree, writers, past, &files)?;
-    forget_each(writers, open_paths, past);
-    Ok(closed)
+    let files = sought_files(alloc, tree, blocks, writers, open_paths, past, now)?;
+    let sought = sought_blocks(alloc, &files)?;
+    let begun = blocks.plan_recoveries(&sought, now)?;
+    let stamps = stamps_of(alloc, &begun)?;
+    blocks.begin_recoveries(&sought, &begun, now)?;
+    take_each(tree, writers, open_paths, &files, &stamps, now);
+    Ok(Expired {
+        closed: count_closed(&files),
+        recovering: begun.len() as u64,
+    })
 }

@@ -5,4 +5,8 @@
 pub mod blocks;
 pub mod effect;
 pub mod expiry;
+mod found;
 pub mod make;
+pub mod recovery;
+mod sought;
+pub mod taking;

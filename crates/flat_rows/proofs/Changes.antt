@@ -14,7 +14,6 @@ use Rattle.namespace_rows.specs.declared.file_row.FileRow.{FileRow}
 use Rattle.namespace_rows.specs.declared.row.Row.{Row}
 use Rattle.namespace_rows.specs.declared.row.Change.{Change}
 use Rattle.namespace_rows.specs.declared.row.Change.TheVariants as change
-use Rattle.hdfs_types.specs.declared.file.FileState.{FileState}
 use Rattle.std.specs.Option.{option_map}
 use Rattle.acl_entries.specs.Acl.{suits_file}
 use Rattle.namespace_rows.specs.Files.{with_state, with_replication, without_last, committed_at, recovered_at}
@@ -280,15 +279,6 @@ module _ (edit : FileRow → FileRow) (test : Row → Bool) where
 
   pub edited_paths : (rows : List Row) → are_paths rows ≡ true → are_paths (map edited_where rows) ≡ true
   edited_paths rows h = map_paths edited_where edited_path edited_kind rows ∙ h
-
--- files closed
-
-module _ (test : Row → Bool) (state : FileState) where
-  pub closed_namespace : (rows : List Row) → IsNamespace rows → IsNamespace (map (λ row. cond (test row) (changed (change.State state) row) row) rows)
-  closed_namespace rows h = edited_namespace (with_state state) test rows h
-
-  pub closed_paths : (rows : List Row) → are_paths rows ≡ true → are_paths (map (λ row. cond (test row) (changed (change.State state) row) row) rows) ≡ true
-  closed_paths rows h = edited_paths (with_state state) test rows h
 
 -- the paths of new directories are fronts of the path
 

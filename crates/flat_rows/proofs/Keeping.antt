@@ -111,6 +111,7 @@ module _ (client : List ℕ) (rows : List Row) (namespace : IsNamespace rows) wh
     kept_done op.Tick k e = cc
     kept_done op.Heartbeat k e = cc
     kept_done (op.Reported replica) k e = cc
+    kept_done (op.CommitRecovery recovered) k e = cc
 
     pub kept_open : (what : Op) → keeps_leases what ≡ true → count (step facts rows users caller what).rows ≡ count rows
     kept_open what k = by_decision (decision rows users caller what)

@@ -9,3 +9,4 @@ pub mod Keeping
 pub mod Endings
 pub mod Firsts
 pub mod AnyFacts
+pub mod Takeovers

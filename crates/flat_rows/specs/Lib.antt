@@ -9,4 +9,5 @@ pub mod FileOutcome
 pub mod Facts
 pub mod NodeOutcome
 pub mod BlockOutcome
+pub mod Takeover
 pub mod Outcome

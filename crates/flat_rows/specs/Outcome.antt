@@ -32,12 +32,14 @@ use Rattle.namespace_rows.specs.Rows.{is_directory, is_none, row_at, file_above,
 use Rattle.namespace_rows.specs.Namespace.{is_root}
 use Rattle.namespace_rows.specs.declared.file_row.FileRow.{FileRow}
 use Rattle.namespace_rows.specs.declared.row.Change.TheVariants as change
-use Rattle.flat_rows.specs.Changes.{rows_under, child_names, last_name, without, moved_row, moved, rewritten, are_paths}
+use Rattle.flat_rows.specs.Changes.{rows_under, child_names, last_name, without, moved_row, moved, rewritten, recovery_ended, are_paths}
 use Rattle.namespace_rows.specs.Files.{new_file, has_open_file}
-use Rattle.flat_rows.specs.FileOutcome.{directory_there, file_there, of_file, refused_takeover, refused_write, detail_of_row, bytes_of, appended_reply, holder_at, state_after_append, is_expired, closed_where_expired}
+use Rattle.flat_rows.specs.FileOutcome.{directory_there, file_there, of_file, refused_write, detail_of_row, bytes_of, holder_at}
+use Rattle.block_map.specs.BlockFacts.{refused_recovered}
 use Rattle.flat_rows.specs.Facts.{Facts}
 use Rattle.flat_rows.specs.NodeOutcome.{heartbeat_reply}
-use Rattle.flat_rows.specs.BlockOutcome.{replication_at, refused_last, refused_new, refused_end, added_to, opened, blocks_at, bytes_behind_at, with_block_at, ended_at}
+use Rattle.flat_rows.specs.BlockOutcome.{replication_at, refused_by, refused_last, refused_new, refused_end, added_to, opened, blocks_at, bytes_behind_at, with_block_at, ended_at}
+use Rattle.flat_rows.specs.Takeover.{unfinished_at, refused_append, appended_reply, state_after_append, expired_files, begun_in, ticked}
 use Rattle.flat_rows.specs.Denial as denied
 use Rattle.flat_rows.specs.Decision.{decision}
 
@@ -121,7 +123,7 @@ first_refusal facts caller (op.AddUser user groups) rows users = refusal_of_new 
 first_refusal facts caller (op.SetGroups user groups) rows users = refusal_of_known users user
 first_refusal facts caller (op.Create path mode replication over) rows users =
     first_some (beneath_file path rows ∷ directory_there (row_at path rows) ∷ file_there over (row_at path rows) ∷ [])
-first_refusal facts caller (op.Append path) rows users = first_some (refusals_of_file path rows ++ of_file (refused_takeover facts.leases caller) (row_at path rows) ∷ [])
+first_refusal facts caller (op.Append path) rows users = first_some (refusals_of_file path rows ++ of_file (refused_append facts caller) (row_at path rows) ∷ [])
 first_refusal facts caller (op.AddBlock path last) rows users = first_some (
     refusals_of_file path rows ++ of_file (refused_write caller) (row_at path rows) ∷ of_file (refused_last last) (row_at path rows) ∷ refused_new facts.blocks last facts.now ∷ [])
 first_refusal facts caller (op.Complete path last) rows users = first_some (
@@ -133,6 +135,7 @@ first_refusal facts caller op.Renew rows users = refused_where (not (has_open_fi
 first_refusal facts caller op.Tick rows users = None
 first_refusal facts caller op.Heartbeat rows users = None
 first_refusal facts caller (op.Reported replica) rows users = None
+first_refusal facts caller (op.CommitRecovery recovered) rows users = refused_by (refused_recovered facts.blocks recovered.block recovered.stamp)
 
 -- what `stat` tells of a row; where there is none, NotFound came first
 abbrev pub status_of : Option Row → Reply
@@ -173,12 +176,12 @@ reply_of facts caller (op.List path) rows = reply.Names (listed path (row_at pat
 reply_of facts caller (op.Summary path) rows = summary_of (rows_under path rows)
 reply_of facts caller (op.Delete path recursive) rows = reply.Deleted (length (rows_under path rows))
 reply_of facts caller (op.GetAcl path) rows = acl_status_of (row_at path rows)
-reply_of facts caller (op.Append path) rows = appended_reply (holder_at (row_at path rows))
+reply_of facts caller (op.Append path) rows = appended_reply facts.blocks (holder_at (row_at path rows)) (unfinished_at (row_at path rows))
 reply_of facts caller (op.AddBlock path last) rows = added_to facts.token caller facts.blocks last facts.now (replication_at (row_at path rows))
 reply_of facts caller (op.Complete path last) rows = reply.Closed (bytes_behind_at last (row_at path rows))
 reply_of facts caller (op.Open path) rows = opened facts.token caller facts.blocks (blocks_at (row_at path rows))
 reply_of facts caller (op.RollKey key) rows = serial_reply facts.next_serial
-reply_of facts caller op.Tick rows = reply.Expired (record { closed = length (filter (is_expired facts.leases) rows); recovering = 0 })
+reply_of facts caller op.Tick rows = reply.Expired (record { closed = length (expired_files facts rows); recovering = length (begun_in facts rows) })
 reply_of facts caller op.Heartbeat rows = heartbeat_reply facts caller (node_of caller)
 reply_of facts caller _ rows = reply.Empty
 
@@ -247,11 +250,13 @@ rows_after facts (op.SetMode path mode) caller rows = with_mode_at path mode (ro
 rows_after facts (op.SetOwner path owner group) caller rows = with_owner_at path owner group (row_at path rows) rows
 rows_after facts (op.SetAcl path change) caller rows = with_acl_at path change (row_at path rows) rows
 rows_after facts (op.Create path mode replication over) caller rows = with_new path mode (Some (new_file replication caller)) caller (ancestor path rows) rows
-rows_after facts (op.Append path) caller rows = rewritten path (change.State (state_after_append caller (holder_at (row_at path rows)))) rows
+rows_after facts (op.Append path) caller rows =
+    rewritten path (change.State (state_after_append facts.blocks facts.now caller (holder_at (row_at path rows)) (unfinished_at (row_at path rows)))) rows
 rows_after facts (op.AddBlock path last) caller rows = with_block_at path last facts.blocks.known.next_block rows
 rows_after facts (op.Complete path last) caller rows = ended_at path last rows
 rows_after facts (op.SetReplication path replication) caller rows = rewritten path (change.Replication replication) rows
-rows_after facts op.Tick caller rows = map (closed_where_expired facts.leases) rows
+rows_after facts op.Tick caller rows = map (ticked facts (begun_in facts rows)) rows
+rows_after facts (op.CommitRecovery recovered) caller rows = recovery_ended recovered.block recovered.length rows
 rows_after facts _ caller rows = rows
 
 abbrev pub users_after : Op → Users → Users

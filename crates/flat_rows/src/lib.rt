@@ -5,6 +5,7 @@
 pub mod ask;
 pub mod decision;
 pub mod denial;
+pub mod takeover;
 pub mod trail;
 pub mod verdict;
 

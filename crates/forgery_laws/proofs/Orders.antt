@@ -27,9 +27,10 @@ use Rattle.flat_rows.specs.BlockOutcome.{added_to, replication_at}
 use Rattle.flat_rows.specs.Decision.{decision}
 use Rattle.flat_rows.specs.Denial as denied
 use Rattle.flat_rows.specs.Facts.{Facts}
-use Rattle.flat_rows.specs.FileOutcome.{appended_reply, holder_at}
+use Rattle.flat_rows.specs.FileOutcome.{holder_at}
 use Rattle.flat_rows.specs.NodeOutcome.{Tokens, recover_command, copy_command, heartbeat_reply}
 use Rattle.flat_rows.specs.Outcome.{reply_of, status_of, acl_status_of, serial_reply, first_refusal, refused_or_done, denied_or_outcome, step}
+use Rattle.flat_rows.specs.Takeover.{unfinished_at, appended_reply}
 use Rattle.flat_rows.specs.declared.verdict.Verdict.{Verdict}
 use Rattle.flat_rows.specs.declared.verdict.Verdict.TheVariants.{Done, Denied, Refused}
 use Rattle.history.specs.Config as name
@@ -66,9 +67,10 @@ module _ (token : Tokens) (user : List ℕ) (what : Op) where
   acl_tells None = tt
   acl_tells (Some row) = tt
 
-  append_tells : (holder : Option (List ℕ)) → TellsTokens token user what (appended_reply holder)
-  append_tells None = tt
-  append_tells (Some holder) = tt
+  append_tells : (facts : Facts) (holder : Option (List ℕ)) (block : Option ℕ) → TellsTokens token user what (appended_reply facts.blocks holder block)
+  append_tells facts None block = tt
+  append_tells facts (Some holder) None = tt
+  append_tells facts (Some holder) (Some block) = tt
 
   serial_tells : (serial : Option ℕ) → TellsTokens token user what (serial_reply serial)
   serial_tells None = tt
@@ -89,7 +91,7 @@ heartbeat_tells facts principal (Some node) = (
 reply_tells : (facts : Facts) (caller : List ℕ) (what : Op) (rows : List Row) → TellsTokens facts.token caller what (reply_of facts caller what rows)
 reply_tells facts caller (op.Stat path) rows = status_tells facts.token caller (op.Stat path) (row_at path rows)
 reply_tells facts caller (op.GetAcl path) rows = acl_tells facts.token caller (op.GetAcl path) (row_at path rows)
-reply_tells facts caller (op.Append path) rows = append_tells facts.token caller (op.Append path) (holder_at (row_at path rows))
+reply_tells facts caller (op.Append path) rows = append_tells facts.token caller (op.Append path) facts (holder_at (row_at path rows)) (unfinished_at (row_at path rows))
 reply_tells facts caller (op.AddBlock path last) rows = added_tells facts.token caller (op.AddBlock path last) facts caller last (replication_at (row_at path rows))
 reply_tells facts caller (op.RollKey key) rows = serial_tells facts.token caller (op.RollKey key) facts.next_serial
 reply_tells facts caller op.Heartbeat rows = heartbeat_tells facts caller (node_of caller)

@@ -40,7 +40,7 @@ use Rattle.block_recovery.specs.declared.plan.Plan.{Plan}
 use Rattle.plan_steps.specs.PlanStep.{recover_of, plan_refusal, answer_of, plans_with, left_unless, plans_after, no_plan, decided, presenting, to_each, plan_sends, told_unless, plan_answer}
 use Rattle.cluster_trace.specs.DataCall.{DataCall, as_message, BeginWrite, Packet, Finalize, Read, Decide, Commit}
 use Rattle.cluster_trace.specs.Provenance.{call_brought, call_of}
-use Rattle.cluster_trace.specs.Trace.{State, Opening, Happened, start, with_no_plan, lost, named, entry_of, called, called_at, led, led_at, delivered, message_at, reporting, is_from_outside, recover_message, removal_message, copy_message, command_messages, told_messages, sent_by, happened, left_by, after}
+use Rattle.cluster_trace.specs.Trace.{State, Opening, Happened, start, with_no_plan, lost, named, entry_of, called, called_at, led, led_at, delivered, message_at, reporting, committing, is_from_outside, recover_message, removal_message, copy_message, command_messages, told_messages, sent_by, happened, left_by, after}
 use Rattle.cluster_trace.specs.declared.event.Event.{Event}
 use Rattle.cluster_trace.specs.declared.event.Event.TheVariants.{Name, Deliver, Data}
 use Rattle.cluster_trace.specs.declared.outcome.ClusterRefusal.{ClusterRefusal}
@@ -278,7 +278,7 @@ delivered_keeps state now None all shows = lost_keeps state NoMessage all
 delivered_keeps state now (Some (message.Node node asked)) all shows = called_keeps state node now asked all (shows (message.Node node asked) refl)
 delivered_keeps state now (Some (message.Plan node asked)) all shows = led_keeps state node asked all (shows (message.Plan node asked) refl)
 delivered_keeps state now (Some (message.Reported node block stamp bytes)) all shows = named_keeps state (reporting node now block stamp bytes) all
-delivered_keeps state now (Some (message.CommitRecovery node block stamp bytes nodes)) all shows = lost_keeps state NoMessage all
+delivered_keeps state now (Some (message.CommitRecovery node block stamp bytes nodes)) all shows = named_keeps state (committing node now block stamp bytes nodes) all
 
 -- what is asked from outside shows what its client presents
 outside_shows : (rows : List LedgerRow) (node : ℕ) (asked : DataCall) → Shows rows asked → MessageShows rows (as_message node asked)

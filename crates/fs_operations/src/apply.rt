@@ -48,11 +48,13 @@ pub fn apply(
         }
         Verb::Write(_)
         | Verb::Grant(_)
+        | Verb::Append(_)
         | Verb::SetReplication(_, _)
         | Verb::RollKey(_)
         | Verb::Renew
         | Verb::Tick
-        | Verb::Reported(_) => { unreachable!() }
+        | Verb::Reported(_)
+        | Verb::CommitRecovery(_) => { unreachable!() }
     }
 }
 

@@ -1,7 +1,7 @@
 -- Requests to the NameNode.
 use Rattle.std.specs.Prelude.{Bool, true, false}
 use Rattle.hdfs_types.specs.declared.op.Op.{Op}
-use Rattle.hdfs_types.specs.declared.op.Op.TheVariants.{Stat, List, Summary, GetAcl, Delete, Create, Append, AddBlock, Complete, Open, SetReplication, RollKey, Renew, Tick, Heartbeat, Reported}
+use Rattle.hdfs_types.specs.declared.op.Op.TheVariants.{Stat, List, Summary, GetAcl, Delete, Create, Append, AddBlock, Complete, Open, SetReplication, RollKey, Renew, Tick, Heartbeat, Reported, CommitRecovery}
 
 -- an operation that changes nothing and grants nothing
 abbrev pub is_look : Op → Bool
@@ -15,6 +15,7 @@ is_look _ = false
 abbrev pub is_for_nodes : Op → Bool
 is_for_nodes Heartbeat = true
 is_for_nodes (Reported replica) = true
+is_for_nodes (CommitRecovery recovered) = true
 is_for_nodes _ = false
 
 -- an operation that neither asks who has which file open to write nor changes it, that leaves the keys and what is known of blocks and
@@ -32,4 +33,5 @@ keeps_leases Renew = false
 keeps_leases Tick = false
 keeps_leases Heartbeat = false
 keeps_leases (Reported replica) = false
+keeps_leases (CommitRecovery recovered) = false
 keeps_leases _ = true

@@ -29,7 +29,6 @@ update_op (update.SetGroups user groups) = op.SetGroups user.now groups.now
 
 abbrev pub write_op : Write → Op
 write_op (write.Create path mode replication over) = op.Create path.now mode replication over
-write_op (write.Append path) = op.Append path.now
 write_op (write.Complete path last) = op.Complete path.now last
 write_op (write.Delete path recursive) = op.Delete path.now recursive
 
@@ -43,8 +42,10 @@ op_of (verb.Read read) = read_op read
 op_of (verb.Update update) = update_op update
 op_of (verb.Write write) = write_op write
 op_of (verb.Grant grant) = grant_op grant
+op_of (verb.Append path) = op.Append path.now
 op_of (verb.SetReplication path replication) = op.SetReplication path.now replication
 op_of (verb.RollKey key) = op.RollKey key
 op_of verb.Renew = op.Renew
 op_of verb.Tick = op.Tick
 op_of (verb.Reported replica) = op.Reported replica
+op_of (verb.CommitRecovery recovered) = op.CommitRecovery recovered.now

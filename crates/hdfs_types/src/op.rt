@@ -5,7 +5,7 @@ ghost use Rattle.hdfs_types.specs.declared.op.Op.TheVariants as made;
 use crate::file::LastBlock;
 use crate::given_name::GivenName;
 use crate::key::Key;
-use crate::replica::ReportedReplica;
+use crate::replica::{RecoveredBlock, ReportedReplica};
 use hdfs_values::groups::Groups;
 use hdfs_values::moment::Moment;
 use hdfs_values::path::Path;
@@ -65,6 +65,8 @@ pub enum Op {
     Heartbeat,
     /// Tells that the DataNode whose principal the caller is holds this replica.
     Reported(ReportedReplica),
+    /// Tells that the recovery of a block has ended, which the DataNode led whose principal the caller is.
+    CommitRecovery(RecoveredBlock),
 }
 
 fn clone_mkdirs(path: &Path, mode: Mode) -> Result<Op, AllocError>
@@ -175,6 +177,12 @@ fn clone_set_replication(path: &Path, replication: Repl) -> Result<Op, AllocErro
     Ok(Op::SetReplication(path.clone()?, replication))
 }
 
+fn clone_commit_recovery(recovered: &RecoveredBlock) -> Result<Op, AllocError>
+    ensures { IfOk result (λ op. op ≡ made.CommitRecovery recovered.now) }
+{
+    Ok(Op::CommitRecovery(recovered.clone()?))
+}
+
 /// One small function a variant: a function in which each variant is made between two `?` takes far longer to prove.
 impl Clone for Op {
     ghost is_clone = { λ op copy. copy ≡ op };
@@ -206,6 +214,7 @@ impl Clone for Op {
             Op::Tick => Ok(Op::Tick),
             Op::Heartbeat => Ok(Op::Heartbeat),
             Op::Reported(replica) => Ok(Op::Reported(*replica)),
+            Op::CommitRecovery(recovered) => clone_commit_recovery(recovered),
         }
     }
 }
@@ -255,7 +264,8 @@ pub fn is_look(op: &Op) -> bool
         | Op::Renew
         | Op::Tick
         | Op::Heartbeat
-        | Op::Reported(_) => false,
+        | Op::Reported(_)
+        | Op::CommitRecovery(_) => false,
     }
 }
 
@@ -263,5 +273,5 @@ pub fn is_look(op: &Op) -> bool
 pub fn is_for_nodes(op: &Op) -> bool
     ensures { result ≡ spec.is_for_nodes op.now }
 {
-    matches!(op, Op::Heartbeat | Op::Reported(_))
+    matches!(op, Op::Heartbeat | Op::Reported(_) | Op::CommitRecovery(_))
 }

@@ -1,4 +1,8 @@
+ghost use Rattle.std.specs.Prelude.{◌≡◌};
+
+use block_records::node_set::NodeSet;
 use hdfs_values::ids::{BlockId, Stamp};
+use std::alloc::AllocError;
 
 /// A finalized replica, as a DataNode reports it (HDFS Architecture, "Data Replication": a Blockreport tells what a DataNode holds).
 #[derive(Clone, Copy, PartialEq, Eq)]
@@ -7,4 +11,28 @@ pub struct ReportedReplica {
     pub stamp: Stamp,
     /// In bytes.
     pub length: u64,
+}
+
+/// The end of a recovery of a block, as the DataNode that led it tells it: under which stamp, the length that was agreed on, and the nodes
+/// that hold it (HDFS-265, "Block recovery").
+#[derive(Drop)]
+pub struct RecoveredBlock {
+    pub block: BlockId,
+    pub stamp: Stamp,
+    /// In bytes.
+    pub length: u64,
+    pub nodes: NodeSet,
+}
+
+impl Clone for RecoveredBlock {
+    ghost is_clone = { λ recovered copy. copy ≡ recovered };
+
+    fn clone(&self) -> Result<RecoveredBlock, AllocError> {
+        Ok(RecoveredBlock {
+            block: self.block,
+            stamp: self.stamp,
+            length: self.length,
+            nodes: self.nodes.clone()?,
+        })
+    }
 }

@@ -7,7 +7,7 @@ use crate::file::FileDetail;
 use crate::located::{AddedBlock, OpenedFile};
 use block_records::fault::{self as block_fault, BlockRefusal};
 use hdfs_values::fault::AclFault;
-use hdfs_values::ids::{Serial, Stamp};
+use hdfs_values::ids::{BlockId, Serial, Stamp};
 use hdfs_values::name::Name;
 use hdfs_values::path::Path;
 use hdfs_values::who::Who;
@@ -339,6 +339,9 @@ pub enum Reply {
     Deleted(u64),
     /// The file was taken from a client whose lease is past a limit, and closed; to write it the caller asks again.
     Released,
+    /// The file was taken from such a client, and this block, its last, is recovered under this stamp; to write the file the caller asks
+    /// again once that has ended.
+    Recovering(BlockId, Stamp),
     /// The file is closed and holds so many bytes.
     Closed(u64),
     /// What a reader is told of a file and its blocks.
@@ -364,6 +367,7 @@ impl Clone for Reply {
             Reply::Summary(summary) => Ok(Reply::Summary(*summary)),
             Reply::Deleted(count) => Ok(Reply::Deleted(*count)),
             Reply::Released => Ok(Reply::Released),
+            Reply::Recovering(block, stamp) => Ok(Reply::Recovering(*block, *stamp)),
             Reply::Closed(bytes) => Ok(Reply::Closed(*bytes)),
             Reply::Opened(opened) => Ok(Reply::Opened(opened.clone()?)),
             Reply::Added(added) => Ok(Reply::Added(added.clone()?)),

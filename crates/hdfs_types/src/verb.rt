@@ -5,7 +5,7 @@ use crate::file::LastBlock;
 use crate::given_name::GivenName;
 use crate::key::Key;
 use crate::op::Op;
-use crate::replica::ReportedReplica;
+use crate::replica::{RecoveredBlock, ReportedReplica};
 use hdfs_values::groups::Groups;
 use hdfs_values::path::Path;
 use hdfs_values::replication::Repl;
@@ -35,11 +35,10 @@ pub enum Update<'a> {
     SetGroups(&'a Who, &'a Groups),
 }
 
-/// A verb that writes a file, or the deletion: who has which file open to write may change.
+/// A verb that makes or closes a file, or the deletion: who has which file open to write may change.
 #[derive(Clone, Copy)]
 pub enum Write<'a> {
     Create(&'a Path, Mode, Repl, bool),
-    Append(&'a Path),
     Complete(&'a Path, Option<LastBlock>),
     Delete(&'a Path, bool),
 }
@@ -59,11 +58,14 @@ pub enum Verb<'a> {
     Update(Update<'a>),
     Write(Write<'a>),
     Grant(Grant<'a>),
+    /// It opens a file to write it, or takes it from the client who has it open.
+    Append(&'a Path),
     SetReplication(&'a Path, Repl),
     RollKey(Key),
     Renew,
     Tick,
     Reported(ReportedReplica),
+    CommitRecovery(&'a RecoveredBlock),
 }
 
 impl Op {
@@ -90,7 +92,7 @@ impl Op {
             Op::Create(path, mode, replication, over) => {
                 Verb::Write(Write::Create(path, *mode, *replication, *over))
             }
-            Op::Append(path) => Verb::Write(Write::Append(path)),
+            Op::Append(path) => Verb::Append(path),
             Op::AddBlock(path, last) => Verb::Grant(Grant::AddBlock(path, *last)),
             Op::Complete(path, last) => Verb::Write(Write::Complete(path, *last)),
             Op::Delete(path, recursive) => Verb::Write(Write::Delete(path, *recursive)),
@@ -99,6 +101,7 @@ impl Op {
             Op::Tick => Verb::Tick,
             Op::Heartbeat => Verb::Grant(Grant::Heartbeat),
             Op::Reported(replica) => Verb::Reported(*replica),
+            Op::CommitRecovery(recovered) => Verb::CommitRecovery(recovered),
         }
     }
 }

@@ -17,7 +17,6 @@ use Rattle.namespace_rows.specs.First.{first}
 use Rattle.namespace_rows.specs.Rows.{is_missing, row_at, ancestor, replaced}
 use Rattle.namespace_rows.specs.Namespace.{IsNamespace, is_ascending, is_before_all}
 use Rattle.namespace_rows.specs.Files.{holder_of, holder_of_file, is_client, is_open_by, has_open_file, holders, with_state, with_replication}
-use Rattle.flat_rows.specs.FileOutcome.{LeaseFacts, is_expired, closed_where_expired}
 use Rattle.flat_rows.specs.Outcome.{new_rows, new_row, mode_of_new, with_new}
 use Rattle.flat_rows.specs.Changes.{rows_under, without, moved_row, moved, changed, rewritten}
 use Rattle.namespace_rows.proofs.Tests.{both, all_kept}
@@ -81,12 +80,12 @@ module _ (client : List ℕ) where
   pub with_holder : (state : FileState) (row : Row) (file : FileRow) → row.file ≡ Some file → opens (changed (change.State state) row) ≡ is_client client (holder_of state)
   with_holder state row file is = ap (λ o. is_client client (holder_of_file (option_map (with_state state) o))) is
 
-  pub closed_row : (row : Row) → opens (changed (change.State Closed) row) ≡ false
-  closed_row row = by row.file
+  pub unheld_row : (state : FileState) → holder_of state ≡ None → (row : Row) → opens (changed (change.State state) row) ≡ false
+  unheld_row state unheld row = by row.file
     where
-      by : (file : Option FileRow) → is_client client (holder_of_file (option_map (with_state Closed) file)) ≡ false
+      by : (file : Option FileRow) → is_client client (holder_of_file (option_map (with_state state) file)) ≡ false
       by None = refl
-      by (Some file) = refl
+      by (Some file) = ap (is_client client) unheld
 
   pub replication_row : (replication : ℕ) (row : Row) → opens (changed (change.Replication replication) row) ≡ opens row
   replication_row replication row = by row.file
@@ -128,26 +127,16 @@ module _ (client : List ℕ) where
       total : (a b c d e f : ℕ) → a + b ≡ c + d → b ≡ 0 → c ≡ e → d + e ≡ f → a ≡ f
       total a b c d e f g h i j = omega (arith, g, h, i, j)
 
-  -- what is closed
-  module _ (leases : LeaseFacts) where
-    pub count_closed : (rows : List Row) → count opens (map (closed_where_expired leases) rows) + count opens (filter (is_expired leases) rows) ≡ count opens rows
-    count_closed [] = refl
-    count_closed (row ∷ rows) =
-        total (bit (opens (closed_where_expired leases row))) (bit (is_expired leases row && opens row)) (bit (opens row)) (count opens (map (closed_where_expired leases) rows)) (count opens (filter (is_expired leases) rows)) (count opens rows) _ _ _
-        (count_head opens (closed_where_expired leases row) (map (closed_where_expired leases) rows)) (count_kept opens (is_expired leases) row rows) (count_head opens row rows) (one (is_expired leases row)) (count_closed rows)
+  -- what is taken from those who have it open
+  module _ (f : Row → Row) (taken : Row → Bool) (each : (row : Row) → bit (opens (f row)) + bit (taken row && opens row) ≡ bit (opens row)) where
+    pub count_taken : (rows : List Row) → count opens (map f rows) + count opens (filter taken rows) ≡ count opens rows
+    count_taken [] = refl
+    count_taken (row ∷ rows) =
+        total (bit (opens (f row))) (bit (taken row && opens row)) (bit (opens row)) (count opens (map f rows)) (count opens (filter taken rows)) (count opens rows) _ _ _
+        (count_head opens (f row) (map f rows)) (count_kept opens taken row rows) (count_head opens row rows) (each row) (count_taken rows)
       where
         total : (ha hb hp ca cb cp la lb lp : ℕ) → la ≡ ha + ca → lb ≡ hb + cb → lp ≡ hp + cp → ha + hb ≡ hp → ca + cb ≡ cp → la + lb ≡ lp
         total ha hb hp ca cb cp la lb lp a b c h r = omega (arith, a, b, c, h, r)
-
-        one : (b : Bool) → bit (opens (cond b (changed (change.State Closed) row) row)) + bit (b && opens row) ≡ bit (opens row)
-        one true = ap (λ c. bit c + bit (opens row)) (closed_row row) ∙ nothing (bit (opens row))
-          where
-            nothing : (n : ℕ) → 0 + n ≡ n
-            nothing n = omega arith
-        one false = nothing (bit (opens row))
-          where
-            nothing : (n : ℕ) → n + 0 ≡ n
-            nothing n = omega arith
 
   -- how often the client is among the holders of rows
   abbrev pub occurs : List (List ℕ) → ℕ

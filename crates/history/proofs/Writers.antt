@@ -12,7 +12,6 @@ use Rattle.hdfs_types.specs.declared.file.FileState.TheVariants.{Closed, Open, R
 use Rattle.hdfs_types.specs.declared.reply.Refusal.{Refusal}
 use Rattle.hdfs_types.specs.declared.reply.Refusal.TheVariants.{LeaseHeld, NotDirectory, IsDirectory}
 use Rattle.principals.specs.Users.{Users}
-use Rattle.namespace_rows.specs.declared.file_row.FileBlock.{FileBlock}
 use Rattle.namespace_rows.specs.declared.file_row.FileRow.{FileRow}
 use Rattle.namespace_rows.specs.declared.row.Row.{Row}
 use Rattle.flat_rows.specs.declared.verdict.Verdict.{Verdict}
@@ -21,8 +20,9 @@ use Rattle.flat_rows.specs.Denial as denied
 use Rattle.flat_rows.specs.Decision.{decision}
 use Rattle.namespace_rows.specs.Rows.{row_at, file_above, is_directory}
 use Rattle.namespace_rows.specs.Namespace.{is_ascending, is_before_all}
-use Rattle.namespace_rows.specs.Files.{holder_of, holder_of_file, is_open_by, is_client, ends_uncommitted}
-use Rattle.flat_rows.specs.FileOutcome.{LeaseFacts, directory_there, if_some_file, of_file, refused_append, refused_recovery, refused_takeover, holder_at}
+use Rattle.namespace_rows.specs.Files.{holder_of, holder_of_file, is_open_by, is_client, unfinished}
+use Rattle.flat_rows.specs.FileOutcome.{directory_there, if_some_file, of_file, holder_at}
+use Rattle.flat_rows.specs.Takeover.{refused_taking, refused_state, refused_append}
 use Rattle.flat_rows.specs.Facts.{Facts}
 use Rattle.flat_rows.specs.Outcome.{beneath_file, nothing_at, first_some, denied_or_outcome, refused_or_done, step}
 use Rattle.namespace_rows.proofs.Tests.{both}
@@ -68,27 +68,27 @@ one_writer (row ∷ rows) path client other up h k =
 one_of : (a b : List ℕ) → Some a ≡ Some b → a ≡ b
 one_of a b e = cc
 
-held_by_state : (leases : LeaseFacts) (caller writer : List ℕ) (blocks : List FileBlock) (state : FileState) → holder_of state ≡ Some writer → leases.is_live writer ≡ true
-    → refused_append leases caller blocks state ≡ Some (LeaseHeld writer)
-held_by_state leases caller writer blocks Closed h live = cc
-held_by_state leases caller writer blocks (Recovering block stamp begun) h live = cc
-held_by_state leases caller writer blocks (Open holder) h live =
+held_by_state : (facts : Facts) (caller writer : List ℕ) (block : Option ℕ) (state : FileState) → holder_of state ≡ Some writer → facts.leases.is_live writer ≡ true
+    → refused_state facts caller block state ≡ Some (LeaseHeld writer)
+held_by_state facts caller writer block Closed h live = cc
+held_by_state facts caller writer block (Recovering own stamp begun) h live = cc
+held_by_state facts caller writer block (Open holder) h live =
     let is : holder ≡ writer = one_of holder writer h in
-    by (same caller holder) (leases.is_live holder) (ap leases.is_live is ∙ live) ∙ ap (λ w. Some (LeaseHeld w)) is
+    by (same caller holder) (facts.leases.is_live holder) (ap facts.leases.is_live is ∙ live) ∙ ap (λ w. Some (LeaseHeld w)) is
   where
-    by : (b c : Bool) → c ≡ true → cond (b || c) (Some (LeaseHeld holder)) (refused_recovery (ends_uncommitted blocks)) ≡ Some (LeaseHeld holder)
+    by : (b c : Bool) → c ≡ true → cond (b || c) (Some (LeaseHeld holder)) (refused_taking facts.blocks facts.now block) ≡ Some (LeaseHeld holder)
     by true c e = refl
-    by false c e = ap (λ d. cond d (Some (LeaseHeld holder)) (refused_recovery (ends_uncommitted blocks))) e
+    by false c e = ap (λ d. cond d (Some (LeaseHeld holder)) (refused_taking facts.blocks facts.now block)) e
 
-held_by_file : (leases : LeaseFacts) (caller writer : List ℕ) (file : Option FileRow) → holder_of_file file ≡ Some writer → leases.is_live writer ≡ true
-    → if_some_file (refused_takeover leases caller) file ≡ Some (LeaseHeld writer)
-held_by_file leases caller writer None h live = cc
-held_by_file leases caller writer (Some file) h live = held_by_state leases caller writer file.blocks file.state h live
+held_by_file : (facts : Facts) (caller writer : List ℕ) (file : Option FileRow) → holder_of_file file ≡ Some writer → facts.leases.is_live writer ≡ true
+    → if_some_file (refused_append facts caller) file ≡ Some (LeaseHeld writer)
+held_by_file facts caller writer None h live = cc
+held_by_file facts caller writer (Some file) h live = held_by_state facts caller writer (unfinished file.blocks) file.state h live
 
-held : (leases : LeaseFacts) (caller writer : List ℕ) (at : Option Row) → holder_at at ≡ Some writer → leases.is_live writer ≡ true
-    → of_file (refused_takeover leases caller) at ≡ Some (LeaseHeld writer)
-held leases caller writer None h live = cc
-held leases caller writer (Some row) h live = held_by_file leases caller writer row.file h live
+held : (facts : Facts) (caller writer : List ℕ) (at : Option Row) → holder_at at ≡ Some writer → facts.leases.is_live writer ≡ true
+    → of_file (refused_append facts caller) at ≡ Some (LeaseHeld writer)
+held facts caller writer None h live = cc
+held facts caller writer (Some row) h live = held_by_file facts caller writer row.file h live
 
 module _ (facts : Facts) (rows : List Row) (users : Users) (caller : List ℕ) (path : List (List ℕ)) where
   abbrev append : Op
@@ -112,13 +112,13 @@ module _ (facts : Facts) (rows : List Row) (users : Users) (caller : List ℕ) (
     where
       by : (denial : Option denied.Denial) → is_done (after denial) ≡ false
       by (Some denial) = refl
-      by None = last_applies (beneath_file path rows) (nothing_at (row_at path rows)) (directory_there (row_at path rows)) (of_file (refused_takeover facts.leases caller) (row_at path rows)) (LeaseHeld writer) (held facts.leases caller writer (row_at path rows) at live)
+      by None = last_applies (beneath_file path rows) (nothing_at (row_at path rows)) (directory_there (row_at path rows)) (of_file (refused_append facts caller) (row_at path rows)) (LeaseHeld writer) (held facts caller writer (row_at path rows) at live)
 
   pub named : (row : Row) (writer : List ℕ) → row_at path rows ≡ Some row → is_directory row ≡ false → holder_at (Some row) ≡ Some writer → file_above path rows ≡ None
       → decision rows users caller append ≡ None → facts.leases.is_live writer ≡ true → (step facts rows users caller append).verdict ≡ Refused (LeaseHeld writer)
   named row writer at file holds clear granted live =
       ap after granted
-      ∙ ap (λ o. under (first_some (beneath_file path rows ∷ nothing_at o ∷ directory_there o ∷ of_file (refused_takeover facts.leases caller) o ∷ []))) at
-      ∙ ap (λ a. under (first_some (option_map (λ file. NotDirectory file.path) a ∷ None ∷ directory_there (Some row) ∷ of_file (refused_takeover facts.leases caller) (Some row) ∷ []))) clear
-      ∙ ap (λ b. under (first_some (None ∷ None ∷ cond b (Some IsDirectory) None ∷ of_file (refused_takeover facts.leases caller) (Some row) ∷ []))) file
-      ∙ ap (λ o. under (first_some (None ∷ None ∷ None ∷ o ∷ []))) (held facts.leases caller writer (Some row) holds live)
+      ∙ ap (λ o. under (first_some (beneath_file path rows ∷ nothing_at o ∷ directory_there o ∷ of_file (refused_append facts caller) o ∷ []))) at
+      ∙ ap (λ a. under (first_some (option_map (λ file. NotDirectory file.path) a ∷ None ∷ directory_there (Some row) ∷ of_file (refused_append facts caller) (Some row) ∷ []))) clear
+      ∙ ap (λ b. under (first_some (None ∷ None ∷ cond b (Some IsDirectory) None ∷ of_file (refused_append facts caller) (Some row) ∷ []))) file
+      ∙ ap (λ o. under (first_some (None ∷ None ∷ None ∷ o ∷ []))) (held facts caller writer (Some row) holds live)

@@ -3,16 +3,19 @@
 use Rattle.std.specs.Prelude.{ℕ, List, [], Option, Some, None, fold}
 use Rattle.hdfs_values.specs.NodeId.{node_of}
 use Rattle.hdfs_types.specs.declared.op.Op.{Op}
-use Rattle.hdfs_types.specs.declared.op.Op.TheVariants.{Create, Delete, AddBlock, Complete, SetReplication, Heartbeat, Reported}
+use Rattle.hdfs_types.specs.declared.op.Op.TheVariants.{Create, Delete, Append, AddBlock, Complete, SetReplication, Tick, Heartbeat, Reported, CommitRecovery}
 use Rattle.block_records.specs.declared.last_block.LastBlock.{LastBlock}
 use Rattle.hdfs_types.specs.declared.replica.ReportedReplica.{ReportedReplica}
 use Rattle.block_map.specs.BlockFacts.{BlockFacts}
-use Rattle.block_map.specs.BlockEffects.{added_behind, committed, all_removed, replicated, handed_out, reported}
+use Rattle.block_map.specs.BlockEffects.{added_behind, committed, all_removed, replicated, begun, all_begun, recovered, handed_out, reported}
 use Rattle.namespace_rows.specs.declared.row.Row.{Row}
 use Rattle.namespace_rows.specs.Files.{blocks_in}
 use Rattle.namespace_rows.specs.Rows.{row_at}
 use Rattle.flat_rows.specs.Changes.{rows_under}
+use Rattle.flat_rows.specs.Facts.{Facts}
+use Rattle.flat_rows.specs.FileOutcome.{holder_at}
 use Rattle.flat_rows.specs.BlockOutcome.{replication_at, ids_at}
+use Rattle.flat_rows.specs.Takeover.{unfinished_at, sought_blocks}
 use Rattle.flat_rows.specs.declared.verdict.Verdict.{Verdict}
 use Rattle.flat_rows.specs.declared.verdict.Verdict.TheVariants.{Done, Denied, Refused}
 use Rattle.history.specs.Config.{Opening}
@@ -51,19 +54,28 @@ ended (Some last) blocks = committed blocks last.block last.length
 abbrev pub all_replicated : ℕ → List ℕ → BlockFacts → BlockFacts
 all_replicated replication numbers blocks = fold (λ facts block. replicated facts block replication) blocks numbers
 
+-- the unfinished last block of a file that is taken from its holder is recovered from now on
+abbrev pub taken_over : Option (List ℕ) → Option ℕ → ℕ → BlockFacts → BlockFacts
+taken_over holder None now blocks = blocks
+taken_over None (Some block) now blocks = blocks
+taken_over (Some holder) (Some block) now blocks = begun blocks block now
+
 -- what an operation that is done leaves of blocks and nodes, by the rows before it: the blocks of files that are deleted or replaced are
 -- known no more
-abbrev pub blocks_after : Op → List ℕ → ℕ → List Row → BlockFacts → BlockFacts
-blocks_after (Create path mode replication over) caller now rows blocks = all_removed blocks (blocks_in (rows_under path rows))
-blocks_after (Delete path recursive) caller now rows blocks = all_removed blocks (blocks_in (rows_under path rows))
-blocks_after (AddBlock path last) caller now rows blocks = extended last now (replication_at (row_at path rows)) blocks
-blocks_after (Complete path last) caller now rows blocks = ended last blocks
-blocks_after (SetReplication path replication) caller now rows blocks = all_replicated replication (ids_at (row_at path rows)) blocks
-blocks_after Heartbeat caller now rows blocks = heard_of (node_of caller) now blocks
-blocks_after (Reported replica) caller now rows blocks = reported_of (node_of caller) replica blocks
-blocks_after _ caller now rows blocks = blocks
+abbrev pub blocks_after : Facts → Op → List ℕ → List Row → BlockFacts → BlockFacts
+blocks_after facts (Create path mode replication over) caller rows blocks = all_removed blocks (blocks_in (rows_under path rows))
+blocks_after facts (Delete path recursive) caller rows blocks = all_removed blocks (blocks_in (rows_under path rows))
+blocks_after facts (Append path) caller rows blocks = taken_over (holder_at (row_at path rows)) (unfinished_at (row_at path rows)) facts.now blocks
+blocks_after facts (AddBlock path last) caller rows blocks = extended last facts.now (replication_at (row_at path rows)) blocks
+blocks_after facts (Complete path last) caller rows blocks = ended last blocks
+blocks_after facts (SetReplication path replication) caller rows blocks = all_replicated replication (ids_at (row_at path rows)) blocks
+blocks_after facts Tick caller rows blocks = all_begun blocks (sought_blocks facts rows) facts.now
+blocks_after facts Heartbeat caller rows blocks = heard_of (node_of caller) facts.now blocks
+blocks_after facts (Reported replica) caller rows blocks = reported_of (node_of caller) replica blocks
+blocks_after facts (CommitRecovery own) caller rows blocks = recovered blocks own.block own.length own.nodes
+blocks_after facts _ caller rows blocks = blocks
 
-abbrev pub blocks_by : Op → List ℕ → Verdict → ℕ → List Row → BlockFacts → BlockFacts
-blocks_by op caller (Done told) now rows blocks = blocks_after op caller now rows blocks
-blocks_by op caller (Denied denial) now rows blocks = blocks
-blocks_by op caller (Refused refusal) now rows blocks = blocks
+abbrev pub blocks_by : Facts → Op → List ℕ → Verdict → List Row → BlockFacts → BlockFacts
+blocks_by facts op caller (Done told) rows blocks = blocks_after facts op caller rows blocks
+blocks_by facts op caller (Denied denial) rows blocks = blocks
+blocks_by facts op caller (Refused refusal) rows blocks = blocks

@@ -61,7 +61,7 @@ pub record Spaces : Type 0 where
 
 abbrev pub spaces_by : Facts → Op → List ℕ → Verdict → Spaces → Spaces
 spaces_by facts op caller verdict before =
-    record { rows = rows_by facts op caller verdict before.rows; blocks = blocks_by op caller verdict facts.now before.rows before.blocks }
+    record { rows = rows_by facts op caller verdict before.rows; blocks = blocks_by facts op caller verdict before.rows before.blocks }
 
 abbrev pub spaces_of : Opening → List HistoryEntry → Spaces
 spaces_of opening [] = record { rows = root_row superuser supergroup ∷ []; blocks = first_blocks opening }

@@ -5,6 +5,5 @@ pub mod Levels
 pub mod Makes
 pub mod Moves
 pub mod Through
-pub mod Closings
 pub mod Wholes
 pub mod Children

@@ -3,4 +3,3 @@ pub mod Kept
 pub mod Falls
 pub mod Part
 pub mod Change
-pub mod Expired

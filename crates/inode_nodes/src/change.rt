@@ -6,16 +6,13 @@ ghost use Rattle.hdfs_values.specs.Text.{text_cmp};
 ghost use Rattle.namespace_rows.specs.Rows.{is_missing, file_above, ancestor};
 ghost use Rattle.namespace_rows.specs.Namespace.{has_parent};
 ghost use Rattle.namespace_rows.specs.Files.{with_state, with_replication, without_last, committed_at, recovered_at};
-ghost use Rattle.flat_rows.specs.FileOutcome.{is_expired_file, closed_where_expired};
 ghost use Rattle.flat_rows.specs.Outcome.{kind_of_new, with_new};
 ghost use Rattle.flat_rows.specs.Changes.{without, moved, rewritten};
 ghost use Rattle.inode_nodes.specs.Node.{Top, rows, row_of, under, flatten, with_rows};
 ghost use Rattle.inode_nodes.specs.Part.{IsWhole};
 ghost use Rattle.inode_nodes.specs.Change.{grafted, holds_parent, chain, changed_top};
-ghost use Rattle.inode_nodes.specs.Expired.{past_hard, closed_branch};
 ghost use Rattle.inode_nodes.specs.Kept.{kind_of as kind_of_held, file_of, rows_in, IsSorted};
 
-use crate::expired;
 use crate::node::{Held, Node};
 use acl_entries::acl::Acl;
 use default_acl::inherit::inherit;
@@ -229,17 +226,6 @@ impl Node {
             Held::File(_) => unreachable!(),
         }
     }
-
-    /// Closes the files whose holders are among these clients, but where the length of the last block isn't committed.
-    #[cycle(close)]
-    pub fn close_expired(&mut self, past: &[Who])
-        ensures { self.new ≡ closed_branch past.now self.old }
-    {
-        match &mut self.held {
-            Held::Directory(map) => close_in(map, past),
-            Held::File(file) => close_file(file, past),
-        }
-    }
 }
 
 impl Held {
@@ -329,15 +315,6 @@ fn kind_of(file: &Option<FileRow>) -> ObjectKind
     match file {
         Some(_) => ObjectKind::File,
         None => ObjectKind::Directory,
-    }
-}
-
-/// Closes the file where its holder is among these clients and the length of its last block is committed.
-fn close_file(file: &mut FileRow, past: &[Who])
-    ensures { file.new ≡ (if is_expired_file (past_hard past.now) (Some file.old) then with_state FileState.Closed file.old else file.old) }
-{
-    if expired::is_expired(file, past) {
-        file.state = FileState::Closed;
     }
 }
 
@@ -484,22 +461,4 @@ fn make_in(
             Ok(())
         }
     }
-}
-
-#[cycle(close)]
-fn close_in(nodes: &mut BTreeMap<Name, Node>, past: &[Who])
-    requires { IsStrictlySortedBy text_cmp (keys_of nodes.old.entries) }
-    ensures sorted { IsStrictlySortedBy text_cmp (keys_of nodes.new.entries) }
-    ensures rows { flatten nodes.new.entries ≡ map (closed_where_expired (past_hard past.now)) (flatten nodes.old.entries) }
-{
-    nodes.retain(
-        |_name, child|
-            ensures kept { result ≡ true }
-            ensures closed { child.new ≡ closed_branch past.entry.now child.old }
-            ensures past { past.exit ≡ past.entry }
-        {
-            child.close_expired(past);
-            true
-        },
-    );
 }

@@ -3,5 +3,4 @@
 
 pub mod blocks;
 pub mod change;
-pub mod expired;
 pub mod node;

@@ -11,7 +11,6 @@ use Rattle.namespace_rows.specs.declared.row.Change.{Change}
 use Rattle.namespace_rows.specs.declared.row.Row.{Row}
 use Rattle.namespace_rows.specs.Rows.{is_directory_kind, is_missing, row_at, file_above, ancestor, replaced, with_sub_tree}
 use Rattle.namespace_rows.specs.Namespace.{has_parent, is_root, suits_parts, suits_kind, fits}
-use Rattle.flat_rows.specs.FileOutcome.{is_expired, closed_where_expired}
 use Rattle.flat_rows.specs.Outcome.{kind_of_new, with_new}
 use Rattle.flat_rows.specs.Changes.{are_paths, rows_under, without, moved_row, moved, rewritten, suits_change}
 use Rattle.namespace_rows.proofs.Tests.{and}
@@ -19,10 +18,9 @@ use Rattle.namespace_rows.proofs.Namespaces.{with_sub_tree_namespace}
 use Rattle.flat_rows.proofs.NewDirectories.{missing_fit}
 use Rattle.flat_rows.proofs.Moves.{moved_namespace}
 use Rattle.flat_rows.proofs.Missing.{missing_above}
-use Rattle.flat_rows.proofs.Changes.{without_namespace, without_paths, replaced_paths, with_sub_tree_paths, row_fits, missing_paths, rewritten_namespace, rewritten_paths, closed_namespace, closed_paths}
+use Rattle.flat_rows.proofs.Changes.{without_namespace, without_paths, replaced_paths, with_sub_tree_paths, row_fits, missing_paths, rewritten_namespace, rewritten_paths}
 use Rattle.inode_nodes.specs.Node.{Node, rows, row_of, placed, with_rows}
 use Rattle.inode_nodes.specs.Change.{grafted}
-use Rattle.inode_nodes.specs.Expired.{past_hard}
 use Rattle.inode_tree.specs.Tree.{IsTree}
 use Rattle.inode_nodes.proofs.Through.{put_top, on_ok, on_err}
 
@@ -44,10 +42,6 @@ without_tree path all below tree = record { namespace = without_namespace path a
 
 pub rewritten_tree : (path : List (List ℕ)) (change : Change) (all : List Row) → suits_change change (row_at path all) ≡ true → IsTree all → IsTree (rewritten path change all)
 rewritten_tree path change all suits tree = record { namespace = rewritten_namespace path change all tree.namespace suits; paths = rewritten_paths path change all tree.paths }
-
-pub closed_tree : (past : List (List ℕ)) (b new : Node) → rows new ≡ map (closed_where_expired (past_hard past)) (rows b) → IsTree (rows b) → IsTree (rows new)
-closed_tree past b new done tree =
-    subst IsTree (sym done) (record { namespace = closed_namespace (is_expired (past_hard past)) Closed (rows b) tree.namespace; paths = closed_paths (is_expired (past_hard past)) Closed (rows b) tree.paths })
 
 pub new_suits : (file : Option FileRow) (acl : Acl) → (is_directory_kind (kind_of_new file) || suits_file acl) ≡ true → suits_parts (is_directory_kind (kind_of_new file)) acl file ≡ true
 new_suits None acl h = refl

@@ -3,7 +3,6 @@
 #![tactic(auto)]
 
 pub mod blocks;
-pub mod expired_holders;
 pub mod inode;
 pub mod limit;
 pub mod tree;

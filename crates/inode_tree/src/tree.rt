@@ -8,19 +8,17 @@ ghost use Rattle.namespace_rows.specs.Namespace.{has_parent, is_root};
 ghost use Rattle.namespace_rows.specs.Files.{holders, blocks_in};
 ghost use Rattle.namespace_rows.specs.declared.row.Row.{Row};
 ghost use Rattle.namespace_rows.specs.declared.row.Change.TheVariants as change;
-ghost use Rattle.flat_rows.specs.FileOutcome.{is_expired, closed_where_expired};
 ghost use Rattle.flat_rows.specs.Outcome.{is_alone, kind_of_new, with_new};
 ghost use Rattle.flat_rows.specs.Changes.{rows_under, without, moved_row, moved, rewritten, block_added, recovery_ended, recovers_nowhere_else, suits_change, are_paths, child_names};
 ghost use Rattle.namespace_rows.specs.First.{first};
 ghost use Rattle.inode_tree.specs.Visits.{counts_of, is_closed};
 ghost use Rattle.inode_nodes.specs.Node.{rows, row_of};
-ghost use Rattle.inode_nodes.specs.Expired.{past_hard};
 ghost use Rattle.inode_nodes.specs.Part.{IsWhole};
 ghost use Rattle.inode_tree.specs.Tree.{branch_at, IsTree};
 
 use crate::inode::Inode;
 use crate::visit::{self, Counts};
-use crate::{blocks, expired_holders, limit};
+use crate::{blocks, limit};
 use acl_entries::acl::Acl;
 use hdfs_types::reply::ObjectKind;
 use hdfs_values::ids::BlockId;
@@ -196,19 +194,6 @@ impl Tree {
         }
     }
 
-    /// The holders of the files that `close_expired` closes, in path order, one for each file. Costs the whole tree, and for each
-    /// open file these clients.
-    ///
-    /// # Errors
-    /// Out of memory.
-    pub fn holders_expired(&self, past: &[Who]) -> Result<Vec<&Who>, AllocError>
-        ensures { IfOk result (λ found. map (λ who. who.now) found.items ≡ holders (filter (is_expired (past_hard past.now)) self.now)) }
-    {
-        let mut holders = Vec::new(self.alloc);
-        expired_holders::push_expired(&self.root, past, &mut holders)?;
-        Ok(holders)
-    }
-
     /// Whether each path stays within the limits where what stands at a path is moved to another. Where the other path is
     /// deeper or longer, costs also what stands there, up to the first that doesn't fit. Takes no memory.
     pub fn can_move(&self, from: &Path, to: &Path) -> bool
@@ -366,13 +351,5 @@ impl Tree {
     {
         self.root
             .rewrite(path.names(), Change::Recovered(block, bytes));
-    }
-
-    /// Closes the files whose holders are among these clients, but where the length of the last block isn't committed. Costs
-    /// the whole tree, and for each open file these clients; takes no memory (this project's profile of leases).
-    pub fn close_expired(&mut self, past: &[Who])
-        ensures { self.new ≡ map (closed_where_expired (past_hard past.now)) self.old }
-    {
-        self.root.close_expired(past);
     }
 }

@@ -1,4 +1,5 @@
 use hdfs_values::fault::ParseFault;
+use hdfs_values::ids::BlockId;
 use hdfs_values::name::Name;
 use hdfs_values::path::Path;
 use hdfs_values::who::Who;
@@ -6,14 +7,15 @@ use std::alloc::{AllocError, Global};
 use std::collections::{BTreeMap, BTreeSet};
 use std::marker::Model;
 
-/// Where the files are that each client has open: their paths, in which what is beneath a directory stands together. A call costs a
-/// look-up, if nothing else is said.
+/// Where the files are that each client has open: their paths, in which what is beneath a directory stands together; and where those are
+/// whose last block is recovered, by this block. A call costs a look-up, if nothing else is said.
 ///
 /// These are hints, of which no contract speaks: the tree confirms each before it is used, and where one is missing, which is so
 /// only where there was no memory for it, the tree is gone through instead.
 #[derive(Drop)]
 pub struct OpenPaths {
     clients: BTreeMap<Who, BTreeSet<Path>>,
+    recovering: BTreeMap<BlockId, Path>,
     alloc: Global,
 }
 
@@ -52,6 +54,34 @@ fn joined(alloc: Global, front: &Path, behind: &[Name]) -> Result<Path, ParseFau
     Path::parse(alloc, text.as_str())
 }
 
+// What a path at one or beneath it becomes where that moves; nothing for another path, and for one beyond the limits.
+fn moved_under(
+    alloc: Global,
+    path: &Path,
+    from: &Path,
+    to: &Path,
+) -> Result<Option<Path>, AllocError> {
+    if !path.is_at_or_under(from) {
+        return Ok(None);
+    }
+    let Some(behind) = path.names().get(from.depth()..) else {
+        return Ok(None);
+    };
+    match joined(alloc, to, behind) {
+        Ok(moved) => Ok(Some(moved)),
+        Err(ParseFault::OutOfMemory) => Err(AllocError),
+        Err(_) => Ok(None),
+    }
+}
+
+// Moves a path at one or beneath it; another path stays, and so does one that would be beyond the limits.
+fn move_path(alloc: Global, path: &mut Path, from: &Path, to: &Path) -> Result<(), AllocError> {
+    if let Some(moved) = moved_under(alloc, path, from, to)? {
+        *path = moved;
+    }
+    Ok(())
+}
+
 // Gives each path at one and beneath it another beginning.
 fn move_front(
     alloc: Global,
@@ -75,6 +105,7 @@ impl OpenPaths {
     pub fn new(alloc: Global) -> OpenPaths {
         OpenPaths {
             clients: BTreeMap::new(alloc),
+            recovering: BTreeMap::new(alloc),
             alloc,
         }
     }
@@ -122,11 +153,41 @@ impl OpenPaths {
         }
     }
 
+    /// Where the file is whose last block is this one, and recovered, if that is known.
+    pub fn of_recovery(&self, block: BlockId) -> Option<&Path> {
+        self.recovering.get(&block)
+    }
+
+    /// Notes that a file's last block is recovered, which a client had open. Where there is no memory for the path, it is left out.
+    pub fn recover(&mut self, path: &Path, client: &Who, block: BlockId) {
+        self.close(path, client);
+        let _noted = self.put_recovery(path, block);
+    }
+
+    fn put_recovery(&mut self, path: &Path, block: BlockId) -> Result<(), AllocError> {
+        self.recovering.insert(block, path.clone()?)?;
+        Ok(())
+    }
+
+    /// Notes that the recovery of a block has ended. Takes no memory.
+    pub fn end_recovery(&mut self, block: BlockId) {
+        self.recovering.remove(&block);
+    }
+
     /// Notes that what has a path is deleted, where these clients had open what has the path, and the files beneath it: one client
-    /// for each file. Costs these files.
-    pub fn delete(&mut self, path: &Path, clients: &[Who]) {
+    /// for each file; and with it these blocks. Costs these files and blocks.
+    pub fn delete(&mut self, path: &Path, clients: &[Who], blocks: &[BlockId]) {
         if !clients.is_empty() {
             let _noted = self.remove_at(path, clients);
+        }
+        if !self.recovering.is_empty() {
+            self.forget_recoveries(blocks);
+        }
+    }
+
+    fn forget_recoveries(&mut self, blocks: &[BlockId]) {
+        for block in blocks {
+            self.recovering.remove(block);
         }
     }
 
@@ -151,11 +212,27 @@ impl OpenPaths {
         self.open(to, client);
     }
 
-    /// Notes that a directory is moved. Costs a look-up for each client that has files open, and the open files beneath it.
+    /// Notes that a file is moved whose last block is recovered.
+    pub fn move_recovery(&mut self, to: &Path, block: BlockId) {
+        let _noted = self.put_recovery(to, block);
+    }
+
+    /// Notes that a directory is moved. Costs a look-up for each client that has files open, the open files beneath it, and the recoveries
+    /// that run.
     pub fn move_directory(&mut self, from: &Path, to: &Path) {
         if !self.clients.is_empty() {
             self.move_beneath(from, to);
         }
+        if !self.recovering.is_empty() {
+            let _noted = self.move_recoveries(from, to);
+        }
+    }
+
+    fn move_recoveries(&mut self, from: &Path, to: &Path) -> Result<(), AllocError> {
+        for path in self.recovering.values_mut() {
+            move_path(self.alloc, path, from, to)?;
+        }
+        Ok(())
     }
 
     fn move_beneath(&mut self, from: &Path, to: &Path) {

@@ -20,8 +20,8 @@ use Rattle.name_core.specs.declared.namenode.NameCore.TheInside.{Inside}
 use Rattle.name_core.specs.NameCore.{Steps, entry_of}
 use Rattle.name_core.specs.Kept.{IsKept, core_of, entries_of, opening_of}
 use Rattle.file_effects.specs.Effected.{IsExact, renewed_where}
-use Rattle.name_core.specs.Performed.{IsUndone, facts_in}
-use Rattle.name_core.proofs.Stepping.{stepped_rows, stepped_users, same_facts, same_step}
+use Rattle.namesystem.specs.Performed.{IsUndone, facts_in}
+use Rattle.namesystem.proofs.Stepping.{stepped_rows, stepped_users, same_facts, same_step}
 
 -- what a step does to the fields
 pub record Adds (a b : Inside) (e : HistoryEntry) : Type 0 where
@@ -30,7 +30,7 @@ pub record Adds (a b : Inside) (e : HistoryEntry) : Type 0 where
   pub clock : b.clock ≡ max a.clock e.request.moment
   pub stepped : record { verdict = e.verdict; rows = b.system.tree; users = b.system.users } ≡ step (facts_in (last_renewal (entries_of a)) b.clock a.system) a.system.tree a.system.users e.request.caller e.request.op
   pub ring : b.system.ring ≡ ring_by e.request.op e.verdict b.clock a.system.ring
-  pub blocks : b.system.blocks ≡ blocks_by e.request.op e.request.caller e.verdict b.clock a.system.tree a.system.blocks
+  pub blocks : b.system.blocks ≡ blocks_by (facts_in (last_renewal (entries_of a)) b.clock a.system) e.request.op e.request.caller e.verdict a.system.tree a.system.blocks
   pub ledger : b.ledger.rows ≡ a.ledger.rows ++ rows_granted e.place a.system.ring b.clock e.request.caller e.request.op e.verdict
   pub exact : IsExact (renewed_where (renews e.request.op e.verdict) e.request.caller b.clock (last_renewal (entries_of a))) b.system.tree b.system.writers
   pub limits : b.system.writers.leases.limits ≡ a.system.writers.leases.limits
@@ -49,13 +49,16 @@ facts_now a e = facts_with (limits_of a.config) (clock_of (e ∷ entries_of a)) 
 abbrev step_now : Inside → HistoryEntry → Step
 step_now a e = step (facts_now a e) (rows_of (opening_of a) (entries_of a)) (users_of (entries_of a)) e.request.caller e.request.op
 
+-- what a step asks is what the history gives
+facts_are : (a b : Inside) (e : HistoryEntry) → IsKept a → Adds a b e → facts_in (last_renewal (entries_of a)) b.clock a.system ≡ facts_now a e
+facts_are a b e k h =
+    same_facts a.system.writers.leases.limits (limits_of a.config) b.clock (clock_of (e ∷ entries_of a)) (last_renewal (entries_of a)) a.system.tree (rows_of (opening_of a) (entries_of a)) a.system.ring (ring_of (opening_of a) (entries_of a)) a.system.blocks (blocks_of (opening_of a) (entries_of a)) k.limits (clock_more a b e k h) k.tree k.ring k.blocks
+
 -- the step is that of the history
 step_is : (a b : Inside) (e : HistoryEntry) → IsKept a → Adds a b e → record { verdict = e.verdict; rows = b.system.tree; users = b.system.users } ≡ step_now a e
 step_is a b e k h =
     h.stepped
-    ∙ same_step (facts_in (last_renewal (entries_of a)) b.clock a.system) (facts_now a e) a.system.tree (rows_of (opening_of a) (entries_of a)) a.system.users (users_of (entries_of a)) e.request.caller e.request.op
-    (same_facts a.system.writers.leases.limits (limits_of a.config) b.clock (clock_of (e ∷ entries_of a)) (last_renewal (entries_of a)) a.system.tree (rows_of (opening_of a) (entries_of a)) a.system.ring (ring_of (opening_of a) (entries_of a)) a.system.blocks (blocks_of (opening_of a) (entries_of a)) k.limits (clock_more a b e k h) k.tree k.ring k.blocks)
-    k.tree k.users
+    ∙ same_step (facts_in (last_renewal (entries_of a)) b.clock a.system) (facts_now a e) a.system.tree (rows_of (opening_of a) (entries_of a)) a.system.users (users_of (entries_of a)) e.request.caller e.request.op (facts_are a b e k h) k.tree k.users
 
 pub verdict_is : (a b : Inside) (e : HistoryEntry) → IsKept a → Adds a b e → e.verdict ≡ verdict_of (opening_of a) (entries_of a) e.request
 verdict_is a b e k h = ap (λ (s : Step). s.verdict) (step_is a b e k h)
@@ -81,9 +84,9 @@ ring_is a b e k h =
 blocks_are : (a b : Inside) (e : HistoryEntry) → IsKept a → Adds a b e → b.system.blocks ≡ blocks_of (opening_of a) (e ∷ entries_of a)
 blocks_are a b e k h =
     h.blocks
-    ∙ (ap (λ n. blocks_by e.request.op e.request.caller e.verdict n a.system.tree a.system.blocks) (clock_more a b e k h)
-    ∙ (ap (λ rows. blocks_by e.request.op e.request.caller e.verdict (clock_of (e ∷ entries_of a)) rows a.system.blocks) k.tree
-    ∙ ap (λ s. blocks_by e.request.op e.request.caller e.verdict (clock_of (e ∷ entries_of a)) (rows_of (opening_of a) (entries_of a)) s) k.blocks))
+    ∙ (ap (λ f. blocks_by f e.request.op e.request.caller e.verdict a.system.tree a.system.blocks) (facts_are a b e k h)
+    ∙ (ap (λ rows. blocks_by (facts_now a e) e.request.op e.request.caller e.verdict rows a.system.blocks) k.tree
+    ∙ ap (λ s. blocks_by (facts_now a e) e.request.op e.request.caller e.verdict (rows_of (opening_of a) (entries_of a)) s) k.blocks))
 
 ledger_is : (a b : Inside) (e : HistoryEntry) → IsKept a → Adds a b e → b.ledger.rows ≡ ledger_of (opening_of a) (e ∷ entries_of a)
 ledger_is a b e k h =

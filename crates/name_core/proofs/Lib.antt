@@ -1,12 +1,4 @@
-pub mod Stepping
 pub mod Keeping
-pub mod LeasesKept
-pub mod Performing
-pub mod Ticking
-pub mod Rolling
-pub mod Deciding
 pub mod Looking
 pub mod Recording
-pub mod Beating
-pub mod GrantRows
-pub mod GrantsPerformed
+pub mod Recoveries

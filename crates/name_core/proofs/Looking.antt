@@ -12,7 +12,7 @@ use Rattle.history.specs.State.{rows_of, users_of, facts_of}
 use Rattle.name_core.specs.declared.namenode.NameCore.TheInside.{Inside}
 use Rattle.name_core.specs.NameCore.{Looks}
 use Rattle.name_core.specs.Kept.{IsKept, core_of, entries_of, opening_of}
-use Rattle.name_core.proofs.Stepping.{same_step}
+use Rattle.namesystem.proofs.Stepping.{same_step}
 
 pub looked : (a : Inside) (r : Request) (v : Verdict) → IsKept a → ((facts : Facts) → v ≡ (step facts a.system.tree a.system.users r.caller r.op).verdict) → v ≡ verdict_of (opening_of a) (entries_of a) r
 looked a r v k h =

@@ -6,10 +6,10 @@ use Rattle.lease_manager.specs.Leases.{latest_moment}
 use Rattle.history.specs.ClockAndLease.{last_renewal}
 use Rattle.history.specs.Grants.{rows_granted}
 use Rattle.name_core.specs.declared.namenode.NameCore.TheInside.{Inside}
-use Rattle.name_core.specs.declared.told.Told.{Told}
+use Rattle.namesystem.specs.declared.told.Told.{Told}
 use Rattle.name_core.specs.NameCore.{Steps, stepped}
 use Rattle.name_core.specs.Kept.{IsKept, core_of, entries_of, opening_of}
-use Rattle.name_core.specs.Performed.{IsPerformed}
+use Rattle.namesystem.specs.Performed.{IsPerformed}
 use Rattle.name_core.proofs.Keeping.{Adds, steps_is}
 
 pub adds_of : (a b : Inside) (kept r : Request) (n pass index : ℕ) (verdict : Verdict) → kept ≡ r → opening_of b ≡ opening_of a

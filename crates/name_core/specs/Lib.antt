@@ -1,4 +1,2 @@
-pub mod Told
-pub mod Performed
 pub mod NameCore
 pub mod Kept

@@ -1,8 +1,5 @@
 //! The NameNode's core: its history is legal, and its state is what the history gives.
 #![tactic(auto)]
 
-pub mod granting;
 pub mod laws;
 pub mod namenode;
-pub mod namesystem;
-pub mod told;

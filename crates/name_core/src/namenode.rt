@@ -8,8 +8,6 @@ ghost use Rattle.history.specs.Grants.{ledger_of};
 ghost use Rattle.history.specs.State.{rows_of, users_of};
 ghost use Rattle.name_core.specs.NameCore.{Steps, Looks, stepped};
 
-use crate::namesystem::{Namesystem, perform, perform_with_copy};
-use crate::told::Told;
 use block_map::blocks::Blocks;
 use block_tokens::ring::KeyRing;
 use fs_operations::apply::answer_look;
@@ -25,6 +23,8 @@ use history::entry::{Answer, HistoryEntry, copy_of};
 use inode_tree::tree::Tree;
 use lease_manager::open_paths::OpenPaths;
 use lease_manager::writers::Writers;
+use namesystem::namesystem::{Namesystem, perform, perform_with_copy};
+use namesystem::told::Told;
 use principals::users::Users;
 use std::alloc::{AllocError, Global};
 use std::marker::Model;

@@ -2,7 +2,7 @@
 -- (HDFS Architecture, "The File System Namespace" and "Data Replication".)
 use Rattle.std.specs.Prelude.{◌≡◌, ℕ, ◌+◌, ◌-◌, ◌<◌, ◌^◌, ◌==◌, Bool, true, false, ◌&&◌, nat_lt, not, if◌then◌else◌, List, [], ◌∷◌, ◌++◌, map, filter, length, take, drop, is_some, Option, Some, None, unwrap_or}
 use Rattle.std.specs.List.{list_any, flat_map, slice_get}
-use Rattle.std.specs.Option.{option_to_list}
+use Rattle.std.specs.Option.{option_and_then, option_to_list}
 use Rattle.hdfs_values.specs.Text.{same}
 use Rattle.hdfs_types.specs.declared.file.FileState.{FileState}
 use Rattle.hdfs_types.specs.declared.file.FileState.TheVariants.{Closed, Open, Recovering}
@@ -19,16 +19,15 @@ length_of (block ∷ blocks) = unwrap_or block.committed 0 + length_of blocks
 abbrev pub told_length : ℕ → Option ℕ
 told_length length = if nat_lt length (2 ^ 64) then Some length else None
 
-abbrev pub is_uncommitted : Option FileBlock → Bool
-is_uncommitted None = false
-is_uncommitted (Some block) = not (is_some block.committed)
-
 abbrev pub last_of : List FileBlock → Option FileBlock
 last_of blocks = slice_get blocks (length blocks - 1)
 
--- there is a last block, and its length isn't committed
-abbrev pub ends_uncommitted : List FileBlock → Bool
-ends_uncommitted blocks = is_uncommitted (last_of blocks)
+abbrev pub if_uncommitted : FileBlock → Option ℕ
+if_uncommitted block = if is_some block.committed then None else Some block.id
+
+-- the last block, where its length isn't committed
+abbrev pub unfinished : List FileBlock → Option ℕ
+unfinished blocks = option_and_then if_uncommitted (last_of blocks)
 
 -- a new file, open for a client to write
 abbrev pub new_file : ℕ → List ℕ → FileRow

@@ -74,14 +74,15 @@ impl FileBlocks {
         length_of(front)?.checked_add(bytes)
     }
 
-    /// Whether the length of the last block isn't committed.
-    pub fn ends_uncommitted(&self) -> bool
-        ensures { result ≡ spec.ends_uncommitted self.now }
+    /// The last block, where its length isn't committed.
+    pub fn unfinished(&self) -> Option<BlockId>
+        ensures { result ≡ spec.unfinished self.now }
     {
-        match self.list.last() {
-            Some(block) => block.committed.is_none(),
-            None => false,
+        let last = self.list.last()?;
+        if last.committed.is_some() {
+            return None;
         }
+        Some(last.id)
     }
 
     /// The last block.

@@ -28,7 +28,8 @@ use Rattle.namespace_rows.proofs.PathOrders.{same_path_is}
 use Rattle.namespace_rows.proofs.Tests.{both, and}
 use Rattle.flat_rows.specs.BlockOutcome.{last_committed, with_block_at, ended_at}
 use Rattle.flat_rows.specs.Changes.{without, moved, moved_row, rows_under, changed, edited, rewritten, block_added}
-use Rattle.flat_rows.specs.FileOutcome.{directory_there, file_there, holder_at, state_after_append}
+use Rattle.flat_rows.specs.FileOutcome.{directory_there, file_there, holder_at}
+use Rattle.flat_rows.specs.Takeover.{unfinished_at, state_after_append}
 use Rattle.flat_rows.specs.Facts.{Facts}
 use Rattle.flat_rows.specs.Outcome.{first_refusal, first_some, beneath_file, rows_after, with_new, made_at, new_row, new_rows, mode_of_new, file_of_new, with_mode_at, with_owner_at, with_acl_at, with_list_at}
 use Rattle.flat_rows.proofs.Changes.{same_self, any_kept, changed_path}
@@ -311,11 +312,12 @@ module _ (rows : List Row) (other : List (List ℕ)) where
     stays (op.SetMode path mode) row h apart there = mode_elsewhere path mode (row_at path rows) apart ∙ there
     stays (op.SetOwner path owner group) row h apart there = owner_elsewhere path owner group (row_at path rows) apart ∙ there
     stays (op.SetAcl path form) row h apart there = acl_elsewhere path form (row_at path rows) apart ∙ there
-    stays (op.Append path) row h apart there = rewritten_elsewhere rows other path (change.State (state_after_append name (holder_at (row_at path rows)))) apart ∙ there
+    stays (op.Append path) row h apart there = rewritten_elsewhere rows other path (change.State (state_after_append facts.blocks facts.now name (holder_at (row_at path rows)) (unfinished_at (row_at path rows)))) apart ∙ there
     stays (op.AddBlock path last) row h apart there = with_block_elsewhere rows other path last apart facts.blocks.known.next_block ∙ there
     stays (op.Complete path last) row h apart there = ended_elsewhere rows other path last apart ∙ there
     stays (op.SetReplication path replication) row h apart there = rewritten_elsewhere rows other path (change.Replication replication) apart ∙ there
     stays op.Tick row h apart there = cc
+    stays (op.CommitRecovery recovered) row h apart there = cc
     stays _ row h apart there = there
 
     pub appears_nowhere_else : (what : Op) → concerns what other ≡ false → is_above_named other what ≡ false → row_at other rows ≡ None → row_at other (rows_after facts what name rows) ≡ None
@@ -331,11 +333,12 @@ module _ (rows : List Row) (other : List (List ℕ)) where
     appears_nowhere_else (op.SetMode path mode) apart not_above there = mode_elsewhere path mode (row_at path rows) apart ∙ there
     appears_nowhere_else (op.SetOwner path owner group) apart not_above there = owner_elsewhere path owner group (row_at path rows) apart ∙ there
     appears_nowhere_else (op.SetAcl path form) apart not_above there = acl_elsewhere path form (row_at path rows) apart ∙ there
-    appears_nowhere_else (op.Append path) apart not_above there = rewritten_elsewhere rows other path (change.State (state_after_append name (holder_at (row_at path rows)))) apart ∙ there
+    appears_nowhere_else (op.Append path) apart not_above there = rewritten_elsewhere rows other path (change.State (state_after_append facts.blocks facts.now name (holder_at (row_at path rows)) (unfinished_at (row_at path rows)))) apart ∙ there
     appears_nowhere_else (op.AddBlock path last) apart not_above there = with_block_elsewhere rows other path last apart facts.blocks.known.next_block ∙ there
     appears_nowhere_else (op.Complete path last) apart not_above there = ended_elsewhere rows other path last apart ∙ there
     appears_nowhere_else (op.SetReplication path replication) apart not_above there = rewritten_elsewhere rows other path (change.Replication replication) apart ∙ there
     appears_nowhere_else op.Tick apart not_above there = cc
+    appears_nowhere_else (op.CommitRecovery recovered) apart not_above there = cc
     appears_nowhere_else _ apart not_above there = there
 
 -- ---- what is moved

@@ -211,6 +211,7 @@ module _ (rows : List Row) (users : Users) (name : List ℕ) where
   pub node_held : IsNamespace rows → (what : Op) → decision rows users name what ≡ None → is_for_nodes what ≡ true → is_some (node_of name) ≡ true
   node_held namespace op.Heartbeat h t = node_met namespace h
   node_held namespace (op.Reported replica) h t = node_met namespace h
+  node_held namespace (op.CommitRecovery recovered) h t = node_met namespace h
   node_held namespace _ h t = cc
 
   -- ---- what is made, read and altered

@@ -14,10 +14,12 @@ use Rattle.namespace_rows.specs.declared.row.Row.{Row}
 use Rattle.namespace_rows.specs.declared.row.Change.{Change}
 use Rattle.namespace_rows.specs.declared.row.Change.TheVariants as change
 use Rattle.namespace_rows.specs.Rows.{row_at}
-use Rattle.namespace_rows.specs.Files.{with_block}
+use Rattle.namespace_rows.specs.Files.{with_block, recovered_at}
 use Rattle.flat_rows.specs.BlockOutcome.{last_committed, with_block_at, ended_at}
 use Rattle.flat_rows.specs.Changes.{changed, edited, rewritten, block_added}
-use Rattle.flat_rows.specs.FileOutcome.{holder_at, state_after_append, is_expired, closed_where_expired}
+use Rattle.flat_rows.specs.FileOutcome.{holder_at}
+use Rattle.flat_rows.specs.Takeover.{unfinished_at, state_after_append, sought_in, begun_in, ticked}
+use Rattle.flat_rows.proofs.Takeovers.{taken_edits}
 use Rattle.flat_rows.specs.Facts.{Facts}
 use Rattle.flat_rows.specs.Outcome.{rows_after, with_mode_at, with_owner_at, with_acl_at, with_list_at}
 use Rattle.permission_laws.specs.Attempt.{is_about_files, is_about_lists, is_about_owners}
@@ -122,25 +124,13 @@ module _ (rows : List Row) (path : List (List ℕ)) (row later : Row) (there : r
 
   module _ (facts : Facts) (name : List ℕ) where
     pub files_alone : (what : Op) → is_about_files what ≡ true → row_at path (rows_after facts what name rows) ≡ Some later → with_file_of row later ≡ row
-    files_alone (op.Append top) h after = where_same with_file_of top (change.State (state_after_append name (holder_at (row_at top rows)))) (λ r. refl) (λ r. refl) (λ r. refl) after
+    files_alone (op.Append top) h after = where_same with_file_of top (change.State (state_after_append facts.blocks facts.now name (holder_at (row_at top rows)) (unfinished_at (row_at top rows)))) (λ r. refl) (λ r. refl) (λ r. refl) after
     files_alone (op.AddBlock top last) h after = (added_alone path top last facts.blocks.known.next_block rows).alone row later there after
     files_alone (op.Complete top last) h after = (ended_alone path top last rows).alone row later there after
     files_alone (op.SetReplication top replication) h after = where_same with_file_of top (change.Replication replication) (λ r. refl) (λ r. refl) (λ r. refl) after
-    files_alone op.Tick h after = mapped with_file_of (closed_where_expired facts.leases) keeps stays after
-      where
-        keeps : (r : Row) → (closed_where_expired facts.leases r).path ≡ r.path
-        keeps r = by (is_expired facts.leases r)
-          where
-            by : (b : Bool) → (cond b (changed (change.State Closed) r) r).path ≡ r.path
-            by true = refl
-            by false = refl
-
-        stays : (r : Row) → with_file_of r (closed_where_expired facts.leases r) ≡ r
-        stays r = by (is_expired facts.leases r)
-          where
-            by : (b : Bool) → with_file_of r (cond b (changed (change.State Closed) r) r) ≡ r
-            by true = refl
-            by false = refl
+    files_alone op.Tick h after =
+        (edited_alone path rows (ticked facts (begun_in facts rows)) (λ r. taken_edits (begun_in facts rows) facts.now (sought_in facts r) r)).alone row later there after
+    files_alone (op.CommitRecovery own) h after = (edited_alone path rows (edited (recovered_at own.block own.length)) (λ r. refl)).alone row later there after
     files_alone _ h after = cc
 
     list_given : (top : List (List ℕ)) (acl : Acl) → row_at path (rewritten top (change.List acl) rows) ≡ Some later → with_list_of row later ≡ row

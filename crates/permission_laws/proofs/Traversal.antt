@@ -249,6 +249,7 @@ module _ (rows : List Row) (namespace : IsNamespace rows) (users : Users) (name 
   reached op.Tick = administered
   reached op.Heartbeat = nodes_reached
   reached (op.Reported replica) = nodes_reached
+  reached (op.CommitRecovery recovered) = nodes_reached
 
   -- ---- turned back at a closed directory
 

@@ -135,6 +135,7 @@ is_about_files (op.AddBlock path last) = true
 is_about_files (op.Complete path last) = true
 is_about_files (op.SetReplication path replication) = true
 is_about_files op.Tick = true
+is_about_files (op.CommitRecovery recovered) = true
 is_about_files _ = false
 
 -- or about access lists
@@ -163,9 +164,10 @@ written (op.Complete path last) = Some path
 written _ = None
 
 -- what stands at a path is an operation's own matter: the path is named, or beneath one that something is taken from or moved to. A
--- tick is about all files.
+-- tick is about all files, and the end of a recovery names a block, which any may have.
 abbrev pub concerns : Op → List (List ℕ) → Bool
 concerns (op.Delete top recursive) path = is_prefix top path
 concerns (op.Rename from to) path = is_prefix from path || is_prefix to path
 concerns op.Tick path = true
+concerns (op.CommitRecovery recovered) path = true
 concerns op path = is_named path op

@@ -475,7 +475,7 @@ fn demands_of<'a>(alloc: Global, op: &'a Op) -> Result<Vec<Demand<'a>>, AllocErr
         Op::AddUser(_, _) => needs_of_administration(alloc),
         Op::SetGroups(_, _) => needs_of_administration(alloc),
         Op::RollKey(_) | Op::Tick => needs_of_administration(alloc),
-        Op::Heartbeat | Op::Reported(_) => needs_of_node(alloc),
+        Op::Heartbeat | Op::Reported(_) | Op::CommitRecovery(_) => needs_of_node(alloc),
     }
 }
 

@@ -12,7 +12,7 @@ use hdfs_types::located::{AddedBlock, OpenedFile};
 use hdfs_types::reply::{
     AclStatus, BoxedAcl, BoxedStatus, ContentSummary, Expired, FileStatus, Names, Reply,
 };
-use hdfs_values::ids::Serial;
+use hdfs_values::ids::{BlockId, Serial, Stamp};
 
 fn is_same_detail(detail: &FileDetail, other: &FileDetail) -> bool
     ensures { Decides result (detail.now ≡ other.now) }
@@ -156,6 +156,15 @@ fn is_commands(commands: &Commands, other: &Reply) -> bool
     }
 }
 
+fn is_recovering(block: BlockId, stamp: Stamp, other: &Reply) -> bool
+    ensures { Decides result (made.Recovering block stamp ≡ other.now) }
+{
+    match other {
+        Reply::Recovering(same, newest) => block == *same && stamp == *newest,
+        _ => false,
+    }
+}
+
 /// Whether two replies are one.
 pub fn is_same_reply(reply: &Reply, other: &Reply) -> bool
     ensures { Decides result (reply.now ≡ other.now) }
@@ -163,6 +172,7 @@ pub fn is_same_reply(reply: &Reply, other: &Reply) -> bool
     match reply {
         Reply::Empty => matches!(other, Reply::Empty),
         Reply::Released => matches!(other, Reply::Released),
+        Reply::Recovering(block, stamp) => is_recovering(*block, *stamp, other),
         Reply::Status(status) => is_status(status, other),
         Reply::Acl(acl) => is_acl(acl, other),
         Reply::Names(names) => is_names(names, other),

@@ -4,12 +4,13 @@ ghost use Rattle.hdfs_types.specs.Verb as verbs;
 ghost use Rattle.hdfs_types.specs.declared.op.Op.TheVariants as made;
 
 use crate::acls::is_same_change;
+use crate::commands::are_same_nodes;
 use crate::names::{are_same_groups, is_same_given, is_same_path, is_same_who};
 use hdfs_types::file::LastBlock;
 use hdfs_types::given_name::GivenName;
 use hdfs_types::key::Key;
 use hdfs_types::op::{Op, Request};
-use hdfs_types::replica::ReportedReplica;
+use hdfs_types::replica::{RecoveredBlock, ReportedReplica};
 use hdfs_types::verb::{Grant, Read, Update, Verb, Write};
 use hdfs_values::groups::Groups;
 use hdfs_values::path::Path;
@@ -218,6 +219,24 @@ fn is_reported(replica: ReportedReplica, other: &Op) -> bool
     }
 }
 
+fn is_same_recovered(one: &RecoveredBlock, other: &RecoveredBlock) -> bool
+    ensures { Decides result (one.now ≡ other.now) }
+{
+    one.block == other.block
+        && one.stamp == other.stamp
+        && one.length == other.length
+        && are_same_nodes(&one.nodes, &other.nodes)
+}
+
+fn is_commit_recovery(recovered: &RecoveredBlock, other: &Op) -> bool
+    ensures { Decides result (made.CommitRecovery recovered.now ≡ other.now) }
+{
+    match other {
+        Op::CommitRecovery(same) => is_same_recovered(recovered, same),
+        _ => false,
+    }
+}
+
 fn is_same_read(read: &Read<'_>, other: &Op) -> bool
     ensures { Decides result (verbs.read_op read.now ≡ other.now) }
 {
@@ -250,7 +269,6 @@ fn is_same_write(write: &Write<'_>, other: &Op) -> bool
         Write::Create(path, mode, replication, over) => {
             is_create(path, *mode, *replication, *over, other)
         }
-        Write::Append(path) => is_append(path, other),
         Write::Complete(path, last) => is_complete(path, *last, other),
         Write::Delete(path, recursive) => is_delete(path, *recursive, other),
     }
@@ -275,11 +293,13 @@ pub fn is_same_op(op: &Op, other: &Op) -> bool
         Verb::Update(update) => is_same_update(&update, other),
         Verb::Write(write) => is_same_write(&write, other),
         Verb::Grant(grant) => is_same_grant(&grant, other),
+        Verb::Append(path) => is_append(path, other),
         Verb::SetReplication(path, replication) => is_set_replication(path, replication, other),
         Verb::RollKey(key) => is_roll_key(key, other),
         Verb::Renew => matches!(other, Op::Renew),
         Verb::Tick => matches!(other, Op::Tick),
         Verb::Reported(replica) => is_reported(replica, other),
+        Verb::CommitRecovery(recovered) => is_commit_recovery(recovered, other),
     }
 }
 

@@ -6,7 +6,7 @@ use Rattle.hdfs_values.specs.declared.fault.IllFormed.{IllFormed}
 use Rattle.hdfs_types.specs.Reply.{status_text, acl_status_text, names_text, summary_text, refusal_text}
 use Rattle.hdfs_types.specs.declared.reply.Expired.{Expired as ExpiredFiles}
 use Rattle.hdfs_types.specs.declared.reply.Reply.{Reply}
-use Rattle.hdfs_types.specs.declared.reply.Reply.TheVariants.{Empty, Status, Acl, Names, Summary, Deleted, Released, Closed, Opened, Added, Expired, Serial, Commands}
+use Rattle.hdfs_types.specs.declared.reply.Reply.TheVariants.{Empty, Status, Acl, Names, Summary, Deleted, Released, Recovering, Closed, Opened, Added, Expired, Serial, Commands}
 use Rattle.flat_rows.specs.DenialText.{denial_text}
 use Rattle.flat_rows.specs.declared.verdict.Verdict.{Verdict}
 use Rattle.flat_rows.specs.declared.verdict.Verdict.TheVariants.{Done, Denied, Refused}
@@ -27,6 +27,7 @@ reply_text rows (Names names) = codes "ok list" ++ names_text names
 reply_text rows (Summary summary) = codes "ok summary" ++ summary_text summary
 reply_text rows (Deleted count) = codes "ok deleted " ++ decimal count
 reply_text rows Released = codes "ok released"
+reply_text rows (Recovering block stamp) = codes "ok recovering " ++ (decimal block ++ (32 ∷ decimal stamp))
 reply_text rows (Closed bytes) = codes "ok closed " ++ decimal bytes
 reply_text rows (Opened opened) = codes "ok open " ++ opened_text (rows + 1) opened
 reply_text rows (Added added) = codes "ok block " ++ added_text (rows + 1) added

@@ -1,12 +1,14 @@
 ghost use Rattle.std.specs.Prelude.{◌≡◌, ◌++◌, Some, codes};
 ghost use Rattle.std.specs.Fmt.{DisplaysOnOk};
 ghost use Rattle.std.specs.Option.{option_map};
+ghost use Rattle.hdfs_types.specs.declared.reply.Reply.TheVariants.{Recovering};
 ghost use Rattle.script_text.specs.AnswerText as spec;
 
 use crate::blocks::{AddedBehind, OpenedBehind};
 use flat_rows::verdict::Verdict;
 use hdfs_types::reply::{Expired, Reply};
 use hdfs_values::fault::IllFormed;
+use hdfs_values::ids::{BlockId, Stamp};
 use std::fmt;
 
 /// What is printed for a line of a script.
@@ -57,6 +59,7 @@ fn print_reply<W: fmt::Write>(rows: usize, reply: &Reply, f: &mut fmt::Formatter
         Reply::Summary(summary) => print_behind("ok summary", summary, f),
         Reply::Deleted(count) => print_behind("ok deleted ", count, f),
         Reply::Released => f.write_str("ok released"),
+        Reply::Recovering(block, stamp) => print_recovering(*block, *stamp, f),
         Reply::Closed(bytes) => print_behind("ok closed ", bytes, f),
         Reply::Opened(opened) => print_behind("ok open ", &OpenedBehind { rows, opened }, f),
         Reply::Added(added) => print_behind("ok block ", &AddedBehind { rows, added }, f),
@@ -75,6 +78,19 @@ fn print_behind<T: fmt::Display, W: fmt::Write>(
     ensures { DisplaysOnOk W.write_str_gives f.old result (option_map (λ text. word.now ++ text) (T.output value.now)) f.new }
 {
     write!(f, "{word}{value}")
+}
+
+/// Which block is recovered, and under which stamp.
+fn print_recovering<W: fmt::Write>(
+    block: BlockId,
+    stamp: Stamp,
+    f: &mut fmt::Formatter<W>,
+) -> fmt::Result
+    ensures { DisplaysOnOk W.write_str_gives f.old result (Some (spec.reply_text 0 (Recovering block stamp))) f.new }
+{
+    let block = block.get();
+    let stamp = stamp.get();
+    write!(f, "ok recovering {block} {stamp}")
 }
 
 /// How many files a tick closed, and of how many the last block is recovered.

@@ -13,8 +13,9 @@ use Rattle.principals.specs.Users.{Users, Caller}
 use Rattle.namespace_rows.specs.declared.file_row.FileRow.{FileRow}
 use Rattle.namespace_rows.specs.declared.row.Row.{Row}
 use Rattle.namespace_rows.specs.Rows.{row_at}
-use Rattle.namespace_rows.specs.Files.{holder_of, holder_of_file}
-use Rattle.flat_rows.specs.FileOutcome.{directory_there, of_file, if_some_file, refused_takeover, refused_write, appended_reply, holder_at}
+use Rattle.namespace_rows.specs.Files.{holder_of, holder_of_file, unfinished}
+use Rattle.flat_rows.specs.FileOutcome.{directory_there, of_file, if_some_file, refused_write, holder_at}
+use Rattle.flat_rows.specs.Takeover.{refused_append, appended_reply, unfinished_of, unfinished_at}
 use Rattle.flat_rows.specs.BlockOutcome.{replication_of, replication_at, refused_last, refused_new, refused_end, added, added_to, opened, blocks_of, blocks_at, bytes_behind, bytes_behind_at}
 use Rattle.flat_rows.specs.Facts.{Facts}
 use Rattle.required_rights.specs.RequiredRights.{Demand, required_rights}
@@ -24,6 +25,9 @@ use Rattle.perm_walk.specs.Found.{file_at_row, IsFileThere}
 use Rattle.perm_walk.specs.JudgedStep.{judged_step}
 use Rattle.perm_walk.proofs.Steps.{as_step}
 use Rattle.write_rules.specs.Judged.{refused_or}
+use Rattle.write_rules.specs.declared.appends.JudgedAppend.{JudgedAppend}
+use Rattle.write_rules.specs.declared.appends.JudgedAppend.TheVariants as form
+use Rattle.write_rules.specs.JudgedAppends.{IsJudgedFile, IsJudgedAt}
 
 -- where nothing stands against any verb on a file, what stands against this one
 pub free_at_file : (path : List (List ℕ)) (rows : List Row) (rest : List (Option Refusal)) → first_some (refusals_of_file path rows) ≡ None → first_some (refusals_of_file path rows ++ rest) ≡ first_some rest
@@ -44,6 +48,10 @@ pub holder_of_this : (at : Option Row) (file : FileRow) → file_at_row at ≡ S
 holder_of_this None file h = cc
 holder_of_this (Some row) file h = ap holder_of_file h
 
+unfinished_of_this : (at : Option Row) (file : FileRow) → file_at_row at ≡ Some file → unfinished_at at ≡ unfinished file.blocks
+unfinished_of_this None file h = cc
+unfinished_of_this (Some row) file h = ap unfinished_of h
+
 -- what an append to a file answers
 or_none : (refusal : Option Refusal) → option_or refusal None ≡ refusal
 or_none None = refl
@@ -54,15 +62,22 @@ verdict_is facts rows users caller op None = refl
 verdict_is facts rows users caller op (Some refusal) = refl
 
 pub append_verdict : (facts : Facts) (path : List (List ℕ)) (rows : List Row) (users : Users) (caller : Caller) (needs : List Demand) (file : FileRow) → IsFileThere path rows file → denial_among rows caller needs ≡ None
-    → refused_or (appended_reply (holder_of file.state)) (refused_takeover facts.leases caller.name file) ≡ (judged_step facts rows users caller needs (Append path)).verdict
+    → refused_or (appended_reply facts.blocks (holder_of file.state) (unfinished file.blocks)) (refused_append facts caller.name file) ≡ (judged_step facts rows users caller needs (Append path)).verdict
 append_verdict facts path rows users caller needs file there granted =
-    let takeover = of_file (refused_takeover facts.leases caller.name) (row_at path rows) in
-    let refusal : first_refusal facts caller.name (Append path) rows users ≡ refused_takeover facts.leases caller.name file =
-    free_at_file path rows (takeover ∷ []) there.free ∙ or_none takeover ∙ of_this (refused_takeover facts.leases caller.name) (row_at path rows) file there.at in
-    ap (refused_or (appended_reply (holder_of file.state))) (sym refusal)
-    ∙ ap (λ holder. refused_or (appended_reply holder) (first_refusal facts caller.name (Append path) rows users)) (sym (holder_of_this (row_at path rows) file there.at))
+    let takeover = of_file (refused_append facts caller.name) (row_at path rows) in
+    let refusal : first_refusal facts caller.name (Append path) rows users ≡ refused_append facts caller.name file =
+    free_at_file path rows (takeover ∷ []) there.free ∙ or_none takeover ∙ of_this (refused_append facts caller.name) (row_at path rows) file there.at in
+    ap (refused_or (appended_reply facts.blocks (holder_of file.state) (unfinished file.blocks))) (sym refusal)
+    ∙ ap (λ holder. refused_or (appended_reply facts.blocks holder (unfinished file.blocks)) (first_refusal facts caller.name (Append path) rows users)) (sym (holder_of_this (row_at path rows) file there.at))
+    ∙ ap (λ block. refused_or (appended_reply facts.blocks (holder_at (row_at path rows)) block) (first_refusal facts caller.name (Append path) rows users)) (sym (unfinished_of_this (row_at path rows) file there.at))
     ∙ verdict_is facts rows users caller.name (Append path) (first_refusal facts caller.name (Append path) rows users)
     ∙ ap (λ denied. (denied_or_outcome facts rows users caller.name (Append path) denied).verdict) (sym granted)
+
+-- what was found of the file is found at the path
+pub judged_at : (path : List (List ℕ)) (rows : List Row) (file : FileRow) → file_at_row (row_at path rows) ≡ Some file → (judged : JudgedAppend) → IsJudgedFile file judged → IsJudgedAt path rows judged
+judged_at path rows file at (form.Verdict verdict) found = found
+judged_at path rows file at form.Closed found = (file, at, found)
+judged_at path rows file at (form.Held holder block) found = (file, at, found)
 
 -- ---- the blocks of a file
 

@@ -5,9 +5,7 @@ ghost use Rattle.principals.specs.Users.{Users};
 ghost use Rattle.namespace_rows.specs.declared.row.Row.{Row};
 ghost use Rattle.required_rights.specs.RequiredRights.{required_rights};
 ghost use Rattle.flat_rows.specs.Decision.{decision};
-ghost use Rattle.flat_rows.specs.FileOutcome.{LeaseFacts, refused_takeover, appended_reply};
 ghost use Rattle.flat_rows.specs.Facts.{Facts};
-ghost use Rattle.namespace_rows.specs.Files.{holder_of};
 ghost use Rattle.flat_rows.specs.Outcome as spec;
 ghost use Rattle.flat_rows.specs.Outcome.{is_alone};
 ghost use Rattle.flat_rows.specs.Changes.{rows_under};
@@ -16,20 +14,18 @@ ghost use Rattle.perm_walk.specs.Reached.{IsReach};
 ghost use Rattle.perm_walk.specs.Walked.{AreOn};
 ghost use Rattle.perm_walk.specs.JudgedStep.{judged_step};
 ghost use Rattle.hdfs_types.specs.Verb.{write_op};
-ghost use Rattle.write_rules.specs.Judged.{refused_or, verdict_under, IsJudged};
 
 use crate::ends::completed;
 use block_map::blocks::Blocks;
 use flat_rows::denial::Denial;
 use flat_rows::verdict::Verdict;
-use hdfs_types::file::{FileState, LastBlock};
+use hdfs_types::file::LastBlock;
 use hdfs_types::op::Op;
 use hdfs_types::reply::{ObjectKind, Refusal, Reply};
 use hdfs_types::verb::Write;
 use hdfs_values::path::Path;
 use hdfs_values::who::Who;
 use inode_tree::tree::Tree;
-use namespace_rows::file_row::FileRow;
 use perm_walk::found::{Found, FoundFile, counts_at, standing, standing_file};
 use perm_walk::reach::Reach;
 use perm_walk::walk::{Walked, walk, walk_along};
@@ -37,16 +33,6 @@ use principals::caller::Caller;
 use principals::users::Users;
 use required_rights::demand::Needs;
 use std::alloc::{AllocError, Global};
-
-/// The judgement on a verb that writes files, before anything changes.
-#[derive(Drop)]
-pub enum Judged {
-    /// The verdict, however leases stand.
-    Verdict(Verdict),
-    /// An append to a file that another client has open. While that client's lease is live it is refused as `LeaseHeld`; else the
-    /// file is released, but where the length of its last block isn't committed, which is refused as `TooFewNodes`.
-    Held { holder: Who, ends_uncommitted: bool },
-}
 
 // ---- creating
 
@@ -127,54 +113,6 @@ pub fn judge_complete(
     completed(caller.name(), blocks, last, file)
 }
 
-// ---- appending
-
-/// Judges whether a client can append to a file.
-fn appended(client: &Who, file: &FileRow) -> Result<Judged, AllocError>
-    ensures { (leases : LeaseFacts) → IfOk result (λ judged. verdict_under leases judged ≡ refused_or (appended_reply (holder_of file.now.state)) (refused_takeover leases client.now file.now)) }
-{
-    let holder = match &file.state {
-        FileState::Closed => return Ok(Judged::Verdict(Verdict::Done(Reply::Empty))),
-        FileState::Recovering(_, _, _) => {
-            return Ok(Judged::Verdict(Verdict::Refused(Refusal::RecoveryRunning)));
-        }
-        FileState::Open(holder) => holder,
-    };
-    if client == holder {
-        return Ok(Judged::Verdict(Verdict::Refused(Refusal::LeaseHeld(holder.clone()?))));
-    }
-    Ok(Judged::Held {
-        holder: holder.clone()?,
-        ends_uncommitted: file.blocks.ends_uncommitted(),
-    })
-}
-
-/// Judges by its needs whether the caller can append to a file, over what is lent: one that is closed is opened, and one that
-/// another client has open is released where his lease isn't live. One descent along the path; takes memory only for a denial, a
-/// refusal and the other client's name.
-///
-/// # Errors
-/// Out of memory.
-pub fn judge_append(
-    alloc: Global,
-    tree: &Tree,
-    caller: &Caller,
-    needs: &Needs,
-    path: &Path,
-) -> Result<Judged, AllocError>
-    requires { AreOn path.now needs.now }
-    ensures { (facts : Facts) (users : Users) → IfOk result (λ judged. verdict_under facts.leases judged ≡ (judged_step facts tree.now users caller.now needs.now (Op.Append path.now)).verdict) }
-{
-    let reach = match walk_along(alloc, tree, caller, needs, path)? {
-        Walked::Denied(denial) => return Ok(Judged::Verdict(Verdict::Denied(denial))),
-        Walked::Reached(reach) => reach,
-    };
-    match standing_file(alloc, reach)? {
-        FoundFile::There(file) => appended(caller.name(), file),
-        FoundFile::Refused(refusal) => Ok(Judged::Verdict(Verdict::Refused(refusal))),
-    }
-}
-
 // ---- deleting
 
 /// How many files and directories a deletion takes away: one where it isn't recursive, since nothing is beneath then. A number
@@ -229,8 +167,8 @@ pub fn judge_delete(
 
 // ---- all
 
-/// Judges with its needs a verb that writes a file, or a deletion, and changes nothing: the first need that fails, or else the
-/// first refusal of the operation's list that applies, or else done; what depends on the lease of another client is left open. Costs the path, one
+/// Judges with its needs a verb that makes or closes a file, or a deletion, and changes nothing: the first need that fails, or else the
+/// first refusal of the operation's list that applies, or else done. Costs the path, one
 /// look-up in a map for each name; `complete` also the reports of the last block and the blocks of the file, and a recursive `delete` the sub-tree (HDFS
 /// Architecture, "The File System Namespace"; HDFS Permissions Guide, "Permission Checks").
 ///
@@ -244,22 +182,21 @@ pub fn judge(
     caller: &Who,
     needs: &Needs,
     write: &Write<'_>,
-) -> Result<Judged, AllocError>
+) -> Result<Verdict, AllocError>
     requires { needs.now ≡ required_rights (write_op write.now) }
-    ensures { (facts : Facts) → facts.blocks ≡ blocks.now → IfOk result (IsJudged facts tree.now users.now caller.now (write_op write.now)) }
+    ensures { (facts : Facts) → facts.blocks ≡ blocks.now → IfOk result (λ verdict. verdict ≡ (spec.step facts tree.now users.now caller.now (write_op write.now)).verdict) }
 {
     let asking = users.caller(caller);
     match write {
-        Write::Create(path, _, _, over) => Ok(Judged::Verdict(judge_create(
-            alloc, tree, &asking, needs, path, *over,
-        )?)),
-        Write::Append(path) => judge_append(alloc, tree, &asking, needs, path),
-        Write::Complete(path, last) => Ok(Judged::Verdict(judge_complete(
-            alloc, tree, blocks, &asking, needs, path, *last,
-        )?)),
-        Write::Delete(path, recursive) => Ok(Judged::Verdict(judge_delete(
-            alloc, tree, &asking, needs, path, *recursive,
-        )?)),
+        Write::Create(path, _, _, over) => {
+            judge_create(alloc, tree, &asking, needs, path, *over)
+        }
+        Write::Complete(path, last) => {
+            judge_complete(alloc, tree, blocks, &asking, needs, path, *last)
+        }
+        Write::Delete(path, recursive) => {
+            judge_delete(alloc, tree, &asking, needs, path, *recursive)
+        }
     }
 }
 

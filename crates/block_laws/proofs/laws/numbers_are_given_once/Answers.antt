@@ -1,4 +1,4 @@
-use Rattle.block_laws.proofs.Histories.{ids_ascend, stamps_ascend, known_were_given, stamps_are_own}
+use Rattle.block_laws.proofs.Histories.{ids_ascend, stamps_ascend, known_were_given, stamps_are_own, stamps_are_own_ever}
 use Rattle.block_laws.proofs.laws.numbers_are_given_once.Goals as goal
 
 pub returns-clause-ids : goal.returns-clause-ids
@@ -12,3 +12,6 @@ returns-clause-known c = known_were_given
 
 pub returns-clause-own : goal.returns-clause-own
 returns-clause-own c = stamps_are_own
+
+pub returns-clause-ever : goal.returns-clause-ever
+returns-clause-ever c = stamps_are_own_ever

@@ -1,17 +1,17 @@
 use Rattle.std.proofs.Common.{◌≡◌, ℕ, ◌+◌, List, sym, ap, ◌∙◌, Option}
-use Rattle.hdfs_types.specs.declared.op.Request.{Request}
 use Rattle.node_calls.specs.declared.message.Message.{Message}
 use Rattle.datanode.specs.NodeStep.{Node}
 use Rattle.block_recovery.specs.Plans.{PlanTable}
 use Rattle.cluster_trace.specs.Trace.{State, named, delivered, message_at, left_by, outcome_of}
 use Rattle.cluster_trace.specs.declared.outcome.ClusterRefusal.TheVariants.{NoMessage}
 use Rattle.cluster_trace.specs.declared.outcome.EventAnswer.TheVariants.{Lost}
+use Rattle.cluster_trace.specs.declared.outcome.Outcome.{Outcome}
 use Rattle.cluster_parts.specs.Carried.{found_message, carried_out}
 use Rattle.cluster_parts.specs.declared.sent.Batch.{Batch}
 use Rattle.cluster_parts.specs.declared.carried.Carried.TheVariants as carried
 use Rattle.cluster_core.specs.Cluster.{answer_outcome, led_outcome}
 use Rattle.cluster_core.proofs.Naming.{state_with}
-use Rattle.cluster_core.proofs.Answering.{on_ok, nowhere_outcome, carried_outcome, carried_led, reports, reports_stay, reports_leave}
+use Rattle.cluster_core.proofs.Answering.{on_ok, if_ok, nowhere_outcome, carried_outcome, carried_led, told_is, told_stays, told_leaves}
 use Rattle.cluster_core.proofs.Delivering.{found_is, carried_is}
 use Rattle.cluster_core.proofs.cluster.Cluster.deliver.Goals as goal
 
@@ -57,26 +57,51 @@ returns-in-Led-clause-outcome c =
     ∙ ap (λ (own : Option Message). outcome_of state (delivered state c.args.now own)) is
     ∙ ap (λ (own : State). outcome_of own (delivered own c.args.now (message_at c.args.number own.messages))) c.self.view_is
 
-pub returns-in_ok-request-in-Report-clause-ok : goal.returns-in_ok-request-in-Report-clause-ok
-returns-in_ok-request-in-Report-clause-ok c =
+pub returns-in-Told-clause-ok : goal.returns-in-Told-clause-ok
+returns-in-Told-clause-ok c =
     let own = c.self.inside in
     let now = c.args.now in
+    let request = c.in-Told.request in
     let state : State = state_with own.core own.nodes own.leaders own.sent.batches.items in
     let found : Option Message = found_message c.as_ref.result in
     let is : found ≡ message_at c.args.number state.messages =
     found_is own.core.entries c.history.result.now own.sent.batches.items c.make_room.new.self.batches.items c.args.number c.find-found.result c.as_ref.result c.history.ensures.entries c.make_room.ensures.batches
     c.find-found.ensures c.as_ref.ensures.value in
-    let report : carried_out own.nodes own.leaders now found ≡ carried.Report c.in-Report.node c.in-Report.block c.in-Report.stamp c.in-Report.length = sym c.in_ok-carried.ensures.carried ∙ c.in-Report.is in
-    let there : carried_out c.args.self.now.nodes c.args.self.now.plans now (message_at c.args.number c.args.self.now.messages) ≡ carried.Report c.in-Report.node c.in-Report.block c.in-Report.stamp c.in-Report.length =
-    carried_is own.core own.nodes own.leaders own.sent.batches.items c.args.self.now c.args.number now found c.in_ok-carried.carried (carried.Report c.in-Report.node c.in-Report.block c.in-Report.stamp c.in-Report.length) is
-    c.in_ok-carried.ensures.carried c.in-Report.is c.self.view_is in
+    let told : carried_out own.nodes own.leaders now found ≡ carried.Told request = sym c.in_ok-carried.ensures.carried ∙ c.in-Told.is in
+    let there : carried_out c.args.self.now.nodes c.args.self.now.plans now (message_at c.args.number c.args.self.now.messages) ≡ carried.Told request =
+    carried_is own.core own.nodes own.leaders own.sent.batches.items c.args.self.now c.args.number now found c.in_ok-carried.carried (carried.Told request) is
+    c.in_ok-carried.ensures.carried c.in-Told.is c.self.view_is in
     let same : state_with own.core c.carry_out.new.nodes c.carry_out.new.leaders c.make_room.new.self.batches.items ≡ c.args.self.now =
     ap (λ (nodes : List (ℕ × Node)). state_with own.core nodes c.carry_out.new.leaders c.make_room.new.self.batches.items)
-    (c.in_ok-carried.ensures.nodes ∙ reports_stay own.nodes own.leaders now found c.in-Report.node c.in-Report.block c.in-Report.stamp c.in-Report.length report)
+    (c.in_ok-carried.ensures.nodes ∙ told_stays own.nodes own.leaders now found request told)
     ∙ ap (λ (plans : List (ℕ × PlanTable)). state_with own.core own.nodes plans c.make_room.new.self.batches.items)
-    (c.in_ok-carried.ensures.leaders ∙ reports_leave own.nodes own.leaders now found c.in-Report.node c.in-Report.block c.in-Report.stamp c.in-Report.length report)
+    (c.in_ok-carried.ensures.leaders ∙ told_leaves own.nodes own.leaders now found request told)
     ∙ ap (λ (batches : List Batch). state_with own.core own.nodes own.leaders batches) c.make_room.ensures.batches ∙ c.self.view_is in
     on_ok c.name.result (λ h.
-    h ∙ ap (λ (own : State). left_by own (named own c.in_ok-request-in-Report.request)) same
-    ∙ ap (λ (own : Request). left_by c.args.self.now (named c.args.self.now own)) c.in_ok-request-in-Report.ensures
-    ∙ ap (left_by c.args.self.now) (reports c.args.self.now now (message_at c.args.number c.args.self.now.messages) c.in-Report.node c.in-Report.block c.in-Report.stamp c.in-Report.length there)) c.name.ensures.ok
+    h ∙ ap (λ (own : State). left_by own (named own request)) same
+    ∙ ap (left_by c.args.self.now) (told_is c.args.self.now now (message_at c.args.number c.args.self.now.messages) request there)) c.name.ensures.ok
+
+pub returns-in-Told-clause-outcome : goal.returns-in-Told-clause-outcome
+returns-in-Told-clause-outcome c =
+    let own = c.self.inside in
+    let now = c.args.now in
+    let request = c.in-Told.request in
+    let state : State = state_with own.core own.nodes own.leaders own.sent.batches.items in
+    let found : Option Message = found_message c.as_ref.result in
+    let is : found ≡ message_at c.args.number state.messages =
+    found_is own.core.entries c.history.result.now own.sent.batches.items c.make_room.new.self.batches.items c.args.number c.find-found.result c.as_ref.result c.history.ensures.entries c.make_room.ensures.batches
+    c.find-found.ensures c.as_ref.ensures.value in
+    let told : carried_out own.nodes own.leaders now found ≡ carried.Told request = sym c.in_ok-carried.ensures.carried ∙ c.in-Told.is in
+    let there : carried_out c.args.self.now.nodes c.args.self.now.plans now (message_at c.args.number c.args.self.now.messages) ≡ carried.Told request =
+    carried_is own.core own.nodes own.leaders own.sent.batches.items c.args.self.now c.args.number now found c.in_ok-carried.carried (carried.Told request) is
+    c.in_ok-carried.ensures.carried c.in-Told.is c.self.view_is in
+    let same : state_with own.core c.carry_out.new.nodes c.carry_out.new.leaders c.make_room.new.self.batches.items ≡ c.args.self.now =
+    ap (λ (nodes : List (ℕ × Node)). state_with own.core nodes c.carry_out.new.leaders c.make_room.new.self.batches.items)
+    (c.in_ok-carried.ensures.nodes ∙ told_stays own.nodes own.leaders now found request told)
+    ∙ ap (λ (plans : List (ℕ × PlanTable)). state_with own.core own.nodes plans c.make_room.new.self.batches.items)
+    (c.in_ok-carried.ensures.leaders ∙ told_leaves own.nodes own.leaders now found request told)
+    ∙ ap (λ (batches : List Batch). state_with own.core own.nodes own.leaders batches) c.make_room.ensures.batches ∙ c.self.view_is in
+    if_ok (λ (outcome : Outcome). outcome ≡ outcome_of (state_with own.core c.carry_out.new.nodes c.carry_out.new.leaders c.make_room.new.self.batches.items) (named (state_with own.core c.carry_out.new.nodes c.carry_out.new.leaders c.make_room.new.self.batches.items) request))
+    (λ (outcome : Outcome). outcome ≡ outcome_of c.args.self.now (delivered c.args.self.now now (message_at c.args.number c.args.self.now.messages))) c.name.result
+    (λ outcome h. h ∙ ap (λ (own : State). outcome_of own (named own request)) same
+    ∙ ap (outcome_of c.args.self.now) (told_is c.args.self.now now (message_at c.args.number c.args.self.now.messages) request there)) c.name.ensures.outcome

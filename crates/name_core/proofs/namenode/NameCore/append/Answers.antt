@@ -5,6 +5,7 @@ use Rattle.name_core.specs.declared.namenode.NameCore.TheInside.{Inside}
 use Rattle.name_core.specs.NameCore.{stepped}
 use Rattle.name_core.specs.Kept.{entries_of}
 use Rattle.name_core.proofs.Keeping.{Adds, kept_more}
+use Rattle.name_core.proofs.Recoveries.{known}
 use Rattle.name_core.proofs.Recording.{adds_of, appended}
 use Rattle.name_core.proofs.namenode.NameCore.append.Goals as goal
 
@@ -19,6 +20,9 @@ added c =
     adds_of c.self.inside (after c) c.args.request c.args.request c.in-Ok.place c.args.pass c.args.index c.in-Ok-perform.verdict refl refl
     (c.push_reserved.ensures.items ∙ ap (λ items. items ++ entry c ∷ []) c.in-Ok.ensures.history) c.later-clock.ensures (c.in-Ok-perform.ensures.ok (last_renewal (entries_of c.self.inside)) c.self.invariant.exact)
     c.in-Ok-perform.ensures.limits c.in-Ok-perform.ensures.latest c.in-Ok.ensures.place c.in-Ok-perform.ensures.ledger
+
+pub perform-requires-clause-recoveries : goal.perform-requires-clause-recoveries
+perform-requires-clause-recoveries c = known c.self.inside c.later-clock.result c.self.invariant
 
 pub invariant_of-self-2 : goal.invariant_of-self-2
 invariant_of-self-2 c = kept_more c.self.inside (after c) (entry c) c.self.invariant (added c)

@@ -5,6 +5,7 @@ use Rattle.name_core.specs.declared.namenode.NameCore.TheInside.{Inside}
 use Rattle.name_core.specs.NameCore.{Steps}
 use Rattle.name_core.specs.Kept.{core_of, entries_of}
 use Rattle.name_core.proofs.Keeping.{Adds, kept_more, kept_undone}
+use Rattle.name_core.proofs.Recoveries.{known}
 use Rattle.name_core.proofs.Recording.{adds_of, recorded}
 use Rattle.name_core.proofs.namenode.NameCore.step.Goals as goal
 
@@ -19,6 +20,9 @@ added c =
     adds_of c.self.inside (after c) c.in_ok-copies.copies.kept c.args.request.now c.in_ok-place.place c.args.pass c.args.index c.in-Ok.told.verdict c.in_ok-copies.ensures.kept refl
     (c.record.ensures.history ∙ ap (λ items. items ++ entry c ∷ []) c.in_ok-place.ensures.history) c.later-now.ensures (c.in-Ok.ensures.ok (last_renewal (entries_of c.self.inside)) c.self.invariant.exact)
     c.in-Ok.ensures.limits c.in-Ok.ensures.latest c.in_ok-place.ensures.place c.in-Ok.ensures.ledger
+
+pub perform_with_copy-requires-clause-recoveries : goal.perform_with_copy-requires-clause-recoveries
+perform_with_copy-requires-clause-recoveries c = known c.self.inside c.later-now.result c.self.invariant
 
 pub invariant_of-self-in_default : goal.invariant_of-self-in_default
 invariant_of-self-in_default c =

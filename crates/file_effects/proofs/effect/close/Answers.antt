@@ -1,6 +1,0 @@
-use Rattle.file_effects.proofs.Effected.{exact_close}
-use Rattle.file_effects.proofs.effect.close.Goals as goal
-
-pub returns-clause-exact : goal.returns-clause-exact
-returns-clause-exact c =
-    exact_close c.args.path.now c.args.client.now c.args.tree.now c.rewrite.new.self c.args.writers.now c.close.new.self c.requires.namespace c.requires.held c.rewrite.ensures c.close.ensures.files c.close.ensures.leased

@@ -1,0 +1,11 @@
+pub mod Stepping
+pub mod LeasesKept
+pub mod Performing
+pub mod Ticking
+pub mod Rolling
+pub mod Deciding
+pub mod Appending
+pub mod Ending
+pub mod Beating
+pub mod GrantRows
+pub mod GrantsPerformed
