@@ -11,12 +11,19 @@ use std::rc::Rc;
 
 /// What a DataNode is told that is to lead the recovery of a block (HDFS-265, "Block recovery"): the stamp that the block gets, the
 /// nodes that are to hold the block, live or not, and the token that the leading node presents to them.
-#[derive(Drop)]
 pub struct Recover {
     pub block: BlockId,
     pub stamp: Stamp,
     pub nodes: NodeSet,
     pub token: TokenBytes,
+}
+
+impl Drop for Recover {
+    fn drop(self) {
+        let Recover { block: _, stamp: _, nodes, token } = self;
+        drop(nodes);
+        drop(token);
+    }
 }
 
 /// A replica that a DataNode is to remove (`DNA_INVALIDATE` of the DataNode protocol).
@@ -27,12 +34,18 @@ pub struct Removal {
 }
 
 /// A replica that a DataNode is to copy to another (`DNA_TRANSFER` of the DataNode protocol), with the token that it presents there.
-#[derive(Drop)]
 pub struct CopyOrder {
     pub block: BlockId,
     pub stamp: Stamp,
     pub target: NodeId,
     pub token: TokenBytes,
+}
+
+impl Drop for CopyOrder {
+    fn drop(self) {
+        let CopyOrder { block: _, stamp: _, target: _, token } = self;
+        drop(token);
+    }
 }
 
 // The commands of one heartbeat.
@@ -47,9 +60,15 @@ struct CommandLists {
 /// What a DataNode is told with the answer to its heartbeat, in this order: the keys under which tokens serve, the recoveries that it
 /// is to lead, the replicas that it is to remove, and those that it is to copy (HDFS Architecture, "Data Disk Failure, Heartbeats and
 /// Re-Replication"). Copies of it share the lists.
-#[derive(Drop)]
 pub struct Commands {
     lists: Rc<CommandLists>,
+}
+
+impl Drop for Commands {
+    fn drop(self) {
+        let Commands { lists } = self;
+        drop(lists);
+    }
 }
 
 impl Model for Commands {

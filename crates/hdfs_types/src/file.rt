@@ -10,13 +10,22 @@ use std::fmt;
 
 /// Who may write a file: one client at a time, and none while its last block is recovered (HDFS Architecture, "The File System
 /// Namespace": files are write-once and have strictly one writer at any time).
-#[derive(Drop)]
 pub enum FileState {
     Closed,
     /// Open for writing by this client.
     Open(Who),
     /// The last block is recovered: which one, under which stamp, and since when.
     Recovering(BlockId, Stamp, Moment),
+}
+
+impl Drop for FileState {
+    fn drop(self) {
+        match self {
+            FileState::Closed => {}
+            FileState::Open(part) => drop(part),
+            FileState::Recovering(_, _, _) => {}
+        }
+    }
 }
 
 impl Clone for FileState {
@@ -49,12 +58,18 @@ impl fmt::Display for FileState {
 }
 
 /// What `stat` reports of a file beside what it reports of a directory.
-#[derive(Drop)]
 pub struct FileDetail {
     pub replication: Repl,
     /// The bytes of the blocks whose length is committed.
     pub length: u64,
     pub state: FileState,
+}
+
+impl Drop for FileDetail {
+    fn drop(self) {
+        let FileDetail { replication: _, length: _, state } = self;
+        drop(state);
+    }
 }
 
 impl Clone for FileDetail {

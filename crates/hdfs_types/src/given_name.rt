@@ -5,9 +5,15 @@ use std::alloc::{AllocError, Global};
 use std::marker::Model;
 
 /// A name that is given, or left out. It stands in a box: few requests have one, and a history keeps many requests.
-#[derive(Drop)]
 pub struct GivenName {
     name: Option<Box<Who>>,
+}
+
+impl Drop for GivenName {
+    fn drop(self) {
+        let GivenName { name } = self;
+        drop(name);
+    }
 }
 
 impl Model for GivenName {

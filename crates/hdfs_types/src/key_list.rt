@@ -27,9 +27,15 @@ impl HeldKey {
 }
 
 /// Keys with their serials, as a NameNode sends them.
-#[derive(Drop)]
 pub struct KeyList {
     keys: Vec<(Serial, HeldKey)>,
+}
+
+impl Drop for KeyList {
+    fn drop(self) {
+        let KeyList { keys } = self;
+        drop(keys);
+    }
 }
 
 impl Model for KeyList {

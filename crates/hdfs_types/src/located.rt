@@ -18,9 +18,15 @@ struct AddedParts {
 
 /// What a writer is given who asks for a new block: its id, its generation stamp, the DataNodes that are to hold it, and the token with
 /// which it is written there (HDFS Architecture, "Replication Pipelining"). Copies of it share its parts.
-#[derive(Drop)]
 pub struct AddedBlock {
     parts: Rc<AddedParts>,
+}
+
+impl Drop for AddedBlock {
+    fn drop(self) {
+        let AddedBlock { parts } = self;
+        drop(parts);
+    }
 }
 
 impl Model for AddedBlock {
@@ -101,13 +107,20 @@ impl Clone for AddedBlock {
 
 /// A block of a file as a reader is told of it: its id, its generation stamp, its length in bytes, the DataNodes that reported it, and
 /// the token with which it is read there (HDFS Architecture, "Data Replication"; HADOOP-4359 for the token).
-#[derive(Drop)]
 pub struct LocatedBlock {
     pub block: BlockId,
     pub stamp: Stamp,
     pub length: u64,
     pub nodes: NodeSet,
     pub token: TokenBytes,
+}
+
+impl Drop for LocatedBlock {
+    fn drop(self) {
+        let LocatedBlock { block: _, stamp: _, length: _, nodes, token } = self;
+        drop(nodes);
+        drop(token);
+    }
 }
 
 // What a reader is told.
@@ -119,9 +132,15 @@ struct OpenedParts {
 
 /// What a reader is told of a file: its length in bytes, and its blocks whose length is committed, in their order. Copies of it share
 /// its parts.
-#[derive(Drop)]
 pub struct OpenedFile {
     parts: Rc<OpenedParts>,
+}
+
+impl Drop for OpenedFile {
+    fn drop(self) {
+        let OpenedFile { parts } = self;
+        drop(parts);
+    }
 }
 
 impl Model for OpenedFile {

@@ -16,7 +16,6 @@ use permission_specs::mode::Mode;
 use std::alloc::AllocError;
 
 /// What a request to the NameNode asks for, one variant a verb.
-#[derive(Drop)]
 pub enum Op {
     /// Makes a directory of this mode, and the missing ones above it.
     Mkdirs(Path, Mode),
@@ -67,6 +66,53 @@ pub enum Op {
     Reported(ReportedReplica),
     /// Tells that the recovery of a block has ended, which the DataNode led whose principal the caller is.
     CommitRecovery(RecoveredBlock),
+}
+
+impl Drop for Op {
+    fn drop(self) {
+        match self {
+            Op::Mkdirs(first, _) => drop(first),
+            Op::Stat(part) => drop(part),
+            Op::List(part) => drop(part),
+            Op::Summary(part) => drop(part),
+            Op::GetAcl(part) => drop(part),
+            Op::Delete(first, _) => drop(first),
+            Op::Rename(first, second) => {
+                drop(first);
+                drop(second);
+            }
+            Op::SetMode(first, _) => drop(first),
+            Op::SetOwner(first, second, third) => {
+                drop(first);
+                drop(second);
+                drop(third);
+            }
+            Op::SetAcl(first, second) => {
+                drop(first);
+                drop(second);
+            }
+            Op::AddUser(first, second) => {
+                drop(first);
+                drop(second);
+            }
+            Op::SetGroups(first, second) => {
+                drop(first);
+                drop(second);
+            }
+            Op::Create(first, _, _, _) => drop(first),
+            Op::Append(part) => drop(part),
+            Op::AddBlock(first, _) => drop(first),
+            Op::Complete(first, _) => drop(first),
+            Op::Open(part) => drop(part),
+            Op::SetReplication(first, _) => drop(first),
+            Op::RollKey(_) => {}
+            Op::Renew => {}
+            Op::Tick => {}
+            Op::Heartbeat => {}
+            Op::Reported(_) => {}
+            Op::CommitRecovery(part) => drop(part),
+        }
+    }
 }
 
 fn clone_mkdirs(path: &Path, mode: Mode) -> Result<Op, AllocError>
@@ -220,12 +266,19 @@ impl Clone for Op {
 }
 
 /// A request: who asks, when, and for what.
-#[derive(Drop)]
 pub struct Request {
     pub caller: Who,
     /// The moment of the request, in milliseconds.
     pub moment: Moment,
     pub op: Op,
+}
+
+impl Drop for Request {
+    fn drop(self) {
+        let Request { caller, moment: _, op } = self;
+        drop(caller);
+        drop(op);
+    }
 }
 
 impl Clone for Request {

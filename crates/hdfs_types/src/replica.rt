@@ -15,13 +15,19 @@ pub struct ReportedReplica {
 
 /// The end of a recovery of a block, as the DataNode that led it tells it: under which stamp, the length that was agreed on, and the nodes
 /// that hold it (HDFS-265, "Block recovery").
-#[derive(Drop)]
 pub struct RecoveredBlock {
     pub block: BlockId,
     pub stamp: Stamp,
     /// In bytes.
     pub length: u64,
     pub nodes: NodeSet,
+}
+
+impl Drop for RecoveredBlock {
+    fn drop(self) {
+        let RecoveredBlock { block: _, stamp: _, length: _, nodes } = self;
+        drop(nodes);
+    }
 }
 
 impl Clone for RecoveredBlock {

@@ -23,7 +23,6 @@ pub enum ObjectKind {
 }
 
 /// What `stat` reports of a file or a directory.
-#[derive(Drop)]
 pub struct FileStatus {
     pub kind: ObjectKind,
     pub mode: Mode,
@@ -33,6 +32,15 @@ pub struct FileStatus {
     pub group: Who,
     /// What is reported of a file alone; `None` for a directory.
     pub file: Option<FileDetail>,
+}
+
+impl Drop for FileStatus {
+    fn drop(self) {
+        let FileStatus { kind: _, mode: _, has_acl: _, owner, group, file } = self;
+        drop(owner);
+        drop(group);
+        drop(file);
+    }
 }
 
 /// A copy of what is reported of a file; nothing of a directory.
@@ -84,9 +92,15 @@ impl fmt::Display for FileStatus {
 }
 
 /// What `stat` reports, in a box: most replies are far smaller, and a history keeps one for each entry.
-#[derive(Drop)]
 pub struct BoxedStatus {
     status: Box<FileStatus>,
+}
+
+impl Drop for BoxedStatus {
+    fn drop(self) {
+        let BoxedStatus { status } = self;
+        drop(status);
+    }
 }
 
 impl Model for BoxedStatus {
@@ -128,9 +142,15 @@ impl Clone for BoxedStatus {
 }
 
 /// Names in an order.
-#[derive(Drop)]
 pub struct Names {
     list: Vec<Name>,
+}
+
+impl Drop for Names {
+    fn drop(self) {
+        let Names { list } = self;
+        drop(list);
+    }
 }
 
 impl Model for Names {
@@ -204,11 +224,19 @@ impl fmt::Display for ContentSummary {
 }
 
 /// What `getfacl` reports of a file or a directory: the owner, the owning group, and the entries of its access control list.
-#[derive(Drop)]
 pub struct AclStatus {
     owner: Who,
     group: Who,
     spec: String,
+}
+
+impl Drop for AclStatus {
+    fn drop(self) {
+        let AclStatus { owner, group, spec } = self;
+        drop(owner);
+        drop(group);
+        drop(spec);
+    }
 }
 
 impl Model for AclStatus {
@@ -275,9 +303,15 @@ impl fmt::Display for AclStatus {
 }
 
 /// What `getfacl` reports, in a box: most replies are far smaller, and a history keeps one for each entry.
-#[derive(Drop)]
 pub struct BoxedAcl {
     status: Box<AclStatus>,
+}
+
+impl Drop for BoxedAcl {
+    fn drop(self) {
+        let BoxedAcl { status } = self;
+        drop(status);
+    }
 }
 
 impl Model for BoxedAcl {
@@ -326,7 +360,6 @@ pub struct Expired {
 }
 
 /// What the NameNode answers to a request that it has done.
-#[derive(Drop)]
 pub enum Reply {
     /// It is done, and there is nothing to report.
     Empty,
@@ -353,6 +386,27 @@ pub enum Reply {
     Serial(Serial),
     /// What the DataNode whose heartbeat is taken in is told.
     Commands(Commands),
+}
+
+impl Drop for Reply {
+    fn drop(self) {
+        match self {
+            Reply::Empty => {}
+            Reply::Status(part) => drop(part),
+            Reply::Acl(part) => drop(part),
+            Reply::Names(part) => drop(part),
+            Reply::Summary(part) => drop(part),
+            Reply::Deleted(_) => {}
+            Reply::Released => {}
+            Reply::Recovering(_, _) => {}
+            Reply::Closed(_) => {}
+            Reply::Opened(part) => drop(part),
+            Reply::Added(part) => drop(part),
+            Reply::Expired(part) => drop(part),
+            Reply::Serial(_) => {}
+            Reply::Commands(part) => drop(part),
+        }
+    }
 }
 
 impl Clone for Reply {
@@ -402,7 +456,6 @@ impl fmt::Display for Counter {
 }
 
 /// Why the NameNode doesn't do what no missing right forbids: the state of the namespace refuses it.
-#[derive(Drop)]
 pub enum Refusal {
     /// A path would pass the limits: code 1.
     BadPath,
@@ -442,6 +495,32 @@ pub enum Refusal {
     Spent(Counter),
     /// That name is a DataNode's: code 19.
     BadName,
+}
+
+impl Drop for Refusal {
+    fn drop(self) {
+        match self {
+            Refusal::BadPath => {}
+            Refusal::NotFound => {}
+            Refusal::NotDirectory(part) => drop(part),
+            Refusal::IsDirectory => {}
+            Refusal::Exists => {}
+            Refusal::NotEmpty => {}
+            Refusal::IsRoot => {}
+            Refusal::UnderItself => {}
+            Refusal::BadAcl(part) => drop(part),
+            Refusal::TooManyEntries => {}
+            Refusal::LeaseHeld(part) => drop(part),
+            Refusal::RecoveryRunning => {}
+            Refusal::NoLease => {}
+            Refusal::NotOpen => {}
+            Refusal::NotYetReplicated => {}
+            Refusal::TooFewNodes => {}
+            Refusal::StaleStamp(_) => {}
+            Refusal::Spent(part) => drop(part),
+            Refusal::BadName => {}
+        }
+    }
 }
 
 impl Clone for Refusal {

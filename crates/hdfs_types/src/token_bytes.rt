@@ -4,9 +4,15 @@ use std::alloc::AllocError;
 use std::marker::Model;
 
 /// The bytes of a token's text.
-#[derive(Drop)]
 pub struct TokenBytes {
     bytes: Vec<u8>,
+}
+
+impl Drop for TokenBytes {
+    fn drop(self) {
+        let TokenBytes { bytes } = self;
+        drop(bytes);
+    }
 }
 
 impl Model for TokenBytes {
