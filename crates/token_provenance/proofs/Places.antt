@@ -1,5 +1,7 @@
 -- The least place of rows that fit, and the rows that are listed under a token.
-use Rattle.std.proofs.Common.{◌≡◌, ℕ, Bool, true, false, ◌&&◌, List, [], ◌∷◌, ◌++◌, ◌<◌, ◌+◌, Option, Some, None, unwrap_or, refl, sym, ap, ◌∙◌, cond, map, take, length, get_or}
+use Rattle.std.proofs.Common.{◌≡◌, ℕ, Bool, true, false, ◌&&◌, List, [], ◌∷◌, ◌++◌, ◌<◌, ◌≤◌, ◌+◌, Option, Some, None, unwrap_or, refl, sym, ap, ◌∙◌, cond, map, take, length, get_or, arith}
+use Rattle.std.proofs.lemmas.Bool.Decides.{nat_tests}
+use Rattle.std.specs.Prelude.{◌==◌, nat_le, nat_lt, fold, min, slice_get}
 use denote.Ref.{Bor}
 use Rattle.std.proofs.lemmas.List.{map_more, take_more, append-nil, map-append}
 use Rattle.std.proofs.lemmas.List.Concat.{flat_map-append}
@@ -10,9 +12,10 @@ use Rattle.hdfs_values.specs.Text.{same, text_cmp}
 use Rattle.hdfs_values.proofs.Texts.{same_is}
 use Rattle.node_calls.specs.declared.access_log.AccessRecord.{AccessRecord}
 use Rattle.grant_ledger.specs.declared.ledger.LedgerRow.{LedgerRow}
-use Rattle.token_provenance.specs.Provenance.{allows, lesser, place_of, least_place, records_of}
+use Rattle.permission_specs.specs.Rights.{covers}
+use Rattle.token_provenance.specs.Provenance.{allows, fits, lesser, place_of, least_place, records_of}
 use Rattle.token_provenance.specs.declared.source.Source.{Source}
-use Rattle.token_provenance.specs.Index.{Table, rows_at, IsIndex}
+use Rattle.token_provenance.specs.Index.{Table, rows_at, IsIndex, TellsAlso, grants_the_same, repeats}
 
 pub lesser_none : (place : Option ℕ) → lesser place None ≡ place
 lesser_none None = refl
@@ -24,6 +27,75 @@ least_more rows row entry = fold-append (λ least next. lesser least (place_of n
 -- a row of another token tells nothing
 pub place_elsewhere : (row : LedgerRow) (entry : AccessRecord) → same row.grant.token entry.token ≡ false → place_of row entry ≡ None
 place_elsewhere row entry other = ap (λ b. cond (b && allows row entry) (Some row.place) None) other
+
+-- ---- a row that repeats another
+
+both : (a b : Bool) → (a && b) ≡ true → (a ≡ true) × (b ≡ true)
+both true true h = (refl, refl)
+both true false h = cc
+both false b h = cc
+
+one_number : (a b : ℕ) → (a == b) ≡ true → a ≡ b
+one_number a b h = grind (arith, nat_tests)
+
+no_lesser : (a b : ℕ) → nat_le a b ≡ true → a ≤ b
+no_lesser a b h = grind (arith, nat_tests)
+
+least_of_both : (a b : ℕ) → a ≤ b → min a b ≡ a
+least_of_both a b le = omega (arith, le)
+
+turned : (a b c : ℕ) → min (min a b) c ≡ min (min a c) b
+turned a b c = omega arith
+
+lesser_turned : (a b c : Option ℕ) → lesser (lesser a b) c ≡ lesser (lesser a c) b
+lesser_turned None None None = refl
+lesser_turned None None (Some c) = refl
+lesser_turned None (Some b) None = refl
+lesser_turned None (Some b) (Some c) = let is : min b c ≡ min c b = omega arith in ap Some is
+lesser_turned (Some a) None None = refl
+lesser_turned (Some a) None (Some c) = refl
+lesser_turned (Some a) (Some b) None = refl
+lesser_turned (Some a) (Some b) (Some c) = ap Some (turned a b c)
+
+behind_all : (rows : List LedgerRow) (entry : AccessRecord) (least place : Option ℕ)
+    → fold (λ l next. lesser l (place_of next entry)) (lesser least place) rows ≡ lesser (fold (λ l next. lesser l (place_of next entry)) least rows) place
+behind_all [] entry least place = refl
+behind_all (row ∷ rows) entry least place =
+    ap (λ l. fold (λ l next. lesser l (place_of next entry)) l rows) (lesser_turned least place (place_of row entry)) ∙ behind_all rows entry (lesser least (place_of row entry)) place
+
+-- the records that rest on a row rest on one that says the same
+fits_as : (first row : LedgerRow) (entry : AccessRecord) → repeats first row ≡ true → fits first entry ≡ fits row entry
+fits_as first row entry h =
+    let whole = both (nat_le first.place row.place && same first.grant.token row.grant.token) (grants_the_same first.grant row.grant) h in
+    let token = same_is first.grant.token row.grant.token (both (nat_le first.place row.place) (same first.grant.token row.grant.token) whole.0).1 in
+    let expiry = both (same first.grant.user row.grant.user && first.grant.block == row.grant.block && first.grant.modes.0 == row.grant.modes.0) (first.grant.expiry == row.grant.expiry) whole.1 in
+    let modes = both (same first.grant.user row.grant.user && first.grant.block == row.grant.block) (first.grant.modes.0 == row.grant.modes.0) expiry.0 in
+    let block = both (same first.grant.user row.grant.user) (first.grant.block == row.grant.block) modes.0 in
+    ap (λ t. same t entry.token && allows first entry) token
+    ∙ (ap (λ u. same row.grant.token entry.token && (same u entry.caller && first.grant.block == entry.block && covers first.grant.modes.0 entry.mode.0 && nat_lt entry.moment first.grant.expiry)) (same_is first.grant.user row.grant.user block.0)
+    ∙ (ap (λ b. same row.grant.token entry.token && (same row.grant.user entry.caller && b == entry.block && covers first.grant.modes.0 entry.mode.0 && nat_lt entry.moment first.grant.expiry)) (one_number first.grant.block row.grant.block block.1)
+    ∙ (ap (λ m. same row.grant.token entry.token && (same row.grant.user entry.caller && row.grant.block == entry.block && covers m entry.mode.0 && nat_lt entry.moment first.grant.expiry)) (one_number first.grant.modes.0 row.grant.modes.0 modes.1)
+    ∙ ap (λ e. same row.grant.token entry.token && (same row.grant.user entry.caller && row.grant.block == entry.block && covers row.grant.modes.0 entry.mode.0 && nat_lt entry.moment e)) (one_number first.grant.expiry row.grant.expiry expiry.1))))
+
+-- beside a row, one that repeats it tells nothing
+tells_nothing : (first row : LedgerRow) (entry : AccessRecord) → repeats first row ≡ true → lesser (place_of first entry) (place_of row entry) ≡ place_of first entry
+tells_nothing first row entry h = by (fits first entry) (fits row entry) (fits_as first row entry h)
+  where
+    by : (a b : Bool) → a ≡ b → lesser (cond a (Some first.place) None) (cond b (Some row.place) None) ≡ cond a (Some first.place) None
+    by true true is = ap Some (least_of_both first.place row.place (no_lesser first.place row.place (both (nat_le first.place row.place) (same first.grant.token row.grant.token) (both (nat_le first.place row.place && same first.grant.token row.grant.token) (grants_the_same first.grant row.grant) h).0).0))
+    by false false is = refl
+    by true false is = cc
+    by false true is = cc
+
+pub repeated : (first : LedgerRow) (rows : List LedgerRow) (row : LedgerRow) → repeats first row ≡ true → TellsAlso (first ∷ rows) row (first ∷ rows)
+repeated first rows row h entry =
+    sym (ap (λ l. fold (λ l next. lesser l (place_of next entry)) l rows) (tells_nothing first row entry h))
+    ∙ behind_all rows entry (place_of first entry) (place_of row entry)
+
+pub first_repeated : (rows : List (Bor LedgerRow)) (first : Bor LedgerRow) (row : LedgerRow) → Some first ≡ slice_get rows 0 → repeats first.now row ≡ true
+    → TellsAlso (map (λ r. r.now) rows) row (map (λ r. r.now) rows)
+first_repeated [] first row is h = cc
+first_repeated (x ∷ rows) first row is h = repeated x.now (map (λ r. r.now) rows) row (ap (λ (found : Option (Bor LedgerRow)). repeats (unwrap_or found x).now row) (sym is) ∙ h)
 
 -- ---- a loop over borrowed rows
 
@@ -50,16 +122,14 @@ relisted old new token own put bytes = ap (λ found. unwrap_or found []) (put (r
 -- a row is listed under its token
 pub indexed_more : (old new : Table) (row : LedgerRow) (own : List LedgerRow)
     → ((q : Bor (List ℕ)) → lookup (is_at (λ key. text_cmp q.now key.now)) new ≡ cond (same row.grant.token q.now) (Some own) (lookup (is_at (λ key. text_cmp q.now key.now)) old))
-    → own ≡ rows_at row.grant.token old ++ row ∷ [] → (rows : List LedgerRow) → IsIndex old rows → IsIndex new (rows ++ row ∷ [])
-indexed_more old new row own put is rows law entry =
+    → TellsAlso (rows_at row.grant.token old) row own → (rows : List LedgerRow) → IsIndex old rows → IsIndex new (rows ++ row ∷ [])
+indexed_more old new row own put tells rows law entry =
     ap (λ l. least_place l entry) (relisted old new row.grant.token own put entry.token)
     ∙ (by (same row.grant.token entry.token) refl ∙ sym (least_more rows row entry))
   where
     by : (x : Bool) → same row.grant.token entry.token ≡ x → least_place (cond x own (rows_at entry.token old)) entry ≡ lesser (least_place rows entry) (place_of row entry)
     by true at =
-        ap (λ l. least_place l entry) is
-        ∙ (least_more (rows_at row.grant.token old) row entry
-        ∙ ap (λ l. lesser l (place_of row entry)) (ap (λ token. least_place (rows_at token old) entry) (same_is row.grant.token entry.token at) ∙ law entry))
+        tells entry ∙ ap (λ l. lesser l (place_of row entry)) (ap (λ token. least_place (rows_at token old) entry) (same_is row.grant.token entry.token at) ∙ law entry)
     by false at = law entry ∙ (sym (lesser_none (least_place rows entry)) ∙ ap (lesser (least_place rows entry)) (sym (place_elsewhere row entry at)))
 
 -- ---- a loop over logs

@@ -1,9 +1,10 @@
-ghost use Rattle.std.specs.Prelude.{◌≡◌, ◌++◌, [], ◌∷◌, List, IfOk, OnOk};
+ghost use Rattle.std.specs.Prelude.{◌≡◌, ◌++◌, [], ◌∷◌, true, List, IfOk, OnOk};
 ghost use Rattle.hdfs_values.specs.Text.{same};
 ghost use Rattle.token_provenance.specs.Provenance.{allows, lesser, place_of, least_place};
-ghost use Rattle.token_provenance.specs.Index.{IsIndex};
+ghost use Rattle.token_provenance.specs.Index.{IsIndex, TellsAlso, grants_the_same, repeats};
 ghost use Rattle.grant_ledger.specs.declared.ledger.LedgerRow.{LedgerRow};
 
+use block_tokens::grant::Grant;
 use grant_ledger::ledger::LedgerRow;
 use node_calls::access_log::AccessRecord;
 use std::alloc::{AllocError, Global};
@@ -45,6 +46,31 @@ fn allows(row: &LedgerRow, entry: &AccessRecord) -> bool
         && entry.moment.milliseconds() < row.grant.expiry
 }
 
+// Whether two grants, whatever their tokens, let in the same.
+fn grants_the_same(first: &Grant, other: &Grant) -> bool
+    ensures { result ≡ grants_the_same first.now other.now }
+{
+    first.user == other.user
+        && first.block == other.block
+        && first.modes == other.modes
+        && first.expiry == other.expiry
+}
+
+fn have_one_token(first: &LedgerRow, row: &LedgerRow) -> bool
+    ensures { result ≡ same first.now.grant.token row.now.grant.token }
+{
+    first.grant.token.as_bytes() == row.grant.token.as_bytes()
+}
+
+// Whether a row says what the first one says, at no lesser place.
+fn repeats(first: &LedgerRow, row: &LedgerRow) -> bool
+    ensures { result ≡ repeats first.now row.now }
+{
+    first.place <= row.place
+        && have_one_token(first, row)
+        && grants_the_same(&first.grant, &row.grant)
+}
+
 fn is_token(row: &LedgerRow, entry: &AccessRecord) -> bool
     ensures { result ≡ same row.now.grant.token entry.now.token }
 {
@@ -70,9 +96,23 @@ impl<'a> TokenRows<'a> {
         Ok(TokenRows { rows })
     }
 
-    fn push(&mut self, row: &'a LedgerRow) -> Result<(), AllocError>
-        ensures { OnOk result (self.new ≡ self.old ++ row.now ∷ []) }
+    fn first_is_repeated(&self, row: &LedgerRow) -> bool
+        ensures { result ≡ true → TellsAlso self.now row.now self.now }
     {
+        match self.rows.first() {
+            Some(first) => repeats(first, row),
+            None => false,
+        }
+    }
+
+    // Lists a row. One that says what the first says, at no lesser place, isn't kept: a caller may be granted the same token many times
+    // in one millisecond, and each record that rests on it would go through all of these rows.
+    fn add(&mut self, row: &'a LedgerRow) -> Result<(), AllocError>
+        ensures { OnOk result (TellsAlso self.old row.now self.new) }
+    {
+        if self.first_is_repeated(row) {
+            return Ok(());
+        }
         self.rows.push(row)?;
         Ok(())
     }
@@ -111,7 +151,7 @@ impl<'a> TokenIndex<'a> {
     {
         let token = row.grant.token.as_bytes();
         if let Some(rows) = self.tokens.get_mut(token) {
-            rows.push(row)?;
+            rows.add(row)?;
             return Ok(());
         }
         let rows = TokenRows::one(self.alloc, row)?;
@@ -136,7 +176,8 @@ impl<'a> TokenIndex<'a> {
         Ok(index)
     }
 
-    /// The least place of the rows that a record rests on. Costs a look-up, and a step for each row that has its token. Takes no memory.
+    /// The least place of the rows that a record rests on. Costs a look-up, and a step for each row that has its token and doesn't repeat
+    /// the first of these: in the ledger of a NameNode there is one. Takes no memory.
     pub(crate) fn least_place(&self, entry: &AccessRecord) -> Option<u64>
         ensures { (rows : List LedgerRow) → IsIndex self.now rows → result ≡ least_place rows entry.now }
     {
