@@ -4,6 +4,7 @@ use crate::access_list::{AclFault, Deciding, EntryKind};
 use crate::blocks::{NewBlock, Transfer};
 use crate::cluster::{EventAnswer, Lost, Outcome};
 use crate::names::{Names, Who};
+use crate::plans::RecoveryOrder;
 use crate::request::{IllFormed, SpecFault};
 use crate::tokens::{IssuedKey, Token};
 use crate::tree::{Denial, FileState, Need};
@@ -55,10 +56,11 @@ pub struct CopyOrder {
     pub token: Token,
 }
 
-/// What a DataNode is told: the keys that serve, the replicas that it is to remove, each with its stamp, and the copies that it is to
-/// make.
+/// What a DataNode is told: the keys that serve, the recoveries that it is to lead, the replicas that it is to remove, each with its stamp,
+/// and the copies that it is to make.
 pub struct Commands {
     pub keys: Rc<[IssuedKey]>,
+    pub recoveries: Vec<RecoveryOrder>,
     pub removals: Vec<(u64, u64)>,
     pub copies: Vec<CopyOrder>,
 }
@@ -71,6 +73,8 @@ pub enum Reply {
     Deleted(u64),
     /// The file was taken from a client whose lease is past a limit, and closed.
     Released,
+    /// The file was taken from him, and this block is being recovered under this stamp.
+    Recovering(u64, u64),
     /// The file is closed, and has so many bytes.
     Closed(u64),
     Opened(Box<Opened>),
@@ -78,8 +82,8 @@ pub enum Reply {
     /// The number of a new key.
     Serial(u32),
     Heartbeat(Box<Commands>),
-    /// So many files were closed.
-    Expired(u64),
+    /// So many files were closed, and so many recoveries begun.
+    Expired(u64, u64),
 }
 
 pub enum Refusal {
@@ -94,6 +98,8 @@ pub enum Refusal {
     Acl(AclFault),
     /// This client has the file open.
     LeaseHeld(Who),
+    /// The file's last block is being recovered.
+    RecoveryRunning,
     /// Another client has the file open.
     NoLease,
     NotOpen,
@@ -101,7 +107,11 @@ pub enum Refusal {
     NotYetReplicated,
     /// No DataNode is live.
     TooFewNodes,
+    /// The newest stamp of the block is this one.
+    StaleStamp(u64),
     SpentSerial,
+    SpentBlock,
+    SpentStamp,
     BadName,
 }
 
@@ -219,6 +229,7 @@ impl Printer<'_> {
                 self.push(" open:");
                 self.push_who(holder);
             }
+            FileState::Recovering => self.push(" recovering"),
         }
     }
 
@@ -257,7 +268,7 @@ impl Printer<'_> {
         self.push_number(added.row);
     }
 
-    fn push_nodes(&mut self, nodes: &[u32]) {
+    pub fn push_nodes(&mut self, nodes: &[u32]) {
         if nodes.is_empty() {
             self.push("-");
         }
@@ -292,6 +303,12 @@ impl Printer<'_> {
                 self.push_number(*count);
             }
             Reply::Released => self.push("ok released"),
+            Reply::Recovering(block, stamp) => {
+                self.push("ok recovering ");
+                self.push_number(*block);
+                self.push(" ");
+                self.push_number(*stamp);
+            }
             Reply::Closed(length) => {
                 self.push("ok closed ");
                 self.push_number(*length);
@@ -303,10 +320,11 @@ impl Printer<'_> {
                 self.push_number((*serial).into());
             }
             Reply::Heartbeat(_) => self.push("ok heartbeat"),
-            Reply::Expired(count) => {
+            Reply::Expired(closed, recovering) => {
                 self.push("ok closed ");
-                self.push_number(*count);
-                self.push(" recovering 0");
+                self.push_number(*closed);
+                self.push(" recovering ");
+                self.push_number(*recovering);
             }
         }
     }
@@ -331,11 +349,18 @@ impl Printer<'_> {
                 self.push("11 LeaseHeld ");
                 self.push_who(*client);
             }
+            Refusal::RecoveryRunning => self.push("12 RecoveryRunning"),
             Refusal::NoLease => self.push("13 NoLease"),
             Refusal::NotOpen => self.push("14 NotOpen"),
             Refusal::NotYetReplicated => self.push("15 NotYetReplicated"),
             Refusal::TooFewNodes => self.push("16 TooFewNodes"),
+            Refusal::StaleStamp(stamp) => {
+                self.push("17 StaleStamp ");
+                self.push_number(*stamp);
+            }
             Refusal::SpentSerial => self.push("18 Spent Serial"),
+            Refusal::SpentBlock => self.push("18 Spent BlockId"),
+            Refusal::SpentStamp => self.push("18 Spent Stamp"),
             Refusal::BadName => self.push("19 BadName"),
         }
     }

@@ -1,7 +1,12 @@
 //! What is known of blocks, and of the DataNodes that hold them or are to.
 
 use crate::names::FastMap;
+use crate::recoveries::Recoveries;
+use crate::tree::Place;
+use std::cmp::Reverse;
 use std::collections::{BTreeMap, BTreeSet};
+use std::mem;
+use std::rc::Rc;
 
 /// The greatest age, in milliseconds, of a last heartbeat at which a node is live.
 const DEAD_LIMIT: u64 = 630_000;
@@ -74,11 +79,37 @@ pub struct NewBlock {
     pub targets: Box<[u32]>,
 }
 
-/// Why there is no new block.
+/// The recovery of a block that a node is to lead, under a stamp, among the nodes that are to hold the block.
+pub struct Leading {
+    pub block: u64,
+    pub stamp: u64,
+    pub nodes: Rc<[u32]>,
+}
+
+/// What a node is told when it was heard of: the recoveries that it is to lead, the replicas that it is to remove, each with its stamp, and
+/// the copies that it is to make.
+pub struct Orders {
+    pub recoveries: Vec<Leading>,
+    pub removals: Vec<(u64, u64)>,
+    pub transfers: Vec<Transfer>,
+}
+
+/// Why there is no new block, or no recovery begins or ends.
 pub enum BlockRefusal {
     NotYetReplicated,
     TooFewNodes,
+    SpentBlock,
+    SpentStamp,
+    /// No such block is known.
+    NotFound,
+    /// This is the newest stamp.
+    StaleStamp(u64),
+    /// No recovery runs.
+    NotOpen,
 }
+
+/// The greatest number of a block, and the greatest stamp, are never given.
+const NEVER_GIVEN: u64 = u64::MAX;
 
 pub struct Blocks {
     records: FastMap<u64, Record>,
@@ -87,6 +118,7 @@ pub struct Blocks {
     marks: BTreeSet<(u32, u64, u64)>,
     /// The blocks that are committed, and that fewer nodes reported than there are to be replicas.
     scarce: BTreeSet<u64>,
+    recoveries: Recoveries,
     next_block: u64,
     next_stamp: u64,
 }
@@ -98,6 +130,7 @@ impl Blocks {
             nodes: BTreeMap::new(),
             marks: BTreeSet::new(),
             scarce: BTreeSet::new(),
+            recoveries: Recoveries::default(),
             next_block: 1,
             next_stamp: 1001,
         }
@@ -112,14 +145,31 @@ impl Blocks {
 
     // ---- heartbeats
 
-    /// A node was heard of. Tells the replicas that it is to remove, each with its stamp, and the copies that it is to make.
-    pub fn heard_of(&mut self, node: u32, now: u64) -> (Vec<(u64, u64)>, Vec<Transfer>) {
+    /// A node was heard of. Tells what it is told.
+    pub fn heard_of(&mut self, node: u32, now: u64) -> Orders {
         let new = || Node {
             heard: now,
             blocks: 0,
         };
         self.nodes.entry(node).or_insert_with(new).heard = now;
-        (self.removals(node), self.transfers(node, now))
+        Orders {
+            recoveries: self.led(node),
+            removals: self.removals(node),
+            transfers: self.transfers(node, now),
+        }
+    }
+
+    fn led(&mut self, node: u32) -> Vec<Leading> {
+        let blocks = self.recoveries.tell(node).into_iter();
+        let leading = |block| {
+            let record = &self.records[&block];
+            Leading {
+                block,
+                stamp: record.stamp,
+                nodes: record.expected.as_ref().into(),
+            }
+        };
+        blocks.map(leading).collect()
     }
 
     fn removals(&mut self, node: u32) -> Vec<(u64, u64)> {
@@ -203,6 +253,9 @@ impl Blocks {
             self.marks.insert((node, block, stamp));
             return;
         };
+        if stamp < record.stamp && self.recoveries.is_running(block) {
+            return;
+        }
         let is_held = record.is_held_by(node);
         let is_valid = record.committed.is_none_or(|committed| committed == length);
         if stamp != record.stamp || !is_valid {
@@ -284,6 +337,12 @@ impl Blocks {
         if !self.nodes.values().any(|node| node.is_live(now)) {
             return Err(BlockRefusal::TooFewNodes);
         }
+        if self.next_block == NEVER_GIVEN {
+            return Err(BlockRefusal::SpentBlock);
+        }
+        if self.next_stamp == NEVER_GIVEN {
+            return Err(BlockRefusal::SpentStamp);
+        }
         if let Some(last) = last {
             self.commit(last);
         }
@@ -322,6 +381,7 @@ impl Blocks {
         for block in blocks {
             let record = self.records.remove(block).expect("a block");
             self.scarce.remove(block);
+            self.recoveries.end(*block);
             let reporting = record.reports.iter().map(|report| report.0);
             let others = reporting.filter(|node| !record.expected.contains(node));
             for node in record.expected.iter().copied().chain(others) {
@@ -329,5 +389,87 @@ impl Blocks {
                 self.marks.insert((node, *block, record.stamp));
             }
         }
+    }
+
+    // ---- recoveries
+
+    /// Of the nodes that are to hold a block, the live one that was heard of last, of several the lowest.
+    fn leader(&self, block: u64, now: u64) -> Option<u32> {
+        let heard = |id: &u32| {
+            let node = self.nodes.get(id).filter(|node| node.is_live(now))?;
+            Some((node.heard, Reverse(*id)))
+        };
+        let expected = self.records[&block].expected.iter();
+        expected.filter_map(heard).max().map(|(_, id)| id.0)
+    }
+
+    /// The recovery of a file's last block begins, under a new stamp, which is told. No node has reported it.
+    pub fn begin_recovery(
+        &mut self,
+        block: u64,
+        file: Place,
+        now: u64,
+    ) -> Result<u64, BlockRefusal> {
+        let stamp = self.next_stamp;
+        if stamp == NEVER_GIVEN {
+            return Err(BlockRefusal::SpentStamp);
+        }
+        let leader = self.leader(block, now).ok_or(BlockRefusal::TooFewNodes)?;
+        self.next_stamp += 1;
+        let record = self.records.get_mut(&block).expect("a block");
+        record.stamp = stamp;
+        for (node, _) in mem::take(&mut record.reports) {
+            if !self.records[&block].expected.contains(&node) {
+                self.loses(node);
+            }
+        }
+        self.recoveries.begin(block, file, leader, now);
+        Ok(stamp)
+    }
+
+    /// The files whose recoveries are to begin anew.
+    pub fn overdue(&self, now: u64) -> impl Iterator<Item = Place> {
+        self.recoveries.overdue(now)
+    }
+
+    /// The recovery of a block ends: these nodes, ascending, are to hold it with this length, and report it. Tells the file.
+    pub fn end_recovery(
+        &mut self,
+        block: u64,
+        stamp: u64,
+        length: u64,
+        nodes: &[u32],
+    ) -> Result<Place, BlockRefusal> {
+        let record = self.records.get_mut(&block);
+        let record = record.ok_or(BlockRefusal::NotFound)?;
+        if stamp != record.stamp {
+            return Err(BlockRefusal::StaleStamp(record.stamp));
+        }
+        let file = self.recoveries.end(block).ok_or(BlockRefusal::NotOpen)?;
+        record.committed = Some(length);
+        let expected = mem::replace(&mut record.expected, nodes.into());
+        let named = nodes.iter().map(|node| (*node, length));
+        let reports = mem::replace(&mut record.reports, named.collect());
+        let mut before = expected.into_vec();
+        for (node, told) in reports {
+            if !before.contains(&node) {
+                before.push(node);
+            }
+            if nodes.binary_search(&node).is_ok() {
+                continue;
+            }
+            if told == length {
+                let index = record.reports.partition_point(|other| other.0 < node);
+                record.reports.insert(index, (node, told));
+            } else {
+                self.marks.insert((node, block, stamp));
+            }
+        }
+        // those that are named report it, so that the reports tell all who hold it now
+        let now: Vec<u32> = record.reports.iter().map(|report| report.0).collect();
+        before.into_iter().for_each(|node| self.loses(node));
+        now.into_iter().for_each(|node| self.gains(node));
+        self.watch(block);
+        Ok(file)
     }
 }

@@ -1,6 +1,7 @@
 //! What is asked of DataNodes, and the messages that they and the NameNode send.
 
 use crate::names::Who;
+use crate::plans::{Found, RecoveryOrder};
 use crate::tokens::{IssuedKey, Token};
 use std::rc::Rc;
 
@@ -69,6 +70,10 @@ pub enum Asked {
     /// To this node. Only the NameNode asks so, in the name of the node that is asked.
     SendCopy(u32),
     TakeCopy(Payload),
+    /// What a node that leads a recovery asks: what its replica is, and to take none of an older stamp any more.
+    Init,
+    /// To cut the replica to this length.
+    Update(u64),
 }
 
 /// A call of a DataNode that presents a token.
@@ -85,4 +90,12 @@ pub enum Message {
     Invalidate(u32, u64, u64),
     /// A node tells the NameNode of a replica of a block: its stamp and its length.
     Reported(u32, u64, u64, u64),
+    /// A node is to lead a recovery.
+    Recover(u32, RecoveryOrder),
+    /// To the node that leads the recovery of a block at a stamp, from one that it asked for its replica.
+    Answered(u32, u64, u64, u32, Found),
+    /// To the node that leads the recovery of a block at a stamp, from one that has cut its replica.
+    Updated(u32, u64, u64, u32),
+    /// A node that led a recovery of a block at a stamp tells the NameNode the length, and the nodes that have it.
+    Recovered(u32, u64, u64, u64, Rc<[u32]>),
 }

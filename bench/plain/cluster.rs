@@ -6,7 +6,9 @@ use crate::data_node::{Answer, DataNode};
 use crate::event::Event;
 use crate::name_node::NameNode;
 use crate::names::{Names, Who};
+use crate::plans::RecoveryOrder;
 use crate::request::{Op, Request};
+use std::rc::Rc;
 
 const NODES: u32 = 8;
 
@@ -67,6 +69,12 @@ impl Cluster {
                 }
                 None => EventAnswer::Lost(Lost::NoNode),
             },
+            Event::Lead(node, going, block, stamp) => match node_at(&mut self.nodes, node) {
+                Some(node) => {
+                    EventAnswer::Called(node.go_on(going, block, stamp, &mut self.messages))
+                }
+                None => EventAnswer::Lost(Lost::NoNode),
+            },
             Event::Deliver(number, moment) => {
                 let answer = deliver(
                     &self.messages,
@@ -100,10 +108,13 @@ fn send_commands(names: &Names, caller: Who, verdict: &Verdict, messages: &mut V
     };
     let Commands {
         keys,
+        recoveries,
         removals,
         copies,
     } = &**commands;
     messages.push(Message::Keys(node, keys.clone()));
+    let recovery = |order: &RecoveryOrder| Message::Recover(node, order.clone());
+    messages.extend(recoveries.iter().map(recovery));
     let removal = |own: &(u64, u64)| Message::Invalidate(node, own.0, own.1);
     messages.extend(removals.iter().map(removal));
     for copy in copies {
@@ -135,21 +146,36 @@ fn deliver<'a>(
     let (Message::Call(to, _)
     | Message::Keys(to, _)
     | Message::Invalidate(to, ..)
-    | Message::Reported(to, ..)) = message;
+    | Message::Reported(to, ..)
+    | Message::Recover(to, _)
+    | Message::Answered(to, ..)
+    | Message::Updated(to, ..)
+    | Message::Recovered(to, ..)) = message;
     let Some(node) = node_at(nodes, *to) else {
         return EventAnswer::Lost(Lost::NoNode);
+    };
+    // what comes to the NameNode is a request of the node that sent it
+    let told = |op| Request {
+        caller: node.principal,
+        moment,
+        op,
     };
     EventAnswer::Called(match message {
         Message::Call(_, call) => node.call(names, moment, call, sent),
         Message::Keys(_, keys) => node.keys(moment, keys),
         Message::Invalidate(_, block, stamp) => node.invalidate(moment, *block, *stamp),
         Message::Reported(_, block, stamp, length) => {
-            let request = Request {
-                caller: node.principal,
-                moment,
-                op: Op::Reported(*block, *stamp, *length),
-            };
+            let request = told(Op::Reported(*block, *stamp, *length));
             return EventAnswer::Named(&name_node.step(names, request).verdict);
         }
+        Message::Recovered(_, block, stamp, length, nodes) => {
+            let op = Op::CommitRecovery(*block, *stamp, *length, Rc::clone(nodes));
+            return EventAnswer::Named(&name_node.step(names, told(op)).verdict);
+        }
+        Message::Recover(_, order) => node.lead(order, sent),
+        Message::Answered(_, block, stamp, from, found) => {
+            node.answered(*block, *stamp, *from, *found)
+        }
+        Message::Updated(_, block, stamp, from) => node.updated(*block, *stamp, *from),
     })
 }

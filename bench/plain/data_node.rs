@@ -1,8 +1,11 @@
 //! A DataNode: its replicas, the keys that it was sent, and whom it let at its replicas.
 
 use crate::calls::{Asked, Call, Message, Next, Payload, Presented};
+use crate::event::Going;
 use crate::names::{FastMap, Names, Who};
+use crate::plans::{Found, PlanRefusal, Plans, RecoveryOrder};
 use crate::tokens::{Access, IssuedKey, KeyCache, READ, Token, TokenRefusal, WRITE};
+use std::rc::Rc;
 
 /// The most bytes of a packet, and of a replica.
 const PACKET_LIMIT: u64 = 65_536;
@@ -56,6 +59,15 @@ pub enum Told<'a> {
     Copied(u64),
     Stored(u64),
     Keys(usize),
+    /// Of a recovery that is led: so many nodes are asked.
+    Asked(usize),
+    /// The stamp and the length of a replica, and whether it is still being written.
+    Replica(u64, u64, bool),
+    Noted,
+    /// The length to which a block is recovered, and those that take part.
+    Length(u64, Rc<[u32]>),
+    Updated(u64),
+    Committed(u64),
 }
 
 pub enum ReplicaRefusal {
@@ -70,6 +82,7 @@ pub enum ReplicaRefusal {
 pub enum NodeRefusal {
     Token(TokenRefusal),
     Replica(ReplicaRefusal),
+    Plan(PlanRefusal),
 }
 
 impl From<TokenRefusal> for NodeRefusal {
@@ -81,6 +94,12 @@ impl From<TokenRefusal> for NodeRefusal {
 impl From<ReplicaRefusal> for NodeRefusal {
     fn from(refusal: ReplicaRefusal) -> NodeRefusal {
         NodeRefusal::Replica(refusal)
+    }
+}
+
+impl From<PlanRefusal> for NodeRefusal {
+    fn from(refusal: PlanRefusal) -> NodeRefusal {
+        NodeRefusal::Plan(refusal)
     }
 }
 
@@ -96,6 +115,8 @@ pub struct DataNode {
     keys: KeyCache,
     held: FastMap<u64, Held>,
     log: Vec<AccessRecord>,
+    /// The recoveries that it leads.
+    plans: Plans,
 }
 
 impl Asked {
@@ -116,6 +137,7 @@ impl DataNode {
             keys: KeyCache::default(),
             held: FastMap::default(),
             log: Vec::new(),
+            plans: Plans::default(),
         }
     }
 
@@ -172,6 +194,8 @@ impl DataNode {
             Asked::Read(offset, length) => self.read(presented, *offset, *length),
             Asked::SendCopy(to) => self.send_copy(presented, *to, sent),
             Asked::TakeCopy(bytes) => self.take_copy(presented, bytes, sent),
+            Asked::Init => self.init_recovery(names, presented, sent),
+            Asked::Update(length) => self.update(names, presented, *length, sent),
         }
     }
 
@@ -335,6 +359,139 @@ impl DataNode {
         self.report(presented, bytes.len(), sent);
         Ok(Told::Stored(bytes.len()))
     }
+
+    // ---- recoveries of others
+
+    /// A recovery begins: the stamp is promised, so that no writer of an older one goes on. The replica stays as it is.
+    fn init_recovery(
+        &mut self,
+        names: &Names,
+        presented: &Presented,
+        sent: &mut Vec<Message>,
+    ) -> Answer<'_> {
+        let (block, stamp) = (presented.block, presented.stamp);
+        let held = self.held.get_mut(&block);
+        let held = held.ok_or(ReplicaRefusal::NoReplica)?;
+        let replica = held.replica.as_ref().ok_or(ReplicaRefusal::NoReplica)?;
+        if stamp <= held.promised {
+            return Err(ReplicaRefusal::StampDiffers(held.promised).into());
+        }
+        held.promised = stamp;
+        let found = Found {
+            length: replica.bytes.len() as u64,
+            is_writing: replica.is_writing,
+        };
+        let told = Told::Replica(replica.stamp, found.length, found.is_writing);
+        self.note(presented, WRITE, 0, 0);
+        if let Some(leader) = names.node(presented.caller) {
+            sent.push(Message::Answered(leader, block, stamp, self.id, found));
+        }
+        Ok(told)
+    }
+
+    /// The replica gets the length and the stamp of a recovery, and is finalized.
+    fn update(
+        &mut self,
+        names: &Names,
+        presented: &Presented,
+        length: u64,
+        sent: &mut Vec<Message>,
+    ) -> Answer<'_> {
+        let (block, stamp) = (presented.block, presented.stamp);
+        let held = self.held.get_mut(&block);
+        let held = held.ok_or(ReplicaRefusal::NoReplica)?;
+        let replica = held.replica.as_mut().ok_or(ReplicaRefusal::NoReplica)?;
+        if stamp != held.promised {
+            return Err(ReplicaRefusal::StampDiffers(held.promised).into());
+        }
+        if replica.stamp == stamp {
+            return Err(ReplicaRefusal::NotWritable.into());
+        }
+        if length > replica.bytes.len() as u64 {
+            return Err(ReplicaRefusal::OutOfRange.into());
+        }
+        replica.bytes.truncate(length as usize);
+        replica.stamp = stamp;
+        replica.is_writing = false;
+        self.note(presented, WRITE, 0, length);
+        if let Some(leader) = names.node(presented.caller) {
+            sent.push(Message::Updated(leader, block, stamp, self.id));
+        }
+        self.report(presented, length, sent);
+        Ok(Told::Updated(length))
+    }
+
+    // ---- recoveries that it leads, which move no clock
+
+    /// Asks all who are to hold a block for their replicas.
+    pub fn lead(&mut self, order: &RecoveryOrder, sent: &mut Vec<Message>) -> Answer<'_> {
+        self.plans.begin(order)?;
+        let presented = self.presented(order.block, order.stamp, &order.token);
+        call_all(&presented, &order.nodes, sent, || Asked::Init);
+        Ok(Told::Asked(order.nodes.len()))
+    }
+
+    /// What it presents as the leader of a recovery.
+    fn presented(&self, block: u64, stamp: u64, token: &Token) -> Presented {
+        Presented {
+            caller: self.principal,
+            block,
+            stamp,
+            token: Token::clone(token),
+        }
+    }
+
+    pub fn answered(&mut self, block: u64, stamp: u64, from: u32, found: Found) -> Answer<'_> {
+        self.plans.answer(block, stamp, from, found)?;
+        Ok(Told::Noted)
+    }
+
+    pub fn updated(&mut self, block: u64, stamp: u64, from: u32) -> Answer<'_> {
+        self.plans.confirm(block, stamp, from)?;
+        Ok(Told::Noted)
+    }
+
+    /// Goes on with a recovery.
+    pub fn go_on(
+        &mut self,
+        going: Going,
+        block: u64,
+        stamp: u64,
+        sent: &mut Vec<Message>,
+    ) -> Answer<'_> {
+        match going {
+            Going::Decide => {
+                let settled = self.plans.decide(block, stamp)?;
+                let presented = self.presented(block, stamp, &settled.token);
+                let update = || Asked::Update(settled.length);
+                call_all(&presented, &settled.nodes, sent, update);
+                Ok(Told::Length(settled.length, settled.nodes))
+            }
+            Going::Commit => {
+                let (length, nodes) = self.plans.commit(block, stamp)?;
+                let message = Message::Recovered(self.id, block, stamp, length, nodes);
+                sent.push(message);
+                Ok(Told::Committed(length))
+            }
+        }
+    }
+}
+
+/// Asks the same of each of these nodes.
+fn call_all(
+    presented: &Presented,
+    nodes: &[u32],
+    sent: &mut Vec<Message>,
+    asked: impl Fn() -> Asked,
+) {
+    let call = |node: &u32| {
+        let call = Call {
+            presented: presented.clone(),
+            asked: asked(),
+        };
+        Message::Call(*node, call)
+    };
+    sent.extend(nodes.iter().map(call));
 }
 
 /// The replica of a block, which is finalized and has this stamp.

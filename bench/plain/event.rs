@@ -11,8 +11,17 @@ pub enum Event {
     Name(Request),
     /// A call of a DataNode at a moment.
     Data(u32, u64, Call),
+    /// A node goes on with the recovery of a block at a stamp that it leads.
+    Lead(u32, Going, u64, u64),
     /// The message of a number is delivered at a moment.
     Deliver(u64, u64),
+}
+
+/// How a node goes on with a recovery.
+#[derive(Clone, Copy)]
+pub enum Going {
+    Decide,
+    Commit,
 }
 
 fn node(word: &str) -> Read<u32> {
@@ -64,6 +73,7 @@ fn token(ledger: &[LedgerRow], word: &str) -> Read<Token> {
 /// Whether a verb is that of a call, and has so many words.
 fn is_call(verb: &str, words: &[&str]) -> bool {
     let count = match verb {
+        "decide" | "commit" => 2,
         "begin" => 4,
         "packet" => 6,
         "finalize" | "read" => 5,
@@ -100,6 +110,18 @@ fn data_event(names: &mut Names, ledger: &[LedgerRow], words: &[&str]) -> Read<E
     let to = called_node(to)?;
     let block = number_word(block)?;
     let stamp = number_word(stamp)?;
+    if let "decide" | "commit" = *verb {
+        if names.node(caller) != Some(to) {
+            return Err(IllFormed::BadLine);
+        }
+        let is_decision = *verb == "decide";
+        let going = if is_decision {
+            Going::Decide
+        } else {
+            Going::Commit
+        };
+        return Ok(Event::Lead(to, going, block, stamp));
+    }
     let asked = asked(verb, rest)?;
     let token = token(ledger, words.last().ok_or(IllFormed::BadLine)?)?;
     let presented = Presented {

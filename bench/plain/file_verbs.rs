@@ -3,8 +3,10 @@
 use crate::answer::{
     Added, Commands, CopyOrder, Failure, Located, Opened, Refusal, Reply, Verdict,
 };
-use crate::blocks::{BlockRefusal, LastBlock, Transfer};
+use crate::blocks::{BlockRefusal, LastBlock, Leading, Transfer};
 use crate::name_node::Serving;
+use crate::names::Who;
+use crate::plans::RecoveryOrder;
 use crate::tokens::{LedgerRow, READ, Token, WRITE};
 use crate::tree::{File, FileBlock, FileState, Place, Walk, no_node, require_superuser};
 
@@ -13,6 +15,11 @@ impl From<BlockRefusal> for Refusal {
         match refusal {
             BlockRefusal::NotYetReplicated => Refusal::NotYetReplicated,
             BlockRefusal::TooFewNodes => Refusal::TooFewNodes,
+            BlockRefusal::SpentBlock => Refusal::SpentBlock,
+            BlockRefusal::SpentStamp => Refusal::SpentStamp,
+            BlockRefusal::NotFound => Refusal::NotFound,
+            BlockRefusal::StaleStamp(stamp) => Refusal::StaleStamp(stamp),
+            BlockRefusal::NotOpen => Refusal::NotOpen,
         }
     }
 }
@@ -75,20 +82,37 @@ impl Serving<'_> {
         self.tree.require_write(self.caller, &walk)?;
         let place = self.expect_found(&walk)?;
         let file = self.tree.file_mut(place).ok_or(Refusal::IsDirectory)?;
-        let FileState::Open(holder) = file.state else {
-            file.state = FileState::Open(self.caller.name);
-            self.leases.opened(self.caller.name, place, self.now);
-            return Ok(Reply::Empty);
+        let holder = match file.state {
+            FileState::Closed => {
+                file.state = FileState::Open(self.caller.name);
+                self.leases.opened(self.caller.name, place, self.now);
+                return Ok(Reply::Empty);
+            }
+            FileState::Recovering => return Err(Refusal::RecoveryRunning.into()),
+            FileState::Open(holder) => holder,
         };
         if holder == self.caller.name || self.leases.is_live(holder, self.now) {
             return Err(Refusal::LeaseHeld(holder).into());
         }
         if file.ends_uncommitted() {
-            return Err(Refusal::TooFewNodes.into());
+            let (block, stamp) = self.recover(place, Some(holder))?;
+            return Ok(Reply::Recovering(block, stamp));
         }
         file.state = FileState::Closed;
         self.leases.closed(holder, place);
         Ok(Reply::Released)
+    }
+
+    /// The recovery of a file's last block begins, and the file is taken from who has it open. Tells the block and its new stamp.
+    fn recover(&mut self, place: Place, holder: Option<Who>) -> Result<(u64, u64), Refusal> {
+        let file = self.tree.file_mut(place).expect("a file");
+        let block = file.blocks.last().expect("a block").id;
+        let stamp = self.blocks.begin_recovery(block, place, self.now)?;
+        file.state = FileState::Recovering;
+        if let Some(holder) = holder {
+            self.leases.closed(holder, place);
+        }
+        Ok((block, stamp))
     }
 
     /// The place of a file that the caller has open, whose last block he names.
@@ -98,6 +122,7 @@ impl Serving<'_> {
         let file = self.tree.file(place).ok_or(Refusal::IsDirectory)?;
         match file.state {
             FileState::Closed => return Err(Refusal::NotOpen.into()),
+            FileState::Recovering => return Err(Refusal::RecoveryRunning.into()),
             FileState::Open(holder) if holder == self.caller.name => {}
             FileState::Open(_) => return Err(Refusal::NoLease.into()),
         }
@@ -211,17 +236,32 @@ impl Serving<'_> {
         CopyOrder { transfer, token }
     }
 
+    fn recovery_order(&mut self, leading: Leading) -> RecoveryOrder {
+        let (token, _) = self.grant(leading.block, WRITE);
+        RecoveryOrder {
+            block: leading.block,
+            stamp: leading.stamp,
+            nodes: leading.nodes,
+            token,
+        }
+    }
+
     pub fn heartbeat(&mut self) -> Verdict {
         let node = self.names.node(self.caller.name).ok_or_else(no_node)?;
         let keys = self.keys.update(self.now);
-        let (removals, transfers) = self.blocks.heard_of(node, self.now);
-        let transfers = transfers.into_iter();
+        let orders = self.blocks.heard_of(node, self.now);
+        let recoveries = orders.recoveries.into_iter();
+        let recoveries = recoveries
+            .map(|leading| self.recovery_order(leading))
+            .collect();
+        let transfers = orders.transfers.into_iter();
         let copies = transfers
             .map(|transfer| self.copy_order(transfer))
             .collect();
         Ok(Reply::Heartbeat(Box::new(Commands {
             keys,
-            removals,
+            recoveries,
+            removals: orders.removals,
             copies,
         })))
     }
@@ -233,17 +273,44 @@ impl Serving<'_> {
         Ok(Reply::Empty)
     }
 
+    /// A DataNode that led the recovery of a block tells its length, and the nodes that have it.
+    pub fn commit_recovery(
+        &mut self,
+        block: u64,
+        stamp: u64,
+        length: u64,
+        nodes: &[u32],
+    ) -> Verdict {
+        self.names.node(self.caller.name).ok_or_else(no_node)?;
+        let ended = self.blocks.end_recovery(block, stamp, length, nodes);
+        let place = ended.map_err(Refusal::from)?;
+        let file = self.tree.file_mut(place).expect("a file");
+        file.state = FileState::Closed;
+        file.blocks.last_mut().expect("a block").committed = Some(length);
+        Ok(Reply::Empty)
+    }
+
     pub fn tick(&mut self) -> Verdict {
         require_superuser(self.caller)?;
+        let overdue = self.blocks.overdue(self.now);
+        let mut recovered: Vec<(Place, Option<Who>)> = overdue.map(|place| (place, None)).collect();
         let tree = &mut *self.tree;
-        let closed = self.leases.close_past_hard(self.now, |place| {
+        let closed = self.leases.close_past_hard(self.now, |holder, place| {
             let file = tree.file_mut(place).expect("an open file");
-            let can_close = !file.ends_uncommitted();
-            if can_close {
-                file.state = FileState::Closed;
+            if file.ends_uncommitted() {
+                recovered.push((place, Some(holder)));
+                return false;
             }
-            can_close
+            file.state = FileState::Closed;
+            true
         });
-        Ok(Reply::Expired(closed))
+        // stamps are given in the order of the paths
+        recovered.sort_by_cached_key(|(place, _)| self.tree.order(*place));
+        let mut begun = 0;
+        for (place, holder) in recovered {
+            // a file is passed over where no node can lead
+            begun += u64::from(self.recover(place, holder).is_ok());
+        }
+        Ok(Reply::Expired(closed, begun))
     }
 }

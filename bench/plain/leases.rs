@@ -126,18 +126,18 @@ impl Leases {
 
     /// Tries to close the files of each client whose lease is past the hard limit, and tells how many were closed. A lease whose last
     /// file is closed ends.
-    pub fn close_past_hard(&mut self, now: u64, mut close: impl FnMut(Place) -> bool) -> u64 {
+    pub fn close_past_hard(&mut self, now: u64, mut close: impl FnMut(Who, Place) -> bool) -> u64 {
         let mut closed = 0;
         let mut next = self.oldest;
         while next != NONE && self.age(next, now) > HARD_LIMIT {
             let index = next;
             let lease = &mut self.leases[index];
             next = lease.newer;
+            let client = lease.client;
             let before = lease.open_files.len();
-            lease.open_files.retain(|place| !close(*place));
+            lease.open_files.retain(|place| !close(client, *place));
             closed += (before - lease.open_files.len()) as u64;
             if lease.open_files.is_empty() {
-                let client = lease.client;
                 self.unlink(index);
                 self.indexes.remove(&client);
                 self.free.push(index);

@@ -10,8 +10,8 @@
 //! a request moves into the history, and an answer is printed from its entry. A message is found by its number as an index, a payload that
 //! is passed on is shared and not copied, a token is shared by the ledger, the calls that present it and the logs, and a DataNode keeps its
 //! keys as they stand at the head of both digests. It does less in these ways: it has only the verbs of the workloads and of the stored
-//! scripts of clusters, of `setfacl` two forms, no default lists and no recoveries, it keeps no list of the events beside the history, the
-//! messages and the logs, and it aborts for want of memory.
+//! scripts of clusters, of `setfacl` two forms and no default lists, it keeps no list of the events beside the history, the messages and the
+//! logs, and it aborts for want of memory.
 
 mod access_list;
 mod answer;
@@ -25,6 +25,8 @@ mod leases;
 mod name_node;
 mod names;
 mod node_answer;
+mod plans;
+mod recoveries;
 mod request;
 mod session;
 mod sha1;

@@ -167,6 +167,9 @@ impl Serving<'_> {
             Op::Tick => self.tick(),
             Op::Heartbeat => self.heartbeat(),
             Op::Reported(block, stamp, length) => self.reported(*block, *stamp, *length),
+            Op::CommitRecovery(block, stamp, length, nodes) => {
+                self.commit_recovery(*block, *stamp, *length, nodes)
+            }
             Op::AddUser(..) => unreachable!("users are added elsewhere"),
         }
     }

@@ -2,6 +2,7 @@
 
 use crate::answer::Printer;
 use crate::data_node::{Answer, NodeRefusal, ReplicaRefusal, Told};
+use crate::plans::PlanRefusal;
 use crate::tokens::TokenRefusal;
 
 /// How many bytes are spelled at a time.
@@ -32,6 +33,24 @@ impl Printer<'_> {
         let (word, number) = match told {
             Told::Begun => return self.push("ok begun"),
             Told::Removed => return self.push("ok removed"),
+            Told::Noted => return self.push("ok noted"),
+            Told::Replica(stamp, length, is_writing) => {
+                self.push("ok replica ");
+                self.push_number(*stamp);
+                self.push(" ");
+                self.push_number(*length);
+                return self.push(if *is_writing {
+                    " writing"
+                } else {
+                    " finalized"
+                });
+            }
+            Told::Length(length, nodes) => {
+                self.push("ok length ");
+                self.push_number(*length);
+                self.push(" nodes ");
+                return self.push_nodes(nodes);
+            }
             Told::Read(bytes) => {
                 self.push(if bytes.is_empty() {
                     "ok read"
@@ -44,6 +63,9 @@ impl Printer<'_> {
             Told::Finalized(length) => ("ok finalized ", *length),
             Told::Copied(length) => ("ok copied ", *length),
             Told::Stored(length) => ("ok stored ", *length),
+            Told::Updated(length) => ("ok updated ", *length),
+            Told::Committed(length) => ("ok committed ", *length),
+            Told::Asked(count) => ("ok asked ", *count as u64),
             Told::Keys(count) => ("ok keys ", *count as u64),
         };
         self.push(word);
@@ -79,6 +101,18 @@ impl Printer<'_> {
         }
     }
 
+    fn push_plan_refusal(&mut self, refusal: &PlanRefusal) {
+        match refusal {
+            PlanRefusal::AlreadyBegun(stamp) => {
+                self.push("P1 AlreadyBegun ");
+                self.push_number(*stamp);
+            }
+            PlanRefusal::Stranger => self.push("P2 Stranger"),
+            PlanRefusal::Doubled => self.push("P3 Doubled"),
+            PlanRefusal::NoReplicaAnswered => self.push("P4 NoReplicaAnswered"),
+        }
+    }
+
     /// What a DataNode answers to a call.
     pub fn push_called(&mut self, answer: &Answer) {
         match answer {
@@ -88,6 +122,7 @@ impl Printer<'_> {
                 match refusal {
                     NodeRefusal::Token(refusal) => self.push_token_refusal(*refusal),
                     NodeRefusal::Replica(refusal) => self.push_replica_refusal(refusal),
+                    NodeRefusal::Plan(refusal) => self.push_plan_refusal(refusal),
                 }
             }
         }

@@ -3,6 +3,7 @@
 use crate::access_list::{AclChange, parse_spec};
 use crate::blocks::LastBlock;
 use crate::names::{Names, Who};
+use std::rc::Rc;
 
 const LATEST: u64 = 1 << 62;
 
@@ -31,6 +32,8 @@ pub enum Op {
     Heartbeat,
     /// A node has a finalized replica of a block, of this stamp and this length. No line says so, but a message does.
     Reported(u64, u64, u64),
+    /// The recovery of a block at a stamp ends with this length, which these nodes have. Only a message says so, too.
+    CommitRecovery(u64, u64, u64, Rc<[u32]>),
 }
 
 pub struct Request {

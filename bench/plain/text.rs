@@ -55,12 +55,20 @@ fn place(mark: &str, turn: Turn) -> (u32, u32) {
     }
 }
 
-/// The number that a mark is which names two: the turn's number so many times, and so many more.
-fn counted(mark: &str, turn: u32) -> Option<u64> {
-    let (times, more) = mark.split_once('n')?;
+/// A number so many times, as a mark begins that has this letter, and what stands behind the plus sign.
+fn times(mark: &str, letter: char, number: u32) -> Option<(u64, &str)> {
+    let (times, rest) = mark.split_once(letter)?;
     let times: u64 = times.parse().ok()?;
-    let more: u64 = more.strip_prefix('+')?.parse().ok()?;
-    Some(u64::from(turn) * times + more)
+    Some((u64::from(number) * times, rest.strip_prefix('+')?))
+}
+
+/// The number that a mark is which names two or three: the size so many times, if it does, the turn's number so many times, and so many
+/// more.
+fn counted(mark: &str, turn: Turn) -> Option<u64> {
+    let (of_size, rest) = times(mark, 's', turn.size).unwrap_or((0, mark));
+    let (of_turn, more) = times(rest, 'n', turn.number)?;
+    let more: u64 = more.parse().ok()?;
+    Some(of_size + of_turn + more)
 }
 
 fn push_bytes(text: &mut String, turn: u32) {
@@ -70,7 +78,7 @@ fn push_bytes(text: &mut String, turn: u32) {
 }
 
 fn push_mark(text: &mut String, mark: &str, turn: Turn) {
-    if let Some(number) = counted(mark, turn.number) {
+    if let Some(number) = counted(mark, turn) {
         write!(text, "{number}").expect("memory");
         return;
     }

@@ -3,6 +3,7 @@
 use crate::access_list::{Acl, Deciding, Judged};
 use crate::names::Who;
 use std::collections::BTreeMap;
+use std::rc::Rc;
 
 const READ: u8 = 0o4;
 const WRITE: u8 = 0o2;
@@ -27,6 +28,8 @@ pub struct Caller<'a> {
 pub enum FileState {
     Closed,
     Open(Who),
+    /// Nobody: the last block is being recovered.
+    Recovering,
 }
 
 /// A block of a file, and its length, once that is committed.
@@ -65,10 +68,18 @@ pub struct Deleted {
 
 pub enum Held {
     File(File),
-    Directory(BTreeMap<Box<str>, Place>),
+    Directory(BTreeMap<Rc<str>, Place>),
+}
+
+/// Where a node is held: the directory, and the name that it has there.
+struct Link {
+    above: Place,
+    name: Rc<str>,
 }
 
 pub struct Node {
+    /// The root has none.
+    link: Option<Link>,
     pub owner: Who,
     pub group: Who,
     pub acl: Acl,
@@ -203,11 +214,23 @@ impl Tree {
         }
     }
 
-    fn children_mut(&mut self, place: Place) -> Option<&mut BTreeMap<Box<str>, Place>> {
+    fn children_mut(&mut self, place: Place) -> Option<&mut BTreeMap<Rc<str>, Place>> {
         match &mut self.node_mut(place).held {
             Held::Directory(children) => Some(children),
             Held::File(_) => None,
         }
+    }
+
+    /// The names down to a node, behind one another: their texts are in the order of the paths, since no name has the byte between them,
+    /// which is the least of all.
+    pub fn order(&self, mut place: Place) -> String {
+        let mut names = Vec::new();
+        while let Some(link) = &self.node(place).link {
+            names.push(&*link.name);
+            place = link.above;
+        }
+        names.reverse();
+        names.join("\0")
     }
 
     /// Goes down a path as far as it leads, through directories that the caller may traverse.
@@ -361,7 +384,8 @@ impl Tree {
         })
     }
 
-    fn add(&mut self, node: Node) -> Place {
+    fn add(&mut self, mut node: Node, above: Place, name: Rc<str>) -> Place {
+        node.link = Some(Link { above, name });
         if let Some(place) = self.free.pop() {
             *self.node_mut(place) = node;
             return place;
@@ -384,9 +408,10 @@ impl Tree {
             let between = || Node::directory(owner, group, mode & 0o777 | 0o300);
             let is_last = behind.is_empty();
             let node = last.take_if(|_| is_last).unwrap_or_else(between);
-            let place = self.add(node);
+            let name: Rc<str> = name.into();
+            let place = self.add(node, at, Rc::clone(&name));
             let children = self.children_mut(at).expect("a directory");
-            children.insert(name.into(), place);
+            children.insert(name, place);
             at = place;
             rest = behind;
         }
@@ -404,8 +429,13 @@ impl Tree {
     /// Moves what has a path to another, which nothing has in a directory that is there.
     pub fn rename(&mut self, from: &Walk, to: &Walk) {
         self.unlink(from);
+        let name: Rc<str> = to.missing.into();
+        self.node_mut(from.last).link = Some(Link {
+            above: to.last,
+            name: Rc::clone(&name),
+        });
         let children = self.children_mut(to.last).expect("a directory");
-        children.insert(to.missing.into(), from.last);
+        children.insert(name, from.last);
     }
 
     /// Removes what has a path, and tells what that was.
@@ -469,6 +499,7 @@ pub fn no_node() -> Box<Denial> {
 impl Node {
     fn new(owner: Who, group: Who, mode: u16, held: Held) -> Node {
         Node {
+            link: None,
             owner,
             group,
             acl: Acl::from_mode(mode),

@@ -110,11 +110,27 @@ fn push_bytes(text: &mut String, number: u32) -> Result<(), AllocError> {
 }
 
 /// The number that a mark is which names two: the turn's number so many times, and so many more.
-fn counted(mark: &str, number: u32) -> Option<u64> {
+fn counted_by_turn(mark: &str, number: u32) -> Option<u64> {
     let (times, more) = mark.split_once('n')?;
     let times = times.parse::<u64>().ok()?;
     let more = more.strip_prefix('+')?.parse::<u64>().ok()?;
     Some(u64::from(number).saturating_mul(times).saturating_add(more))
+}
+
+/// The number that a mark is which names three: the size so many times, and what the other two are.
+fn counted_by_size(mark: &str, turn: Turn) -> Option<u64> {
+    let (times, rest) = mark.split_once('s')?;
+    let times = times.parse::<u64>().ok()?;
+    let more = counted_by_turn(rest.strip_prefix('+')?, turn.number)?;
+    Some(u64::from(turn.size).saturating_mul(times).saturating_add(more))
+}
+
+/// The number that a mark is which names numbers.
+fn counted(mark: &str, turn: Turn) -> Option<u64> {
+    match counted_by_turn(mark, turn.number) {
+        Some(number) => Some(number),
+        None => counted_by_size(mark, turn),
+    }
 }
 
 fn push_number(text: &mut String, number: u64) -> Result<(), AllocError> {
@@ -131,7 +147,7 @@ fn push_word(text: &mut String, mark: &str, turn: Turn) -> Result<(), AllocError
 }
 
 fn push_mark(text: &mut String, mark: &str, turn: Turn) -> Result<(), AllocError> {
-    match counted(mark, turn.number) {
+    match counted(mark, turn) {
         Some(number) => push_number(text, number),
         None => push_word(text, mark, turn),
     }

@@ -20,6 +20,7 @@ pub struct Workload {
 /// - `{writer}` is the client who writes `{path}`, one of a hundred by turns;
 /// - `{node}` is the id of a DataNode, one of ten by turns;
 /// - `{39n+4}` is the turn's number 39 times, and 4 more, and so for any two numbers;
+/// - `{2s+39n+4}` is that and the size twice, and so for any three numbers;
 /// - `{bytes}` are 512 bytes in hexadecimal digits, which differ from turn to turn.
 #[derive(Clone, Copy)]
 pub struct Block {
@@ -206,7 +207,7 @@ const LATE_FILES: Block = Block {
     lines: "2000000 {writer} create {path} 777 3\n",
 };
 
-/// The tick that closes the reader's files.
+/// The tick that takes the files of all whose leases were renewed at 0.
 const LATE_TICK: Block = Block {
     turns: Fixed(1),
     lines: "2000000 hdfs tick\n",
@@ -374,8 +375,62 @@ const PIPELINES: Block = Block {
 ",
 };
 
+/// Files of one block each, whose writers are gone in the middle of it: each of three nodes has another part, which none has finalized or
+/// reported. No message is sent.
+const CUT_OFF: Block = Block {
+    turns: Size,
+    lines: "0 {writer} create {path} 777 3
+0 {writer} addblock {path}
+0 {writer} @1 begin {1n+1} {1n+1001} - #{1n+1}
+0 {writer} @2 begin {1n+1} {1n+1001} - #{1n+1}
+0 {writer} @3 begin {1n+1} {1n+1001} - #{1n+1}
+0 {writer} @1 packet {1n+1} {1n+1001} 0 900*61 - #{1n+1}
+0 {writer} @2 packet {1n+1} {1n+1001} 0 700*61 - #{1n+1}
+0 {writer} @3 packet {1n+1} {1n+1001} 0 512*61 - #{1n+1}
+",
+};
+
+/// The nodes are heard of when leases that were renewed at 0 are past the hard limit, and so are live. Their keys were sent before, too.
+const LATE_NODES: Block = Block {
+    turns: Fixed(3),
+    lines: "2000000 dn-{1n+1} heartbeat\n",
+};
+
+/// The first node, which was heard of as late as the others and has the lowest id, is told all recoveries. Six messages were sent before
+/// the seventh, its keys.
+const LATE_ORDERS: Block = Block {
+    turns: Fixed(1),
+    lines: "2000000 dn-1 heartbeat\n",
+};
+
+/// The recoveries go on, one after the other, and all that is sent of each is delivered: the order to lead it, then of each of three nodes
+/// the question, the answer, the length and, with the report, the confirmation, and at last the end. Of each 16 messages are sent.
+const RECOVERIES: Block = Block {
+    turns: Size,
+    lines: "2000000 - deliver {1n+8}
+2000000 - deliver {1s+16n+8}
+2000000 - deliver {1s+16n+9}
+2000000 - deliver {1s+16n+10}
+2000000 - deliver {1s+16n+11}
+2000000 - deliver {1s+16n+12}
+2000000 - deliver {1s+16n+13}
+2000000 dn-1 @1 decide {1n+1} {1s+1n+1001}
+2000000 - deliver {1s+16n+14}
+2000000 - deliver {1s+16n+15}
+2000000 - deliver {1s+16n+16}
+2000000 - deliver {1s+16n+17}
+2000000 - deliver {1s+16n+18}
+2000000 - deliver {1s+16n+19}
+2000000 - deliver {1s+16n+20}
+2000000 - deliver {1s+16n+21}
+2000000 - deliver {1s+16n+22}
+2000000 dn-1 @1 commit {1n+1} {1s+1n+1001}
+2000000 - deliver {1s+16n+23}
+",
+};
+
 /// All that can be timed as scripts.
-pub static WORKLOADS: [Workload; 21] = [
+pub static WORKLOADS: [Workload; 22] = [
     // Directories are made, one a line, in a namespace that is empty at first.
     Workload {
         name: "mkdirs",
@@ -541,6 +596,13 @@ pub static WORKLOADS: [Workload; 21] = [
         name: "pipeline",
         before: &[OPEN, THREE_NODES],
         timed: &[PIPELINES],
+        operations: Operations::Size,
+    },
+    // Blocks whose writers are gone are recovered: one tick takes all files, and one node leads all recoveries. An operation is one block.
+    Workload {
+        name: "recovery",
+        before: &[OPEN, WRITERS, THREE_NODES, CUT_OFF],
+        timed: &[LATE_NODES, LATE_TICK, LATE_ORDERS, RECOVERIES],
         operations: Operations::Size,
     },
 ];
