@@ -20,7 +20,12 @@ pub struct Recover {
 
 impl Drop for Recover {
     fn drop(self) {
-        let Recover { block: _, stamp: _, nodes, token } = self;
+        let Recover {
+            block: _,
+            stamp: _,
+            nodes,
+            token,
+        } = self;
         drop(nodes);
         drop(token);
     }
@@ -43,7 +48,12 @@ pub struct CopyOrder {
 
 impl Drop for CopyOrder {
     fn drop(self) {
-        let CopyOrder { block: _, stamp: _, target: _, token } = self;
+        let CopyOrder {
+            block: _,
+            stamp: _,
+            target: _,
+            token,
+        } = self;
         drop(token);
     }
 }

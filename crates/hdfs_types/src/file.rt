@@ -67,7 +67,11 @@ pub struct FileDetail {
 
 impl Drop for FileDetail {
     fn drop(self) {
-        let FileDetail { replication: _, length: _, state } = self;
+        let FileDetail {
+            replication: _,
+            length: _,
+            state,
+        } = self;
         drop(state);
     }
 }

@@ -117,7 +117,13 @@ pub struct LocatedBlock {
 
 impl Drop for LocatedBlock {
     fn drop(self) {
-        let LocatedBlock { block: _, stamp: _, length: _, nodes, token } = self;
+        let LocatedBlock {
+            block: _,
+            stamp: _,
+            length: _,
+            nodes,
+            token,
+        } = self;
         drop(nodes);
         drop(token);
     }

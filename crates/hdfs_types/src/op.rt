@@ -275,7 +275,11 @@ pub struct Request {
 
 impl Drop for Request {
     fn drop(self) {
-        let Request { caller, moment: _, op } = self;
+        let Request {
+            caller,
+            moment: _,
+            op,
+        } = self;
         drop(caller);
         drop(op);
     }

@@ -25,7 +25,12 @@ pub struct RecoveredBlock {
 
 impl Drop for RecoveredBlock {
     fn drop(self) {
-        let RecoveredBlock { block: _, stamp: _, length: _, nodes } = self;
+        let RecoveredBlock {
+            block: _,
+            stamp: _,
+            length: _,
+            nodes,
+        } = self;
         drop(nodes);
     }
 }

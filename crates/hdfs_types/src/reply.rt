@@ -36,7 +36,14 @@ pub struct FileStatus {
 
 impl Drop for FileStatus {
     fn drop(self) {
-        let FileStatus { kind: _, mode: _, has_acl: _, owner, group, file } = self;
+        let FileStatus {
+            kind: _,
+            mode: _,
+            has_acl: _,
+            owner,
+            group,
+            file,
+        } = self;
         drop(owner);
         drop(group);
         drop(file);
