@@ -9,7 +9,6 @@ use flat_rows::verdict::Verdict;
 use hdfs_types::reply::Reply;
 use plan_steps::answered::PlanReply;
 use std::alloc::Global;
-use std::fmt::Write;
 use std::test::Fail;
 
 // What happens with one message.
