@@ -1,4 +1,5 @@
-//! Tests of clusters: of events that no line of a script makes, of schedules that look random, and of what records of access rest on.
+//! Tests of clusters: of events that no line of a script makes, of schedules that look random, of a recovery whose messages go astray, and of
+//! what records of access rest on.
 //! Nothing stands on this crate.
 #![tactic(auto)]
 
@@ -8,6 +9,8 @@ mod lines;
 mod outside;
 #[cfg(test)]
 mod random;
+#[cfg(test)]
+mod recoveries;
 #[cfg(test)]
 mod runs;
 #[cfg(test)]

@@ -176,7 +176,7 @@ fn check_node(world: &World, id: u32, seen: usize) -> Result<usize, Fail> {
 }
 
 // How many records the DataNodes have, where they had so many before.
-fn check_nodes(world: &World, seen: [usize; 3]) -> Result<[usize; 3], Fail> {
+pub(crate) fn check_nodes(world: &World, seen: [usize; 3]) -> Result<[usize; 3], Fail> {
     let [first, second, third] = seen;
     let first = check_node(world, 1, first)?;
     let second = check_node(world, 2, second)?;

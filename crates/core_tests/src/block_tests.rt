@@ -33,7 +33,7 @@ fn write_removals(verdict: &Verdict, text: &mut String) -> Result<(), Fail> {
 }
 
 // What the last entry tells, as a script would print it, with the tokens numbered behind so many rows.
-pub(crate) fn write_last(core: &NameCore, rows: usize, text: &mut String) -> Result<(), Fail> {
+fn write_last(core: &NameCore, rows: usize, text: &mut String) -> Result<(), Fail> {
     let Some(entry) = core.last() else {
         return Ok(());
     };
@@ -44,7 +44,8 @@ pub(crate) fn write_last(core: &NameCore, rows: usize, text: &mut String) -> Res
     Ok(text.push_str("\n")?)
 }
 
-fn step(core: &mut NameCore, text: &mut String, request: Request) -> Result<(), Fail> {
+// Steps a request, and writes what it is answered.
+pub(crate) fn step(core: &mut NameCore, text: &mut String, request: Request) -> Result<(), Fail> {
     let rows = core.ledger().len();
     let answer = core.step(0, 0, &request);
     drop(request);

@@ -1,6 +1,6 @@
 //! Files that are taken from the clients who have them open, and recoveries of their last blocks, from their beginning to their end.
 
-use crate::block_tests::{ask, ask_all, open, write_last};
+use crate::block_tests::{ask, ask_all, open, step};
 use block_records::node_set::NodeSet;
 use hdfs_types::op::{Op, Request};
 use hdfs_types::replica::RecoveredBlock;
@@ -52,10 +52,7 @@ fn end(
     length: u64,
     ids: &[u32],
 ) -> Result<(), Fail> {
-    let rows = core.ledger().len();
-    let request = ending(alloc, block, stamp, length, ids)?;
-    core.append(0, 0, request)?;
-    write_last(core, rows, text)
+    step(core, text, ending(alloc, block, stamp, length, ids)?)
 }
 
 // A file whose last block isn't committed is taken over by an append.
