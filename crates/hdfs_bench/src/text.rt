@@ -122,7 +122,11 @@ fn counted_by_size(mark: &str, turn: Turn) -> Option<u64> {
     let (times, rest) = mark.split_once('s')?;
     let times = times.parse::<u64>().ok()?;
     let more = counted_by_turn(rest.strip_prefix('+')?, turn.number)?;
-    Some(u64::from(turn.size).saturating_mul(times).saturating_add(more))
+    Some(
+        u64::from(turn.size)
+            .saturating_mul(times)
+            .saturating_add(more),
+    )
 }
 
 /// The number that a mark is which names numbers.
