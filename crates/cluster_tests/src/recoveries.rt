@@ -75,8 +75,7 @@ const LOST: [(u64, u64); 22] = [
     (512, 0),
 ];
 
-// A cluster, which message goes another way, how many were sent and how many have had their turn, what was decided, and how many records
-// there are.
+// Which message goes another way, how many were sent and how many have had their turn, what was decided, and how many records there are.
 #[derive(Clone, Copy)]
 struct Run {
     number: u64,
