@@ -86,7 +86,7 @@ Carries state (message.CommitRecovery leader block stamp count nodes) = CommitDe
 
 -- ---- what was decided stays so
 
-decided_stays : (state : State) (event : Event) (leader block stamp : ℕ) (decision : Decision) → HasDecided state leader block stamp decision → HasDecided (happens state event) leader block stamp decision
+pub decided_stays : (state : State) (event : Event) (leader block stamp : ℕ) (decision : Decision) → HasDecided state leader block stamp decision → HasDecided (happens state event) leader block stamp decision
 decided_stays state event leader block stamp decision h =
     let stays = event_stays state event leader block stamp h.0 h.1 in
     (stays.now, stays.there, stays.extends.decision decision h.2)
