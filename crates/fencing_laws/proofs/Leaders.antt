@@ -8,7 +8,6 @@ use Rattle.block_recovery.specs.Plans.{PlanTable}
 use Rattle.block_map.specs.BlockFacts.{BlockFacts, block_of}
 use Rattle.block_effect_laws.specs.Laws.{Becomes}
 use Rattle.block_effect_laws.proofs.Orders.{AreInOrder}
-use Rattle.hdfs_values.specs.NodeId.{node_of}
 use Rattle.hdfs_types.specs.declared.op.Request.{Request}
 use Rattle.flat_rows.specs.Facts.{Facts}
 use Rattle.history.specs.LegalHistory.{IsLegal, now_at}
@@ -92,6 +91,9 @@ pub record HasLeaders (state : State) : Type 0 where
   pub given : AllByRecursion (OfOrder (WasGiven (facts_in state))) state.messages
   pub agree : AllAgree state.messages
 
+abbrev Never : Order → Type 0
+Never order = ⊥
+
 -- nothing is asked of the NameNode, and nothing is ordered
 quiet : (state : State) (what : Happened) → what.entries ≡ state.entries → AllByRecursion HasNone what.sent → HasLeaders state → HasLeaders (left_by state what)
 quiet state what same none before =
@@ -104,9 +106,6 @@ quiet state what same none before =
   where
     old : BlockFacts
     old = facts_in state
-
-    abbrev Never : Order → Type 0
-    Never order = ⊥
 
     news : AllByRecursion (OfOrder Never) what.sent
     news = each_more HasNone (OfOrder Never) (λ own is order e. never_some order (sym is ∙ e)) what.sent none

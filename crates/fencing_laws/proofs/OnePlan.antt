@@ -3,7 +3,7 @@ use Rattle.std.proofs.Common.{◌≡◌, ℕ, zero, suc, Bool, true, false, ◌&
 use Rattle.std.specs.Prelude.{slice_get}
 use Rattle.std.specs.List.{AllByRecursion}
 use Rattle.std.specs.Option.{option_map}
-use Rattle.block_records.specs.Numbers.{is_number, has_number, entry_at}
+use Rattle.block_records.specs.Numbers.{is_number, entry_at}
 use Rattle.block_records.specs.declared.block_record.BlockRecord.{BlockRecord}
 use Rattle.block_records.proofs.Numbers.{number_is}
 use Rattle.block_map.specs.BlockFacts.{newest_stamp}
@@ -16,8 +16,8 @@ use Rattle.hdfs_types.specs.declared.op.Op.{Op}
 use Rattle.hdfs_types.specs.declared.op.Op.TheVariants as op
 use Rattle.hdfs_types.specs.declared.op.Request.{Request}
 use Rattle.hdfs_types.specs.declared.replica.RecoveredBlock.{RecoveredBlock}
+use Rattle.hdfs_types.specs.declared.replica.ReportedReplica.{ReportedReplica}
 use Rattle.hdfs_types.specs.declared.reply.Reply.{Reply}
-use Rattle.flat_rows.specs.Facts.{Facts}
 use Rattle.flat_rows.specs.Outcome.{first_refusal}
 use Rattle.flat_rows.specs.declared.verdict.Verdict.TheVariants.{Done}
 use Rattle.history.specs.Config as name
@@ -31,18 +31,17 @@ use Rattle.node_calls.specs.declared.call.PlanCall.TheVariants as plan
 use Rattle.node_calls.specs.declared.call.TokenCall.TheVariants as call
 use Rattle.node_calls.specs.declared.message.Message.{Message}
 use Rattle.node_calls.specs.declared.message.Message.TheVariants as message
-use Rattle.node_calls.specs.declared.presented.Presented.{Presented}
 use Rattle.datanode.specs.NodeStep.{Node}
 use Rattle.plan_steps.specs.PlanStep.{recover_of, answer_of, plan_refusal, left_unless, plans_after}
 use Rattle.cluster_trace.specs.DataCall.{DataCall, as_message}
 use Rattle.cluster_trace.specs.DataCall as outside
 use Rattle.cluster_trace.specs.Provenance.{IsIn}
-use Rattle.cluster_trace.specs.Trace.{State, Opening, Happened, with_no_plan, lost, named, called_at, led_at, delivered, message_at, is_from_outside, reporting, committing, happened, happens, after}
+use Rattle.cluster_trace.specs.Trace.{State, Opening, with_no_plan, lost, named, called_at, led_at, delivered, message_at, is_from_outside, happened, happens, after}
 use Rattle.cluster_trace.specs.declared.event.Event.{Event}
 use Rattle.cluster_trace.specs.declared.event.Event.TheVariants.{Name, Deliver, Data}
 use Rattle.cluster_trace.specs.declared.outcome.ClusterRefusal.TheVariants.{NotFromOutside}
 use Rattle.cluster_trace.proofs.Each.{some_is, never_some, each_more, each_in, in_append, AllValues, values_at, values_inserted}
-use Rattle.fencing_laws.specs.Fencing.{plan_in, Serves, HasDecided}
+use Rattle.fencing_laws.specs.Fencing.{plan_in, HasDecided}
 use Rattle.fencing_laws.specs.OnePlan.{OneNodeIsAsked, RecoveriesHaveOnePlan, UpdatesFollowThePlan, EndsFollowThePlan}
 use Rattle.fencing_laws.proofs.Behind.{set_there}
 use Rattle.fencing_laws.proofs.Plans.{event_stays, plans_stay}
@@ -115,16 +114,16 @@ led_or_began : (asked : PlanCall) (plans : PlanTable) (b s : ℕ) (own : Plan) �
 unfolding plans_after
 led_or_began asked plans b s own e = by (plan_refusal asked plans) e
   where
-    with : (call : PlanCall) → plan_at b s (left_unless call plans None) ≡ Some own → Led plans b s own ⊎ Began call b s own
-    with (plan.Recover block stamp nodes token) h = began block stamp nodes token b s plans own (sym (plan_begun (recover_of block stamp nodes token) b s plans) ∙ h)
-    with (plan.Reply node block stamp state bytes) h = inl (led_changed (with_answer node (answer_of state bytes)) (λ one. refl) block stamp b s plans own h)
-    with (plan.Decide block stamp) h = inl (led_changed with_decision (λ one. refl) block stamp b s plans own h)
-    with (plan.Updated node block stamp) h = inl (led_changed (with_updated node) (λ one. refl) block stamp b s plans own h)
-    with (plan.Commit block stamp) h = inl (record { old = own; there = h; nodes = refl })
+    left : (call : PlanCall) → plan_at b s (left_unless call plans None) ≡ Some own → Led plans b s own ⊎ Began call b s own
+    left (plan.Recover block stamp nodes token) h = began block stamp nodes token b s plans own (sym (plan_begun (recover_of block stamp nodes token) b s plans) ∙ h)
+    left (plan.Reply node block stamp state bytes) h = inl (led_changed (with_answer node (answer_of state bytes)) (λ one. refl) block stamp b s plans own h)
+    left (plan.Decide block stamp) h = inl (led_changed with_decision (λ one. refl) block stamp b s plans own h)
+    left (plan.Updated node block stamp) h = inl (led_changed (with_updated node) (λ one. refl) block stamp b s plans own h)
+    left (plan.Commit block stamp) h = inl (record { old = own; there = h; nodes = refl })
 
     by : (refused : Option PlanRefusal) → plan_at b s (left_unless asked plans refused) ≡ Some own → Led plans b s own ⊎ Began asked b s own
     by (Some refusal) h = inl (record { old = own; there = h; nodes = refl })
-    by None h = with asked h
+    by None h = left asked h
 
 -- ---- plans were ordered
 
@@ -270,6 +269,9 @@ EndsRightly state found = (leader block stamp count : ℕ) (nodes : List ℕ) �
 recovered_is : (own other : RecoveredBlock) → op.CommitRecovery own ≡ op.CommitRecovery other → own ≡ other
 recovered_is own other e = cc
 
+no_end : (replica : ReportedReplica) (own : RecoveredBlock) → op.Reported replica ≡ op.CommitRecovery own → ⊥
+no_end replica own e = cc
+
 called_ended : (state : State) (id now : ℕ) (asked : NodeCall) (found : Option Node) → AllEnded state state.entries → AllEnded state (called_at state id now asked found).entries
 called_ended state id now asked None all = all
 called_ended state id now asked (Some own) all = all
@@ -282,7 +284,7 @@ delivered_ended : (state : State) (now : ℕ) (found : Option Message) → EndsR
 delivered_ended state now None ends all = all
 delivered_ended state now (Some (message.Node node asked)) ends all = called_ended state node now asked (entry_at node state.nodes) all
 delivered_ended state now (Some (message.Plan node asked)) ends all = led_ended state node asked (entry_at node state.plans) all
-delivered_ended state now (Some (message.Reported node block stamp count)) ends all = ((λ own is. cc), all)
+delivered_ended state now (Some (message.Reported node block stamp count)) ends all = ((λ own is. absurd (no_end _ own is)), all)
 delivered_ended state now (Some (message.CommitRecovery node block stamp count nodes)) ends all = (
   λ own is.
       let made : RecoveredBlock = record { block = block; stamp = stamp; length = count; nodes = nodes } in
@@ -293,7 +295,10 @@ delivered_ended state now (Some (message.CommitRecovery node block stamp count n
 )
 
 request_ended : (state : State) (request : Request) (from : Bool) → is_from_outside request.op ≡ from → AllEnded state state.entries → AllEnded state (cond from (named state request) (lost state NotFromOutside)).entries
-request_ended state request true from all = ((λ own is. let no : is_from_outside request.op ≡ false = ap is_from_outside is in cc), all)
+request_ended state request true from all = ((λ own is. let no : is_from_outside request.op ≡ false = ap is_from_outside is in absurd (differ (sym from ∙ no))), all)
+  where
+    differ : true ≡ false → ⊥
+    differ e = cc
 request_ended state request false from all = all
 
 outside_ends : (state : State) (node : ℕ) (asked : DataCall) → EndsRightly state (Some (as_message node asked))

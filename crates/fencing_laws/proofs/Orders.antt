@@ -2,7 +2,6 @@
 use Rattle.std.proofs.Common.{◌≡◌, ℕ, Bool, true, false, not, List, [], ◌∷◌, ◌++◌, map, filter, Option, Some, None, refl, sym, ap, ◌∙◌, subst, cond}
 use Rattle.std.proofs.lemmas.Map.Entries.{lookup-filter-values, option_filter}
 use Rattle.std.proofs.lemmas.Map.Keys.{IsDistinct-from_sorted}
-use Rattle.std.specs.Bool.{⊤}
 use Rattle.std.specs.Cmp.{eq_by_cmp_equiv, nat_cmp_total}
 use Rattle.std.specs.List.{AllByRecursion, filter_map, cons_option}
 use Rattle.std.specs.Map.{keys_of}
@@ -60,7 +59,7 @@ use Rattle.replicas.specs.declared.held.Held.{Held}
 use Rattle.datanode.specs.NodeStep.{Node, node_answer, presented_answer, told_by, removal_told, clock_with, call_refusal}
 use Rattle.plan_steps.specs.PlanStep.{plan_refusal, plan_there, decided, presenting, to_each, plan_sends, told_unless, plan_answer}
 use Rattle.cluster_trace.specs.Trace.{recover_message, removal_message, copy_message, command_messages, told_messages, sent_by}
-use Rattle.cluster_trace.proofs.Each.{some_is, never_some, each_append, each_more, each_map}
+use Rattle.cluster_trace.proofs.Each.{never_some, each_append, each_more, each_map}
 
 -- a DataNode is to lead the recovery of a block at a stamp, in which these nodes are asked
 pub record Order : Type 0 where

@@ -2,7 +2,7 @@
 -- the NameNode takes the end of a recovery at the block's newest stamp alone. All this holds over every list of events, and whatever tokens
 -- are forged.
 -- (HDFS-265, "Block recovery": the NameNode gives a recovery a new generation stamp, and has one DataNode lead it.)
-use Rattle.std.specs.Prelude.{◌≡◌, ℕ, true, List, ◌∷◌, ◌++◌, Option, Some}
+use Rattle.std.specs.Prelude.{◌≡◌, ℕ, true, List, ◌∷◌, ◌++◌, Some}
 use Rattle.block_records.specs.Numbers.{has_number}
 use Rattle.block_map.specs.BlockFacts.{newest_stamp}
 use Rattle.block_recovery.specs.declared.decision.Decision.{Decision}
@@ -13,7 +13,7 @@ use Rattle.hdfs_types.specs.declared.reply.Reply.{Reply}
 use Rattle.flat_rows.specs.declared.verdict.Verdict.TheVariants.{Done}
 use Rattle.history.specs.State.{blocks_of}
 use Rattle.history.specs.declared.entry.HistoryEntry.{HistoryEntry}
-use Rattle.node_calls.specs.declared.call.PlanCall.TheVariants as plan
+use Rattle.node_calls.specs.declared.call.PlanCall.TheVariants as plan_call
 use Rattle.node_calls.specs.declared.call.TokenCall.TheVariants as call
 use Rattle.node_calls.specs.declared.message.Message.TheVariants as message
 use Rattle.node_calls.specs.declared.presented.Presented.{Presented}
@@ -24,8 +24,8 @@ use Rattle.fencing_laws.specs.Fencing.{plan_in, Serves, HasDecided}
 -- the NameNode asks one DataNode alone to lead the recovery of a block at a stamp
 abbrev pub OneNodeIsAsked : Type 0
 OneNodeIsAsked = (opening : Opening) (events : List Event) (first second node other block stamp : ℕ) (nodes others token another : List ℕ)
-    → message_at first (after opening events).messages ≡ Some (message.Plan node (plan.Recover block stamp nodes token))
-    → message_at second (after opening events).messages ≡ Some (message.Plan other (plan.Recover block stamp others another)) → node ≡ other
+    → message_at first (after opening events).messages ≡ Some (message.Plan node (plan_call.Recover block stamp nodes token))
+    → message_at second (after opening events).messages ≡ Some (message.Plan other (plan_call.Recover block stamp others another)) → node ≡ other
 
 -- and no two have a plan for it
 abbrev pub RecoveriesHaveOnePlan : Type 0

@@ -45,7 +45,7 @@ pub record HoldsFrom (opening : Opening) (later earlier : List Event) (new : Add
   pub there : replica_in (after opening earlier) node new.block ≡ Some replica
   pub stamp : replica.stamp ≡ new.stamp
   pub enough : bytes ≤ length replica.bytes
-  pub front : take bytes replica.bytes ≡ front
+  pub begins : take bytes replica.bytes ≡ front
   pub not_recovered : (last past : List Event) (event : Event) (presented : Presented) → earlier ≡ last ++ event ∷ past → presented.block ≡ new.block
       → Serves opening past event node presented call.InitRecovery → ⊥
   pub not_removed : (last past : List Event) (event : Event) → later ≡ last ++ event ∷ past → Removes opening (past ++ earlier) event node new.block → ⊥
