@@ -72,7 +72,8 @@ module _ (opening : name.Opening) where
 
   pub one_added : (entries : List HistoryEntry) (own other : AddedBlock) → IsLegal opening entries → IsIn own (new_blocks entries) → IsIn other (new_blocks entries) → own.block ≡ other.block → own ≡ other
   one_added [] own other legal i j same = absurd i
-  one_added (entry ∷ earlier) own other legal i j same = by (in_both own (new_blocks earlier) (blocks_by entry.verdict) i) (in_both other (new_blocks earlier) (blocks_by entry.verdict) j)
+  one_added (entry ∷ earlier) own other legal i j same =
+      by (λ a b. one_added earlier own other legal.2 a b same) (in_both own (new_blocks earlier) (blocks_by entry.verdict) i) (in_both other (new_blocks earlier) (blocks_by entry.verdict) j)
     where
       before : Known
       before = known_behind earlier
@@ -89,11 +90,12 @@ module _ (opening : name.Opening) where
       below : (one : AddedBlock) → IsIn one (new_blocks earlier) → one.block < before.next_block
       below one h = each_in (λ (a : AddedBlock). a.block < before.next_block) (new_blocks earlier) one (all_below earlier legal.2) h
 
-      by : IsIn own (new_blocks earlier) ⊎ IsIn own (blocks_by entry.verdict) → IsIn other (new_blocks earlier) ⊎ IsIn other (blocks_by entry.verdict) → own ≡ other
-      by (inl a) (inl b) = one_added earlier own other legal.2 a b same
-      by (inl a) (inr b) = absurd (old_new own.block other.block before.next_block (below own a) (newly before later (blocks_by entry.verdict) other gives b) same)
-      by (inr a) (inl b) = absurd (old_new other.block own.block before.next_block (below other b) (newly before later (blocks_by entry.verdict) own gives a) (sym same))
-      by (inr a) (inr b) = same_new before later (blocks_by entry.verdict) own other gives a b
+      by : (IsIn own (new_blocks earlier) → IsIn other (new_blocks earlier) → own ≡ other) → IsIn own (new_blocks earlier) ⊎ IsIn own (blocks_by entry.verdict)
+          → IsIn other (new_blocks earlier) ⊎ IsIn other (blocks_by entry.verdict) → own ≡ other
+      by before_too (inl a) (inl b) = before_too a b
+      by before_too (inl a) (inr b) = absurd (old_new own.block other.block before.next_block (below own a) (newly before later (blocks_by entry.verdict) other gives b) same)
+      by before_too (inr a) (inl b) = absurd (old_new other.block own.block before.next_block (below other b) (newly before later (blocks_by entry.verdict) own gives a) (sym same))
+      by before_too (inr a) (inr b) = same_new before later (blocks_by entry.verdict) own other gives a b
 
 -- ---- targets
 

@@ -134,16 +134,9 @@ start_ids limit (id ∷ ids) nodes all = start_ids limit ids (with_new_node limi
     by q own true at h = sym (ap (λ (one : Node). one.id) (some_is (new_node limit id) own h)) ∙ sym (number_is q id at)
     by q own false at h = all q own h
 
-pub ids_stand : (opening : Opening) (events : List Event) → StandAtIds (after opening events).nodes
-ids_stand opening [] = start_ids opening.name.config.replica_limit opening.nodes [] (λ id own there. absurd (never_some own there))
-ids_stand opening (event ∷ earlier) = by (does state event)
+event_ids : (state : State) (event : Event) → StandAtIds state.nodes → StandAtIds (happened state event).nodes
+event_ids state event before = by (does state event)
   where
-    state : State
-    state = after opening earlier
-
-    before : StandAtIds state.nodes
-    before = ids_stand opening earlier
-
     set : (own : Calls state (call_of state event) (happened state event)) (q : ℕ) (one : Node) (b : Bool) → is_number own.id q ≡ b
         → cond b (Some (node_after own.node own.now own.called)) (entry_at q state.nodes) ≡ Some one → one.id ≡ q
     set own q one true at h =
@@ -156,3 +149,7 @@ ids_stand opening (event ∷ earlier) = by (does state event)
         set own q one (is_number own.id q) refl (sym (ap (λ (what : Happened). entry_at q what.nodes) own.is ∙ set_there own.id q own.node (node_after own.node own.now own.called) state.nodes own.there) ∙ there)
     by (inr (inr (inl own))) = subst (λ (what : Happened). StandAtIds what.nodes) (sym own.is) before
     by (inr (inr (inr own))) = subst (λ (what : Happened). StandAtIds what.nodes) (sym own.is) before
+
+pub ids_stand : (opening : Opening) (events : List Event) → StandAtIds (after opening events).nodes
+ids_stand opening [] = start_ids opening.name.config.replica_limit opening.nodes [] (λ id own there. absurd (never_some own there))
+ids_stand opening (event ∷ earlier) = event_ids (after opening earlier) event (ids_stand opening earlier)

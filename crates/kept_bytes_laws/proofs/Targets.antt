@@ -15,7 +15,7 @@ use Rattle.history.specs.Blocks.{blocks_by}
 use Rattle.history.specs.LegalHistory.{now_at}
 use Rattle.history.specs.State.{rows_of, users_of, facts_of}
 use Rattle.history.specs.declared.entry.HistoryEntry.{HistoryEntry}
-use Rattle.block_laws.specs.Laws as told
+use Rattle.block_laws.specs.Laws as given
 use Rattle.block_laws.specs.Laws.{new_blocks, blocks_told}
 use Rattle.block_laws.proofs.Histories.{stands}
 use Rattle.block_laws.proofs.Unrefused.{was_done}
@@ -94,8 +94,8 @@ module _ (state : State) (request : Request) (leads : HasLeaders state) (before 
       (record {
         added = λ new replication i. λ node has. record {
           new = new;
-          added = in_behind new (new_blocks state.entries) (told.blocks_by (entry_of state request).verdict)
-              (subst (λ (verdict : Verdict). IsIn new (told.blocks_by verdict)) (sym e) (subst (λ (reply : Reply). IsIn new (blocks_told reply)) (sym was.told_is) i));
+          added = in_behind new (new_blocks state.entries) (given.blocks_by (entry_of state request).verdict)
+              (subst (λ (verdict : Verdict). IsIn new (given.blocks_by verdict)) (sym e) (subst (λ (reply : Reply). IsIn new (blocks_told reply)) (sym was.told_is) i));
           of = refl;
           target = has;
         };
@@ -136,15 +136,11 @@ ends_at_targets opening events leader block stamp count nodes asked i node has =
 
 -- ---- every event
 
-pub all_asked : (opening : Opening) (events : List Event) → AreAsked (after opening events)
-all_asked opening [] = record { records = λ block own there. cc; orders = tt }
-all_asked opening (event ∷ earlier) = by (does state event)
+event_asked : (opening : Opening) (earlier : List Event) (event : Event) → AreAsked (after opening earlier) → AreAsked (after opening (event ∷ earlier))
+event_asked opening earlier event before = by (does state event)
   where
     state : State
     state = after opening earlier
-
-    before : AreAsked state
-    before = all_asked opening earlier
 
     by : Does state (call_of state event) (happened state event) → AreAsked (left_by state (happened state event))
     by (inl own) = subst (λ (what : Happened). AreAsked (left_by state what)) (sym own.is) (quiet state (lost state own.refusal) refl tt before)
@@ -155,3 +151,7 @@ all_asked opening (event ∷ earlier) = by (does state event)
     by (inr (inr (inr own))) = subst (λ (what : Happened). AreAsked (left_by state what)) (sym own.is)
         (asked state own.request (leaders opening earlier) before
         (λ recovery is. let commit = own.commit recovery is in ends_at_targets opening earlier commit.0 recovery.block recovery.stamp recovery.length recovery.nodes before commit.1))
+
+pub all_asked : (opening : Opening) (events : List Event) → AreAsked (after opening events)
+all_asked opening [] = record { records = λ block own there. cc; orders = tt }
+all_asked opening (event ∷ earlier) = event_asked opening earlier event (all_asked opening earlier)
