@@ -350,6 +350,6 @@ among (first ∷ later) earlier entry = inr (among later earlier entry)
 pub ends_follow : EndsFollowThePlan
 ends_follow opening events later earlier entry own told entries is done =
     let legal : IsLegal opening.name (later ++ entry ∷ earlier) =
-        subst (λ (list : List HistoryEntry). IsLegal opening.name list) entries (subst (λ (first : name.Opening). IsLegal first (after opening events).entries) (opening_stays opening events) (leaders opening events).legal) in
+    subst (λ (list : List HistoryEntry). IsLegal opening.name list) entries (subst (λ (first : name.Opening). IsLegal first (after opening events).entries) (opening_stays opening events) (leaders opening events).legal) in
     let ended = each_in (EndDecided (after opening events)) (later ++ entry ∷ earlier) entry (subst (λ (list : List HistoryEntry). AllEnded (after opening events) list) entries (all_ended opening events)) (among later earlier entry) own is in
     (done_at_newest opening.name entry earlier own told (legal_front opening.name later (entry ∷ earlier) legal) is done, ended.0, ended.1, ended.2, ended.3)

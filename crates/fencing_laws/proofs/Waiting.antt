@@ -125,9 +125,9 @@ one_begun facts block now q = by (is_number block q) refl
     by : (b : Bool) → is_number block q ≡ b → SameOrAnew facts (begun facts block now) q
     by true at = inr (λ own there. new (block_of facts block) own (sym (at_block ∙ ap (λ b. cond b (option_map (with_recovery next now) (block_of facts block)) (block_of facts q)) at) ∙ there))
     by false apart = inl (record {
-        out = out (leader facts block now) (apart_number block q apart);
-        known = at_block ∙ ap (λ b. cond b (option_map (with_recovery next now) (block_of facts block)) (block_of facts q)) apart;
-      })
+      out = out (leader facts block now) (apart_number block q apart);
+      known = at_block ∙ ap (λ b. cond b (option_map (with_recovery next now) (block_of facts block)) (block_of facts q)) apart;
+    })
 
 begun_order : (facts : BlockFacts) (block now : ℕ) → AreInOrder facts.queued → AreInOrder (begun facts block now).queued
 begun_order facts block now up = by (leader facts block now)

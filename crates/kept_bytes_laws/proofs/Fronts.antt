@@ -115,8 +115,8 @@ module _ (q bytes : ℕ) (front : List ℕ) where
   updates : (limit stamp count : ℕ) (held : Held) → replica_refusal limit (call.UpdateReplica count) stamp held ≡ None → bytes ≤ count → Begins held → Begins (updated stamp count held)
   updates limit stamp count held h low begins =
       let fits : count ≤ length begins.replica.bytes =
-          within limit stamp held.promised count begins.replica
-          (subst (λ (found : Option Replica). replica_refusal limit (call.UpdateReplica count) stamp (record { replica = found; promised = held.promised }) ≡ None) begins.there h) in
+      within limit stamp held.promised count begins.replica
+      (subst (λ (found : Option Replica). replica_refusal limit (call.UpdateReplica count) stamp (record { replica = found; promised = held.promised }) ≡ None) begins.there h) in
       record {
         replica = record { stamp = stamp; state = Finalized; bytes = take count begins.replica.bytes };
         there = ap (λ (found : Option Replica). (updated stamp count (record held { replica = found })).replica) begins.there;

@@ -165,12 +165,12 @@ module _ (opening : Opening) (events : List Event) (new : AddedBlock) (bytes : �
     tells own presented asked is allowed init same t =
         let at_id : own.node.id ≡ own.id = ids_stand opening past own.id own.node own.there in
         let serves : Serves opening past event own.node.id presented call.InitRecovery = record {
-              now = own.now;
-              told = call_reply asked (held_at (asked_by own.node.id presented asked).block own.node.blocks);
-              asks = served_at state event own own.node.id (Presenting presented call.InitRecovery) (sym at_id) (is ∙ ap (Presenting presented) init);
-              served = answered_at state event own (call_reply asked (held_at (asked_by own.node.id presented asked).block own.node.blocks))
-                  (ap (λ (c : NodeCall). (node_answer own.node own.now c).result) is ∙ served_answer own.node own.now presented asked allowed);
-            } in
+          now = own.now;
+          told = call_reply asked (held_at (asked_by own.node.id presented asked).block own.node.blocks);
+          asks = served_at state event own own.node.id (Presenting presented call.InitRecovery) (sym at_id) (is ∙ ap (Presenting presented) init);
+          served = answered_at state event own (call_reply asked (held_at (asked_by own.node.id presented asked).block own.node.blocks))
+              (ap (λ (c : NodeCall). (node_answer own.node own.now c).result) is ∙ served_answer own.node own.now presented asked allowed);
+        } in
         let has = held_before own.node.id t presented (sym (asked_block own.node.id presented asked) ∙ same) serves in
         let node_is : has.own ≡ own.node = some_is has.own own.node (sym has.there ∙ (ap (λ n. entry_at n state.nodes) at_id ∙ own.there)) in
         let begins : Begins block bytes (held_since own.node.id t).2 (held_at block own.node.blocks) = subst (λ (one : Node). Begins block bytes (held_since own.node.id t).2 (held_at block one.blocks)) node_is has.begins in
@@ -205,7 +205,7 @@ module _ (opening : Opening) (events : List Event) (new : AddedBlock) (bytes : �
         by (x ∷ d) is =
             let past_is : past ≡ d ++ own.1 = tail_is event x past (d ++ own.1) is in
             let later_is : own.0 ≡ rest ++ event ∷ d =
-                cut own.0 (rest ++ event ∷ d) own.1 (sym own.3 ∙ (e ∙ (ap (λ (p : List Event). rest ++ event ∷ p) past_is ∙ joined rest (event ∷ d) own.1))) in
+            cut own.0 (rest ++ event ∷ d) own.1 (sym own.3 ∙ (e ∙ (ap (λ (p : List Event). rest ++ event ∷ p) past_is ∙ joined rest (event ∷ d) own.1))) in
             event_keeps opening past event node block bytes own.2
             (λ presented count serves same. updated_enough (rest ++ event ∷ []) past event node count presented before safe same serves)
             (λ removes. own.4.not_removed rest d event later_is (subst (λ (p : List Event). Removes opening p event node block) past_is removes))

@@ -1,5 +1,5 @@
 -- What each event leaves of the first bytes of a replica.
-use Rattle.std.proofs.Common.{◌≡◌, ℕ, ◌≤◌, Bool, true, false, ◌⊎◌, inl, inr, List, [], ◌∷◌, ◌++◌, fold, take, length, Option, Some, None, Ok, refl, sym, ap, ◌∙◌, subst, cond}
+use Rattle.std.proofs.Common.{◌≡◌, ℕ, ◌≤◌, Bool, true, false, inl, inr, List, [], ◌∷◌, fold, take, length, Option, Some, None, Ok, refl, sym, ap, ◌∙◌, subst, cond}
 use Rattle.std.specs.Prelude.{option_map}
 use Rattle.std.specs.Option.{option_and_then}
 use Rattle.block_records.specs.Numbers.{is_number, entry_at}
@@ -80,9 +80,9 @@ module _ (opening : Opening) (earlier : List Event) (event : Event) (node block 
           let is : has.own ≡ own.node = some_is has.own own.node (sym has.there ∙ (ap (λ (n : ℕ). entry_at n state.nodes) (sym same) ∙ own.there)) in
           node_keeps block bytes front own.node own.now own.called
           (λ presented count told asked here answer.
-              updates presented count (record { now = own.now; told = told; asks = served_at state event own node (Presenting presented (call.UpdateReplica count)) same asked; served = answered_at state event own told answer }) here)
+          updates presented count (record { now = own.now; told = told; asks = served_at state event own node (Presenting presented (call.UpdateReplica count)) same asked; served = answered_at state event own told answer }) here)
           (λ stamp told asked answer.
-              removes (record { now = own.now; stamp = stamp; told = told; asks = served_at state event own node (Invalidate block stamp) same asked; done = answered_at state event own told answer }))
+          removes (record { now = own.now; stamp = stamp; told = told; asks = served_at state event own node (Invalidate block stamp) same asked; done = answered_at state event own told answer }))
           (subst (λ (one : Node). Begins block bytes front (held_at block one.blocks)) is has.begins)
 
       found : (own : Calls state (call_of state event) what) (b : Bool) → is_number own.id node ≡ b
