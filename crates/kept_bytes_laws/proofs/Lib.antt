@@ -7,3 +7,6 @@ pub mod Fronts
 pub mod Since
 pub mod Answers
 pub mod Safe
+pub mod Held
+pub mod Told
+pub mod Listed
