@@ -178,8 +178,8 @@ module _ (state : State) (request : Request) (before : HasLeaders state) where
   news : AllByRecursion (OfOrder New) (entry_messages (entry_of state request))
   news = all_new facts request.caller (rows_of state.opening state.entries) before.order (users_of state.entries) request.op (entry_of state request).verdict refl
 
-  asked : HasLeaders (left_by state (named state request))
-  asked = record {
+  request_leads : HasLeaders (left_by state (named state request))
+  request_leads = record {
     legal = (refl, refl, before.legal);
     order = kept.order before.order;
     given = all_given old later state.messages (entry_messages (entry_of state request)) New still given_now apart one_node before.given news;
@@ -206,11 +206,11 @@ delivered_leaves : (state : State) (now : ℕ) (found : Option Message) → Leav
 delivered_leaves state now None before = lost_leaves state NoMessage before
 delivered_leaves state now (Some (message.Node node call)) before = called_leaves state node now call (entry_at node state.nodes) before
 delivered_leaves state now (Some (message.Plan node call)) before = led_leaves state node call (entry_at node state.plans) before
-delivered_leaves state now (Some (message.Reported node block stamp count)) before = asked state (reporting node now block stamp count) before
-delivered_leaves state now (Some (message.CommitRecovery node block stamp count nodes)) before = asked state (committing node now block stamp count nodes) before
+delivered_leaves state now (Some (message.Reported node block stamp count)) before = request_leads state (reporting node now block stamp count) before
+delivered_leaves state now (Some (message.CommitRecovery node block stamp count nodes)) before = request_leads state (committing node now block stamp count nodes) before
 
 request_leaves : (state : State) (request : Request) (outside : Bool) → Leaves state (cond outside (named state request) (lost state NotFromOutside))
-request_leaves state request true before = asked state request before
+request_leaves state request true before = request_leads state request before
 request_leaves state request false before = lost_leaves state NotFromOutside before
 
 event_leaves : (state : State) (event : Event) → Leaves state (happened state event)

@@ -28,7 +28,6 @@ use Rattle.block_laws.proofs.Unrefused.{was_done, recovery_ran}
 use Rattle.node_calls.specs.declared.call.NodeCall.{NodeCall}
 use Rattle.node_calls.specs.declared.call.PlanCall.{PlanCall}
 use Rattle.node_calls.specs.declared.call.PlanCall.TheVariants as plan
-use Rattle.node_calls.specs.declared.call.TokenCall.TheVariants as call
 use Rattle.node_calls.specs.declared.message.Message.{Message}
 use Rattle.node_calls.specs.declared.message.Message.TheVariants as message
 use Rattle.datanode.specs.NodeStep.{Node}

@@ -179,9 +179,9 @@ module _ (opening : Opening) (ids : HasNodeIds opening) (earlier : List Event) (
     reported node replica block_record is sender same =
         let report = own.report replica is in
         let told : HasHeld opening earlier report.0 replica.block replica.stamp replica.length =
-            each_in (TellsHeld opening earlier) (after opening earlier).messages (message.Reported report.0 replica.block replica.stamp replica.length) (all_told opening earlier) report.2 in
+        each_in (TellsHeld opening earlier) (after opening earlier).messages (message.Reported report.0 replica.block replica.stamp replica.length) (all_told opening earlier) report.2 in
         let sender_is : report.0 ≡ node =
-            some_is report.0 node (sym (principal_read report.0 (holder_valid opening ids earlier report.0 replica.block replica.stamp replica.length told)) ∙ (ap node_of (sym report.1) ∙ sender)) in
+        some_is report.0 node (sym (principal_read report.0 (holder_valid opening ids earlier report.0 replica.block replica.stamp replica.length told)) ∙ (ap node_of (sym report.1) ∙ sender)) in
         subst (λ s. HasHeld opening (event ∷ earlier) node replica.block s replica.length) (sym same)
         (subst (λ n. HasHeld opening (event ∷ earlier) n replica.block replica.stamp replica.length) sender_is
         (held_later opening event earlier report.0 replica.block replica.stamp replica.length told))
@@ -192,10 +192,10 @@ module _ (opening : Opening) (ids : HasNodeIds opening) (earlier : List Event) (
     recovered node recovery block_record is same has =
         let commit = own.commit recovery is in
         let noted : NotedBy (after opening earlier) commit.0 recovery.block recovery.stamp recovery.nodes =
-            each_in (Noted (after opening earlier)) (after opening earlier).messages (message.CommitRecovery commit.0 recovery.block recovery.stamp recovery.length recovery.nodes) (all_noted opening earlier) commit.1 in
+        each_in (Noted (after opening earlier)) (after opening earlier).messages (message.CommitRecovery commit.0 recovery.block recovery.stamp recovery.length recovery.nodes) (all_noted opening earlier) commit.1 in
         let held = all_noted_held opening earlier commit.0 recovery.block recovery.stamp node noted.0 noted.1 (noted.2 node has) in
         let carried : CommitDecided (after opening earlier) commit.0 recovery.block recovery.stamp recovery.length =
-            each_in (Carries (after opening earlier)) (after opening earlier).messages (message.CommitRecovery commit.0 recovery.block recovery.stamp recovery.length recovery.nodes) (all_carry opening earlier) commit.1 in
+        each_in (Carries (after opening earlier)) (after opening earlier).messages (message.CommitRecovery commit.0 recovery.block recovery.stamp recovery.length recovery.nodes) (all_carry opening earlier) commit.1 in
         let decided : HasDecided (after opening earlier) commit.0 recovery.block recovery.stamp carried.0 = carried.1 in
         let one_plan : noted.0 ≡ decided.0 = some_is noted.0 decided.0 (sym noted.1 ∙ decided.1) in
         let one_decision : held.0 ≡ carried.0 = some_is held.0 carried.0 (sym held.1 ∙ (ap (λ (p : Plan). p.decision) one_plan ∙ decided.2)) in
@@ -287,9 +287,9 @@ module _ (opening : Opening) (events : List Event) (facts : Facts) (caller : Lis
           let committed : own.committed ≡ Some length = ap (λ (found : Option BlockRecord). option_and_then (λ (one : BlockRecord). one.committed) found) (sym there) ∙ (told ∙ e) in
           let all : AgreeOn (Some length) own.reports = subst (λ c. AgreeOn c own.reports) committed (agree block.id own there) in
           let found = found_in (IsListed opening events block.id own.stamp length) node own.reports
-              (each_more (λ (report : ℕ × ℕ). HasHeld opening events report.0 block.id own.stamp report.1 × (report.1 ≡ length)) (λ (report : ℕ × ℕ). IsListed opening events block.id own.stamp length report.0 report.1)
-              (λ report h. record { held = h.0; same = h.1 }) own.reports
-              (each_both (λ (report : ℕ × ℕ). HasHeld opening events report.0 block.id own.stamp report.1) (λ (report : ℕ × ℕ). report.1 ≡ length) own.reports (records block.id own there) all)) has in
+          (each_more (λ (report : ℕ × ℕ). HasHeld opening events report.0 block.id own.stamp report.1 × (report.1 ≡ length)) (λ (report : ℕ × ℕ). IsListed opening events block.id own.stamp length report.0 report.1)
+          (λ report h. record { held = h.0; same = h.1 }) own.reports
+          (each_both (λ (report : ℕ × ℕ). HasHeld opening events report.0 block.id own.stamp report.1) (λ (report : ℕ × ℕ). report.1 ≡ length) own.reports (records block.id own there) all)) has in
           subst (λ count. HasHeld opening events node block.id own.stamp count) found.1.same found.1.held
 
       by_record : (length : ℕ) → block.committed ≡ Some length → (found : Option BlockRecord) → block_of facts.blocks block.id ≡ found → option_map (located_with facts.token caller block.id length) found ≡ Some listed → Lists opening events listed
@@ -373,6 +373,6 @@ listed_held opening earlier event entry file listed node ids entries opened i ha
         let was = was_done facts rows (users_of state.entries) request.caller request.op (reply.Opened file) done in
         let legal = (leaders opening earlier).legal in
         let lists = reply_lists opening earlier facts request.caller rows (all_true opening ids earlier)
-            (λ block own_record there. ((stands state.opening state.entries legal).sound.each block own_record there).agreed) (files_tell state.opening state.entries legal) request.op in
+        (λ block own_record there. ((stands state.opening state.entries legal).sound.each block own_record there).agreed) (files_tell state.opening state.entries legal) request.op in
         let all : ListsHeld opening earlier (reply.Opened file) = subst (ListsHeld opening earlier) (sym was.told_is) lists in
         each_in (Lists opening earlier) file.blocks listed all i node has

@@ -116,7 +116,7 @@ module _ (opening : Opening) (event : Event) (earlier : List Event) where
 
   plan_later : (asked : PlanCall) → PlanTells opening earlier asked → PlanTells opening (event ∷ earlier) asked
   plan_later (plan.Recover block stamp nodes token) h = tt
-  plan_later (plan.Reply node block stamp state count) h = tt
+  plan_later (plan.Reply node block stamp kind count) h = tt
   plan_later (plan.Decide block stamp) h = tt
   plan_later (plan.Updated node block stamp) h =
       (h.0, h.1, decided_stays (after opening earlier) event h.0 block stamp h.1 h.2, held_later opening event earlier node block stamp h.1.length h.3)
@@ -179,17 +179,16 @@ module _ (opening : Opening) (event : Event) (earlier : List Event) where
     updates : (count : ℕ) → asked ≡ call.UpdateReplica count → UpdatedTells opening (event ∷ earlier) own.node.id with_token.block with_token.stamp
     updates count e =
         let serves : Serves opening earlier event own.id presented (call.UpdateReplica count) = record {
-              now = own.now;
-              told = call_reply asked (held_at with_token.block own.node.blocks);
-              asks = served_at (after opening earlier) event own own.id (Presenting presented (call.UpdateReplica count)) refl (is ∙ ap (Presenting presented) e);
-              served = answered_at (after opening earlier) event own (call_reply asked (held_at with_token.block own.node.blocks))
-                  (ap (λ (c : NodeCall). (node_answer own.node own.now c).result) is ∙ served_answer own.node own.now presented asked allowed);
-            } in
+          now = own.now;
+          told = call_reply asked (held_at with_token.block own.node.blocks);
+          asks = served_at (after opening earlier) event own own.id (Presenting presented (call.UpdateReplica count)) refl (is ∙ ap (Presenting presented) e);
+          served = answered_at (after opening earlier) event own (call_reply asked (held_at with_token.block own.node.blocks))
+              (ap (λ (c : NodeCall). (node_answer own.node own.now c).result) is ∙ served_answer own.node own.now presented asked allowed);
+        } in
         let decided = updates_are_decided opening earlier event own.id count presented serves in
         let stays = decided_stays (after opening earlier) event decided.0 presented.block presented.stamp decided.1 decided.2 in
         let held : HasHeld opening (event ∷ earlier) own.node.id with_token.block with_token.stamp decided.1.length =
-            subst (λ n. HasHeld opening (event ∷ earlier) own.node.id with_token.block with_token.stamp n) (sym decided.3) (recovers count e) in
-        (
+        subst (λ n. HasHeld opening (event ∷ earlier) own.node.id with_token.block with_token.stamp n) (sym decided.3) (recovers count e) in (
           decided.0,
           decided.1,
           subst (λ b. HasDecided (after opening (event ∷ earlier)) decided.0 b with_token.stamp decided.1) (sym (asked_block own.node.id presented asked))
@@ -247,8 +246,8 @@ noted_now from block stamp b s node plans own e noted =
   where
     one : (old : Plan) → plan_at b s plans ≡ Some old → block ≡ b → stamp ≡ s → (y : Bool) → is_number node from ≡ y → (y || list_any (is_number node) old.updated) ≡ true → HadOrNow (plan.Updated from block stamp) plans b s node
     one old at first second true is h = inr (
-      ap (λ (n : ℕ). plan.Updated n block stamp) (sym (number_is node from is))
-          ∙ (ap (λ (n : ℕ). plan.Updated node n stamp) first ∙ ap (λ (n : ℕ). plan.Updated node b n) second))
+        ap (λ (n : ℕ). plan.Updated n block stamp) (sym (number_is node from is))
+        ∙ (ap (λ (n : ℕ). plan.Updated node n stamp) first ∙ ap (λ (n : ℕ). plan.Updated node b n) second))
     one old at first second false is h = inl (record { old = old; there = at; noted = h })
 
     by : (x : Bool) → is_number block b ≡ x → (y : Bool) → is_number stamp s ≡ y → (found : Option Plan) → plan_at b s plans ≡ found
