@@ -56,14 +56,14 @@ use Rattle.fencing_laws.proofs.Plans.{event_stays}
 
 -- ---- what a message carries was decided
 
-abbrev UpdateDecided : State → ℕ → ℕ → ℕ → ℕ → Type 0
+abbrev pub UpdateDecided : State → ℕ → ℕ → ℕ → ℕ → Type 0
 UpdateDecided state node block stamp count =
     (leader : ℕ) × (decision : Decision) × HasDecided state leader block stamp decision × (decision.length ≡ count) × (has_number node decision.nodes ≡ true)
 
-abbrev CommitDecided : State → ℕ → ℕ → ℕ → ℕ → Type 0
+abbrev pub CommitDecided : State → ℕ → ℕ → ℕ → ℕ → Type 0
 CommitDecided state leader block stamp count = (decision : Decision) × HasDecided state leader block stamp decision × (decision.length ≡ count)
 
-abbrev AskCarries : State → ℕ → Presented → TokenCall → Type 0
+abbrev pub AskCarries : State → ℕ → Presented → TokenCall → Type 0
 AskCarries state node presented (call.Begin next) = ⊤
 AskCarries state node presented (call.Packet offset bytes next) = ⊤
 AskCarries state node presented (call.Finalize count next) = ⊤
@@ -73,12 +73,12 @@ AskCarries state node presented (call.UpdateReplica count) = UpdateDecided state
 AskCarries state node presented (call.SendCopy to) = ⊤
 AskCarries state node presented (call.TakeCopy bytes) = ⊤
 
-abbrev CallCarries : State → ℕ → NodeCall → Type 0
+abbrev pub CallCarries : State → ℕ → NodeCall → Type 0
 CallCarries state node (Presenting presented asked) = AskCarries state node presented asked
 CallCarries state node (Invalidate block stamp) = ⊤
 CallCarries state node (Keys update) = ⊤
 
-abbrev Carries : State → Message → Type 0
+abbrev pub Carries : State → Message → Type 0
 Carries state (message.Node node asked) = CallCarries state node asked
 Carries state (message.Plan node asked) = ⊤
 Carries state (message.Reported node block stamp count) = ⊤
@@ -86,7 +86,7 @@ Carries state (message.CommitRecovery leader block stamp count nodes) = CommitDe
 
 -- ---- what was decided stays so
 
-decided_stays : (state : State) (event : Event) (leader block stamp : ℕ) (decision : Decision) → HasDecided state leader block stamp decision → HasDecided (happens state event) leader block stamp decision
+pub decided_stays : (state : State) (event : Event) (leader block stamp : ℕ) (decision : Decision) → HasDecided state leader block stamp decision → HasDecided (happens state event) leader block stamp decision
 decided_stays state event leader block stamp decision h =
     let stays = event_stays state event leader block stamp h.0 h.1 in
     (stays.now, stays.there, stays.extends.decision decision h.2)
@@ -288,7 +288,7 @@ event_carries state (Name request) = asked_carries state request (is_from_outsid
 event_carries state (Deliver number now) = delivered_carries state now (message_at number state.messages)
 event_carries state (Data node now asked) = delivered_carries state now (Some (as_message node asked))
 
-all_carry : (opening : Opening) (events : List Event) → AllByRecursion (Carries (after opening events)) (after opening events).messages
+pub all_carry : (opening : Opening) (events : List Event) → AllByRecursion (Carries (after opening events)) (after opening events).messages
 all_carry opening [] = tt
 all_carry opening (event ∷ earlier) =
     let state = after opening earlier in

@@ -4,3 +4,7 @@ pub mod Promises
 pub mod Writers
 pub mod Plans
 pub mod Decided
+pub mod Waiting
+pub mod Orders
+pub mod Leaders
+pub mod OnePlan

@@ -53,14 +53,14 @@ promises_stay opening later earlier node block before behind first last =
 
 -- ---- stamps of replicas
 
-below_stays : (own : Node) (now : ℕ) (asked : NodeCall) → StandBelow own → StandBelow (node_after own now asked)
+pub below_stays : (own : Node) (now : ℕ) (asked : NodeCall) → StandBelow own → StandBelow (node_after own now asked)
 below_stays own now asked below = λ block. (one_call.after own now asked block).below (below block)
 
 new_below : (limit : ℕ) (ids : List ℕ) (nodes : List (ℕ × Node)) → AllValues StandBelow nodes → AllValues StandBelow (fold (with_new_node limit) nodes ids)
 new_below limit [] nodes all = all
 new_below limit (id ∷ ids) nodes all = new_below limit ids (with_new_node limit nodes id) (values_inserted StandBelow nodes id (new_node limit id) all (λ block. tt))
 
-all_below : (opening : Opening) (events : List Event) (node : ℕ) → Holds node StandBelow below_stays (after opening events).nodes
+pub all_below : (opening : Opening) (events : List Event) (node : ℕ) → Holds node StandBelow below_stays (after opening events).nodes
 all_below opening events node =
     always_holds node StandBelow below_stays opening events
     (λ own e. values_at StandBelow (start opening).nodes node own (new_below opening.name.config.replica_limit opening.nodes [] tt) e)

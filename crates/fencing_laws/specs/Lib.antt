@@ -1,1 +1,2 @@
 pub mod Fencing
+pub mod OnePlan

@@ -1,0 +1,12 @@
+pub mod Records
+pub mod Sent
+pub mod Added
+pub mod Noted
+pub mod Targets
+pub mod Fronts
+pub mod Since
+pub mod Answers
+pub mod Safe
+pub mod Held
+pub mod Told
+pub mod Listed

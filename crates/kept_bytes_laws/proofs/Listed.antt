@@ -1,0 +1,378 @@
+-- The NameNode lists DataNodes with what they have held.
+use Rattle.std.proofs.Common.{◌≡◌, ℕ, suc, ◌==◌, Bool, true, false, ◌||◌, inl, inr, List, [], ◌∷◌, filter, fold, length, Option, Some, None, refl, sym, ap, ◌∙◌, subst, cond, arith}
+use Rattle.std.specs.Prelude.{IsTrue}
+use Rattle.std.specs.BTreeMap.{insert_entry}
+use Rattle.std.specs.Bool.{⊤}
+use Rattle.std.specs.List.{AllByRecursion}
+use Rattle.std.specs.Map.{keys_of, remove_entry}
+use Rattle.std.specs.Option.{option_map, option_and_then}
+use Rattle.std.specs.Ordering.{nat_cmp, is_eq, match_ordering}
+use Rattle.std.specs.declared.cmp.Ordering.{Ordering}
+use Rattle.std.specs.declared.cmp.Ordering.TheVariants.{Less, Equal, Greater}
+use Rattle.std.proofs.lemmas.Bool.{eqb-true, eq-eqb}
+use Rattle.block_records.specs.Numbers.{is_number, has_number, entry_at}
+use Rattle.block_records.specs.Reports.{agreeing, with_reports_of}
+use Rattle.block_records.specs.declared.block_record.BlockRecord.{BlockRecord}
+use Rattle.block_records.specs.declared.last_block.LastBlock.{LastBlock}
+use Rattle.block_records.proofs.Numbers.{number_is}
+use Rattle.block_recovery.specs.declared.decision.Decision.{Decision}
+use Rattle.block_recovery.specs.declared.plan.Plan.{Plan}
+use Rattle.block_recovery.proofs.Lookups.{lookup_inserted}
+use Rattle.block_effect_laws.specs.Laws.{AgreeOn}
+use Rattle.block_map.specs.BlockFacts.{block_of, committed_length}
+use Rattle.hdfs_values.specs.NodeId.{is_node_id, node_of}
+use Rattle.hdfs_values.specs.PathOrder.{same_path}
+use Rattle.hdfs_values.proofs.Nodes.{principal_read}
+use Rattle.hdfs_types.specs.declared.located.LocatedBlock.{LocatedBlock}
+use Rattle.hdfs_types.specs.declared.op.Op.{Op}
+use Rattle.hdfs_types.specs.declared.op.Op.TheVariants as op
+use Rattle.hdfs_types.specs.declared.replica.RecoveredBlock.{RecoveredBlock}
+use Rattle.hdfs_types.specs.declared.replica.ReportedReplica.{ReportedReplica}
+use Rattle.hdfs_types.specs.declared.reply.Reply.{Reply}
+use Rattle.hdfs_types.specs.declared.reply.Reply.TheVariants as reply
+use Rattle.namespace_rows.specs.declared.file_row.FileBlock.{FileBlock}
+use Rattle.namespace_rows.specs.declared.row.Row.{Row}
+use Rattle.namespace_rows.specs.First.{first as front}
+use Rattle.namespace_rows.specs.Rows.{row_at}
+use Rattle.flat_rows.specs.BlockOutcome.{replication_at, added_to, located, located_with, blocks_of as blocks_in, blocks_at}
+use Rattle.flat_rows.specs.Facts.{Facts}
+use Rattle.flat_rows.specs.FileOutcome.{holder_at}
+use Rattle.flat_rows.specs.NodeOutcome.{heartbeat_reply}
+use Rattle.flat_rows.specs.Outcome.{reply_of, status_of, acl_status_of, serial_reply}
+use Rattle.flat_rows.specs.Takeover.{unfinished_at, appended_reply}
+use Rattle.flat_rows.specs.declared.verdict.Verdict.{Verdict}
+use Rattle.flat_rows.specs.declared.verdict.Verdict.TheVariants.{Done, Denied, Refused}
+use Rattle.history.specs.Blocks as blocks
+use Rattle.history.specs.LegalHistory.{now_at}
+use Rattle.history.specs.State.{rows_of, users_of, facts_of}
+use Rattle.history.specs.declared.entry.HistoryEntry.{HistoryEntry}
+use Rattle.block_laws.specs.Laws.{LengthsAre}
+use Rattle.block_laws.proofs.Histories.{stands, files_tell}
+use Rattle.block_laws.proofs.Unrefused.{was_done}
+use Rattle.node_calls.specs.declared.message.Message.TheVariants as message
+use Rattle.replicas.specs.ReplicaStep.{held_at}
+use Rattle.replicas.specs.declared.held.Held.{Held}
+use Rattle.datanode.specs.NodeStep.{Node}
+use Rattle.cluster_trace.specs.Provenance.{call_of}
+use Rattle.cluster_trace.specs.Trace.{State, Opening, Happened, new_node, with_new_node, entry_of, named, happened, left_by, after}
+use Rattle.cluster_trace.specs.declared.event.Event.{Event}
+use Rattle.cluster_trace.proofs.Each.{some_is, never_some, each_more, each_in}
+use Rattle.fencing_laws.specs.Fencing.{HasDecided}
+use Rattle.fencing_laws.proofs.Behind.{always_holds}
+use Rattle.fencing_laws.proofs.Decided.{CommitDecided, Carries, all_carry}
+use Rattle.fencing_laws.proofs.Leaders.{each_both, facts_in, leaders}
+use Rattle.fencing_laws.proofs.Orders.{each_found}
+use Rattle.kept_bytes_laws.specs.Listed.{HasHeld, HasNodeIds, ListedNodesHeld}
+use Rattle.kept_bytes_laws.proofs.Noted.{NotedBy, Noted, all_noted}
+use Rattle.kept_bytes_laws.proofs.Records.{OfEach, Stays, each_after}
+use Rattle.kept_bytes_laws.proofs.Sent.{Asks, Does, does}
+use Rattle.kept_bytes_laws.proofs.Told.{TellsHeld, all_told, held_later, all_noted_held}
+
+-- ---- reports
+
+module _ (P : ℕ → ℕ → Type 0) where
+  abbrev OfReports : List (ℕ × ℕ) → Type 0
+  OfReports reports = AllByRecursion (λ (report : ℕ × ℕ). P report.0 report.1) reports
+
+  put_has : (node count : ℕ) (reports : List (ℕ × ℕ)) → OfReports reports → P node count → OfReports (insert_entry nat_cmp reports node count)
+  put_has node count [] all new = (new, tt)
+  put_has node count (report ∷ reports) all new = by (nat_cmp node report.0) refl (put_has node count reports all.1 new)
+    where
+      by : (o : Ordering) → nat_cmp node report.0 ≡ o → OfReports (insert_entry nat_cmp reports node count)
+          → OfReports (match_ordering o ((node, count) ∷ report ∷ reports) ((report.0, count) ∷ reports) (report ∷ insert_entry nat_cmp reports node count))
+      by Less e rest = (new, all)
+      by Equal e rest = (subst (λ n. P n count) (number_is node report.0 (ap is_eq e)) new, all.1)
+      by Greater e rest = (all.0, rest)
+
+  left_has : (test : ℕ → Bool) (reports : List (ℕ × ℕ)) → OfReports reports → OfReports (remove_entry test reports)
+  left_has test [] all = tt
+  left_has test (report ∷ reports) all = by (test report.0) (left_has test reports all.1)
+    where
+      by : (b : Bool) → OfReports (remove_entry test reports) → OfReports (cond b reports (report ∷ remove_entry test reports))
+      by true rest = all.1
+      by false rest = (all.0, rest)
+
+  kept_has : (test : ℕ × ℕ → Bool) (reports : List (ℕ × ℕ)) → OfReports reports → OfReports (filter test reports)
+  kept_has test [] all = tt
+  kept_has test (report ∷ reports) all = by (test report) (kept_has test reports all.1)
+    where
+      by : (b : Bool) → OfReports (filter test reports) → OfReports (cond b (report ∷ filter test reports) (filter test reports))
+      by true rest = (all.0, rest)
+      by false rest = rest
+
+  more_have : (count : ℕ) (nodes : List ℕ) (reports : List (ℕ × ℕ)) → ((node : ℕ) → has_number node nodes ≡ true → P node count) → OfReports reports → OfReports (with_reports_of nodes count reports)
+  more_have count [] reports h all = all
+  more_have count (node ∷ nodes) reports h all =
+      more_have count nodes (insert_entry nat_cmp reports node count) (λ other has. h other (behind (node == other) (has_number other nodes) has))
+      (put_has node count reports all (h node (ap (λ b. b || has_number node nodes) (eq-eqb node node refl))))
+    where
+      behind : (a b : Bool) → b ≡ true → (a || b) ≡ true
+      behind true b h = refl
+      behind false b h = h
+
+-- ---- ids of DataNodes
+
+module _ (opening : Opening) (ids : HasNodeIds opening) where
+  start_valid : (id : ℕ) (numbers : List ℕ) (nodes : List (ℕ × Node)) → AllByRecursion (λ (n : ℕ). IsTrue (is_node_id n)) numbers → ((own : Node) → entry_at id nodes ≡ Some own → IsTrue (is_node_id id))
+      → (own : Node) → entry_at id (fold (with_new_node opening.name.config.replica_limit) nodes numbers) ≡ Some own → IsTrue (is_node_id id)
+  start_valid id [] nodes all before own there = before own there
+  start_valid id (n ∷ numbers) nodes all before own there =
+      start_valid id numbers (with_new_node opening.name.config.replica_limit nodes n) all.1
+      (λ one e. by one (is_number id n) refl (sym (lookup_inserted n id (new_node opening.name.config.replica_limit n) nodes) ∙ e)) own there
+    where
+      by : (one : Node) (b : Bool) → is_number id n ≡ b → cond b (Some (new_node opening.name.config.replica_limit n)) (entry_at id nodes) ≡ Some one → IsTrue (is_node_id id)
+      by one true at h = subst (λ m. IsTrue (is_node_id m)) (sym (number_is id n at)) all.0
+      by one false at h = before one h
+
+  valid : (events : List Event) (id : ℕ) (own : Node) → entry_at id (after opening events).nodes ≡ Some own → IsTrue (is_node_id id)
+  valid events id own there =
+      always_holds id (λ (one : Node). IsTrue (is_node_id id)) (λ one now asked h. h) opening events
+      (λ one e. start_valid id opening.nodes [] ids (λ other f. absurd (never_some other f)) one e) own there
+
+  -- who has held a replica has such an id
+  holder_valid : (events : List Event) (node block stamp count : ℕ) → HasHeld opening events node block stamp count → IsTrue (is_node_id node)
+  holder_valid events node block stamp count h = by (entry_at node (after opening h.earlier).nodes) refl h.there
+    where
+      by : (found : Option Node) → entry_at node (after opening h.earlier).nodes ≡ found → option_and_then (λ (held : Held). held.replica) (option_map (λ (own : Node). held_at block own.blocks) found) ≡ Some h.replica → IsTrue (is_node_id node)
+      by None e there = absurd (never_some h.replica there)
+      by (Some own) e there = valid h.earlier node own e
+
+-- ---- what is known of blocks
+
+-- each node that reported the block has held what it reported
+abbrev ReportsHeld : Opening → List Event → ℕ → BlockRecord → Type 0
+ReportsHeld opening events block own = AllByRecursion (λ (report : ℕ × ℕ). HasHeld opening events report.0 block own.stamp report.1) own.reports
+
+abbrev AreTrue : Opening → List Event → Type 0
+AreTrue opening events = OfEach (ReportsHeld opening events) (facts_in (after opening events)).known.blocks
+
+module _ (opening : Opening) (events : List Event) where
+  abbrev HeldAt : ℕ → ℕ → ℕ → ℕ → Type 0
+  HeldAt block stamp node count = HasHeld opening events node block stamp count
+
+  stays : Stays (ReportsHeld opening events)
+  stays = record {
+    replication = λ block replication own h. h;
+    committed = λ block length own h. kept_has (HeldAt block own.stamp) (λ report. report.1 == length) own.reports h;
+    unreported = λ block node own h. left_has (HeldAt block own.stamp) (is_number node) own.reports h;
+    copied = λ block now own h. h;
+    recovery = λ block stamp now own h. tt;
+  }
+
+module _ (opening : Opening) (ids : HasNodeIds opening) (earlier : List Event) (event : Event) (before : AreTrue opening earlier) where
+  abbrev state : State
+  state = after opening earlier
+
+  true_later : OfEach (ReportsHeld opening (event ∷ earlier)) (facts_in (after opening earlier)).known.blocks
+  true_later block own there =
+      each_more (λ (report : ℕ × ℕ). HasHeld opening earlier report.0 block own.stamp report.1) (λ (report : ℕ × ℕ). HasHeld opening (event ∷ earlier) report.0 block own.stamp report.1)
+      (λ report h. held_later opening event earlier report.0 block own.stamp report.1 h) own.reports (before block own there)
+
+  -- a request
+  module _ (own : Asks (after opening earlier) (happened (after opening earlier) event)) where
+    abbrev facts : Facts
+    facts = facts_of (after opening earlier).opening (after opening earlier).entries (now_at (after opening earlier).entries own.request)
+
+    -- a report is of the node that sent it
+    reported : (node : ℕ) (replica : ReportedReplica) (block_record : BlockRecord) → own.request.op ≡ op.Reported replica → node_of own.request.caller ≡ Some node → block_record.stamp ≡ replica.stamp
+        → HasHeld opening (event ∷ earlier) node replica.block block_record.stamp replica.length
+    reported node replica block_record is sender same =
+        let report = own.report replica is in
+        let told : HasHeld opening earlier report.0 replica.block replica.stamp replica.length =
+        each_in (TellsHeld opening earlier) (after opening earlier).messages (message.Reported report.0 replica.block replica.stamp replica.length) (all_told opening earlier) report.2 in
+        let sender_is : report.0 ≡ node =
+        some_is report.0 node (sym (principal_read report.0 (holder_valid opening ids earlier report.0 replica.block replica.stamp replica.length told)) ∙ (ap node_of (sym report.1) ∙ sender)) in
+        subst (λ s. HasHeld opening (event ∷ earlier) node replica.block s replica.length) (sym same)
+        (subst (λ n. HasHeld opening (event ∷ earlier) n replica.block replica.stamp replica.length) sender_is
+        (held_later opening event earlier report.0 replica.block replica.stamp replica.length told))
+
+    -- the end of a recovery tells of nodes that were updated to its length
+    recovered : (node : ℕ) (recovery : RecoveredBlock) (block_record : BlockRecord) → own.request.op ≡ op.CommitRecovery recovery → block_record.stamp ≡ recovery.stamp → has_number node recovery.nodes ≡ true
+        → HasHeld opening (event ∷ earlier) node recovery.block block_record.stamp recovery.length
+    recovered node recovery block_record is same has =
+        let commit = own.commit recovery is in
+        let noted : NotedBy (after opening earlier) commit.0 recovery.block recovery.stamp recovery.nodes =
+        each_in (Noted (after opening earlier)) (after opening earlier).messages (message.CommitRecovery commit.0 recovery.block recovery.stamp recovery.length recovery.nodes) (all_noted opening earlier) commit.1 in
+        let held = all_noted_held opening earlier commit.0 recovery.block recovery.stamp node noted.0 noted.1 (noted.2 node has) in
+        let carried : CommitDecided (after opening earlier) commit.0 recovery.block recovery.stamp recovery.length =
+        each_in (Carries (after opening earlier)) (after opening earlier).messages (message.CommitRecovery commit.0 recovery.block recovery.stamp recovery.length recovery.nodes) (all_carry opening earlier) commit.1 in
+        let decided : HasDecided (after opening earlier) commit.0 recovery.block recovery.stamp carried.0 = carried.1 in
+        let one_plan : noted.0 ≡ decided.0 = some_is noted.0 decided.0 (sym noted.1 ∙ decided.1) in
+        let one_decision : held.0 ≡ carried.0 = some_is held.0 carried.0 (sym held.1 ∙ (ap (λ (p : Plan). p.decision) one_plan ∙ decided.2)) in
+        let length_is : held.0.length ≡ recovery.length = ap (λ (d : Decision). d.length) one_decision ∙ carried.2 in
+        subst (λ s. HasHeld opening (event ∷ earlier) node recovery.block s recovery.length) (sym same)
+        (subst (λ n. HasHeld opening (event ∷ earlier) node recovery.block recovery.stamp n) length_is
+        (held_later opening event earlier node recovery.block recovery.stamp held.0.length held.2))
+
+    records_by : (verdict : Verdict) → (entry_of (after opening earlier) own.request).verdict ≡ verdict
+        → OfEach (ReportsHeld opening (event ∷ earlier)) (blocks.blocks_by facts own.request.op own.request.caller verdict (rows_of (after opening earlier).opening (after opening earlier).entries) (facts_in (after opening earlier))).known.blocks
+    records_by (Denied denial) e = true_later
+    records_by (Refused refusal) e = true_later
+    records_by (Done told) e =
+        let rows = rows_of (after opening earlier).opening (after opening earlier).entries in
+        let users = users_of (after opening earlier).entries in
+        let was = was_done facts rows users own.request.caller own.request.op told (sym e) in
+        each_after (ReportsHeld opening (event ∷ earlier)) (stays opening (event ∷ earlier)) facts own.request.caller rows users own.request.op was.unrefused
+        (record {
+          added = λ new replication i. tt;
+          reported = λ node replica block_record is sender same h.
+              put_has (HeldAt opening (event ∷ earlier) replica.block block_record.stamp) node replica.length block_record.reports h (reported node replica block_record is sender same);
+          recovered = λ recovery block_record is same h.
+              more_have (HeldAt opening (event ∷ earlier) recovery.block block_record.stamp) recovery.length recovery.nodes (agreeing recovery.length block_record.reports)
+              (λ node has. recovered node recovery block_record is same has)
+              (kept_has (HeldAt opening (event ∷ earlier) recovery.block block_record.stamp) (λ report. report.1 == recovery.length) block_record.reports h);
+        })
+        (stands (after opening earlier).opening (after opening earlier).entries (leaders opening earlier).legal).sound.once true_later
+
+    true_asked : OfEach (ReportsHeld opening (event ∷ earlier)) (facts_in (left_by (after opening earlier) (named (after opening earlier) own.request))).known.blocks
+    true_asked = records_by (entry_of (after opening earlier) own.request).verdict refl
+
+  true_now : AreTrue opening (event ∷ earlier)
+  true_now = by (does (after opening earlier) event)
+    where
+      by : Does (after opening earlier) (call_of (after opening earlier) event) (happened (after opening earlier) event) → AreTrue opening (event ∷ earlier)
+      by (inl own) = subst (λ (what : Happened). OfEach (ReportsHeld opening (event ∷ earlier)) (facts_in (left_by (after opening earlier) what)).known.blocks) (sym own.is) true_later
+      by (inr (inl own)) = subst (λ (what : Happened). OfEach (ReportsHeld opening (event ∷ earlier)) (facts_in (left_by (after opening earlier) what)).known.blocks) (sym own.is) true_later
+      by (inr (inr (inl own))) = subst (λ (what : Happened). OfEach (ReportsHeld opening (event ∷ earlier)) (facts_in (left_by (after opening earlier) what)).known.blocks) (sym own.is) true_later
+      by (inr (inr (inr own))) = subst (λ (what : Happened). OfEach (ReportsHeld opening (event ∷ earlier)) (facts_in (left_by (after opening earlier) what)).known.blocks) (sym own.is) (true_asked own)
+
+all_true : (opening : Opening) → HasNodeIds opening → (events : List Event) → AreTrue opening events
+all_true opening ids [] = λ block own there. cc
+all_true opening ids (event ∷ earlier) = true_now opening ids earlier event (all_true opening ids earlier)
+
+-- ---- what a reader is told
+
+-- it has held so many bytes, and these are the length
+record IsListed (opening : Opening) (events : List Event) (block stamp length node count : ℕ) : Type 0 where
+  held : HasHeld opening events node block stamp count
+  same : count ≡ length
+
+-- each node that is listed with the block has held it
+abbrev Lists : Opening → List Event → LocatedBlock → Type 0
+Lists opening events listed = (node : ℕ) → has_number node listed.nodes ≡ true → HasHeld opening events node listed.block listed.stamp listed.length
+
+abbrev ListsHeld : Opening → List Event → Reply → Type 0
+ListsHeld opening events (reply.Opened file) = AllByRecursion (Lists opening events) file.blocks
+ListsHeld opening events _ = ⊤
+
+found_in : (P : ℕ → ℕ → Type 0) (node : ℕ) (reports : List (ℕ × ℕ)) → AllByRecursion (λ (report : ℕ × ℕ). P report.0 report.1) reports → has_number node (keys_of reports) ≡ true → (count : ℕ) × P node count
+found_in P node [] all has = cc
+found_in P node (report ∷ reports) all has = by (report.0 == node) refl has (found_in P node reports all.1)
+  where
+    by : (b : Bool) → (report.0 == node) ≡ b → (b || has_number node (keys_of reports)) ≡ true → (has_number node (keys_of reports) ≡ true → (count : ℕ) × P node count) → (count : ℕ) × P node count
+    by true at h rest = (report.1, subst (λ n. P n report.1) (eqb-true report.0 node at) all.0)
+    by false at h rest = rest h
+
+row_has : (P : Row → Type 0) (path : List (List ℕ)) (rows : List Row) (row : Row) → AllByRecursion P rows → row_at path rows ≡ Some row → P row
+row_has P path [] row all at = absurd (never_some row at)
+row_has P path (first ∷ rows) row all at = by (same_path path first.path) at (row_has P path rows row all.1)
+  where
+    by : (b : Bool) → front (cond b (first ∷ filter (λ other. same_path path other.path) rows) (filter (λ other. same_path path other.path) rows)) ≡ Some row → (row_at path rows ≡ Some row → P row) → P row
+    by true h rest = subst P (some_is first row h) all.0
+    by false h rest = rest h
+
+module _ (opening : Opening) (events : List Event) (facts : Facts) (caller : List ℕ) (rows : List Row) (records : OfEach (ReportsHeld opening events) facts.blocks.known.blocks)
+    (agree : (block : ℕ) (own : BlockRecord) → block_of facts.blocks block ≡ Some own → AgreeOn own.committed own.reports) (lengths : LengthsAre facts.blocks rows) where
+  abbrev IsTold : FileBlock → Type 0
+  IsTold block = committed_length facts.blocks block.id ≡ block.committed
+
+  located_is : (x y : LocatedBlock) → Some x ≡ Some y → x ≡ y
+  located_is x y e = cc
+
+  lists : (block : FileBlock) (listed : LocatedBlock) → IsTold block → located facts.token caller facts.blocks block ≡ Some listed → Lists opening events listed
+  lists block listed told is = by block.committed refl is
+    where
+      here : (length : ℕ) (own : BlockRecord) → block.committed ≡ Some length → block_of facts.blocks block.id ≡ Some own → Lists opening events (located_with facts.token caller block.id length own)
+      here length own e there node has =
+          let committed : own.committed ≡ Some length = ap (λ (found : Option BlockRecord). option_and_then (λ (one : BlockRecord). one.committed) found) (sym there) ∙ (told ∙ e) in
+          let all : AgreeOn (Some length) own.reports = subst (λ c. AgreeOn c own.reports) committed (agree block.id own there) in
+          let found = found_in (IsListed opening events block.id own.stamp length) node own.reports
+          (each_more (λ (report : ℕ × ℕ). HasHeld opening events report.0 block.id own.stamp report.1 × (report.1 ≡ length)) (λ (report : ℕ × ℕ). IsListed opening events block.id own.stamp length report.0 report.1)
+          (λ report h. record { held = h.0; same = h.1 }) own.reports
+          (each_both (λ (report : ℕ × ℕ). HasHeld opening events report.0 block.id own.stamp report.1) (λ (report : ℕ × ℕ). report.1 ≡ length) own.reports (records block.id own there) all)) has in
+          subst (λ count. HasHeld opening events node block.id own.stamp count) found.1.same found.1.held
+
+      by_record : (length : ℕ) → block.committed ≡ Some length → (found : Option BlockRecord) → block_of facts.blocks block.id ≡ found → option_map (located_with facts.token caller block.id length) found ≡ Some listed → Lists opening events listed
+      by_record length e None at h = absurd (never_some listed h)
+      by_record length e (Some own) at h = subst (Lists opening events) (located_is (located_with facts.token caller block.id length own) listed h) (here length own e at)
+
+      by : (found : Option ℕ) → block.committed ≡ found → option_and_then (λ length. option_map (located_with facts.token caller block.id length) (block_of facts.blocks block.id)) found ≡ Some listed → Lists opening events listed
+      by None e h = absurd (never_some listed h)
+      by (Some length) e h = by_record length e (block_of facts.blocks block.id) refl h
+
+  told_at : (found : Option Row) (path : List (List ℕ)) → row_at path rows ≡ found → AllByRecursion IsTold (blocks_at found)
+  told_at None path e = tt
+  told_at (Some row) path e = row_has (λ (one : Row). AllByRecursion IsTold (blocks_in one.file)) path rows row lengths e
+
+  status_lists : (at : Option Row) → ListsHeld opening events (status_of at)
+  status_lists None = tt
+  status_lists (Some row) = tt
+
+  acl_lists : (at : Option Row) → ListsHeld opening events (acl_status_of at)
+  acl_lists None = tt
+  acl_lists (Some row) = tt
+
+  append_lists : (holder : Option (List ℕ)) (block : Option ℕ) → ListsHeld opening events (appended_reply facts.blocks holder block)
+  append_lists None block = tt
+  append_lists (Some holder) None = tt
+  append_lists (Some holder) (Some block) = tt
+
+  serial_lists : (serial : Option ℕ) → ListsHeld opening events (serial_reply serial)
+  serial_lists None = tt
+  serial_lists (Some serial) = tt
+
+  added_lists : (last : Option LastBlock) (replication : Option ℕ) → ListsHeld opening events (added_to facts.token caller facts.blocks last facts.now replication)
+  added_lists last None = tt
+  added_lists last (Some replication) = tt
+
+  heartbeat_lists : (node : Option ℕ) → ListsHeld opening events (heartbeat_reply facts caller node)
+  heartbeat_lists None = tt
+  heartbeat_lists (Some node) = tt
+
+  reply_lists : (what : Op) → ListsHeld opening events (reply_of facts caller what rows)
+  reply_lists (op.Stat path) = status_lists (row_at path rows)
+  reply_lists (op.GetAcl path) = acl_lists (row_at path rows)
+  reply_lists (op.Append path) = append_lists (holder_at (row_at path rows)) (unfinished_at (row_at path rows))
+  reply_lists (op.AddBlock path last) = added_lists last (replication_at (row_at path rows))
+  reply_lists (op.Open path) =
+      each_found IsTold (Lists opening events) (located facts.token caller facts.blocks) lists (blocks_at (row_at path rows)) (told_at (row_at path rows) path refl)
+  reply_lists (op.RollKey key) = serial_lists facts.next_serial
+  reply_lists op.Heartbeat = heartbeat_lists (node_of caller)
+  reply_lists _ = tt
+
+-- ---- the law
+
+never_longer : (entry : HistoryEntry) (entries : List HistoryEntry) → entries ≡ entry ∷ entries → ⊥
+never_longer entry entries e = never (length entries) (ap (λ (l : List HistoryEntry). length l) e)
+  where
+    never : (n : ℕ) → n ≡ suc n → ⊥
+    never n h = absurd (omega (arith, h))
+
+entry_is : (first other : HistoryEntry) (entries : List HistoryEntry) → first ∷ entries ≡ other ∷ entries → first ≡ other
+entry_is first other entries e = cc
+
+pub listed_held : ListedNodesHeld
+listed_held opening earlier event entry file listed node ids entries opened i has = by (does (after opening earlier) event)
+  where
+    state : State
+    state = after opening earlier
+
+    no_entry : (what : Happened) → happened (after opening earlier) event ≡ what → what.entries ≡ (after opening earlier).entries → HasHeld opening earlier node listed.block listed.stamp listed.length
+    no_entry what is same = absurd (never_longer entry (after opening earlier).entries (sym (ap (λ (w : Happened). w.entries) is ∙ same) ∙ entries))
+
+    by : Does state (call_of state event) (happened state event) → HasHeld opening earlier node listed.block listed.stamp listed.length
+    by (inl own) = no_entry _ own.is refl
+    by (inr (inl own)) = no_entry _ own.is refl
+    by (inr (inr (inl own))) = no_entry _ own.is refl
+    by (inr (inr (inr own))) =
+        let request = own.request in
+        let facts = facts_of state.opening state.entries (now_at state.entries request) in
+        let rows = rows_of state.opening state.entries in
+        let made : entry_of state request ≡ entry = entry_is (entry_of state request) entry state.entries (sym (ap (λ (w : Happened). w.entries) own.is) ∙ entries) in
+        let done : Done (reply.Opened file) ≡ (entry_of state request).verdict = sym opened ∙ ap (λ (e : HistoryEntry). e.verdict) (sym made) in
+        let was = was_done facts rows (users_of state.entries) request.caller request.op (reply.Opened file) done in
+        let legal = (leaders opening earlier).legal in
+        let lists = reply_lists opening earlier facts request.caller rows (all_true opening ids earlier)
+        (λ block own_record there. ((stands state.opening state.entries legal).sound.each block own_record there).agreed) (files_tell state.opening state.entries legal) request.op in
+        let all : ListsHeld opening earlier (reply.Opened file) = subst (ListsHeld opening earlier) (sym was.told_is) lists in
+        each_in (Lists opening earlier) file.blocks listed all i node has

@@ -1,0 +1,2 @@
+pub mod KeptBytes
+pub mod Listed
