@@ -174,7 +174,7 @@ delivered_ruled state now None = tt
 delivered_ruled state now (Some (message.Node node asked)) = tt
 delivered_ruled state now (Some (message.Plan node asked)) = tt
 delivered_ruled state now (Some (message.Reported node block stamp count)) = (refl, refl)
-delivered_ruled state now (Some (message.CommitRecovery node block stamp count nodes)) = tt
+delivered_ruled state now (Some (message.CommitRecovery node block stamp count nodes)) = (refl, refl)
 
 request_ruled : (state : State) (request : Request) (b : Bool) → IsRuled state (cond b (Some request) None) (cond b (named state request) (lost state NotFromOutside))
 request_ruled state request true = (refl, refl)

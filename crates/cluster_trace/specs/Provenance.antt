@@ -23,7 +23,7 @@ use Rattle.node_calls.specs.declared.presented.Presented.{Presented}
 use Rattle.node_replies.specs.Asking.{asked_by, mode_of}
 use Rattle.datanode.specs.NodeStep.{Node, clock_with}
 use Rattle.cluster_trace.specs.DataCall.{as_message}
-use Rattle.cluster_trace.specs.Trace.{State, Opening, Happened, entry_of, message_at, reporting, is_from_outside, happened, after}
+use Rattle.cluster_trace.specs.Trace.{State, Opening, Happened, entry_of, message_at, reporting, committing, is_from_outside, happened, after}
 use Rattle.cluster_trace.specs.declared.event.Event.{Event}
 use Rattle.cluster_trace.specs.declared.event.Event.TheVariants.{Name, Deliver, Data}
 use Rattle.cluster_trace.specs.declared.outcome.EventAnswer.{EventAnswer}
@@ -66,6 +66,7 @@ pub record IsForged (state : State) (bytes : List ℕ) : Type 0 where
 
 abbrev pub request_brought : ℕ → Option Message → Option Request
 request_brought now (Some (message.Reported node block stamp bytes)) = Some (reporting node now block stamp bytes)
+request_brought now (Some (message.CommitRecovery node block stamp bytes nodes)) = Some (committing node now block stamp bytes nodes)
 request_brought now _ = None
 
 abbrev pub request_of : State → Event → Option Request
