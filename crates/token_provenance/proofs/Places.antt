@@ -15,7 +15,7 @@ use Rattle.grant_ledger.specs.declared.ledger.LedgerRow.{LedgerRow}
 use Rattle.permission_specs.specs.Rights.{covers}
 use Rattle.token_provenance.specs.Provenance.{allows, fits, lesser, place_of, least_place, records_of}
 use Rattle.token_provenance.specs.declared.source.Source.{Source}
-use Rattle.token_provenance.specs.Index.{Table, rows_at, IsIndex, TellsAlso, grants_the_same, repeats}
+use Rattle.token_provenance.specs.Index.{Table, rows_at, IsIndex, TellsAlso, grants_the_same, repeats, repeats_first, listed_with}
 
 pub lesser_none : (place : Option ℕ) → lesser place None ≡ place
 lesser_none None = refl
@@ -87,15 +87,27 @@ tells_nothing first row entry h = by (fits first entry) (fits row entry) (fits_a
     by true false is = cc
     by false true is = cc
 
-pub repeated : (first : LedgerRow) (rows : List LedgerRow) (row : LedgerRow) → repeats first row ≡ true → TellsAlso (first ∷ rows) row (first ∷ rows)
+repeated : (first : LedgerRow) (rows : List LedgerRow) (row : LedgerRow) → repeats first row ≡ true → TellsAlso (first ∷ rows) row (first ∷ rows)
 repeated first rows row h entry =
     sym (ap (λ l. fold (λ l next. lesser l (place_of next entry)) l rows) (tells_nothing first row entry h))
     ∙ behind_all rows entry (place_of first entry) (place_of row entry)
 
-pub first_repeated : (rows : List (Bor LedgerRow)) (first : Bor LedgerRow) (row : LedgerRow) → Some first ≡ slice_get rows 0 → repeats first.now row ≡ true
-    → TellsAlso (map (λ r. r.now) rows) row (map (λ r. r.now) rows)
-first_repeated [] first row is h = cc
-first_repeated (x ∷ rows) first row is h = repeated x.now (map (λ r. r.now) rows) row (ap (λ (found : Option (Bor LedgerRow)). repeats (unwrap_or found x).now row) (sym is) ∙ h)
+pub first_repeated : (rows : List (Bor LedgerRow)) (first : Bor LedgerRow) (row : LedgerRow) → Some first ≡ slice_get rows 0 → repeats_first (map (λ r. r.now) rows) row ≡ repeats first.now row
+first_repeated [] first row is = cc
+first_repeated (x ∷ rows) first row is = ap (λ (found : Option (Bor LedgerRow)). repeats (unwrap_or found x).now row) (sym is)
+
+pub none_repeated : (rows : List (Bor LedgerRow)) (row : LedgerRow) → None ≡ slice_get rows 0 → repeats_first (map (λ r. r.now) rows) row ≡ false
+none_repeated [] row is = refl
+none_repeated (x ∷ rows) row is = cc
+
+-- the rows that are listed tell of each record what the rows before and this one tell
+pub listed_tells : (rows : List LedgerRow) (row : LedgerRow) → TellsAlso rows row (listed_with rows row)
+listed_tells rows row entry = by rows (repeats_first rows row) refl
+  where
+    by : (xs : List LedgerRow) (b : Bool) → repeats_first xs row ≡ b → least_place (cond b xs (xs ++ row ∷ [])) entry ≡ lesser (least_place xs entry) (place_of row entry)
+    by xs false h = least_more xs row entry
+    by (first ∷ rest) true h = repeated first rest row h entry
+    by [] true h = cc
 
 -- ---- a loop over borrowed rows
 

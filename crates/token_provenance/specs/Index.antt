@@ -1,5 +1,5 @@
 -- What the index of a ledger keeps.
-use Rattle.std.specs.Prelude.{◌≡◌, ℕ, Bool, ◌&&◌, ◌==◌, nat_le, List, [], unwrap_or}
+use Rattle.std.specs.Prelude.{◌≡◌, ℕ, Bool, false, ◌&&◌, ◌==◌, nat_le, if◌then◌else◌, List, [], ◌∷◌, ◌++◌, unwrap_or}
 use denote.Ref.{Bor}
 use Rattle.node_calls.specs.declared.access_log.AccessRecord.{AccessRecord}
 use Rattle.grant_ledger.specs.declared.ledger.LedgerRow.{LedgerRow}
@@ -32,3 +32,12 @@ grants_the_same first other = same first.user other.user && first.block == other
 -- a row says what the first one says, at no lesser place
 abbrev pub repeats : LedgerRow → LedgerRow → Bool
 repeats first row = nat_le first.place row.place && same first.grant.token row.grant.token && grants_the_same first.grant row.grant
+
+-- it repeats the first one of these
+abbrev pub repeats_first : List LedgerRow → LedgerRow → Bool
+repeats_first [] row = false
+repeats_first (first ∷ rows) row = repeats first row
+
+-- these rows and one more, which isn't listed where it repeats the first one
+abbrev pub listed_with : List LedgerRow → LedgerRow → List LedgerRow
+listed_with rows row = if repeats_first rows row then rows else rows ++ row ∷ []

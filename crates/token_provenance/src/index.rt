@@ -1,7 +1,7 @@
-ghost use Rattle.std.specs.Prelude.{◌≡◌, ◌++◌, [], ◌∷◌, true, List, IfOk, OnOk};
+ghost use Rattle.std.specs.Prelude.{◌≡◌, ◌++◌, [], ◌∷◌, List, IfOk, OnOk};
 ghost use Rattle.hdfs_values.specs.Text.{same};
 ghost use Rattle.token_provenance.specs.Provenance.{allows, lesser, place_of, least_place};
-ghost use Rattle.token_provenance.specs.Index.{IsIndex, TellsAlso, grants_the_same, repeats};
+ghost use Rattle.token_provenance.specs.Index.{IsIndex, grants_the_same, repeats, repeats_first, listed_with};
 ghost use Rattle.grant_ledger.specs.declared.ledger.LedgerRow.{LedgerRow};
 
 use block_tokens::grant::Grant;
@@ -97,7 +97,7 @@ impl<'a> TokenRows<'a> {
     }
 
     fn first_is_repeated(&self, row: &LedgerRow) -> bool
-        ensures { result ≡ true → TellsAlso self.now row.now self.now }
+        ensures { result ≡ repeats_first self.now row.now }
     {
         match self.rows.first() {
             Some(first) => repeats(first, row),
@@ -108,7 +108,7 @@ impl<'a> TokenRows<'a> {
     // Lists a row. One that says what the first says, at no lesser place, isn't kept: a caller may be granted the same token many times
     // in one millisecond, and each record that rests on it would go through all of these rows.
     fn add(&mut self, row: &'a LedgerRow) -> Result<(), AllocError>
-        ensures { OnOk result (TellsAlso self.old row.now self.new) }
+        ensures { OnOk result (self.new ≡ listed_with self.old row.now) }
     {
         if self.first_is_repeated(row) {
             return Ok(());

@@ -35,8 +35,8 @@ fn add_sources(
 
 /// For each record of these logs, in their order, the least place of a row of the ledger that it rests on, or that there is none: a row
 /// with the bytes of the record's token, with its caller as user and its block, with modes that allow its mode, and with an expiry above
-/// its moment. Costs a look-up by a token for each row and each record: rows with one token say the same in the ledger of a NameNode, and
-/// but one of those is listed.
+/// its moment. Costs a look-up by a token for each row and each record: in the ledger of a NameNode rows with one token say
+/// the same, and one of them alone is listed.
 ///
 /// # Errors
 /// Out of memory.

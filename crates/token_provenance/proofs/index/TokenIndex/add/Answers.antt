@@ -5,14 +5,14 @@ use Rattle.std.specs.Map.{lookup}
 use Rattle.hdfs_values.specs.Text.{same, text_cmp}
 use Rattle.token_provenance.specs.Index.{Table, IsIndex}
 use Rattle.token_provenance.specs.Provenance.{lesser, place_of, least_place}
-use Rattle.token_provenance.proofs.Places.{indexed_more}
+use Rattle.token_provenance.proofs.Places.{indexed_more, listed_tells}
 use Rattle.token_provenance.proofs.index.TokenIndex.add.Goals as goal
 
 pub returns-in-Some : goal.returns-in-Some
 returns-in-Some c = λ rows law.
     indexed_more c.self.inside.tokens.entries (c.get_mut.follows.lender c.add.new.self).entries c.args.row.now c.add.new.self
     (λ q. ((c.get_mut.follows.holds c.add.new.self).3 (search rules)).0 q ∙ ap (λ token. cond (same token q.now) (Some c.add.new.self) (lookup (is_at (λ key. text_cmp q.now key.now)) c.self.inside.tokens.entries)) c.as_bytes-token.ensures)
-    (λ entry. c.in_ok-add.ensures entry ∙ ap (λ l. lesser (least_place l entry) (place_of c.args.row.now entry)) (ap (λ (found : Option (List LedgerRow)). unwrap_or found []) (c.in-Some.ensures.value ∙ ap (λ bytes. lookup (is_at (λ key. text_cmp bytes key.now)) c.self.inside.tokens.entries) c.as_bytes-token.ensures)))
+    (λ entry. ap (λ l. least_place l entry) c.in_ok-add.ensures ∙ listed_tells _ c.args.row.now entry ∙ ap (λ l. lesser (least_place l entry) (place_of c.args.row.now entry)) (ap (λ (found : Option (List LedgerRow)). unwrap_or found []) (c.in-Some.ensures.value ∙ ap (λ bytes. lookup (is_at (λ key. text_cmp bytes key.now)) c.self.inside.tokens.entries) c.as_bytes-token.ensures)))
     rows (subst (λ (table : Table). IsIndex table rows) (sym c.self.view_is) law)
 
 pub returns : goal.returns
