@@ -1,9 +1,8 @@
 -- What an operation leaves, from what its calls leave.
-use Rattle.std.proofs.Common.{◌≡◌, ℕ, Bool, true, List, Option, Some, None, ap, ◌∙◌, subst, Result, Ok, Err, OnOk}
+use Rattle.std.proofs.Common.{◌≡◌, ℕ, Bool, List, Option, Some, None, ap, ◌∙◌, subst, Result, Ok, Err, OnOk}
 use Rattle.hdfs_types.specs.declared.op.Op.TheVariants as op
 use Rattle.block_records.specs.declared.last_block.LastBlock.{LastBlock}
 use Rattle.hdfs_types.specs.declared.file.FileState.{FileState}
-use Rattle.hdfs_types.specs.declared.file.FileState.TheVariants.{Open}
 use Rattle.hdfs_values.specs.Text.{same}
 use Rattle.lease_manager.specs.Leases.{Leases, renewals_with}
 use Rattle.principals.specs.Users.{Users}
@@ -11,17 +10,16 @@ use Rattle.namespace_rows.specs.declared.row.Row.{Row}
 use Rattle.namespace_rows.specs.declared.row.Change.TheVariants as change
 use Rattle.namespace_rows.specs.Rows.{row_at, ancestor}
 use Rattle.namespace_rows.specs.Namespace.{IsNamespace}
-use Rattle.namespace_rows.specs.Files.{new_file, holder_of, holder_of_file, holders}
+use Rattle.namespace_rows.specs.Files.{new_file, holder_of, holders}
 use Rattle.flat_rows.specs.FileOutcome.{holder_at}
 use Rattle.flat_rows.specs.BlockOutcome.{ended_at}
 use Rattle.flat_rows.specs.Outcome.{with_new}
 use Rattle.flat_rows.specs.Changes.{rows_under, rewritten, without}
 use Rattle.lease_manager.specs.declared.writers.Writers.{Writers}
 use Rattle.lease_manager.specs.Writers.{count_of, IsLeased, renewed_at}
-use Rattle.file_effects.specs.Effected.{IsCreated, IsExact, IsFree, IsEffected, renewed_where}
+use Rattle.file_effects.specs.Effected.{IsCreated, IsExact, IsFree, IsEffected}
 use Rattle.lease_manager.proofs.Leasing.{leased_open, more_after}
-use Rattle.file_effects.proofs.Effects.{OneMore, OneLess, EachLess, free_create, counted_create, counted_reopen, counted_close, counted_delete}
-use Rattle.file_effects.specs.Taken.{IsClosedFile}
+use Rattle.file_effects.proofs.Effects.{OneMore, OneLess, EachLess, free_create, counted_create, counted_close, counted_delete}
 
 abbrev pub KeepsLeased : Writers → Writers → Type 0
 KeepsLeased before after = (last : List ℕ → Option ℕ) → IsLeased last before → IsLeased last after
@@ -54,17 +52,6 @@ effected_create path mode replication over caller now rows left clients before b
         files = counted_create path mode replication caller rows left before between after namespace (free_create path mode replication over caller rows users free).1 made exact.files more (less_of clients (holders (rows_under path rows)) between after is less);
         leased = kept (renewed_at caller now last) (leased_open before between caller now last renewals more exact.leased);
       };
-    }
-
--- a closed file is opened by a client
-pub exact_reopen : (path : List (List ℕ)) (client caller : List ℕ) (now : ℕ) (rows left : List Row) (before after : Writers) → IsNamespace rows → IsClosedFile path rows
-    → client ≡ caller → left ≡ rewritten path (change.State (Open client)) rows → OneMore caller before after
-    → ((last : List ℕ → Option ℕ) → IsLeased last before → IsLeased (renewed_at caller now last) after) → (last : List ℕ → Option ℕ) → IsExact last rows before → IsExact (renewed_where true caller now last) left after
-exact_reopen path client caller now rows left before after namespace found is made more renews last exact =
-    record {
-      files = counted_reopen path caller rows left before after namespace (record { row = found.row; file = found.file; at = found.at; has = found.has })
-          (ap holder_at found.at ∙ (ap holder_of_file found.has ∙ ap holder_of found.closed)) (made ∙ ap (λ who. rewritten path (change.State (Open who)) rows) is) exact.files more;
-      leased = renews last exact.leased;
     }
 
 pub effected_complete : (path : List (List ℕ)) (stated : Option LastBlock) (caller : List ℕ) (now : ℕ) (rows left : List Row) (before after : Writers)

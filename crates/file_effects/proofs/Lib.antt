@@ -1,8 +1,4 @@
 pub mod Effects
-pub mod Expiring
-pub mod SoughtFiles
-pub mod TakenFiles
-pub mod Recovering
 pub mod Effected
 pub mod Replacing
 pub mod Replacement

@@ -233,7 +233,7 @@ fn create(
 // ---- files that are closed or deleted
 
 /// Ends the writing of a file by the client who has it open: it gets this state. Takes no memory.
-pub(crate) fn end_writing(
+pub fn end_writing(
     tree: &mut Tree,
     writers: &mut Writers,
     path: &Path,

@@ -31,7 +31,7 @@ use Rattle.write_rules.specs.JudgedAppends.{refused_held, verdict_of_append, IsJ
 use Rattle.write_rules.specs.declared.appends.JudgedAppend.{JudgedAppend}
 use Rattle.write_rules.specs.declared.appends.JudgedAppend.TheVariants.{Closed, Held}
 use Rattle.file_effects.specs.Effected.{IsExact, renewed_where}
-use Rattle.file_effects.specs.Taken.{IsClosedFile, refused_or_done, refused_or_taken, recovered_for, IsTaken}
+use Rattle.file_takeovers.specs.Taken.{IsClosedFile, refused_or_done, refused_or_taken, recovered_for, IsTaken}
 use Rattle.namesystem.specs.declared.namesystem.Namesystem.{Namesystem}
 use Rattle.namesystem.specs.Told.{may_change}
 use Rattle.namesystem.specs.Performed.{IsPerformed, IsUndone, facts_in}

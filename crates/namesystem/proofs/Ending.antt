@@ -23,7 +23,7 @@ use Rattle.history.proofs.Counting.{count, count_map}
 use Rattle.history.proofs.OpenFiles.{opens}
 use Rattle.lease_manager.specs.declared.writers.Writers.{Writers}
 use Rattle.file_effects.specs.Effected.{IsExact}
-use Rattle.file_effects.specs.Recovered.{refused_or_ended, verdict_on_end, IsEnded}
+use Rattle.file_takeovers.specs.Recovered.{refused_or_ended, verdict_on_end, IsEnded}
 use Rattle.namesystem.specs.declared.namesystem.Namesystem.{Namesystem}
 use Rattle.namesystem.specs.Performed.{IsPerformed, facts_in}
 use Rattle.namesystem.proofs.Performing.{changing, performed_done, performed_not_done}

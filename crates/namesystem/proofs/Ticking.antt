@@ -23,8 +23,8 @@ use Rattle.flat_rows.specs.Takeover.{sought_of, is_overdue, taken_row, expired_f
 use Rattle.history.specs.ClockAndLease.{renews, is_past_hard, state_at}
 use Rattle.namesystem.specs.declared.namesystem.Namesystem.{Namesystem}
 use Rattle.file_effects.specs.Effected.{IsExact, renewed_where}
-use Rattle.file_effects.specs.Expiry.{is_among, blocks_of, closed_of, IsExpired}
-use Rattle.file_effects.proofs.Expiring.{among_is}
+use Rattle.file_takeovers.specs.Expiry.{is_among, blocks_of, closed_of, IsExpired}
+use Rattle.file_takeovers.proofs.Expiring.{among_is}
 use Rattle.namesystem.specs.Performed.{IsPerformed, facts_in}
 use Rattle.namesystem.proofs.Performing.{step_of, lease_is, changing, performed_not_done}
 

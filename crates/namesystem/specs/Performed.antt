@@ -12,8 +12,8 @@ use Rattle.lease_manager.specs.Writers.{IsAlike}
 use Rattle.block_map.specs.BlockFacts.{BlockFacts}
 use Rattle.namespace_rows.specs.declared.row.Row.{Row}
 use Rattle.file_effects.specs.Effected.{IsExact, renewed_where}
-use Rattle.file_effects.specs.Expiry.{AreDue}
-use Rattle.file_effects.specs.Recovered.{RecoversOnce}
+use Rattle.file_takeovers.specs.Expiry.{AreDue}
+use Rattle.file_takeovers.specs.Recovered.{RecoversOnce}
 use Rattle.namesystem.specs.declared.namesystem.Namesystem.{Namesystem}
 use Rattle.namesystem.specs.Told.{may_change}
 

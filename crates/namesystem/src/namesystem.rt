@@ -1,5 +1,5 @@
 ghost use Rattle.std.specs.Prelude.{◌≡◌, ◌≤◌, ◌++◌, ℕ, List, Option, None, true, IfOk, OnOk, OnErr};
-ghost use Rattle.hdfs_types.specs.Verb.{read_op, update_op, write_op};
+ghost use Rattle.hdfs_types.specs.Verb.{read_op, update_op, write_op, grant_op};
 ghost use Rattle.hdfs_types.specs.declared.op.Op.TheVariants as op;
 ghost use Rattle.hdfs_types.specs.declared.reply.Reply.TheVariants as reply;
 ghost use Rattle.required_rights.specs.RequiredRights.{required_rights};
@@ -13,7 +13,7 @@ ghost use Rattle.lease_manager.specs.Leases as lease;
 ghost use Rattle.lease_manager.specs.Leases.{latest_moment};
 ghost use Rattle.lease_manager.specs.Writers.{moment_of};
 ghost use Rattle.file_effects.specs.Effected.{IsExact, IsFree, refused_end_of};
-ghost use Rattle.file_effects.specs.Recovered.{RecoversOnce};
+ghost use Rattle.file_takeovers.specs.Recovered.{RecoversOnce};
 ghost use Rattle.namesystem.specs.Performed.{IsPerformed, IsUndone, KnowsRecoveries, facts_in};
 
 use crate::granting::perform_grant;
@@ -22,9 +22,9 @@ use block_map::blocks::Blocks;
 use block_tokens::ring::{KeyRing, RollFault};
 use file_effects::blocks::replicate;
 use file_effects::effect::effect;
-use file_effects::expiry::expire;
-use file_effects::recovery::end_recovery;
-use file_effects::taking::{reopen, take_over};
+use file_takeovers::expiry::expire;
+use file_takeovers::recovery::end_recovery;
+use file_takeovers::taking::{reopen, take_over};
 use flat_rows::verdict::Verdict;
 use fs_operations::apply::needs;
 use fs_operations::change::{apply_replication, apply_update};
@@ -35,7 +35,7 @@ use hdfs_types::key::Key;
 use hdfs_types::op::Request;
 use hdfs_types::replica::{RecoveredBlock, ReportedReplica};
 use hdfs_types::reply::{Counter, ObjectKind, Refusal, Reply};
-use hdfs_types::verb::{Read, Update, Verb, Write};
+use hdfs_types::verb::{Grant, Read, Update, Verb, Write};
 use hdfs_values::moment::Moment;
 use hdfs_values::node_id::node_of;
 use hdfs_values::path::Path;
@@ -459,6 +459,72 @@ fn perform_commit_recovery(
 
 // ---- all
 
+/// A request that grants tokens, answered by the verdict alone.
+fn perform_granting(
+    alloc: Global,
+    system: &mut Namesystem,
+    ledger: &mut Ledger,
+    place: u64,
+    caller: &Who,
+    needs: &Needs,
+    grant: &Grant<'_>,
+    now: Moment,
+) -> Result<Verdict, AllocError>
+    requires { needs.now ≡ required_rights (grant_op grant.now) }
+    ensures ok { (last : List ℕ → Option ℕ) → IsExact last system.old.tree system.old.writers → IfOk result (λ verdict. IsPerformed last now caller.now (grant_op grant.now) system.old verdict system.new) }
+    ensures ledger { IfOk result (λ verdict. ledger.new.rows ≡ ledger.old.rows ++ rows_granted place system.old.ring now caller.now (grant_op grant.now) verdict) }
+    ensures writers { system.new.writers ≡ system.old.writers }
+    ensures err { OnErr result (IsUndone system.old system.new) }
+    ensures err_ledger { OnErr result (ledger.new.rows ≡ ledger.old.rows) }
+{
+    let told = perform_grant(alloc, system, ledger, place, caller, needs, grant, now)?;
+    Ok(verdict_of(told))
+}
+
+/// Answers a request, with the needs of its operation. It owns nothing that has to be let go, so that each verb costs the prover one call.
+fn perform_with(
+    alloc: Global,
+    system: &mut Namesystem,
+    open_paths: &mut OpenPaths,
+    ledger: &mut Ledger,
+    place: u64,
+    request: &Request,
+    needs: &Needs,
+    now: Moment,
+) -> Result<Verdict, AllocError>
+    requires latest { latest_moment system.old.writers.leases.renewals ≤ now }
+    requires needs { needs.now ≡ required_rights request.now.op }
+    requires namespace { IsNamespace system.old.tree }
+    requires recoveries { KnowsRecoveries now system.old.tree system.old.blocks }
+    ensures ok { (last : List ℕ → Option ℕ) → IsExact last system.old.tree system.old.writers → IfOk result (λ verdict. IsPerformed last now request.now.caller request.now.op system.old verdict system.new) }
+    ensures limits { system.new.writers.leases.limits ≡ system.old.writers.leases.limits }
+    ensures latest { OnOk result (latest_moment system.new.writers.leases.renewals ≤ now) }
+    ensures ledger { IfOk result (λ verdict. ledger.new.rows ≡ ledger.old.rows ++ rows_granted place system.old.ring now request.now.caller request.now.op verdict) }
+    ensures err { OnErr result (IsUndone system.old system.new) }
+    ensures err_ledger { OnErr result (ledger.new.rows ≡ ledger.old.rows) }
+{
+    let caller = &request.caller;
+    match request.op.verb() {
+        Verb::Read(read) => perform_read(alloc, system, caller, needs, read),
+        Verb::Update(update) => perform_update(alloc, system, open_paths, caller, needs, &update),
+        Verb::Write(write) => perform_write(alloc, system, open_paths, caller, needs, &write, now),
+        Verb::Append(path) => perform_append(alloc, system, open_paths, caller, needs, path, now),
+        Verb::RollKey(key) => perform_roll(alloc, system, caller, needs, key, now),
+        Verb::Renew => perform_renewal(system, caller, now),
+        Verb::Tick => perform_tick(alloc, system, open_paths, caller, needs, now),
+        Verb::Grant(grant) => {
+            perform_granting(alloc, system, ledger, place, caller, needs, &grant, now)
+        }
+        Verb::SetReplication(path, replication) => {
+            perform_replication(alloc, system, caller, needs, path, replication)
+        }
+        Verb::Reported(replica) => perform_report(alloc, system, caller, needs, replica, now),
+        Verb::CommitRecovery(recovered) => {
+            perform_commit_recovery(alloc, system, open_paths, caller, needs, recovered)
+        }
+    }
+}
+
 /// Answers a request, and does it where no need fails and nothing refuses it. What it grants is entered into the ledger at this place.
 ///
 /// # Errors
@@ -482,30 +548,10 @@ pub fn perform(
     ensures err { OnErr result (IsUndone system.old system.new) }
     ensures err_ledger { OnErr result (ledger.new.rows ≡ ledger.old.rows) }
 {
-    let caller = &request.caller;
     let needs = needs(alloc, &request.op)?;
-    match request.op.verb() {
-        Verb::Read(read) => perform_read(alloc, system, caller, &needs, read),
-        Verb::Update(update) => perform_update(alloc, system, open_paths, caller, &needs, &update),
-        Verb::Write(write) => perform_write(alloc, system, open_paths, caller, &needs, &write, now),
-        Verb::Append(path) => {
-            perform_append(alloc, system, open_paths, caller, &needs, path, now)
-        }
-        Verb::RollKey(key) => perform_roll(alloc, system, caller, &needs, key, now),
-        Verb::Renew => perform_renewal(system, caller, now),
-        Verb::Tick => perform_tick(alloc, system, open_paths, caller, &needs, now),
-        Verb::Grant(grant) => {
-            let told = perform_grant(alloc, system, ledger, place, caller, &needs, &grant, now)?;
-            Ok(verdict_of(told))
-        }
-        Verb::SetReplication(path, replication) => {
-            perform_replication(alloc, system, caller, &needs, path, replication)
-        }
-        Verb::Reported(replica) => perform_report(alloc, system, caller, &needs, replica, now),
-        Verb::CommitRecovery(recovered) => {
-            perform_commit_recovery(alloc, system, open_paths, caller, &needs, recovered)
-        }
-    }
+    perform_with(
+        alloc, system, open_paths, ledger, place, request, &needs, now,
+    )
 }
 
 /// Answers a request as `perform` does, and copies the verdict.

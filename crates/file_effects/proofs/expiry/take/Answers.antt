@@ -1,9 +1,0 @@
-use Rattle.std.proofs.Common.{◌∙◌}
-use Rattle.file_effects.proofs.TakenFiles.{exact_unheld}
-use Rattle.file_effects.proofs.expiry.take.Goals as goal
-
-pub returns-in_default-clause-exact : goal.returns-in_default-clause-exact
-returns-in_default-clause-exact c = exact_unheld c.args.path.now c.args.state c.args.tree.now c.rewrite.new.self c.args.writers.now c.requires.namespace (c.requires.held ∙ c.in_default.is) c.requires.unheld c.rewrite.ensures
-
-pub end_writing-requires-clause-held : goal.end_writing-requires-clause-held
-end_writing-requires-clause-held c = c.requires.held ∙ c.in-Some.is

@@ -1,6 +1,0 @@
-use Rattle.std.proofs.Common.{ap, ◌∙◌}
-use Rattle.file_effects.specs.Found.{file_in}
-use Rattle.file_effects.proofs.found.file_at.Goals as goal
-
-pub returns : goal.returns
-returns c = c.file.ensures ∙ ap file_in c.in-Some.ensures.row

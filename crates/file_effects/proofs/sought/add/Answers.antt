@@ -1,8 +1,0 @@
-use Rattle.std.proofs.Common.{sym, subst}
-use Rattle.std.specs.List.{AllByRecursion}
-use Rattle.file_effects.proofs.SoughtFiles.{found_more, IsFoundIn}
-use Rattle.file_effects.proofs.sought.add.Goals as goal
-
-pub returns : goal.returns
-returns c = λ expiry rows here all.
-    subst (AllByRecursion (IsFoundIn expiry rows)) (sym c.in_ok-insert.ensures.entries) (found_more expiry rows c.args.path c.args.sought c.args.files.now.entries here all)

@@ -1,6 +1,0 @@
-use Rattle.std.proofs.Common.{ℕ}
-use Rattle.file_effects.specs.Expiry.{AreSome}
-use Rattle.file_effects.proofs.sought.add_each_held.Given as goal
-
-abbrev pub invariant-loop-client : goal.invariant-loop-client
-invariant-loop-client l = (retry now : ℕ) → AreSome (record { past = l.past; retry = retry; now = now }) l.tree l.fn.files → AreSome (record { past = l.past; retry = retry; now = now }) l.tree l.files

@@ -1,0 +1,4 @@
+pub mod Found
+pub mod Expiry
+pub mod Taken
+pub mod Recovered

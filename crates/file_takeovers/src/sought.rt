@@ -1,0 +1,308 @@
+ghost use Rattle.std.specs.Prelude.{◌≡◌, ◌+◌, ◌-◌, ◌==◌, ◌++◌, ◌∷◌, [], ℕ, nat_lt, List, Option, Some, None, true, IfOk, IfSome, OnOk, Bool};
+ghost use Rattle.namespace_rows.specs.declared.row.Row.{Row};
+ghost use Rattle.namespace_rows.specs.Files.{unfinished};
+ghost use Rattle.namespace_rows.specs.Namespace.{IsNamespace, is_ascending};
+ghost use Rattle.namespace_rows.specs.Rows.{row_at};
+ghost use Rattle.block_map.specs.BlockFacts.{due_recoveries};
+ghost use Rattle.file_effects.specs.Effected.{IsExact};
+ghost use Rattle.file_takeovers.specs.Expiry as spec;
+
+use crate::found::file_at;
+use block_map::blocks::Blocks;
+use flat_rows::takeover::Sought;
+use hdfs_types::file::FileState;
+use hdfs_values::ids::BlockId;
+use hdfs_values::moment::Moment;
+use hdfs_values::path::Path;
+use hdfs_values::who::Who;
+use inode_tree::tree::Tree;
+use lease_manager::open_paths::OpenPaths;
+use lease_manager::writers::Writers;
+use namespace_rows::file_row::FileRow;
+use namespace_rows::row::Row;
+use std::alloc::{AllocError, Global};
+use std::collections::BTreeMap;
+
+// ---- one file
+
+/// What a tick does with a file of a client whose lease is past the hard limit.
+fn taken_from(holder: &Who, file: &FileRow) -> Result<Sought, AllocError>
+    ensures { IfOk result (λ sought. sought ≡ record { holder = Some holder.now; block = unfinished file.now.blocks }) }
+{
+    let holder = holder.clone()?;
+    Ok(Sought {
+        holder: Some(holder),
+        block: file.blocks.unfinished(),
+    })
+}
+
+/// Whether a moment was longer ago than a number of milliseconds. Takes no memory.
+fn is_longer_ago(moment: Moment, limit: u32, now: Moment) -> bool
+    ensures { result ≡ nat_lt limit (now - moment) }
+{
+    now.milliseconds().saturating_sub(moment.milliseconds()) > limit as u64
+}
+
+/// What a tick does with a file, if this client has it open, whose lease is past the hard limit.
+fn held_by(file: &FileRow, client: &Who) -> Result<Option<Sought>, AllocError>
+    ensures { (expiry : spec.Expiry) → spec.is_among expiry.past client.now ≡ true → IfOk result (λ found. IfSome found (λ sought. spec.sought_by expiry (Some file.now) ≡ Some sought)) }
+{
+    let FileState::Open(holder) = &file.state else {
+        return Ok(None);
+    };
+    if client != holder {
+        return Ok(None);
+    }
+    let sought = taken_from(holder, file)?;
+    Ok(Some(sought))
+}
+
+/// Whether a file's last block is this one, and in a recovery that began longer ago than the retry limit, in milliseconds. Takes no memory.
+fn is_overdue(file: &FileRow, block: BlockId, retry: u32, now: Moment) -> bool
+    ensures { (past : List (List ℕ)) → result ≡ true → spec.sought_by (record { past = past; retry = retry; now = now }) (Some file.now) ≡ Some (record { holder = None; block = Some block }) }
+{
+    match &file.state {
+        FileState::Recovering(own, _, begun) => *own == block && is_longer_ago(*begun, retry, now),
+        FileState::Closed | FileState::Open(_) => false,
+    }
+}
+
+// ---- where the files are known
+
+/// The same of what has a path.
+fn held_at(tree: &Tree, path: &Path, client: &Who) -> Result<Option<Sought>, AllocError>
+    ensures { (expiry : spec.Expiry) → spec.is_among expiry.past client.now ≡ true → IfOk result (λ found. IfSome found (λ sought. spec.sought_at expiry (row_at path.now tree.now) ≡ Some sought)) }
+{
+    match file_at(tree, path) {
+        Some(file) => held_by(file, client),
+        None => Ok(None),
+    }
+}
+
+/// The same of what has a path. Takes no memory.
+fn is_overdue_at(tree: &Tree, path: &Path, block: BlockId, retry: u32, now: Moment) -> bool
+    ensures { (past : List (List ℕ)) → result ≡ true → spec.sought_at (record { past = past; retry = retry; now = now }) (row_at path.now tree.now) ≡ Some (record { holder = None; block = Some block }) }
+{
+    match file_at(tree, path) {
+        Some(file) => is_overdue(file, block, retry, now),
+        None => false,
+    }
+}
+
+/// Adds a file to those that are known.
+fn add(files: &mut BTreeMap<Path, Sought>, path: Path, sought: Sought) -> Result<(), AllocError>
+    ensures { (expiry : spec.Expiry) (rows : List Row) → spec.sought_at expiry (row_at path rows) ≡ Some sought → spec.AreSome expiry rows files.old → OnOk result (spec.AreSome expiry rows files.new) }
+{
+    files.insert(path, sought)?;
+    Ok(())
+}
+
+/// Adds what has a path, where the client has it open.
+fn add_held_at(
+    tree: &Tree,
+    path: Path,
+    client: &Who,
+    files: &mut BTreeMap<Path, Sought>,
+) -> Result<(), AllocError>
+    ensures { (expiry : spec.Expiry) → spec.is_among expiry.past client.now ≡ true → spec.AreSome expiry tree.now files.old → OnOk result (spec.AreSome expiry tree.now files.new) }
+{
+    let Some(sought) = held_at(tree, &path, client)? else {
+        return Ok(());
+    };
+    add(files, path, sought)
+}
+
+/// Adds the files of a client that are known.
+fn add_held(
+    tree: &Tree,
+    open_paths: &OpenPaths,
+    client: &Who,
+    files: &mut BTreeMap<Path, Sought>,
+) -> Result<(), AllocError>
+    ensures { (expiry : spec.Expiry) → spec.is_among expiry.past client.now ≡ true → spec.AreSome expiry tree.now files.old → OnOk result (spec.AreSome expiry tree.now files.new) }
+{
+    for path in open_paths.of_client(client)? {
+        add_held_at(tree, path, client, files)?;
+    }
+    Ok(())
+}
+
+/// Adds the files of these clients that are known.
+fn add_each_held(
+    tree: &Tree,
+    open_paths: &OpenPaths,
+    past: &[Who],
+    files: &mut BTreeMap<Path, Sought>,
+) -> Result<(), AllocError>
+    ensures { (retry now : ℕ) → spec.AreSome (record { past = past.now; retry = retry; now = now }) tree.now files.old → OnOk result (spec.AreSome (record { past = past.now; retry = retry; now = now }) tree.now files.new) }
+{
+    for client in past {
+        add_held(tree, open_paths, client, files)?;
+    }
+    Ok(())
+}
+
+/// Adds the file of a block whose recovery is overdue, where that file is known.
+fn add_overdue(
+    tree: &Tree,
+    open_paths: &OpenPaths,
+    block: BlockId,
+    retry: u32,
+    now: Moment,
+    files: &mut BTreeMap<Path, Sought>,
+) -> Result<(), AllocError>
+    ensures { (past : List (List ℕ)) → spec.AreSome (record { past = past; retry = retry; now = now }) tree.now files.old → OnOk result (spec.AreSome (record { past = past; retry = retry; now = now }) tree.now files.new) }
+{
+    let Some(path) = open_paths.of_recovery(block) else {
+        return Ok(());
+    };
+    if !is_overdue_at(tree, path, block, retry, now) {
+        return Ok(());
+    }
+    let sought = Sought {
+        holder: None,
+        block: Some(block),
+    };
+    let path = path.clone()?;
+    add(files, path, sought)
+}
+
+/// Adds the files of these blocks, whose recovery is overdue, that are known.
+fn add_each_overdue(
+    tree: &Tree,
+    open_paths: &OpenPaths,
+    overdue: &[BlockId],
+    retry: u32,
+    now: Moment,
+    files: &mut BTreeMap<Path, Sought>,
+) -> Result<(), AllocError>
+    ensures { (past : List (List ℕ)) → spec.AreSome (record { past = past; retry = retry; now = now }) tree.now files.old → OnOk result (spec.AreSome (record { past = past; retry = retry; now = now }) tree.now files.new) }
+{
+    for block in overdue {
+        add_overdue(tree, open_paths, *block, retry, now, files)?;
+    }
+    Ok(())
+}
+
+/// Whether these clients have so many files open, beside this number. Takes no memory.
+fn have_open(writers: &Writers, clients: &[Who], number: usize, beside: usize) -> bool
+    ensures { result ≡ (spec.open_of writers.now.files clients.now + beside == number) }
+{
+    let Some(others) = number.checked_sub(beside) else {
+        return false;
+    };
+    let mut left = others as u64;
+    for client in clients {
+        let count = writers.files.count(client);
+        if count > left {
+            return false;
+        }
+        left -= count;
+    }
+    left == 0
+}
+
+// ---- where they are not
+
+/// What a tick does with a file, where these clients' leases are past the hard limit. Costs the clients.
+fn sought_of(
+    file: &FileRow,
+    past: &[Who],
+    retry: u32,
+    now: Moment,
+) -> Result<Option<Sought>, AllocError>
+    ensures { IfOk result (λ sought. sought ≡ spec.sought_by (record { past = past.now; retry = retry; now = now }) (Some file.now)) }
+{
+    match &file.state {
+        FileState::Closed => Ok(None),
+        FileState::Open(holder) => {
+            if !past.contains(holder) {
+                return Ok(None);
+            }
+            let sought = taken_from(holder, file)?;
+            Ok(Some(sought))
+        }
+        FileState::Recovering(block, _, begun) => {
+            if !is_longer_ago(*begun, retry, now) {
+                return Ok(None);
+            }
+            Ok(Some(Sought {
+                holder: None,
+                block: Some(*block),
+            }))
+        }
+    }
+}
+
+/// Adds what a tick does with a row behind those whose files are there.
+fn add_row(
+    row: &Row,
+    past: &[Who],
+    retry: u32,
+    now: Moment,
+    files: &mut BTreeMap<Path, Sought>,
+) -> Result<(), AllocError>
+    ensures { (before : List Row) → is_ascending (before ++ row.now ∷ []) ≡ true → spec.AreAll (record { past = past.now; retry = retry; now = now }) before files.old → OnOk result (spec.AreAll (record { past = past.now; retry = retry; now = now }) (before ++ row.now ∷ []) files.new) }
+{
+    let Some(file) = &row.file else {
+        return Ok(());
+    };
+    let Some(sought) = sought_of(file, past, retry, now)? else {
+        return Ok(());
+    };
+    let path = row.path.clone()?;
+    files.insert(path, sought)?;
+    Ok(())
+}
+
+/// All files that a tick takes, where not all of them are known. Costs the whole tree.
+fn all_sought(
+    alloc: Global,
+    tree: &Tree,
+    past: &[Who],
+    retry: u32,
+    now: Moment,
+) -> Result<BTreeMap<Path, Sought>, AllocError>
+    requires { IsNamespace tree.now }
+    ensures { IfOk result (spec.AreAll (record { past = past.now; retry = retry; now = now }) tree.now) }
+{
+    let rows = tree.rows_under(&Path::root(alloc))?;
+    let mut files = BTreeMap::new(alloc);
+    for row in &rows {
+        add_row(row, past, retry, now, &mut files)?;
+    }
+    Ok(files)
+}
+
+// ---- both
+
+/// The files that a tick takes, by their paths. Costs these files, and the recoveries that run; the whole tree where some of the files aren't
+/// known.
+///
+/// # Errors
+/// Out of memory.
+pub(crate) fn sought_files(
+    alloc: Global,
+    tree: &Tree,
+    blocks: &Blocks,
+    writers: &Writers,
+    open_paths: &OpenPaths,
+    past: &[Who],
+    now: Moment,
+) -> Result<BTreeMap<Path, Sought>, AllocError>
+    requires namespace { IsNamespace tree.now }
+    requires due { spec.AreDue now tree.now blocks.now }
+    ensures all { (last : List ℕ → Option ℕ) → IsExact last tree.now writers.now → IfOk result (spec.AreAll (record { past = past.now; retry = blocks.now.retry; now = now }) tree.now) }
+    ensures some { IfOk result (spec.AreSome (record { past = past.now; retry = blocks.now.retry; now = now }) tree.now) }
+{
+    let retry = blocks.retry();
+    let overdue = blocks.due_recoveries(now)?;
+    let mut files = BTreeMap::new(alloc);
+    add_each_held(tree, open_paths, past, &mut files)?;
+    add_each_overdue(tree, open_paths, &overdue, retry, now, &mut files)?;
+    if have_open(writers, past, files.len(), overdue.len()) {
+        return Ok(files);
+    }
+    drop(files);
+    all_sought(alloc, tree, past, retry, now)
+}
