@@ -153,7 +153,7 @@ impl Blocks {
         self.nodes.is_live(node, now)
     }
 
-    /// The nodes that are live. Costs a look-up for each node that ever sent a heartbeat.
+    /// The nodes that are live. Costs a step for each node that ever sent a heartbeat.
     ///
     /// # Errors
     /// Out of memory.
@@ -181,8 +181,8 @@ impl Blocks {
 
     /// What a new block of a file would be: the length of the file's last block would be committed, where one is named, and behind that
     /// the live nodes with the fewest blocks, ties to the lowest id, would hold the new block, as many as there are to be replicas, or
-    /// all. It would get the next id and the next stamp. Nothing changes: `add_planned` adds it. Costs a sort of the live nodes, three
-    /// look-ups for each node that ever sent a heartbeat, and the reports of the last block for each live node.
+    /// all. It would get the next id and the next stamp. Nothing changes: `add_planned` adds it. Costs a sort of the live nodes, a step
+    /// and two look-ups for each node that ever sent a heartbeat, and the reports of the last block for each live node.
     ///
     /// # Errors
     /// `NotYetReplicated` where no node reported that length, `TooFewNodes` where no node is live, `Spent` of block ids, and then of
@@ -455,9 +455,9 @@ impl Blocks {
 
     /// The copies that a node is to make, by block: of each committed block that fewer live nodes report than there are to be replicas,
     /// where the node is the lowest live one that reports it and nobody was told to copy it within the retry limit. It goes to the live node
-    /// with the fewest blocks, ties to the lowest id, of those that don't report it. Costs a look-up for each node that ever sent a
-    /// heartbeat or holds blocks, the live nodes for each block of this node, and a sort of them for each copy; but where all nodes that
-    /// hold blocks are live, only blocks are looked at of which fewer replicas were reported than there are to be.
+    /// with the fewest blocks, ties to the lowest id, of those that don't report it. Costs a step for each node that ever sent a
+    /// heartbeat, a look-up for each that holds blocks, the live nodes for each block of this node, and a sort of them for each copy; but
+    /// where all nodes that hold blocks are live, only blocks are looked at of which fewer replicas were reported than there are to be.
     ///
     /// # Errors
     /// Out of memory.
@@ -484,11 +484,11 @@ impl Blocks {
     }
 
     /// What a node is to be told at its heartbeat now, behind which it is live: the recoveries that it is to lead, the replicas that it is
-    /// to remove, and the copies that it is to make. Costs a copy of what is known of nodes and a look-up for each node that ever sent a
-    /// heartbeat or holds blocks; a look-up for each recovery and each replica, and a step for each replica that is to be removed since a
-    /// node was last told; the live nodes for each block of this node, and a sort of them for each copy. But where all nodes that hold
-    /// blocks are live, only blocks are looked at of which fewer replicas were reported than there are to be: an idle heartbeat costs
-    /// nothing for its node's blocks.
+    /// to remove, and the copies that it is to make. Costs a step for each node that ever sent a heartbeat, and where this is the node's
+    /// first, a copy of what is known of nodes; a look-up for each node that holds blocks, each recovery and each replica, and a step for
+    /// each replica that is to be removed since a node was last told; the live nodes for each block of this node, and a sort of them for
+    /// each copy. But where all nodes that hold blocks are live, only blocks are looked at of which fewer replicas were reported than there
+    /// are to be: an idle heartbeat costs nothing for its node's blocks.
     ///
     /// # Errors
     /// Out of memory.

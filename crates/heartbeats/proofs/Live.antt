@@ -1,9 +1,111 @@
--- The ids of the live nodes ascend.
-use Rattle.std.proofs.Common.{ℕ, Bool, List, filter}
-use Rattle.std.proofs.lemmas.List.Kept.{IsStrictlySortedBy-filter}
-use Rattle.std.proofs.lemmas.Map.Keys.{IsStrictlyIncreasing-from_sorted}
+-- The live nodes by the entries: the keys of the entries that a test keeps are the keys that it keeps by a look-up, and ascend.
+use Rattle.std.proofs.Common.{◌≡◌, ℕ, ◌==◌, ◌-◌, Bool, true, false, cond, ◌||◌, nat_le, List, [], ◌∷◌, filter, Some, refl, sym, ap, ◌∙◌, true≢false, arith}
+use Rattle.std.proofs.lemmas.Bool.Decides.{nat_tests}
+use Rattle.std.proofs.lemmas.List.Elements.{All-contains_itself, All-head, All-tail, All-weaker}
+use Rattle.std.proofs.lemmas.Map.Keys.{sorted_head, sorted_tail, IsDistinct-from_sorted, IsStrictlyIncreasing-from_sorted}
+use Rattle.std.proofs.lemmas.Map.Made.{is_some-lookup}
+use Rattle.std.proofs.lemmas.Map.Views.{lookup-from_Contains}
+use Rattle.std.specs.BTreeMap.{insert_entry}
+use Rattle.std.specs.Cmp.{eq_by_cmp_equiv, nat_cmp_total, tied_itself, unsigned_ties}
+use Rattle.std.specs.List.{All, Contains}
 use Rattle.std.specs.List.Sorted.{IsStrictlySortedBy, IsStrictlyIncreasing}
-use Rattle.std.specs.Ordering.{nat_cmp}
+use Rattle.std.specs.Map.{keys_of}
+use Rattle.std.specs.Option.{IsSome}
+use Rattle.std.specs.Ordering.{is_eq, nat_cmp, match_ordering}
+use Rattle.std.specs.declared.cmp.Ordering.{Ordering}
+use Rattle.std.specs.declared.cmp.Ordering.TheVariants.{Less, Equal, Greater}
+use Rattle.block_records.specs.Numbers.{is_number, entry_at}
+use Rattle.block_records.proofs.Ascending.{above_lower, lacks_lower, kept_ascending}
+use Rattle.block_records.proofs.Numbers.{number_is}
+use Rattle.heartbeats.specs.Live.{Heartbeats, beaten, is_recent, is_live, live_nodes}
 
-pub filtered_keys : (p : ℕ → Bool) (numbers : List ℕ) → IsStrictlySortedBy nat_cmp numbers → IsStrictlyIncreasing (filter p numbers)
-filtered_keys p numbers up = IsStrictlyIncreasing-from_sorted (filter p numbers) (IsStrictlySortedBy-filter nat_cmp p numbers up)
+-- the keys of those entries that pass a test ascend
+pub kept_increasing : (keep : ℕ × ℕ → Bool) (entries : List (ℕ × ℕ)) → IsStrictlySortedBy nat_cmp (keys_of entries) → IsStrictlyIncreasing (keys_of (filter keep entries))
+kept_increasing keep entries up = IsStrictlyIncreasing-from_sorted (keys_of (filter keep entries)) (kept_ascending keep entries up)
+
+-- a test of entries keeps the keys that a test of keys keeps, where both say the same of each entry
+kept_keys : (keep : ℕ × ℕ → Bool) (p : ℕ → Bool) (entries : List (ℕ × ℕ)) → All (λ entry. keep entry ≡ p entry.0) entries → keys_of (filter keep entries) ≡ filter p (keys_of entries)
+kept_keys keep p [] same = refl
+kept_keys keep p (entry ∷ entries) same =
+    by (keep entry) (All-head (λ e. keep e ≡ p e.0) entry entries same) (kept_keys keep p entries (All-tail (λ e. keep e ≡ p e.0) entry entries same))
+  where
+    by : (b : Bool) → b ≡ p entry.0 → keys_of (filter keep entries) ≡ filter p (keys_of entries)
+        → keys_of (cond b (entry ∷ filter keep entries) (filter keep entries)) ≡ cond (p entry.0) (entry.0 ∷ filter p (keys_of entries)) (filter p (keys_of entries))
+    by true is rest = ap (λ l. entry.0 ∷ l) rest ∙ ap (λ b. cond b (entry.0 ∷ filter p (keys_of entries)) (filter p (keys_of entries))) is
+    by false is rest = rest ∙ ap (λ b. cond b (entry.0 ∷ filter p (keys_of entries)) (filter p (keys_of entries))) is
+
+-- the same where the test of keys looks them up
+found_keys : (keep : ℕ × ℕ → Bool) (p : ℕ → Bool) (entries : List (ℕ × ℕ)) → IsStrictlySortedBy nat_cmp (keys_of entries)
+    → ((entry : ℕ × ℕ) → entry_at entry.0 entries ≡ Some entry.1 → keep entry ≡ p entry.0) → keys_of (filter keep entries) ≡ filter p (keys_of entries)
+found_keys keep p entries up each = kept_keys keep p entries (All-weaker (Contains entries) (λ entry. keep entry ≡ p entry.0) found entries (All-contains_itself entries))
+  where
+    found : (entry : ℕ × ℕ) → Contains entries entry → keep entry ≡ p entry.0
+    found entry there = each entry (lookup-from_Contains (eq_by_cmp_equiv nat_cmp_total) entry.0 entry.1 entries (IsDistinct-from_sorted nat_cmp (keys_of entries) up) there)
+
+-- ---- live nodes
+
+abbrev pub is_recent_entry : ℕ → ℕ → ℕ × ℕ → Bool
+is_recent_entry dead now entry = is_recent dead now (Some entry.1)
+
+pub live_recent : (nodes : Heartbeats) (now : ℕ) → IsStrictlySortedBy nat_cmp (keys_of nodes.last) → keys_of (filter (is_recent_entry nodes.dead now) nodes.last) ≡ live_nodes nodes now
+live_recent nodes now up = found_keys (is_recent_entry nodes.dead now) (is_live nodes now) nodes.last up (λ entry is. ap (is_recent nodes.dead now) (sym is))
+
+-- ---- live nodes behind a heartbeat of a node that sent one before
+
+greater_equal : {A : Type 0} → Greater ≡ Equal → A
+greater_equal e = cc
+
+-- what a look-up finds behind the heartbeat
+entry_behind : (node moment q : ℕ) (entries : List (ℕ × ℕ)) → entry_at q (insert_entry nat_cmp entries node moment) ≡ cond (is_number q node) (Some moment) (entry_at q entries)
+entry_behind node moment q [] = refl
+entry_behind node moment q (e ∷ es) = by (nat_cmp node e.0) refl (entry_behind node moment q es)
+  where
+    same : (b : Bool) → cond b (Some moment) (entry_at q es) ≡ cond b (Some moment) (cond b (Some e.1) (entry_at q es))
+    same true = refl
+    same false = refl
+
+    apart : (b : Bool) → is_number q e.0 ≡ b → (d : Bool) → is_number q node ≡ d → nat_cmp node e.0 ≡ Greater
+        → cond b (Some e.1) (cond d (Some moment) (entry_at q es)) ≡ cond d (Some moment) (cond b (Some e.1) (entry_at q es))
+    apart true at true to greater = greater_equal (sym greater ∙ ap (nat_cmp node) (sym (number_is q e.0 at) ∙ number_is q node to) ∙ tied_itself nat_cmp_total node)
+    apart true at false to greater = refl
+    apart false at d to greater = refl
+
+    by : (o : Ordering) → nat_cmp node e.0 ≡ o → entry_at q (insert_entry nat_cmp es node moment) ≡ cond (is_number q node) (Some moment) (entry_at q es)
+        → entry_at q (match_ordering o ((node, moment) ∷ e ∷ es) ((e.0, moment) ∷ es) (e ∷ insert_entry nat_cmp es node moment)) ≡ cond (is_number q node) (Some moment) (cond (is_number q e.0) (Some e.1) (entry_at q es))
+    by Less is rest = refl
+    by Equal is rest = same (is_number q e.0) ∙ ap (λ n. cond (is_number q n) (Some moment) (cond (is_number q e.0) (Some e.1) (entry_at q es))) (sym (number_is node e.0 (ap is_eq is)))
+    by Greater is rest = ap (cond (is_number q e.0) (Some e.1)) rest ∙ apart (is_number q e.0) refl (is_number q node) refl is
+
+-- the heartbeat adds no key
+keys_behind : (node moment : ℕ) (entries : List (ℕ × ℕ)) → IsStrictlySortedBy nat_cmp (keys_of entries) → IsSome (entry_at node entries) → keys_of (insert_entry nat_cmp entries node moment) ≡ keys_of entries
+keys_behind node moment [] up known = absurd (true≢false (sym known))
+keys_behind node moment (e ∷ es) up known = by (nat_cmp node e.0) refl known (keys_behind node moment es (sorted_tail nat_cmp e.0 (keys_of es) up))
+  where
+    by : (o : Ordering) → nat_cmp node e.0 ≡ o → IsSome (cond (is_eq o) (Some e.1) (entry_at node es)) → (IsSome (entry_at node es) → keys_of (insert_entry nat_cmp es node moment) ≡ keys_of es)
+        → keys_of (match_ordering o ((node, moment) ∷ e ∷ es) ((e.0, moment) ∷ es) (e ∷ insert_entry nat_cmp es node moment)) ≡ keys_of (e ∷ es)
+    by Less less known rest =
+        absurd (true≢false (sym known ∙ (is_some-lookup (is_number node) es ∙ lacks_lower node (keys_of es) (above_lower node e.0 (keys_of es) less (sorted_head nat_cmp e.0 (keys_of es) up)))))
+    by Equal is known rest = refl
+    by Greater is known rest = ap (λ l. e.0 ∷ l) (rest known)
+
+now_is_recent : (dead now : ℕ) → nat_le (now - now) dead ≡ true
+now_is_recent dead now = grind (arith, nat_tests)
+
+abbrev pub is_own_or_recent : ℕ → ℕ → ℕ → ℕ × ℕ → Bool
+is_own_or_recent node dead now entry = (entry.0 == node) || is_recent dead now (Some entry.1)
+
+pub live_behind : (nodes : Heartbeats) (node now : ℕ) → IsStrictlySortedBy nat_cmp (keys_of nodes.last) → IsSome (entry_at node nodes.last)
+    → keys_of (filter (is_own_or_recent node nodes.dead now) nodes.last) ≡ live_nodes (beaten nodes node now) now
+live_behind nodes node now up known =
+    found_keys (is_own_or_recent node nodes.dead now) (is_live (beaten nodes node now) now) nodes.last up each
+    ∙ ap (filter (is_live (beaten nodes node now) now)) (sym (keys_behind node now nodes.last up known))
+  where
+    by : (moment : ℕ) (b : Bool) → (b || is_recent nodes.dead now (Some moment)) ≡ is_recent nodes.dead now (cond b (Some now) (Some moment))
+    by moment true = sym (now_is_recent nodes.dead now)
+    by moment false = refl
+
+    each : (entry : ℕ × ℕ) → entry_at entry.0 nodes.last ≡ Some entry.1 → is_own_or_recent node nodes.dead now entry ≡ is_live (beaten nodes node now) now entry.0
+    each entry is =
+        ap (λ b. b || is_recent nodes.dead now (Some entry.1)) (unsigned_ties entry.0 node)
+        ∙ by entry.1 (is_number entry.0 node)
+        ∙ sym (ap (is_recent nodes.dead now) (entry_behind node now entry.0 nodes.last ∙ ap (cond (is_number entry.0 node) (Some now)) is))

@@ -1,5 +1,7 @@
-ghost use Rattle.std.specs.Prelude.{◌≡◌, [], filter, IfOk, OnOk, OnErr};
+ghost use Rattle.std.specs.Prelude.{◌≡◌, ◌==◌, ◌||◌, [], Some, filter, IfOk, OnOk, OnErr, IsSome};
 ghost use Rattle.std.specs.List.{find};
+ghost use Rattle.std.specs.Map.{keys_of};
+ghost use Rattle.block_records.specs.Numbers.{entry_at};
 ghost use Rattle.heartbeats.specs.Live as spec;
 
 use block_records::node_set::NodeSet;
@@ -51,40 +53,60 @@ impl Heartbeats {
         Ok(())
     }
 
+    // Whether a heartbeat of that moment isn't older than the limit.
+    fn is_recent(&self, last: Moment, now: Moment) -> bool
+        ensures { result ≡ spec.is_recent self.now.dead now (Some last) }
+    {
+        now.milliseconds().saturating_sub(last.milliseconds()) <= self.dead as u64
+    }
+
     /// Whether a node's last heartbeat isn't older than the limit. Costs a look-up, and takes no memory.
     pub fn is_live(&self, node: NodeId, now: Moment) -> bool
         ensures { result ≡ spec.is_live self.now now node }
     {
         match self.last.get(&node) {
-            Some(last) => {
-                now.milliseconds().saturating_sub(last.milliseconds()) <= self.dead as u64
-            }
+            Some(last) => self.is_recent(*last, now),
             None => false,
         }
     }
 
-    /// The nodes that are live. Costs a look-up for each node that ever sent a heartbeat.
+    // The nodes whose last heartbeat isn't older than the limit.
+    fn recent_nodes(&self, now: Moment) -> Result<Vec<NodeId>, AllocError>
+        ensures { IfOk result (λ nodes. nodes.items ≡ keys_of (filter (λ entry. spec.is_recent self.now.dead now (Some entry.1)) self.now.last)) }
+    {
+        self.last
+            .iter()
+            .filter(|(_, last)| self.is_recent(**last, now))
+            .map(|(node, _)| *node)
+            .collect(self.alloc)
+    }
+
+    // The same nodes, and this one if it sent a heartbeat before.
+    fn recent_nodes_with(&self, node: NodeId, now: Moment) -> Result<Vec<NodeId>, AllocError>
+        ensures { IfOk result (λ nodes. nodes.items ≡ keys_of (filter (λ entry. (entry.0 == node) || spec.is_recent self.now.dead now (Some entry.1)) self.now.last)) }
+    {
+        self.last
+            .iter()
+            .filter(|(own, last)| **own == node || self.is_recent(**last, now))
+            .map(|(own, _)| *own)
+            .collect(self.alloc)
+    }
+
+    /// The nodes that are live. Costs a step for each node that ever sent a heartbeat.
     ///
     /// # Errors
     /// Out of memory.
     pub fn live(&self, now: Moment) -> Result<NodeSet, AllocError>
         ensures { IfOk result (λ nodes. nodes ≡ spec.live_nodes self.now now) }
     {
-        let nodes = self
-            .last
-            .keys()
-            .copied()
-            .filter(|node| self.is_live(*node, now))
-            .collect(self.alloc)?;
+        // its contract tells that the keys ascend
+        let _count = self.last.len();
+        let nodes = self.recent_nodes(now)?;
         Ok(NodeSet::of_ascending(nodes))
     }
 
-    /// The nodes that are live behind a heartbeat of this node, which isn't noted. Costs a copy of what is known of nodes, and a look-up
-    /// for each node that ever sent a heartbeat.
-    ///
-    /// # Errors
-    /// Out of memory.
-    pub fn live_behind(&self, node: NodeId, now: Moment) -> Result<NodeSet, AllocError>
+    // The nodes that are live behind the first heartbeat of a node.
+    fn live_behind_first(&self, node: NodeId, now: Moment) -> Result<NodeSet, AllocError>
         ensures { IfOk result (λ nodes. nodes ≡ spec.live_nodes (spec.beaten self.now node now) now) }
     {
         let mut behind = Heartbeats {
@@ -94,6 +116,32 @@ impl Heartbeats {
         };
         behind.beat(node, now)?;
         behind.live(now)
+    }
+
+    // The nodes that are live behind a heartbeat of a node that sent one before.
+    fn live_behind_another(&self, node: NodeId, now: Moment) -> Result<NodeSet, AllocError>
+        requires { IsSome (entry_at node self.now.last) }
+        ensures { IfOk result (λ nodes. nodes ≡ spec.live_nodes (spec.beaten self.now node now) now) }
+    {
+        // its contract tells that the keys ascend
+        let _count = self.last.len();
+        let nodes = self.recent_nodes_with(node, now)?;
+        Ok(NodeSet::of_ascending(nodes))
+    }
+
+    /// The nodes that are live behind a heartbeat of this node, which isn't noted. Costs a step for each node that ever sent a heartbeat,
+    /// and where it is this node's first, a copy of what is known of nodes.
+    ///
+    /// # Errors
+    /// Out of memory.
+    pub fn live_behind(&self, node: NodeId, now: Moment) -> Result<NodeSet, AllocError>
+        ensures { IfOk result (λ nodes. nodes ≡ spec.live_nodes (spec.beaten self.now node now) now) }
+    {
+        if self.last.contains_key(&node) {
+            self.live_behind_another(node, now)
+        } else {
+            self.live_behind_first(node, now)
+        }
     }
 
     // The moment of a node's last heartbeat; 0 where it sent none.

@@ -1,11 +1,17 @@
-use Rattle.std.proofs.Common.{◌≡◌, sym, subst, filter, List, ℕ, rules}
-use Rattle.std.specs.List.Sorted.{IsStrictlyIncreasing}
+use Rattle.std.proofs.Common.{◌∙◌, sym, subst, List, ℕ}
+use Rattle.std.specs.List.Sorted.{IsStrictlySortedBy, IsStrictlyIncreasing}
 use Rattle.std.specs.Map.{keys_of}
-use Rattle.heartbeats.specs.Live.{is_live}
-use Rattle.heartbeats.proofs.Live.{filtered_keys}
+use Rattle.std.specs.Ordering.{nat_cmp}
+use Rattle.heartbeats.specs.Live.{Heartbeats}
+use Rattle.heartbeats.proofs.Live.{is_recent_entry, kept_increasing, live_recent}
 use Rattle.heartbeats.proofs.heartbeats.Heartbeats.live.Goals as goal
 
 pub of_ascending-requires : goal.of_ascending-requires
 of_ascending-requires c =
-    let kept : c.in_ok-nodes.nodes.items ≡ filter (is_live c.args.self.now c.args.now) (keys_of c.self.inside.last.entries) = search rules in
-    subst (λ (xs : List ℕ). IsStrictlyIncreasing xs) (sym kept) (filtered_keys (is_live c.args.self.now c.args.now) (keys_of c.self.inside.last.entries) c.keys.ensures.ordered)
+    let up = subst (λ (nodes : Heartbeats). IsStrictlySortedBy nat_cmp (keys_of nodes.last)) c.self.view_is c.len-count.ensures.ordered in
+    subst (λ (xs : List ℕ). IsStrictlyIncreasing xs) (sym c.in_ok-nodes.ensures) (kept_increasing (is_recent_entry c.args.self.now.dead c.args.now) c.args.self.now.last up)
+
+pub returns : goal.returns
+returns c =
+    let up = subst (λ (nodes : Heartbeats). IsStrictlySortedBy nat_cmp (keys_of nodes.last)) c.self.view_is c.len-count.ensures.ordered in
+    c.of_ascending.ensures ∙ (c.in_ok-nodes.ensures ∙ live_recent c.args.self.now c.args.now up)
