@@ -14,7 +14,7 @@ use Rattle.cluster_trace.specs.declared.event.Event.{Event}
 use Rattle.cluster_core.specs.Past.{Past}
 use Rattle.cluster_core.specs.World.{state_after, stepped}
 use Rattle.script_words.specs.Words.{lines_of, without_return, is_skipped, words_of}
-use Rattle.script_runs.specs.Output.{status_by}
+use Rattle.script_runs.specs.Status.{status_by}
 use Rattle.script_runs.specs.declared.script.Status.{Status}
 use Rattle.cluster_text.specs.EventLine.{event_of}
 use Rattle.cluster_text.specs.ToldText.{Told, answer_line, is_bad}

@@ -4,7 +4,7 @@ ghost use Rattle.std.specs.String.{string_bytes};
 ghost use Rattle.history.specs.declared.entry.HistoryEntry.{HistoryEntry};
 ghost use Rattle.cluster_trace.specs.Provenance.{AllRight};
 ghost use Rattle.cluster_trace.specs.Typed.{AreTyped};
-ghost use Rattle.script_runs.specs.Output.{status_by};
+ghost use Rattle.script_runs.specs.Status.{status_by};
 ghost use Rattle.cluster_text.specs.ToldText.{answer_line};
 ghost use Rattle.cluster_runs.specs.Output as spec;
 ghost use Rattle.cluster_runs.specs.Shown.{Shows, KeepsLines, HoldsFirst};

@@ -8,5 +8,4 @@ pub mod hints;
 pub use audit_runs::audit as audit;
 pub use cluster_runs::script as script;
 pub use script_hints::verbs as verbs;
-pub use script_runs::timing as timing;
 pub use script_text::token as token;

@@ -1,4 +1,3 @@
-pub mod Vectors
 pub mod Known
 pub mod Lines
 pub mod Endings

@@ -1,4 +1,2 @@
 pub mod Channel
-pub mod Output
-pub mod Shown
-pub mod Ended
+pub mod Status

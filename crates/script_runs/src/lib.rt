@@ -1,6 +1,5 @@
-//! Scripts of requests: lines in, lines of answers out; and how long they take.
+//! How a script is read and its text written, and how it ends.
 #![tactic(auto)]
 
 pub mod channel;
 pub mod script;
-pub mod timing;

@@ -1,5 +1,5 @@
+use cluster_timing::timing::time_script;
 use hdfs_cli::script::{ScriptFault, Status, run_script};
-use hdfs_cli::timing::time_script;
 use std::io;
 use std::io::{ErrorKind, Read, Write};
 use std::test::Fail;
