@@ -1,13 +1,11 @@
-//! Tests of scripts: what is printed of them, how a run ends, and what a line of them needs.
+//! Tests of what no file of a script can show: readers and writers that are interrupted, give or take some bytes at a time, or fail;
+//! texts that are run behind one another; and a line that no command line can name. What is printed of scripts, as answers, histories,
+//! explanations and hints, is in the files of `example_runs`.
 #![tactic(auto)]
 
 #[cfg(test)]
-mod acl_decisions;
-#[cfg(test)]
-mod explanations;
-#[cfg(test)]
-mod needs_explained;
-#[cfg(test)]
-mod scripts;
+mod histories;
 #[cfg(test)]
 mod streams;
+#[cfg(test)]
+mod texts;

@@ -7,7 +7,7 @@ use std::test::Fail;
 
 /// What a stream does at its next calls.
 #[derive(Clone, Copy)]
-enum Step {
+pub(crate) enum Step {
     /// It is interrupted so many times.
     Interrupts(u32),
     /// It gives or takes at most so many bytes.
@@ -80,7 +80,7 @@ impl<'a> Plan<'a> {
 
 /// A reader of a text, by a plan.
 #[derive(Drop)]
-struct PlannedReader<'a> {
+pub(crate) struct PlannedReader<'a> {
     text: &'a [u8],
     plan: Plan<'a>,
 }
@@ -127,7 +127,7 @@ const SCRIPT: &str = "0 hdfs stat /\n0 bob stat /x\n";
 const ANSWERS: &str = "1 ok dir 0755 hdfs supergroup\n2 refused 2 NotFound\n";
 
 /// A reader of the script.
-fn reader<'a>(steps: &'a [Step]) -> PlannedReader<'a> {
+pub(crate) fn reader<'a>(steps: &'a [Step]) -> PlannedReader<'a> {
     PlannedReader {
         text: SCRIPT.as_bytes(),
         plan: Plan::of(steps),
@@ -179,7 +179,9 @@ fn an_interrupted_read_goes_on(rt: HostRuntime) -> Result<(), Fail> {
 /// The reader would give the rest if it was asked again.
 #[test]
 fn a_failed_read_is_not_tried_again(rt: HostRuntime) -> Result<(), Fail> {
-    for steps in [[Step::Fails, Step::Moves(5)], [Step::Moves(5), Step::Fails]] {
+    assert!(rt; reads(&rt, &[Step::Fails], Err(ScriptFault::CannotRead), ""));
+    for left in 1..SCRIPT.len() {
+        let steps = [Step::Moves(left), Step::Fails];
         assert!(rt; reads(&rt, &steps, Err(ScriptFault::CannotRead), ""));
     }
     Ok(())
@@ -198,11 +200,14 @@ fn an_interrupted_write_goes_on(rt: HostRuntime) -> Result<(), Fail> {
     Ok(())
 }
 
-/// The writer would take the rest if it was asked again.
+/// The writer would take the rest if it was asked again. What it has taken is a front of the answers.
 #[test]
 fn a_failed_write_is_not_tried_again(rt: HostRuntime) -> Result<(), Fail> {
-    let steps = [Step::Moves(4), Step::Fails];
-    assert!(rt; writes(&rt, &steps, Err(ScriptFault::CannotWrite), 4));
+    assert!(rt; writes(&rt, &[Step::Fails], Err(ScriptFault::CannotWrite), 0));
+    for left in 1..ANSWERS.len() {
+        let steps = [Step::Moves(left), Step::Fails];
+        assert!(rt; writes(&rt, &steps, Err(ScriptFault::CannotWrite), left));
+    }
     Ok(())
 }
 
