@@ -225,10 +225,33 @@ const FIRST_BLOCKS: Block = Block {
     lines: "0 {writer} addblock {path}\n",
 };
 
-/// The reader opens files as often. The length of no block is committed, since no node reports one here, so none is told.
+/// The reader opens files as often. Where no length of a block is committed, since no node has reported one, none is told.
 const OPENINGS: Block = Block {
     turns: Size,
     lines: "0 bob open {any}\n",
+};
+
+/// Files of one block each, of which a DataNode holds 64 bytes. Its report of each is sent behind one message more.
+const HELD_BLOCKS: Block = Block {
+    turns: Size,
+    lines: "0 {writer} create {path} 777 1
+0 {writer} addblock {path}
+0 {writer} @1 begin {1n+1} {1n+1001} - #{1n+1}
+0 {writer} @1 packet {1n+1} {1n+1001} 0 64*61 - #{1n+1}
+0 {writer} @1 finalize {1n+1} {1n+1001} 64 - #{1n+1}
+",
+};
+
+/// The reports come to the NameNode.
+const REPORTS: Block = Block {
+    turns: Size,
+    lines: "0 - deliver {1n+2}\n",
+};
+
+/// The files are closed, so that a reader is told their blocks.
+const ENDS_OF_HELD: Block = Block {
+    turns: Size,
+    lines: "0 {writer} complete {path} {1n+1} 64\n",
 };
 
 /// The nodes are heard of again and again.
@@ -430,7 +453,7 @@ const RECOVERIES: Block = Block {
 };
 
 /// All that can be timed as scripts.
-pub static WORKLOADS: [Workload; 22] = [
+pub static WORKLOADS: [Workload; 24] = [
     // Directories are made, one a line, in a namespace that is empty at first.
     Workload {
         name: "mkdirs",
@@ -540,6 +563,20 @@ pub static WORKLOADS: [Workload; 22] = [
         name: "open",
         before: &[OPEN, WRITERS, NODES, CREATIONS, FIRST_BLOCKS],
         timed: &[OPENINGS],
+        operations: Operations::Lines,
+    },
+    // The same where each block has a length and a DataNode that holds it: it is told, and a token to read it is granted.
+    Workload {
+        name: "open_granted",
+        before: &[OPEN, WRITERS, ONE_NODE, HELD_BLOCKS, REPORTS, ENDS_OF_HELD],
+        timed: &[OPENINGS],
+        operations: Operations::Lines,
+    },
+    // A DataNode's reports of as many replicas are delivered to the NameNode. An operation is one report.
+    Workload {
+        name: "report",
+        before: &[OPEN, WRITERS, ONE_NODE, HELD_BLOCKS],
+        timed: &[REPORTS],
         operations: Operations::Lines,
     },
     // DataNodes are heard of, among as many blocks, when none of them is to be told anything. An operation is one heartbeat.
