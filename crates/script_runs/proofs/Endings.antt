@@ -6,7 +6,7 @@ use Rattle.std.specs.String.{string_bytes}
 use Rattle.std.proofs.lemmas.List.Splits.{length-slice_split}
 use Rattle.std.proofs.lemmas.List.Concat.{flat_map-append}
 use Rattle.script_words.specs.Words.{lines_of, is_skipped, words_of, without_return}
-use Rattle.script_text.specs.Script.{request_of}
+use Rattle.request_lines.specs.Script.{request_of}
 use Rattle.script_text.specs.AnswerText.{answer_line}
 use Rattle.script_runs.specs.Channel.{AppendsFront}
 use Rattle.script_runs.specs.Output.{State, Numbered, no_lines, script_opening, answered, after_answer, after_line, answers_of_first, text_of, output_of}

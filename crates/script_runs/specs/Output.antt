@@ -11,7 +11,7 @@ use Rattle.history.specs.LegalHistory.{verdict_of}
 use Rattle.script_runs.specs.declared.script.Status.{Status}
 use Rattle.script_runs.specs.declared.script.Status.TheVariants as status
 use Rattle.script_words.specs.Words.{lines_of, without_return, is_skipped, words_of}
-use Rattle.script_text.specs.Script.{request_of}
+use Rattle.request_lines.specs.Script.{request_of}
 use Rattle.script_text.specs.AnswerText.{Ruling, answer_line, is_bad}
 
 -- what the NameNode of a script opens with: the limits that HDFS has by default, and a key of twenty bytes 11
