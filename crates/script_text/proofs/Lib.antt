@@ -1,4 +1,3 @@
 pub mod TokenVectors
-pub mod Counts
-pub mod LineVectors
+pub mod AnswerVectors
 pub mod BlockTexts

@@ -1,4 +1,3 @@
-pub mod Script
 pub mod BlockText
 pub mod AnswerText
 pub mod TokenLine

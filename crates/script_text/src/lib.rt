@@ -3,5 +3,6 @@
 
 pub mod answer;
 mod blocks;
-pub mod line;
 pub mod token;
+
+pub use request_lines::line as line;

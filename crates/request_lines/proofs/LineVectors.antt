@@ -1,7 +1,6 @@
--- The definitions compute a line of each verb, the faults that come first, and the answers that hold lists and numbers.
-use Rattle.std.proofs.Common.{◌≡◌, ℕ, ◌+◌, true, false, List, [], ◌∷◌, Option, Some, None, Result, Ok, Err, refl}
+-- The definitions compute a line of each verb, and the faults that come first.
+use Rattle.std.proofs.Common.{◌≡◌, ℕ, true, false, List, [], ◌∷◌, Option, Some, None, Result, Ok, Err, refl}
 use Rattle.std.specs.Prelude.{codes}
-use Rattle.std.specs.Fmt.{digits}
 use Rattle.hdfs_values.specs.declared.fault.IllFormed.{IllFormed}
 use Rattle.hdfs_values.specs.declared.fault.IllFormed.TheVariants.{BadLine, BadPath, BadName, BadMode, BadAcl}
 use Rattle.hdfs_values.specs.declared.fault.AclFault.TheVariants as faults
@@ -14,11 +13,8 @@ use Rattle.permission_specs.specs.declared.entry.Entry.{Entry}
 use Rattle.hdfs_types.specs.declared.op.Op.{Op}
 use Rattle.hdfs_types.specs.declared.op.Op.TheVariants as op
 use Rattle.hdfs_types.specs.declared.op.Request.{Request}
-use Rattle.hdfs_types.specs.declared.located.LocatedBlock.{LocatedBlock}
-use Rattle.hdfs_types.specs.declared.reply.Reply.TheVariants as reply
 use Rattle.permission_specs.specs.Rights.{rights}
-use Rattle.script_text.specs.AnswerText.{reply_text}
-use Rattle.script_text.specs.Script.{request_of}
+use Rattle.request_lines.specs.Script.{request_of}
 use Rattle.script_words.specs.Words.{words_of}
 
 abbrev said : List ℕ → Result Request IllFormed
@@ -167,51 +163,3 @@ gap_in_groups = refl
 
 count_first : said (codes "x a:b chown /.. -") ≡ Err BadLine
 count_first = refl
-
-access_control_list : reply_text 0 (reply.Acl (record { owner = codes "ann"; group = codes "crew"; spec = codes "user::rwx" })) ≡ codes "ok ann crew user::rwx"
-access_control_list = refl
-
-empty_list : reply_text 0 (reply.Names []) ≡ codes "ok list"
-empty_list = refl
-
-list : reply_text 0 (reply.Names (codes "a" ∷ codes "b" ∷ [])) ≡ codes "ok list a b"
-list = refl
-
-summary : reply_text 0 (reply.Summary (record { directories = 12; files = 0; bytes = 7 })) ≡ codes "ok summary 12 0 7"
-unfolding digits
-summary = refl
-
-deleted : reply_text 0 (reply.Deleted 10) ≡ codes "ok deleted 10"
-unfolding digits
-deleted = refl
-
-released : reply_text 0 reply.Released ≡ codes "ok released"
-released = refl
-
-closed : reply_text 0 (reply.Closed 10) ≡ codes "ok closed 10"
-unfolding digits
-closed = refl
-
-opened_empty : reply_text 7 (reply.Opened (record { length = 0; blocks = [] })) ≡ codes "ok open 0"
-unfolding digits
-opened_empty = refl
-
-abbrev located : ℕ → List ℕ → LocatedBlock
-located block nodes = record { block = block; stamp = 1001 + block; length = 5; nodes = nodes; token = [] }
-
--- the tokens of an answer are in the rows behind those that there were, and rows are counted from 1
-opened : reply_text 0 (reply.Opened (record { length = 10; blocks = located 1 (2 ∷ 10 ∷ []) ∷ located 2 [] ∷ [] })) ≡ codes "ok open 10 1:1002:5:2,10:#1 2:1003:5:-:#2"
-unfolding digits
-opened = refl
-
-opened_later : reply_text 9 (reply.Opened (record { length = 5; blocks = located 1 (8 ∷ []) ∷ [] })) ≡ codes "ok open 5 1:1002:5:8:#10"
-unfolding digits
-opened_later = refl
-
-added : reply_text 2 (reply.Added (record { block = 1; stamp = 1001; targets = 1 ∷ 2 ∷ 3 ∷ []; token = [] })) ≡ codes "ok block 1 1001 targets 1,2,3 token #3"
-unfolding digits
-added = refl
-
-expired : reply_text 0 (reply.Expired (record { closed = 12; recovering = 3 })) ≡ codes "ok closed 12 recovering 3"
-unfolding digits
-expired = refl
