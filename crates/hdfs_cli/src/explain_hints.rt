@@ -1,10 +1,10 @@
 ghost use Rattle.cluster_runs.specs.Output as output;
 ghost use Rattle.cluster_runs.specs.Shown.{Shows};
 
-use crate::explain::{request_in, rows_of, trail_on};
 use crate::hints::{Line, add_hints, hint_on_bytes, next_hint, run_with_hints};
 use cluster_runs::script::run_more;
 use cluster_runs::session::Session;
+use explanations::explain::{request_in, rows_of, trail_on};
 use flat_rows::ask::asks_of;
 use flat_rows::demand::{Demand, Role, needs_of};
 use flat_rows::trail::Judged;

@@ -1,11 +1,11 @@
 //! Scripts of requests, lines in and lines of answers out; their history; the needs of a line; hints on lines; and what a token says.
 #![tactic(auto)]
 
-pub mod explain;
 pub mod explain_hints;
 pub mod hints;
 
 pub use audit_runs::audit as audit;
 pub use cluster_runs::script as script;
+pub use explanations::explain as explain;
 pub use script_hints::verbs as verbs;
 pub use script_text::token as token;

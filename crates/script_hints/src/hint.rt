@@ -5,17 +5,17 @@ ghost use Rattle.script_hints.specs.Hints as spec;
 ghost use Rattle.cluster_text.specs.EventLine.{event_of};
 ghost use Rattle.script_words.specs.Words.{words_of};
 
-use crate::acl_hint::{AclHint, acl_hint};
-use crate::line_hint::{LineHint, line_hint};
-use crate::mode_hint::{ModeHint, mode_hint};
-use crate::name_hint::{NameHint, name_hint};
-use crate::path_hint::{PathHint, path_hint};
 use cluster_text::event_line::read_event;
 use grant_ledger::ledger::LedgerRow;
-use hdfs_values::fault::{AclFault, IllFormed, ParseFault};
+use hdfs_values::fault::{AclFault, IllFormed};
+use line_hints::line_hint::{LineHint, line_hint};
 use script_words::words::{is_skipped, without_return, words_in};
 use std::alloc::{AllocError, Global};
 use std::fmt;
+use word_hints::acl_hint::{AclHint, acl_hint};
+use word_hints::mode_hint::{ModeHint, mode_hint};
+use word_hints::name_hint::{NameHint, name_hint};
+use word_hints::path_hint::{PathHint, path_hint};
 
 /// What is wrong with an ill-formed line, and what was expected. There is one kind for each answer that such a line gets.
 #[derive(Clone, Copy)]
@@ -41,26 +41,6 @@ impl fmt::Display for Hint<'_> {
             Hint::Name(hint) => write!(f, "{hint}"),
             Hint::Mode(hint) => write!(f, "{hint}"),
         }
-    }
-}
-
-/// The word of this index; an empty one where the line has fewer.
-pub(crate) fn word_at<'a>(words: &[&'a str], index: usize) -> &'a str {
-    match words.get(index) {
-        Some(word) => *word,
-        None => "",
-    }
-}
-
-/// Whether a word was read.
-pub(crate) fn is_read<T: Drop>(read: Result<T, ParseFault>) -> Result<bool, AllocError> {
-    match read {
-        Ok(value) => {
-            drop(value);
-            Ok(true)
-        }
-        Err(ParseFault::IllFormed(_)) => Ok(false),
-        Err(ParseFault::OutOfMemory) => Err(AllocError),
     }
 }
 

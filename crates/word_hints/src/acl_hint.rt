@@ -1,5 +1,5 @@
-use crate::hint::word_at;
 use crate::name_hint::{NameHint, hint_on_who};
+use crate::word::word_at;
 use hdfs_values::fault::AclFault;
 use permission_specs::rights::Rights;
 use script_words::words::{is_word, pieces_between};

@@ -1,4 +1,5 @@
-use crate::hint::{is_read, word_at};
+use crate::word::word_at;
+use hdfs_values::fault::ParseFault;
 use hdfs_values::name::Name;
 use hdfs_values::path::Path;
 use script_words::values::path_word;
@@ -113,6 +114,18 @@ fn hint_on_path(path: &str) -> PathHint<'_> {
         }
     }
     PathHint::Flaw(path, PathFlaw::EmptyName)
+}
+
+/// Whether a path was read.
+fn is_read(read: Result<Path, ParseFault>) -> Result<bool, AllocError> {
+    match read {
+        Ok(value) => {
+            drop(value);
+            Ok(true)
+        }
+        Err(ParseFault::IllFormed(_)) => Ok(false),
+        Err(ParseFault::OutOfMemory) => Err(AllocError),
+    }
 }
 
 /// What is wrong with the first path of a line that is none. Only a rename has two.

@@ -1,8 +1,8 @@
 use Rattle.std.proofs.Common.{◌∙◌, sym, ap, subst}
 use Rattle.flat_rows.specs.Changes.{rows_under}
 use Rattle.namespace_rows.specs.Namespace.{IsNamespace}
-use Rattle.hdfs_cli.proofs.Fronts.{all_under}
-use Rattle.hdfs_cli.proofs.explain.rows_of.Goals as goal
+use Rattle.explanations.proofs.Fronts.{all_under}
+use Rattle.explanations.proofs.explain.rows_of.Goals as goal
 
 pub from_vec-requires : goal.from_vec-requires
 from_vec-requires c =

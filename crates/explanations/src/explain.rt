@@ -6,7 +6,7 @@ ghost use Rattle.std.specs.String.{string_bytes};
 ghost use Rattle.std.specs.Str.{IsUtf8};
 ghost use Rattle.flat_rows.specs.Decision.{trail as trail_said};
 ghost use Rattle.script_runs.specs.Channel.{AppendsFront};
-ghost use Rattle.hdfs_cli.specs.Explanation as spec;
+ghost use Rattle.explanations.specs.Explanation as spec;
 ghost use Rattle.cluster_core.specs.World.{state_after};
 ghost use Rattle.cluster_runs.specs.Output as output;
 ghost use Rattle.cluster_runs.specs.Shown.{Shows};
@@ -35,7 +35,7 @@ pub enum Explained {
 }
 
 /// The request of a line, where it makes one.
-pub(crate) fn request_in(alloc: Global, line: &str) -> Result<Option<Request>, AllocError>
+pub fn request_in(alloc: Global, line: &str) -> Result<Option<Request>, AllocError>
     ensures { IfOk result (λ request. request ≡ spec.request_in line.now) }
 {
     let line = without_return(line);
@@ -85,7 +85,7 @@ pub fn rows_of(alloc: Global, tree: &Tree) -> Result<Rows, AllocError>
 }
 
 /// The needs of a request that are judged behind the lines that were run. Costs the whole namespace.
-pub(crate) fn trail_on(
+pub fn trail_on(
     alloc: Global,
     session: &Session,
     request: &Request,

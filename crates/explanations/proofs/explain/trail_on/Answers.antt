@@ -4,8 +4,8 @@ use Rattle.flat_rows.specs.Decision.{trail}
 use Rattle.name_core.specs.NameCore.{NameCore}
 use Rattle.cluster_core.specs.Past.{Past}
 use Rattle.cluster_core.specs.World.{state_after}
-use Rattle.hdfs_cli.specs.Explanation.{trail_on}
-use Rattle.hdfs_cli.proofs.explain.trail_on.Goals as goal
+use Rattle.explanations.specs.Explanation.{trail_on}
+use Rattle.explanations.proofs.explain.trail_on.Goals as goal
 
 -- on the core that the session's cluster lends
 pub returns : goal.returns

@@ -1,4 +1,4 @@
-use crate::hint::word_at;
+use crate::word::word_at;
 use std::fmt;
 
 /// Why a word is no mode.

@@ -1,4 +1,4 @@
-use crate::hint::word_at;
+use crate::word::word_at;
 use hdfs_values::who::Who;
 use script_words::words::is_word;
 use std::fmt;

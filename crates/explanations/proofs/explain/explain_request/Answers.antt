@@ -1,8 +1,8 @@
 use Rattle.std.proofs.Common.{◌∙◌, ap, map}
 use Rattle.cluster_core.specs.Past.{Past}
 use Rattle.cluster_core.specs.World.{state_after}
-use Rattle.hdfs_cli.specs.Explanation.{trail_text, trail_on}
-use Rattle.hdfs_cli.proofs.explain.explain_request.Goals as goal
+use Rattle.explanations.specs.Explanation.{trail_text, trail_on}
+use Rattle.explanations.proofs.explain.explain_request.Goals as goal
 
 pub returns-clause-text : goal.returns-clause-text
 returns-clause-text c =

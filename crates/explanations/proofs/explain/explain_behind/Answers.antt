@@ -1,7 +1,7 @@
 use Rattle.std.proofs.Common.{◌≡◌, subst, IfOk}
 use Rattle.std.specs.String.{string_bytes}
-use Rattle.hdfs_cli.proofs.Fronts.{explains, finds}
-use Rattle.hdfs_cli.proofs.explain.explain_behind.Goals as goal
+use Rattle.explanations.proofs.Fronts.{explains, finds}
+use Rattle.explanations.proofs.explain.explain_behind.Goals as goal
 
 pub returns-in-Some-clause-text : goal.returns-in-Some-clause-text
 returns-in-Some-clause-text c =

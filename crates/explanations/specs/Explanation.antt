@@ -10,8 +10,8 @@ use Rattle.flat_rows.specs.Decision.{trail}
 use Rattle.history.specs.declared.entry.HistoryEntry.{HistoryEntry}
 use Rattle.history.specs.Config.{Opening}
 use Rattle.history.specs.State.{rows_of, users_of}
-use Rattle.hdfs_cli.specs.declared.explain.Explained.{Explained}
-use Rattle.hdfs_cli.specs.declared.explain.Explained.TheVariants.{Trail, NoRequest}
+use Rattle.explanations.specs.declared.explain.Explained.{Explained}
+use Rattle.explanations.specs.declared.explain.Explained.TheVariants.{Trail, NoRequest}
 use Rattle.script_words.specs.Words.{lines_of, without_return, is_skipped, words_of}
 use Rattle.request_lines.specs.Script.{request_of}
 use Rattle.cluster_core.specs.World.{state_after}

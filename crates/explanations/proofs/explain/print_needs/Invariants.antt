@@ -1,8 +1,8 @@
 use Rattle.std.proofs.Common.{◌≡◌, ◌++◌, take}
 use Rattle.std.specs.List.{flat_map, list_all}
 use Rattle.std.specs.String.{string_bytes}
-use Rattle.hdfs_cli.specs.Explanation.{judged_line}
-use Rattle.hdfs_cli.proofs.explain.print_needs.Given as goal
+use Rattle.explanations.specs.Explanation.{judged_line}
+use Rattle.explanations.proofs.explain.print_needs.Given as goal
 
 abbrev pub invariant-loop-need : goal.invariant-loop-need
 invariant-loop-need l = record {
