@@ -26,7 +26,7 @@ use Rattle.cluster_core.specs.World.{state_after, stepped, history_of, past_of, 
 use Rattle.cluster_core.specs.declared.kept.KeptEvent.{KeptEvent}
 use Rattle.cluster_core.specs.declared.kept.KeptEvent.TheVariants.{Asked, Whole}
 use Rattle.cluster_core.specs.declared.world.World.TheInside.{Inside}
-use Rattle.cluster_core.proofs.Answering.{taken, not_taken}
+use Rattle.cluster_steps.proofs.Answering.{taken, not_taken}
 use Rattle.cluster_core.proofs.Keeping.{within_more, events_more, whole_kept, asked_kept}
 
 -- ---- the NameNode's history grows at its end, if at all

@@ -6,7 +6,7 @@ ghost use Rattle.cluster_trace.specs.Trace.{start, named, called, led, delivered
 ghost use Rattle.cluster_trace.specs.declared.event.Event.TheVariants as event;
 ghost use Rattle.cluster_trace.specs.Provenance.{call_brought, call_of};
 ghost use Rattle.cluster_trace.specs.Typed.{GrantsFit, PresentsBytes, CallFits};
-ghost use Rattle.cluster_core.specs.Cluster.{answer_outcome, answer_messages, led_outcome, led_messages};
+ghost use Rattle.cluster_steps.specs.Cluster.{answer_outcome, answer_messages, led_outcome, led_messages};
 ghost use Rattle.cluster_parts.specs.Sent.{messages_of, AreLaid};
 
 use cluster_parts::carried::{Carried, carry_out};
@@ -121,7 +121,7 @@ impl Model for Cluster {
 
     ghost Value = { State };
 
-    ghost use Rattle.cluster_core.specs.Cluster.{state_of, IsLaid};
+    ghost use Rattle.cluster_steps.specs.Cluster.{state_of, IsLaid};
 
     ghost view = { state_of };
 
