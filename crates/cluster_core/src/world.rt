@@ -30,6 +30,7 @@ pub struct World {
     cluster: Cluster,
     // the oldest first
     events: Vec<KeptEvent>,
+    alloc: Global,
 }
 
 impl Model for World {
@@ -51,6 +52,7 @@ impl Drop for World {
             ids,
             cluster,
             events,
+            alloc: _,
         } = self;
         drop(ids);
         drop(cluster);
@@ -77,6 +79,7 @@ impl World {
             ids,
             cluster: Cluster::open(alloc, config, key, nodes)?,
             events: Vec::new(alloc),
+            alloc,
         })
     }
 
@@ -115,12 +118,12 @@ impl World {
             drop(request);
             return Err(AllocError);
         }
-        let Ok(outcome) = self.cluster.refuse(&request) else {
-            drop(request);
+        let kept = Box::new(self.alloc, request)?;
+        let Ok(outcome) = self.cluster.refuse(&kept) else {
+            drop(kept);
             return Err(AllocError);
         };
-        let event = Event::Name(request);
-        self.events.push_reserved(KeptEvent::Whole(event));
+        self.events.push_reserved(KeptEvent::Refused(kept));
         Ok(outcome)
     }
 
@@ -148,8 +151,7 @@ impl World {
     {
         self.events.reserve(1)?;
         let outcome = self.cluster.deliver(number, now)?;
-        let event = Event::Deliver(number, now);
-        self.events.push_reserved(KeptEvent::Whole(event));
+        self.events.push_reserved(KeptEvent::Delivered(number, now));
         Ok(outcome)
     }
 
@@ -162,12 +164,13 @@ impl World {
             drop(call);
             return Err(AllocError);
         }
-        let Ok(outcome) = self.cluster.data(node, now, &call) else {
-            drop(call);
+        let kept = Box::new(self.alloc, call)?;
+        let Ok(outcome) = self.cluster.data(node, now, &kept) else {
+            drop(kept);
             return Err(AllocError);
         };
-        let event = Event::Data(node, now, call);
-        self.events.push_reserved(KeptEvent::Whole(event));
+        self.events
+            .push_reserved(KeptEvent::Called(node, now, kept));
         Ok(outcome)
     }
 
