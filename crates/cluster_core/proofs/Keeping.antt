@@ -10,18 +10,22 @@ use Rattle.cluster_trace.proofs.Each.{each_append, each_more}
 use Rattle.cluster_parts.proofs.Gets.{get_left, get_last}
 use Rattle.cluster_core.specs.Kept.{IsWithin, asked_by, event_of, IsKept}
 use Rattle.cluster_core.specs.declared.kept.KeptEvent.{KeptEvent}
-use Rattle.cluster_core.specs.declared.kept.KeptEvent.TheVariants.{Asked, Whole}
+use Rattle.cluster_core.specs.declared.kept.KeptEvent.TheVariants.{Asked, Refused, Delivered, Called}
 
 -- ---- a history that grows
 
 module _ (history more : List HistoryEntry) where
   event_stays : (kept : KeptEvent) → IsWithin history kept → event_of (history ++ more) kept ≡ event_of history kept
   event_stays (Asked index) within = ap asked_by (get_left history more index within)
-  event_stays (Whole event) within = refl
+  event_stays (Refused request) within = refl
+  event_stays (Delivered number now) within = refl
+  event_stays (Called node now call) within = refl
 
   within_stays : (kept : KeptEvent) → IsWithin history kept → IsWithin (history ++ more) kept
   within_stays (Asked index) within = omega (arith, length-append history more, within)
-  within_stays (Whole event) within = tt
+  within_stays (Refused request) within = tt
+  within_stays (Delivered number now) within = tt
+  within_stays (Called node now call) within = tt
 
   events_stay : (kept : List KeptEvent) → AllByRecursion (IsWithin history) kept → map (event_of (history ++ more)) kept ≡ map (event_of history) kept
   events_stay [] within = refl
@@ -45,9 +49,6 @@ module _ (history more : List HistoryEntry) where
       ∙ reverse-append (map (event_of history) kept) (event ∷ [])
 
 -- ---- how an event is kept
-
-pub whole_kept : (history : List HistoryEntry) (event : Event) → IsKept history (Whole event) event
-whole_kept history event = record { within = tt; is = refl }
 
 -- by the newest entry, where that has its request
 pub asked_kept : (entries : List HistoryEntry) (entry : HistoryEntry) (index : ℕ) → index ≡ length entries → IsKept (reverse (entry ∷ entries)) (Asked index) (Name entry.request)

@@ -24,10 +24,10 @@ use Rattle.cluster_core.specs.Kept.{IsWithin, event_of, IsKept}
 use Rattle.cluster_core.specs.Past.{Past}
 use Rattle.cluster_core.specs.World.{state_after, stepped, history_of, past_of, IsReached}
 use Rattle.cluster_core.specs.declared.kept.KeptEvent.{KeptEvent}
-use Rattle.cluster_core.specs.declared.kept.KeptEvent.TheVariants.{Asked, Whole}
+use Rattle.cluster_core.specs.declared.kept.KeptEvent.TheVariants.{Asked}
 use Rattle.cluster_core.specs.declared.world.World.TheInside.{Inside}
-use Rattle.cluster_core.proofs.Answering.{taken, not_taken}
-use Rattle.cluster_core.proofs.Keeping.{within_more, events_more, whole_kept, asked_kept}
+use Rattle.cluster_steps.proofs.Answering.{taken, not_taken}
+use Rattle.cluster_core.proofs.Keeping.{within_more, events_more, asked_kept}
 
 -- ---- the NameNode's history grows at its end, if at all
 
@@ -76,11 +76,11 @@ pub record Steps (old : Inside) (event : Event) (new : Inside) : Type 0 where
   pub fits : GrantsFit old.cluster → GrantsFit new.cluster
   pub call : CallFits (call_of old.cluster event)
 
--- the event is kept whole
-pub whole_steps : (old new : Inside) (event : Event) → new.ids.items ≡ old.ids.items → new.cluster ≡ happens old.cluster event → new.events.items ≡ old.events.items ++ Whole event ∷ []
-    → (GrantsFit old.cluster → GrantsFit new.cluster) → CallFits (call_of old.cluster event) → Steps old event new
-whole_steps old new event ids cluster events fits call =
-    record { ids = ids; cluster = cluster; kept = Whole event; events = events; is_kept = whole_kept (history_of new) event; fits = fits; call = call }
+-- the event is kept beside the history
+pub kept_steps : (old new : Inside) (event : Event) (kept : KeptEvent) → IsKept (history_of new) kept event → new.ids.items ≡ old.ids.items → new.cluster ≡ happens old.cluster event
+    → new.events.items ≡ old.events.items ++ kept ∷ [] → (GrantsFit old.cluster → GrantsFit new.cluster) → CallFits (call_of old.cluster event) → Steps old event new
+kept_steps old new event kept is_kept ids cluster events fits call =
+    record { ids = ids; cluster = cluster; kept = kept; events = events; is_kept = is_kept; fits = fits; call = call }
 
 -- the history keeps the request
 pub asked_steps : (old new : Inside) (request : Request) (index : ℕ) → is_from_outside request.op ≡ true → index ≡ length old.cluster.entries → new.ids.items ≡ old.ids.items

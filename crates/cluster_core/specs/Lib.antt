@@ -1,4 +1,3 @@
-pub mod Cluster
 pub mod Past
 pub mod Kept
 pub mod World

@@ -1,6 +1,5 @@
 //! A cluster in one process: a NameNode, DataNodes, and the messages between them, event by event.
 #![tactic(auto)]
 
-mod cluster;
 mod kept;
 pub mod world;

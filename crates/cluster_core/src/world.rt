@@ -7,8 +7,8 @@ ghost use Rattle.cluster_trace.specs.declared.event.Event.{Event};
 ghost use Rattle.cluster_trace.specs.declared.event.Event.TheVariants as event;
 ghost use Rattle.cluster_core.specs.World.{state_after, stepped, run_past, run_outcomes};
 
-use crate::cluster::{Cluster, is_from_outside};
 use crate::kept::KeptEvent;
+use cluster_steps::cluster::{Cluster, is_from_outside};
 use cluster_trace::data_call::DataCall;
 use cluster_trace::event::Event;
 use cluster_trace::outcome::Outcome;
@@ -30,6 +30,7 @@ pub struct World {
     cluster: Cluster,
     // the oldest first
     events: Vec<KeptEvent>,
+    alloc: Global,
 }
 
 impl Model for World {
@@ -51,6 +52,7 @@ impl Drop for World {
             ids,
             cluster,
             events,
+            alloc: _,
         } = self;
         drop(ids);
         drop(cluster);
@@ -77,6 +79,7 @@ impl World {
             ids,
             cluster: Cluster::open(alloc, config, key, nodes)?,
             events: Vec::new(alloc),
+            alloc,
         })
     }
 
@@ -115,12 +118,12 @@ impl World {
             drop(request);
             return Err(AllocError);
         }
-        let Ok(outcome) = self.cluster.refuse(&request) else {
-            drop(request);
+        let kept = Box::new(self.alloc, request)?;
+        let Ok(outcome) = self.cluster.refuse(&kept) else {
+            drop(kept);
             return Err(AllocError);
         };
-        let event = Event::Name(request);
-        self.events.push_reserved(KeptEvent::Whole(event));
+        self.events.push_reserved(KeptEvent::Refused(kept));
         Ok(outcome)
     }
 
@@ -148,8 +151,7 @@ impl World {
     {
         self.events.reserve(1)?;
         let outcome = self.cluster.deliver(number, now)?;
-        let event = Event::Deliver(number, now);
-        self.events.push_reserved(KeptEvent::Whole(event));
+        self.events.push_reserved(KeptEvent::Delivered(number, now));
         Ok(outcome)
     }
 
@@ -162,12 +164,13 @@ impl World {
             drop(call);
             return Err(AllocError);
         }
-        let Ok(outcome) = self.cluster.data(node, now, &call) else {
-            drop(call);
+        let kept = Box::new(self.alloc, call)?;
+        let Ok(outcome) = self.cluster.data(node, now, &kept) else {
+            drop(kept);
             return Err(AllocError);
         };
-        let event = Event::Data(node, now, call);
-        self.events.push_reserved(KeptEvent::Whole(event));
+        self.events
+            .push_reserved(KeptEvent::Called(node, now, kept));
         Ok(outcome)
     }
 
@@ -223,15 +226,11 @@ impl Drop for Trace {
     }
 }
 
-/// Steps events in their order, up to the first for which there is no memory, and keeps what came of those before it.
-pub fn run(alloc: Global, world: World, events: VecDeque<Event>) -> Trace
-    ensures outcomes { (rest : List Event) × (result.outcomes.items ++ run_outcomes result.world rest ≡ run_outcomes world events.items)
-        × (run_past result.world rest ≡ run_past world events.items) }
-    ensures right { AllRight result.world.opening result.world.events }
+// Steps events in their order, up to the first for which there is no memory, and notes what came of those before it.
+fn run_each(world: &mut World, events: &mut VecDeque<Event>, outcomes: &mut Vec<Outcome>)
+    ensures outcomes { (rest : List Event) × (outcomes.new.items ++ run_outcomes world.new rest ≡ outcomes.old.items ++ run_outcomes world.old events.old.items)
+        × (run_past world.new rest ≡ run_past world.old events.old.items) }
 {
-    let mut world = world;
-    let mut events = events;
-    let mut outcomes = Vec::new(alloc);
     while let Some(event) = events.pop_front() {
         if outcomes.reserve(1).is_err() {
             drop(event);
@@ -242,6 +241,18 @@ pub fn run(alloc: Global, world: World, events: VecDeque<Event>) -> Trace
         };
         outcomes.push_reserved(outcome);
     }
+}
+
+/// Steps events in their order, up to the first for which there is no memory, and keeps what came of those before it.
+pub fn run(alloc: Global, world: World, events: VecDeque<Event>) -> Trace
+    ensures outcomes { (rest : List Event) × (result.outcomes.items ++ run_outcomes result.world rest ≡ run_outcomes world events.items)
+        × (run_past result.world rest ≡ run_past world events.items) }
+    ensures right { AllRight result.world.opening result.world.events }
+{
+    let mut world = world;
+    let mut events = events;
+    let mut outcomes = Vec::new(alloc);
+    run_each(&mut world, &mut events, &mut outcomes);
     world.is_right();
     Trace { world, outcomes }
 }

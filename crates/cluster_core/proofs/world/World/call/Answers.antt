@@ -1,9 +1,9 @@
 use Rattle.std.proofs.Common.{◌++◌, ◌∷◌, [], List, refl, ap, ◌∙◌}
 use Rattle.cluster_trace.specs.declared.event.Event.TheVariants.{Data}
 use Rattle.cluster_core.specs.declared.kept.KeptEvent.{KeptEvent}
-use Rattle.cluster_core.specs.declared.kept.KeptEvent.TheVariants.{Whole}
+use Rattle.cluster_core.specs.declared.kept.KeptEvent.TheVariants.{Called}
 use Rattle.cluster_core.specs.declared.world.World.TheInside.{Inside}
-use Rattle.cluster_core.proofs.Reaching.{Steps, whole_steps, data_fits, step_reached, step_past, step_outcome}
+use Rattle.cluster_core.proofs.Reaching.{Steps, kept_steps, data_fits, step_reached, step_past, step_outcome}
 use Rattle.cluster_core.proofs.world.World.call.Goals as goal
 
 abbrev left : goal.After-push_reserved → Inside
@@ -11,8 +11,8 @@ left c = record (c.self.inside) { cluster = c.data.new.self; events = c.push_res
 
 steps : (c : goal.After-push_reserved) → Steps c.self.inside (Data c.args.node c.args.now c.args.call) (left c)
 steps c =
-    whole_steps c.self.inside (left c) (Data c.args.node c.args.now c.args.call) refl c.in-Ok.ensures.ok
-    (c.push_reserved.ensures.items ∙ ap (λ (events : List KeptEvent). events ++ Whole (Data c.args.node c.args.now c.args.call) ∷ []) c.reserve.ensures.items)
+    kept_steps c.self.inside (left c) (Data c.args.node c.args.now c.args.call) (Called c.args.node c.args.now c.in_ok-kept.kept) (record { within = tt; is = ap (Data c.args.node c.args.now) c.in_ok-kept.ensures.ok }) refl c.in-Ok.ensures.ok
+    (c.push_reserved.ensures.items ∙ ap (λ (events : List KeptEvent). events ++ Called c.args.node c.args.now c.in_ok-kept.kept ∷ []) c.reserve.ensures.items)
     (data_fits c.self.inside.cluster c.data.new.self c.args.node c.args.now c.args.call c.in-Ok.ensures.ok)
     c.in-Ok.ensures.bytes
 

@@ -1,9 +1,9 @@
 use Rattle.std.proofs.Common.{◌++◌, ◌∷◌, [], List, refl, ap, ◌∙◌}
 use Rattle.cluster_trace.specs.declared.event.Event.TheVariants.{Name}
 use Rattle.cluster_core.specs.declared.kept.KeptEvent.{KeptEvent}
-use Rattle.cluster_core.specs.declared.kept.KeptEvent.TheVariants.{Whole}
+use Rattle.cluster_core.specs.declared.kept.KeptEvent.TheVariants.{Refused}
 use Rattle.cluster_core.specs.declared.world.World.TheInside.{Inside}
-use Rattle.cluster_core.proofs.Reaching.{Steps, whole_steps, lost_fits, step_reached, step_past, step_outcome}
+use Rattle.cluster_core.proofs.Reaching.{Steps, kept_steps, lost_fits, step_reached, step_past, step_outcome}
 use Rattle.cluster_core.proofs.world.World.refuse.Goals as goal
 
 abbrev left : goal.After-push_reserved → Inside
@@ -11,8 +11,8 @@ left c = record (c.self.inside) { cluster = c.refuse.new.self; events = c.push_r
 
 steps : (c : goal.After-push_reserved) → Steps c.self.inside (Name c.args.request) (left c)
 steps c =
-    whole_steps c.self.inside (left c) (Name c.args.request) refl c.in-Ok.ensures.ok
-    (c.push_reserved.ensures.items ∙ ap (λ (events : List KeptEvent). events ++ Whole (Name c.args.request) ∷ []) c.reserve.ensures.items)
+    kept_steps c.self.inside (left c) (Name c.args.request) (Refused c.in_ok-kept.kept) (record { within = tt; is = ap Name c.in_ok-kept.ensures.ok }) refl c.in-Ok.ensures.ok
+    (c.push_reserved.ensures.items ∙ ap (λ (events : List KeptEvent). events ++ Refused c.in_ok-kept.kept ∷ []) c.reserve.ensures.items)
     (lost_fits c.self.inside.cluster c.refuse.new.self c.args.request c.requires c.in-Ok.ensures.ok) tt
 
 pub invariant_of-self-2 : goal.invariant_of-self-2

@@ -8,7 +8,7 @@ use Rattle.cluster_trace.specs.declared.outcome.ClusterRefusal.TheVariants.{NoNo
 use Rattle.cluster_trace.specs.declared.outcome.EventAnswer.TheVariants.{Called, Led, Lost}
 use Rattle.cluster_trace.specs.declared.outcome.Outcome.{Outcome}
 use Rattle.cluster_parts.specs.Sent.{messages_of, AreLaid}
-use Rattle.cluster_core.specs.declared.cluster.Cluster.TheInside.{Inside}
+use Rattle.cluster_steps.specs.declared.cluster.Cluster.TheInside.{Inside}
 
 abbrev pub state_of : Inside → State
 state_of own = record {

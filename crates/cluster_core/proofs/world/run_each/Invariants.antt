@@ -1,10 +1,10 @@
 use Rattle.std.proofs.Common.{◌≡◌, ◌++◌, length}
 use Rattle.cluster_core.specs.World.{run_past, run_outcomes}
-use Rattle.cluster_core.proofs.world.run.Given as goal
+use Rattle.cluster_core.proofs.world.run_each.Given as goal
 
 abbrev pub invariant-loop-event : goal.invariant-loop-event
 invariant-loop-event l = record {
-  told : l.outcomes.items ++ run_outcomes l.world l.events.items ≡ run_outcomes l.fn.world l.fn.events.items;
+  told : l.outcomes.items ++ run_outcomes l.world l.events.items ≡ l.fn.outcomes.items ++ run_outcomes l.fn.world l.fn.events.items;
   past : run_past l.world l.events.items ≡ run_past l.fn.world l.fn.events.items;
 }
 

@@ -6,7 +6,7 @@ ghost use Rattle.cluster_trace.specs.Trace.{start, named, called, led, delivered
 ghost use Rattle.cluster_trace.specs.declared.event.Event.TheVariants as event;
 ghost use Rattle.cluster_trace.specs.Provenance.{call_brought, call_of};
 ghost use Rattle.cluster_trace.specs.Typed.{GrantsFit, PresentsBytes, CallFits};
-ghost use Rattle.cluster_core.specs.Cluster.{answer_outcome, answer_messages, led_outcome, led_messages};
+ghost use Rattle.cluster_steps.specs.Cluster.{answer_outcome, answer_messages, led_outcome, led_messages};
 ghost use Rattle.cluster_parts.specs.Sent.{messages_of, AreLaid};
 
 use cluster_parts::carried::{Carried, carry_out};
@@ -41,8 +41,8 @@ fn last_count(core: &NameCore) -> u64
     }
 }
 
-/// Whether a request may come without a message.
-pub(crate) fn is_from_outside(op: &Op) -> bool
+/// Whether a request may come without a message. Takes no memory.
+pub fn is_from_outside(op: &Op) -> bool
     ensures { result ≡ spec.is_from_outside op.now }
 {
     !matches!(op, Op::Reported(_) | Op::CommitRecovery(_))
@@ -106,9 +106,9 @@ fn note_led(sent: &mut Sent, answered: Option<PlanAnswered>) -> Outcome
     }
 }
 
-/// A NameNode, DataNodes, and the messages that were sent.
-#[derive(Drop)]
-pub(crate) struct Cluster {
+/// A NameNode, DataNodes with the recoveries that they lead, and the messages that were sent. A call is one event, and leaves what the
+/// definition says of the event; which events there were isn't kept here.
+pub struct Cluster {
     core: NameCore,
     nodes: Nodes,
     leaders: Leaders,
@@ -116,12 +116,29 @@ pub(crate) struct Cluster {
     alloc: Global,
 }
 
+// Written out, so that it is proved here alone, and not anew in each crate that owns a cluster.
+impl Drop for Cluster {
+    fn drop(self) {
+        let Cluster {
+            core,
+            nodes,
+            leaders,
+            sent,
+            alloc: _,
+        } = self;
+        drop(core);
+        drop(nodes);
+        drop(leaders);
+        drop(sent);
+    }
+}
+
 impl Model for Cluster {
     ghost use Rattle.cluster_trace.specs.Trace.{State};
 
     ghost Value = { State };
 
-    ghost use Rattle.cluster_core.specs.Cluster.{state_of, IsLaid};
+    ghost use Rattle.cluster_steps.specs.Cluster.{state_of, IsLaid};
 
     ghost view = { state_of };
 
@@ -129,7 +146,12 @@ impl Model for Cluster {
 }
 
 impl Cluster {
-    pub(crate) fn open(
+    /// A cluster in which nothing has happened: a NameNode that opens with this configuration and this key, and DataNodes with these ids,
+    /// without replicas and without keys. An id that is named twice is one DataNode.
+    ///
+    /// # Errors
+    /// Out of memory.
+    pub fn open(
         alloc: Global,
         config: Config,
         key: Key,
@@ -148,23 +170,26 @@ impl Cluster {
         })
     }
 
-    pub(crate) fn core(&self) -> &NameCore
+    /// The NameNode as it is now. Takes no memory.
+    pub fn core(&self) -> &NameCore
         ensures { result.now ≡ record { opening = self.now.opening; entries = self.now.entries } }
     {
         &self.core
     }
 
-    pub(crate) fn node(&self, id: NodeId) -> Option<&DataNode>
+    /// The DataNode with an id as it is now. Costs a look-up, and takes no memory.
+    pub fn node(&self, id: NodeId) -> Option<&DataNode>
         ensures { option_copied result ≡ entry_at id self.now.nodes }
     {
         self.nodes.get(id)
     }
 
-    /// A request to the NameNode, which makes the next entry.
+    /// A request to the NameNode, whoever it comes from. It makes the next entry of the history, which keeps it and which `core().last()`
+    /// lends with its verdict. Costs what the request costs the NameNode, and a step for each token that it is granted.
     ///
     /// # Errors
-    /// Out of memory. Nothing has changed then.
-    pub(crate) fn name(&mut self, request: Request) -> Result<Outcome, AllocError>
+    /// Out of memory. Nothing has changed then, and there is no entry.
+    pub fn name(&mut self, request: Request) -> Result<Outcome, AllocError>
         ensures ok { OnOk result (self.new ≡ left_by self.old (named self.old request)) }
         ensures outcome { IfOk result (λ outcome. outcome ≡ outcome_of self.old (named self.old request)) }
         ensures fits { OnOk result (GrantsFit self.old → GrantsFit self.new) }
@@ -217,11 +242,12 @@ impl Cluster {
         Ok(note_led(&mut self.sent, answered))
     }
 
-    /// A call of a DataNode from outside.
+    /// A call of a DataNode from outside; refused as `NoNode` where there is no such DataNode, and then nothing changes. Costs a look-up, and
+    /// what the call costs the DataNode.
     ///
     /// # Errors
     /// Out of memory. Nothing has changed then.
-    pub(crate) fn data(
+    pub fn data(
         &mut self,
         node: NodeId,
         now: Moment,
@@ -238,11 +264,13 @@ impl Cluster {
         }
     }
 
-    /// The delivery of the message with a number.
+    /// The delivery of the message with a number, which stays where it is; refused as `NoMessage` where there is none, and as `NoNode` where its
+    /// DataNode isn't there, and then nothing changes. Costs what the addressee's call costs, and to find the message a step for each time
+    /// that the number of events that sent some can be halved.
     ///
     /// # Errors
     /// Out of memory. Nothing has changed then.
-    pub(crate) fn deliver(&mut self, number: u64, now: Moment) -> Result<Outcome, AllocError>
+    pub fn deliver(&mut self, number: u64, now: Moment) -> Result<Outcome, AllocError>
         ensures ok { OnOk result (self.new ≡ left_by self.old (delivered self.old now (message_at number self.old.messages))) }
         ensures outcome { IfOk result (λ outcome. outcome ≡ outcome_of self.old (delivered self.old now (message_at number self.old.messages))) }
         ensures fits { OnOk result (GrantsFit self.old → GrantsFit self.new) }
@@ -266,11 +294,12 @@ impl Cluster {
         }
     }
 
-    /// A request that only a message brings, and that is refused.
+    /// A request that only a message brings comes without one: it is refused as `NotFromOutside`, and nothing changes. Costs room for an
+    /// event's messages, and no more.
     ///
     /// # Errors
     /// Out of memory. Nothing has changed then.
-    pub(crate) fn refuse(&mut self, request: &Request) -> Result<Outcome, AllocError>
+    pub fn refuse(&mut self, request: &Request) -> Result<Outcome, AllocError>
         requires { spec.is_from_outside request.now.op ≡ false }
         ensures ok { OnOk result (self.new ≡ happens self.old (event.Name request.now)) }
         ensures outcome { IfOk result (λ outcome. outcome ≡ spec.outcome self.old (event.Name request.now)) }

@@ -3,8 +3,8 @@ use Rattle.cluster_trace.specs.declared.event.Event.{Event}
 use Rattle.cluster_trace.specs.declared.outcome.Outcome.{Outcome}
 use Rattle.cluster_core.specs.Past.{Past}
 use Rattle.cluster_core.specs.World.{run_past, run_outcomes}
-use Rattle.cluster_core.proofs.world.run.Goals as goal
-use Rattle.cluster_core.proofs.world.run.Goals.{in-Some+then-is_err, in-Some+else-is_err+in_default-step, in_default}
+use Rattle.cluster_core.proofs.world.run_each.Goals as goal
+use Rattle.cluster_core.proofs.world.run_each.Goals.{in-Some+then-is_err, in-Some+else-is_err+in_default-step, in_default}
 
 -- where the world and what came of its events are as they were, the events that are left are the rest
 left : (before after : List Outcome) (old new first : Past) (events all : List Event) → after ≡ before → new ≡ old → before ++ run_outcomes old events ≡ run_outcomes first all → run_past old events ≡ run_past first all
