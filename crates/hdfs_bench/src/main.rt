@@ -33,7 +33,7 @@ const BAD_COMMAND_LINE: u8 = 2;
 const USAGE: &str = "usage: hdfs_bench NAME N [script|answers]
   does a workload of size N and prints NAME N OPS_PER_SECOND, or prints its lines, or what these are answered
   timed: to read the lines, to step what they say and to print the answers into memory; check_token_uncached is no script
-  NAME: check_token_uncached mkdirs stat acl_stat setfacl ls rename_dir delete_recursive create_complete append_takeover tick_idle tick_expired addblock open heartbeat_idle step_stat script packet_64k packet_512 packet_passed_on read_64k pipeline recovery";
+  NAME: check_token_uncached mkdirs stat acl_stat setfacl ls rename_dir delete_recursive create_complete append_takeover tick_idle tick_expired addblock open open_granted report heartbeat_idle step_stat script packet_64k packet_512 packet_passed_on read_64k pipeline recovery";
 
 /// The workload that is no script.
 const CHECK_TOKEN: &str = "check_token_uncached";
@@ -55,13 +55,18 @@ enum Asked {
     Script(&'static Workload, u32, Shown),
 }
 
-fn named(name: &str) -> Option<&'static Workload> {
-    for workload in &WORKLOADS {
+/// The first of some workloads with this name. It takes them as a slice, so that its proof computes none of them.
+fn named_in<'a>(workloads: &'a [Workload], name: &str) -> Option<&'a Workload> {
+    for workload in workloads {
         if workload.name == name {
             return Some(workload);
         }
     }
     None
+}
+
+fn named(name: &str) -> Option<&'static Workload> {
+    named_in(&WORKLOADS, name)
 }
 
 fn script_asked(name: &str, size: u32, shown: Shown) -> Option<Asked> {
