@@ -42,7 +42,7 @@ use std::mem;
 use std::process::ExitCode;
 use std::time::{Duration, Instant};
 use text::text_of;
-use workload::{Operations, WORKLOADS, Workload};
+use workload::{CLUSTER_WORKLOADS, Operations, WORKLOADS, Workload};
 
 /// The exit status for a fault of the command line.
 const BAD_COMMAND_LINE: u8 = 2;
@@ -102,6 +102,10 @@ fn show(workload: &Workload, size: u32, shown: &str) -> io::Result<()> {
     Ok(())
 }
 
+fn workloads() -> impl Iterator<Item = &'static Workload> {
+    WORKLOADS.iter().chain(&CLUSTER_WORKLOADS)
+}
+
 /// A workload of a size, and what is shown of it.
 fn asked(words: &[&str]) -> Option<(&'static Workload, u32, String)> {
     let (name, size, shown) = match words {
@@ -109,7 +113,7 @@ fn asked(words: &[&str]) -> Option<(&'static Workload, u32, String)> {
         [_, name, size, shown @ ("script" | "answers")] => (name, size, *shown),
         _ => return None,
     };
-    let workload = WORKLOADS.iter().find(|workload| workload.name == *name)?;
+    let workload = workloads().find(|workload| workload.name == *name)?;
     Some((workload, size.parse().ok()?, shown.to_string()))
 }
 
@@ -127,7 +131,7 @@ fn main() -> io::Result<ExitCode> {
         return Ok(ExitCode::SUCCESS);
     }
     let Some((workload, size, shown)) = asked(&words) else {
-        let names: Vec<&str> = WORKLOADS.iter().map(|workload| workload.name).collect();
+        let names: Vec<&str> = workloads().map(|workload| workload.name).collect();
         eprintln!(
             "usage: plain NAME N [script|answers], with a NAME of: {}",
             names.join(" ")

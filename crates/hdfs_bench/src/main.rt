@@ -21,7 +21,7 @@ use crate::answers::count_lines;
 use crate::fault::Fault;
 use crate::run::Script;
 use crate::text::push_blocks;
-use crate::workload::{Block, Operations, WORKLOADS, Workload};
+use crate::workload::{Block, CLUSTER_WORKLOADS, Operations, WORKLOADS, Workload};
 use std::alloc::{AllocError, Global};
 use std::env;
 use std::process::ExitCode;
@@ -55,7 +55,7 @@ enum Asked {
     Script(&'static Workload, u32, Shown),
 }
 
-/// The first of some workloads with this name. It takes them as a slice, so that its proof computes none of them.
+/// The first of some workloads with this name.
 fn named_in<'a>(workloads: &'a [Workload], name: &str) -> Option<&'a Workload> {
     for workload in workloads {
         if workload.name == name {
@@ -65,8 +65,19 @@ fn named_in<'a>(workloads: &'a [Workload], name: &str) -> Option<&'a Workload> {
     None
 }
 
-fn named(name: &str) -> Option<&'static Workload> {
+fn of_requests(name: &str) -> Option<&'static Workload> {
     named_in(&WORKLOADS, name)
+}
+
+fn of_clusters(name: &str) -> Option<&'static Workload> {
+    named_in(&CLUSTER_WORKLOADS, name)
+}
+
+fn named(name: &str) -> Option<&'static Workload> {
+    match of_requests(name) {
+        Some(workload) => Some(workload),
+        None => of_clusters(name),
+    }
 }
 
 fn script_asked(name: &str, size: u32, shown: Shown) -> Option<Asked> {

@@ -452,8 +452,8 @@ const RECOVERIES: Block = Block {
 ",
 };
 
-/// All that can be timed as scripts.
-pub static WORKLOADS: [Workload; 24] = [
+/// What can be timed as scripts whose lines are requests to the NameNode. There are two lists, since a proof that names one computes it.
+pub static WORKLOADS: [Workload; 16] = [
     // Directories are made, one a line, in a namespace that is empty at first.
     Workload {
         name: "mkdirs",
@@ -565,20 +565,6 @@ pub static WORKLOADS: [Workload; 24] = [
         timed: &[OPENINGS],
         operations: Operations::Lines,
     },
-    // The same where each block has a length and a DataNode that holds it: it is told, and a token to read it is granted.
-    Workload {
-        name: "open_granted",
-        before: &[OPEN, WRITERS, ONE_NODE, HELD_BLOCKS, REPORTS, ENDS_OF_HELD],
-        timed: &[OPENINGS],
-        operations: Operations::Lines,
-    },
-    // A DataNode's reports of as many replicas are delivered to the NameNode. An operation is one report.
-    Workload {
-        name: "report",
-        before: &[OPEN, WRITERS, ONE_NODE, HELD_BLOCKS],
-        timed: &[REPORTS],
-        operations: Operations::Lines,
-    },
     // DataNodes are heard of, among as many blocks, when none of them is to be told anything. An operation is one heartbeat.
     Workload {
         name: "heartbeat_idle",
@@ -598,6 +584,24 @@ pub static WORKLOADS: [Workload; 24] = [
         name: "script",
         before: &[SHARED],
         timed: &[MIX],
+        operations: Operations::Lines,
+    },
+];
+
+/// Those whose lines call DataNodes or deliver messages.
+pub static CLUSTER_WORKLOADS: [Workload; 8] = [
+    // A caller opens as often files, of which each block has a length and a DataNode that holds it: it is told, and a token to read it is granted.
+    Workload {
+        name: "open_granted",
+        before: &[OPEN, WRITERS, ONE_NODE, HELD_BLOCKS, REPORTS, ENDS_OF_HELD],
+        timed: &[OPENINGS],
+        operations: Operations::Lines,
+    },
+    // A DataNode's reports of as many replicas are delivered to the NameNode. An operation is one report.
+    Workload {
+        name: "report",
+        before: &[OPEN, WRITERS, ONE_NODE, HELD_BLOCKS],
+        timed: &[REPORTS],
         operations: Operations::Lines,
     },
     // A DataNode takes packets of 64 KiB into one replica. An operation is one packet.
