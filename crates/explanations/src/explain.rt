@@ -35,6 +35,9 @@ pub enum Explained {
 }
 
 /// The request of a line, where it makes one.
+///
+/// # Errors
+/// Out of memory.
 pub fn request_in(alloc: Global, line: &str) -> Result<Option<Request>, AllocError>
     ensures { IfOk result (λ request. request ≡ spec.request_in line.now) }
 {
@@ -85,6 +88,9 @@ pub fn rows_of(alloc: Global, tree: &Tree) -> Result<Rows, AllocError>
 }
 
 /// The needs of a request that are judged behind the lines that were run. Costs the whole namespace.
+///
+/// # Errors
+/// Out of memory.
 pub fn trail_on(
     alloc: Global,
     session: &Session,
