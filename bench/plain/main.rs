@@ -42,7 +42,9 @@ use std::mem;
 use std::process::ExitCode;
 use std::time::{Duration, Instant};
 use text::text_of;
-use workload::{CLUSTER_WORKLOADS, Operations, WORKLOADS, Workload};
+use workload::{
+    BLOCK_WORKLOADS, FILE_WORKLOADS, Operations, REPLICA_WORKLOADS, TREE_WORKLOADS, Workload,
+};
 
 /// The exit status for a fault of the command line.
 const BAD_COMMAND_LINE: u8 = 2;
@@ -103,7 +105,11 @@ fn show(workload: &Workload, size: u32, shown: &str) -> io::Result<()> {
 }
 
 fn workloads() -> impl Iterator<Item = &'static Workload> {
-    WORKLOADS.iter().chain(&CLUSTER_WORKLOADS)
+    TREE_WORKLOADS
+        .iter()
+        .chain(&FILE_WORKLOADS)
+        .chain(&BLOCK_WORKLOADS)
+        .chain(&REPLICA_WORKLOADS)
 }
 
 /// A workload of a size, and what is shown of it.
@@ -115,6 +121,22 @@ fn asked(words: &[&str]) -> Option<(&'static Workload, u32, String)> {
     };
     let workload = workloads().find(|workload| workload.name == *name)?;
     Some((workload, size.parse().ok()?, shown.to_string()))
+}
+
+/// The workload that is no script.
+const CHECK_TOKEN: &str = "check_token_uncached";
+
+fn tokens_asked(words: &[&str]) -> Option<u32> {
+    match words {
+        [_, name, count] if *name == CHECK_TOKEN => count.parse().ok(),
+        _ => None,
+    }
+}
+
+fn show_tokens(count: u32) {
+    let taken = tokens::check_uncached(count);
+    let rate = u128::from(count) * 1_000_000_000 / taken.as_nanos().max(1);
+    println!("{CHECK_TOKEN} {count} {rate}");
 }
 
 fn run_input() -> io::Result<()> {
@@ -130,10 +152,14 @@ fn main() -> io::Result<ExitCode> {
         run_input()?;
         return Ok(ExitCode::SUCCESS);
     }
+    if let Some(count) = tokens_asked(&words) {
+        show_tokens(count);
+        return Ok(ExitCode::SUCCESS);
+    }
     let Some((workload, size, shown)) = asked(&words) else {
         let names: Vec<&str> = workloads().map(|workload| workload.name).collect();
         eprintln!(
-            "usage: plain NAME N [script|answers], with a NAME of: {}",
+            "usage: plain NAME N [script|answers], with a NAME of: {} {CHECK_TOKEN}",
             names.join(" ")
         );
         return Ok(ExitCode::from(BAD_COMMAND_LINE));

@@ -3,7 +3,9 @@
 
 use crate::names::Who;
 use crate::sha1::HmacKey;
+use std::hint::black_box;
 use std::rc::Rc;
+use std::time::{Duration, Instant};
 
 /// How long a token serves, in milliseconds.
 const LIFETIME: u64 = 36_000_000;
@@ -272,4 +274,26 @@ impl KeyCache {
         }
         Ok(())
     }
+}
+
+/// Judges one token so many times, by a cache that holds its key and keeps nothing of it for the next time. The name is as long as makes a
+/// token of 64 bytes before its code.
+pub fn check_uncached(count: u32) -> Duration {
+    let mut ring = KeyRing::new();
+    let user = "0123456789-0123456789-0123456789-01234567";
+    let token = ring.token(0, user, 1, READ);
+    let mut cache = KeyCache::default();
+    cache.merge(&ring.update(0));
+    let access = Access {
+        now: 0,
+        caller: user,
+        block: 1,
+        mode: READ,
+    };
+    let start = Instant::now();
+    for _ in 0..count {
+        let judged = cache.check(black_box(&token), black_box(&access));
+        assert!(judged.is_ok(), "the token isn't taken");
+    }
+    start.elapsed()
 }

@@ -100,7 +100,7 @@ fn located_blocks(
     ensures found { IfOk result (λ found. found.items ≡ filter_map (located (tokens_of ring.now now) caller.now blocks.now) own.now) }
     ensures rows { OnOk result (rows.new.items ≡ rows.old.items ++ map (reader_row place ring.now now caller.now) (filter_map (located (tokens_of ring.now now) caller.now blocks.now) own.now)) }
 {
-    let mut found = Vec::new(alloc);
+    let mut found = Vec::with_capacity(alloc, own.len())?;
     for block in own {
         push_located(
             alloc, blocks, ring, place, now, caller, block, &mut found, rows,
@@ -126,7 +126,7 @@ fn prepare(
     let Some(length) = own.length() else {
         return Err(AllocError);
     };
-    let mut rows = Vec::new(alloc);
+    let mut rows = Vec::with_capacity(alloc, own.as_slice().len())?;
     let found = located_blocks(
         alloc,
         blocks,

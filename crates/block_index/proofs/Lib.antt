@@ -1,2 +1,3 @@
 pub mod Relations
 pub mod Indexing
+pub mod Busy

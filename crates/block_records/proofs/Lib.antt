@@ -3,3 +3,5 @@ pub mod Reporting
 pub mod Ascending
 pub mod Taking
 pub mod Waiting
+mod Searches
+pub mod Entries

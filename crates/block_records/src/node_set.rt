@@ -72,7 +72,7 @@ impl NodeSet {
         &self.nodes
     }
 
-    /// Of these nodes those that aren't among them. Costs the nodes for each.
+    /// Of these nodes those that aren't among them. Costs a look-up for each.
     ///
     /// # Errors
     /// Out of memory.
@@ -86,11 +86,11 @@ impl NodeSet {
             .collect(alloc)
     }
 
-    /// Whether a node is among them. Costs the nodes, and takes no memory.
+    /// Whether a node is among them. Costs a look-up, and takes no memory.
     pub fn contains(&self, node: NodeId) -> bool
         ensures { result ≡ has_number node self.now }
     {
-        self.nodes.iter().any(|own| *own == node)
+        self.nodes.binary_search(&node).is_ok()
     }
 }
 

@@ -9,7 +9,7 @@ use crate::fault::{PlanFault, PlanRefusal};
 use crate::recover::Recover;
 use crate::updated::UpdatedNodes;
 use block_records::node_set::NodeSet;
-use block_tokens::token::TokenBytes;
+use hdfs_types::token_bytes::TokenBytes;
 use hdfs_values::node_id::NodeId;
 use std::alloc::{AllocError, Global};
 

@@ -20,6 +20,8 @@ use Rattle.cluster_trace.specs.declared.event.Event.TheVariants.{Name, Deliver, 
 use Rattle.cluster_trace.specs.declared.outcome.ClusterRefusal.TheVariants.{NotFromOutside}
 use Rattle.cluster_trace.specs.declared.outcome.Outcome.{Outcome}
 use Rattle.cluster_trace.proofs.Right.{all_right}
+use Rattle.cluster_laws.specs.Laws.{RecordsOf}
+use Rattle.cluster_laws.proofs.Logs.{records_rest}
 use Rattle.cluster_core.specs.Kept.{IsWithin, event_of, IsKept}
 use Rattle.cluster_core.specs.Past.{Past}
 use Rattle.cluster_core.specs.World.{state_after, stepped, history_of, past_of, IsReached}
@@ -174,6 +176,9 @@ step_outcome old past event told reached is at = at ∙ ap (λ (state : State). 
 
 pub reached_right : (world : Inside) → IsReached world → AllRight (past_of world).opening (past_of world).events
 reached_right world reached = all_right (past_of world).opening (past_of world).events reached.typed
+
+pub reached_rest : (world : Inside) → IsReached world → RecordsOf (past_of world).opening (past_of world).events
+reached_rest world reached = records_rest (past_of world).opening (past_of world).events reached.typed
 
 -- ---- a world in which nothing but its room has changed
 

@@ -5,6 +5,7 @@ ghost use Rattle.cluster_trace.specs.Provenance.{AllRight};
 ghost use Rattle.cluster_trace.specs.Typed.{AreTyped};
 ghost use Rattle.cluster_trace.specs.declared.event.Event.{Event};
 ghost use Rattle.cluster_trace.specs.declared.event.Event.TheVariants as event;
+ghost use Rattle.cluster_laws.specs.Laws.{RecordsOf};
 ghost use Rattle.cluster_core.specs.World.{state_after, stepped, run_past, run_outcomes};
 
 use crate::kept::KeptEvent;
@@ -98,10 +99,12 @@ impl World {
     }
 
     /// Every request to the NameNode was answered by the written rules on the entries before it, and every call of a DataNode that
-    /// presented a token and was served, presented a token that the NameNode had granted for it, or a forged one; and all values fit
-    /// their types, so that the laws about clusters hold of these events. Does nothing.
+    /// presented a token and was served, presented a token that the NameNode had granted for it, or a forged one; as long as none
+    /// presented a forged one, each record in the log of each DataNode rests on a grant; and all values fit their types, so that the laws
+    /// about clusters hold of these events. Does nothing.
     pub fn is_right(&self)
         ensures right { AllRight self.now.opening self.now.events }
+        ensures rest { RecordsOf self.now.opening self.now.events }
         ensures typed { AreTyped self.now.opening self.now.events }
     {
         let _events = &self.events;
@@ -203,6 +206,8 @@ impl World {
         ensures world { OnOk result (self.new ≡ stepped self.old event) }
         ensures outcome { IfOk result (λ outcome. outcome ≡ trace.outcome (state_after self.old) event) }
         ensures right { OnOk result (AllRight self.new.opening self.new.events) }
+        ensures rest { OnOk result (RecordsOf self.new.opening self.new.events) }
+        ensures typed { OnOk result (AreTyped self.new.opening self.new.events) }
         ensures err { OnErr result (self.new ≡ self.old) }
     {
         let outcome = self.happen(event)?;
@@ -248,6 +253,8 @@ pub fn run(alloc: Global, world: World, events: VecDeque<Event>) -> Trace
     ensures outcomes { (rest : List Event) × (result.outcomes.items ++ run_outcomes result.world rest ≡ run_outcomes world events.items)
         × (run_past result.world rest ≡ run_past world events.items) }
     ensures right { AllRight result.world.opening result.world.events }
+    ensures rest { RecordsOf result.world.opening result.world.events }
+    ensures typed { AreTyped result.world.opening result.world.events }
 {
     let mut world = world;
     let mut events = events;

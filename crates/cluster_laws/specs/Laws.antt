@@ -62,8 +62,12 @@ Rests rows entry = (row : LedgerRow) × IsIn row rows × RestsOn row entry
 abbrev pub AllRest : List LedgerRow → List (ℕ × Node) → Type 0
 AllRest rows nodes = AllByRecursion (λ (own : ℕ × Node). AllByRecursion (Rests rows) own.1.log) nodes
 
+-- where nothing is forged, each record in each log behind these events rests on a grant
+abbrev pub RecordsOf : Opening → List Event → Type 0
+RecordsOf opening events = NothingIsForged opening events → AllRest (granted (after opening events)) (after opening events).nodes
+
 abbrev pub RecordsRest : Type 0
-RecordsRest = (opening : Opening) (events : List Event) → AreTyped opening events → NothingIsForged opening events → AllRest (granted (after opening events)) (after opening events).nodes
+RecordsRest = (opening : Opening) (events : List Event) → AreTyped opening events → RecordsOf opening events
 
 -- a user was granted something of a block
 abbrev pub WasGranted : State → List ℕ → ℕ → Type 0

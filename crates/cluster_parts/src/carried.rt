@@ -25,14 +25,14 @@ use hdfs_values::node_id::NodeId;
 use node_calls::call::{NodeCall, TokenCall};
 use node_calls::message::Message;
 use node_calls::presented::{Presented, PresentedToken};
+use node_calls::principal::principal_of;
 use plan_steps::answered::PlanAnswered;
-use plan_steps::principal::principal_of;
 use std::alloc::{AllocError, Global};
 
 /// What comes of a message that is delivered.
 #[derive(Drop)]
 pub enum Carried {
-    /// There is none, or nobody takes it.
+    /// There is none.
     Nowhere,
     /// What a DataNode answers; nothing where there is no such node.
     Called(Option<Answered>),

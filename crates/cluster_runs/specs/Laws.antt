@@ -37,5 +37,7 @@ pub record IsAnsweredRightly (script : List ℕ) : Type 0 where
   -- every request was answered by the written rules on the entries before it, and every call of a DataNode that presented a token and was
   -- served, presented one that the NameNode had granted for it, or a forged one
   pub right : AllRight (after_lines (lines_of script)).past.opening (after_lines (lines_of script)).past.events
+  -- the answers are what comes of the events of its lines, one after another
+  pub runs : IsRun (lines_of script)
   -- all values fit their types, so that the laws about clusters hold
   pub typed : AreTyped (after_lines (lines_of script)).past.opening (after_lines (lines_of script)).past.events

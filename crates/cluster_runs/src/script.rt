@@ -9,6 +9,7 @@ ghost use Rattle.cluster_runs.specs.Laws.{IsAnsweredRightly};
 ghost use Rattle.cluster_runs.specs.Shown.{Shows, HoldsFirst};
 ghost use Rattle.cluster_runs.specs.Ended.{IsAnswersOfFirst, AppendsAnswersOfFirst};
 
+use crate::laws::scripts_are_runs;
 use crate::session::Session;
 use script_runs::channel::write_text;
 use script_runs::script::read_script;
@@ -58,6 +59,7 @@ fn run_text(alloc: Global, session: &mut Session, script: &str) -> Result<Status
     let lines = pieces_between(alloc, script, '\n')?;
     run_lines(session, &lines)?;
     session.is_right();
+    scripts_are_runs();
     Ok(Status::by(session.has_bad()))
 }
 

@@ -9,7 +9,7 @@ use std::fmt;
 /// Why an event does nothing. It stays in the list of events all the same, and no clock moves on.
 #[derive(Clone, Copy, PartialEq, Eq)]
 pub enum ClusterRefusal {
-    /// No message of this number was sent, or its addressee doesn't take it.
+    /// No message of this number was sent.
     NoMessage,
     /// The cluster has no such DataNode.
     NoNode,

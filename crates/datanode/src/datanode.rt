@@ -19,6 +19,7 @@ use node_calls::call::{NodeCall, TokenCall};
 use node_calls::message::Messages;
 use node_calls::node_list::NodeList;
 use node_calls::presented::{Presented, PresentedToken};
+use node_calls::principal::principal_of;
 use node_calls::refusal::NodeRefusal;
 use node_calls::reply::NodeReply;
 use node_replies::{asking, sending};
@@ -80,18 +81,6 @@ impl Model for DataNode {
     } };
 
     ghost invariant = { λ node. node.principal ≡ node_principal node.id };
-}
-
-// The name of a node.
-fn principal_of(alloc: Global, node: NodeId) -> Result<Who, AllocError>
-    ensures { IfOk result (λ who. who ≡ node_principal node) }
-{
-    let text = format!(in alloc; "dn-{}", node.get())?;
-    // it is a name, so that only memory can lack
-    match Who::parse(alloc, text.as_str()) {
-        Ok(who) => Ok(who),
-        Err(_) => Err(AllocError),
-    }
 }
 
 fn first_moment() -> Moment

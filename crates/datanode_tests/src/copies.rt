@@ -64,7 +64,7 @@ fn begins(one: &mut DataNode, second: &mut DataNode, alloc: Global, alice: &Pres
 }
 
 fn takes(one: &mut DataNode, second: &mut DataNode, alloc: Global, alice: &Presented) -> bool {
-    let bytes = BlockBytes::repeated(alloc, b'a', 2);
+    let bytes = BlockBytes::repeated(b'a', 2);
     let answer = one.packet(at(0), alice, 0, bytes, two(alloc, 2, 3));
     delivered(second, call_of(message(&answer), 2, "alice"))
 }

@@ -1,6 +1,8 @@
-//! Tests of a DataNode: tokens over time, copies, block recovery, and what is noted down.
+//! Tests of a DataNode: tokens over time, altered tokens, copies, block recovery, and what is noted down.
 #![tactic(auto)]
 
+#[cfg(test)]
+mod altered;
 #[cfg(test)]
 mod asking;
 #[cfg(test)]

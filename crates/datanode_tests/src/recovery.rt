@@ -15,7 +15,7 @@ use std::alloc::Global;
 
 // Alice writes 900 bytes of block 1 at stamp 1001, and would write on.
 fn writes(node: &mut DataNode, alloc: Global, alice: &Presented) -> bool {
-    let bytes = BlockBytes::repeated(alloc, b'a', 900);
+    let bytes = BlockBytes::repeated(b'a', 900);
     is_done(node.begin_write(at(0), alice, nobody(alloc)))
         && is_done(node.packet(at(0), alice, 0, bytes, nobody(alloc)))
 }
@@ -50,7 +50,7 @@ fn is_updated(node: &mut DataNode, lead: &Presented) -> bool {
 
 // Neither the old writer nor a second recovery at this stamp is let through.
 fn is_late(node: &mut DataNode, alloc: Global, alice: &Presented) -> bool {
-    let bytes = BlockBytes::repeated(alloc, b'a', 1);
+    let bytes = BlockBytes::repeated(b'a', 1);
     is_refused(
         node.packet(at(60_001), alice, 900, bytes, nobody(alloc)),
         ReplicaRefusal::StampDiffers(Stamp::new(1002)),

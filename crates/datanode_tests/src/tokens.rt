@@ -24,7 +24,7 @@ fn begins(node: &mut DataNode, alloc: Global, alice: &Presented) -> bool {
 }
 
 fn takes(node: &mut DataNode, alloc: Global, alice: &Presented) -> bool {
-    let bytes = BlockBytes::repeated(alloc, b'a', 2);
+    let bytes = BlockBytes::repeated(b'a', 2);
     let answer = node.packet(at(0), alice, 0, bytes, nobody(alloc));
     match told(&answer) {
         Some(NodeReply::Taken(length)) => *length == 2,
@@ -49,7 +49,7 @@ fn finalizes(node: &mut DataNode, alloc: Global, alice: &Presented) -> bool {
     }
 }
 
-fn writes(node: &mut DataNode, alloc: Global, ring: &KeyRing) -> bool {
+pub fn writes(node: &mut DataNode, alloc: Global, ring: &KeyRing) -> bool {
     let Some(token) = token(alloc, ring, 0, "alice", Modes::WRITE) else {
         return false;
     };
@@ -81,7 +81,7 @@ fn who_reads(alloc: Global, ring: &KeyRing) -> Option<Readers> {
 
 // Bob's token is no token to write.
 fn writes_nothing(node: &mut DataNode, alloc: Global, bob: &Presented) -> bool {
-    let bytes = BlockBytes::repeated(alloc, b'a', 2);
+    let bytes = BlockBytes::repeated(b'a', 2);
     is_barred(
         node.packet(at(101), bob, 2, bytes, nobody(alloc)),
         TokenRefusal::WrongMode,

@@ -21,7 +21,9 @@ use crate::answers::count_lines;
 use crate::fault::Fault;
 use crate::run::Script;
 use crate::text::push_blocks;
-use crate::workload::{Block, CLUSTER_WORKLOADS, Operations, WORKLOADS, Workload};
+use crate::workload::{
+    BLOCK_WORKLOADS, Block, FILE_WORKLOADS, Operations, REPLICA_WORKLOADS, TREE_WORKLOADS, Workload,
+};
 use std::alloc::{AllocError, Global};
 use std::env;
 use std::process::ExitCode;
@@ -65,19 +67,27 @@ fn named_in<'a>(workloads: &'a [Workload], name: &str) -> Option<&'a Workload> {
     None
 }
 
-fn of_requests(name: &str) -> Option<&'static Workload> {
-    named_in(&WORKLOADS, name)
+fn on_trees(name: &str) -> Option<&'static Workload> {
+    named_in(&TREE_WORKLOADS, name)
 }
 
-fn of_clusters(name: &str) -> Option<&'static Workload> {
-    named_in(&CLUSTER_WORKLOADS, name)
+fn on_files(name: &str) -> Option<&'static Workload> {
+    named_in(&FILE_WORKLOADS, name)
+}
+
+fn on_blocks(name: &str) -> Option<&'static Workload> {
+    named_in(&BLOCK_WORKLOADS, name)
+}
+
+fn on_replicas(name: &str) -> Option<&'static Workload> {
+    named_in(&REPLICA_WORKLOADS, name)
 }
 
 fn named(name: &str) -> Option<&'static Workload> {
-    match of_requests(name) {
-        Some(workload) => Some(workload),
-        None => of_clusters(name),
-    }
+    on_trees(name)
+        .or_else(|| on_files(name))
+        .or_else(|| on_blocks(name))
+        .or_else(|| on_replicas(name))
 }
 
 fn script_asked(name: &str, size: u32, shown: Shown) -> Option<Asked> {

@@ -452,8 +452,8 @@ const RECOVERIES: Block = Block {
 ",
 };
 
-/// What can be timed as scripts whose lines are requests to the NameNode. There are two lists, since a proof that names one computes it.
-pub static WORKLOADS: [Workload; 16] = [
+/// What can be timed as scripts of lines, in four lists, since a proof that names a list computes it. These are about directories.
+pub static TREE_WORKLOADS: [Workload; 7] = [
     // Directories are made, one a line, in a namespace that is empty at first.
     Workload {
         name: "mkdirs",
@@ -522,6 +522,10 @@ pub static WORKLOADS: [Workload; 16] = [
         timed: &[DELETION],
         operations: Operations::Size,
     },
+];
+
+/// About files without blocks.
+pub static FILE_WORKLOADS: [Workload; 6] = [
     // Files are made, and then closed. An operation is a line: each renews a lease that isn't the last renewed one, or counts an open
     // file less.
     Workload {
@@ -551,27 +555,6 @@ pub static WORKLOADS: [Workload; 16] = [
         timed: &[LATE_TICK],
         operations: Operations::Fixed(1000),
     },
-    // Each file gets its first block: its nodes are chosen, and the writer is granted a token.
-    Workload {
-        name: "addblock",
-        before: &[OPEN, WRITERS, NODES, CREATIONS],
-        timed: &[FIRST_BLOCKS],
-        operations: Operations::Lines,
-    },
-    // A caller opens files, among as many whose one block isn't committed. Nothing is granted.
-    Workload {
-        name: "open",
-        before: &[OPEN, WRITERS, NODES, CREATIONS, FIRST_BLOCKS],
-        timed: &[OPENINGS],
-        operations: Operations::Lines,
-    },
-    // DataNodes are heard of, among as many blocks, when none of them is to be told anything. An operation is one heartbeat.
-    Workload {
-        name: "heartbeat_idle",
-        before: &[OPEN, WRITERS, NODES, CREATIONS, FIRST_BLOCKS],
-        timed: &[HEARTBEATS],
-        operations: Operations::Lines,
-    },
     // A caller asks as often what has a path, among as many closed files.
     Workload {
         name: "step_stat",
@@ -588,8 +571,22 @@ pub static WORKLOADS: [Workload; 16] = [
     },
 ];
 
-/// Those whose lines call DataNodes or deliver messages.
-pub static CLUSTER_WORKLOADS: [Workload; 8] = [
+/// About blocks, as the NameNode knows them.
+pub static BLOCK_WORKLOADS: [Workload; 6] = [
+    // Each file gets its first block: its nodes are chosen, and the writer is granted a token.
+    Workload {
+        name: "addblock",
+        before: &[OPEN, WRITERS, NODES, CREATIONS],
+        timed: &[FIRST_BLOCKS],
+        operations: Operations::Lines,
+    },
+    // A caller opens files, among as many whose one block isn't committed. Nothing is granted.
+    Workload {
+        name: "open",
+        before: &[OPEN, WRITERS, NODES, CREATIONS, FIRST_BLOCKS],
+        timed: &[OPENINGS],
+        operations: Operations::Lines,
+    },
     // A caller opens as often files, of which each block has a length and a DataNode that holds it: it is told, and a token to read it is granted.
     Workload {
         name: "open_granted",
@@ -604,6 +601,24 @@ pub static CLUSTER_WORKLOADS: [Workload; 8] = [
         timed: &[REPORTS],
         operations: Operations::Lines,
     },
+    // DataNodes are heard of, among as many blocks, when none of them is to be told anything. An operation is one heartbeat.
+    Workload {
+        name: "heartbeat_idle",
+        before: &[OPEN, WRITERS, NODES, CREATIONS, FIRST_BLOCKS],
+        timed: &[HEARTBEATS],
+        operations: Operations::Lines,
+    },
+    // Blocks whose writers are gone are recovered: one tick takes all files, and one node leads all recoveries. An operation is one block.
+    Workload {
+        name: "recovery",
+        before: &[OPEN, WRITERS, THREE_NODES, CUT_OFF],
+        timed: &[LATE_NODES, LATE_TICK, LATE_ORDERS, RECOVERIES],
+        operations: Operations::Size,
+    },
+];
+
+/// About what DataNodes hold of blocks.
+pub static REPLICA_WORKLOADS: [Workload; 5] = [
     // A DataNode takes packets of 64 KiB into one replica. An operation is one packet.
     Workload {
         name: "packet_64k",
@@ -637,13 +652,6 @@ pub static CLUSTER_WORKLOADS: [Workload; 8] = [
         name: "pipeline",
         before: &[OPEN, THREE_NODES],
         timed: &[PIPELINES],
-        operations: Operations::Size,
-    },
-    // Blocks whose writers are gone are recovered: one tick takes all files, and one node leads all recoveries. An operation is one block.
-    Workload {
-        name: "recovery",
-        before: &[OPEN, WRITERS, THREE_NODES, CUT_OFF],
-        timed: &[LATE_NODES, LATE_TICK, LATE_ORDERS, RECOVERIES],
         operations: Operations::Size,
     },
 ];

@@ -1,13 +1,10 @@
--- The live nodes by the entries: the keys of the entries that a test keeps are the keys that it keeps by a look-up, and ascend.
+-- The live nodes by the entries: the keys of those that a test keeps, which ascend.
 use Rattle.std.proofs.Common.{◌≡◌, ℕ, ◌==◌, ◌-◌, Bool, true, false, cond, ◌||◌, nat_le, List, [], ◌∷◌, filter, Some, refl, sym, ap, ◌∙◌, true≢false, arith}
 use Rattle.std.proofs.lemmas.Bool.Decides.{nat_tests}
-use Rattle.std.proofs.lemmas.List.Elements.{All-contains_itself, All-head, All-tail, All-weaker}
-use Rattle.std.proofs.lemmas.Map.Keys.{sorted_head, sorted_tail, IsDistinct-from_sorted, IsStrictlyIncreasing-from_sorted}
+use Rattle.std.proofs.lemmas.Map.Keys.{sorted_head, sorted_tail, IsStrictlyIncreasing-from_sorted}
 use Rattle.std.proofs.lemmas.Map.Made.{is_some-lookup}
-use Rattle.std.proofs.lemmas.Map.Views.{lookup-from_Contains}
 use Rattle.std.specs.BTreeMap.{insert_entry}
-use Rattle.std.specs.Cmp.{eq_by_cmp_equiv, nat_cmp_total, tied_itself, unsigned_ties}
-use Rattle.std.specs.List.{All, Contains}
+use Rattle.std.specs.Cmp.{nat_cmp_total, tied_itself, unsigned_ties}
 use Rattle.std.specs.List.Sorted.{IsStrictlySortedBy, IsStrictlyIncreasing}
 use Rattle.std.specs.Map.{keys_of}
 use Rattle.std.specs.Option.{IsSome}
@@ -16,31 +13,13 @@ use Rattle.std.specs.declared.cmp.Ordering.{Ordering}
 use Rattle.std.specs.declared.cmp.Ordering.TheVariants.{Less, Equal, Greater}
 use Rattle.block_records.specs.Numbers.{is_number, entry_at}
 use Rattle.block_records.proofs.Ascending.{above_lower, lacks_lower, kept_ascending}
+use Rattle.block_records.proofs.Entries.{found_keys}
 use Rattle.block_records.proofs.Numbers.{number_is}
 use Rattle.heartbeats.specs.Live.{Heartbeats, beaten, is_recent, is_live, live_nodes}
 
 -- the keys of those entries that pass a test ascend
 pub kept_increasing : (keep : ℕ × ℕ → Bool) (entries : List (ℕ × ℕ)) → IsStrictlySortedBy nat_cmp (keys_of entries) → IsStrictlyIncreasing (keys_of (filter keep entries))
 kept_increasing keep entries up = IsStrictlyIncreasing-from_sorted (keys_of (filter keep entries)) (kept_ascending keep entries up)
-
--- a test of entries keeps the keys that a test of keys keeps, where both say the same of each entry
-kept_keys : (keep : ℕ × ℕ → Bool) (p : ℕ → Bool) (entries : List (ℕ × ℕ)) → All (λ entry. keep entry ≡ p entry.0) entries → keys_of (filter keep entries) ≡ filter p (keys_of entries)
-kept_keys keep p [] same = refl
-kept_keys keep p (entry ∷ entries) same =
-    by (keep entry) (All-head (λ e. keep e ≡ p e.0) entry entries same) (kept_keys keep p entries (All-tail (λ e. keep e ≡ p e.0) entry entries same))
-  where
-    by : (b : Bool) → b ≡ p entry.0 → keys_of (filter keep entries) ≡ filter p (keys_of entries)
-        → keys_of (cond b (entry ∷ filter keep entries) (filter keep entries)) ≡ cond (p entry.0) (entry.0 ∷ filter p (keys_of entries)) (filter p (keys_of entries))
-    by true is rest = ap (λ l. entry.0 ∷ l) rest ∙ ap (λ b. cond b (entry.0 ∷ filter p (keys_of entries)) (filter p (keys_of entries))) is
-    by false is rest = rest ∙ ap (λ b. cond b (entry.0 ∷ filter p (keys_of entries)) (filter p (keys_of entries))) is
-
--- the same where the test of keys looks them up
-found_keys : (keep : ℕ × ℕ → Bool) (p : ℕ → Bool) (entries : List (ℕ × ℕ)) → IsStrictlySortedBy nat_cmp (keys_of entries)
-    → ((entry : ℕ × ℕ) → entry_at entry.0 entries ≡ Some entry.1 → keep entry ≡ p entry.0) → keys_of (filter keep entries) ≡ filter p (keys_of entries)
-found_keys keep p entries up each = kept_keys keep p entries (All-weaker (Contains entries) (λ entry. keep entry ≡ p entry.0) found entries (All-contains_itself entries))
-  where
-    found : (entry : ℕ × ℕ) → Contains entries entry → keep entry ≡ p entry.0
-    found entry there = each entry (lookup-from_Contains (eq_by_cmp_equiv nat_cmp_total) entry.0 entry.1 entries (IsDistinct-from_sorted nat_cmp (keys_of entries) up) there)
 
 -- ---- live nodes
 

@@ -74,22 +74,26 @@ impl Heartbeats {
     fn recent_nodes(&self, now: Moment) -> Result<Vec<NodeId>, AllocError>
         ensures { IfOk result (λ nodes. nodes.items ≡ keys_of (filter (λ entry. spec.is_recent self.now.dead now (Some entry.1)) self.now.last)) }
     {
-        self.last
-            .iter()
-            .filter(|(_, last)| self.is_recent(**last, now))
-            .map(|(node, _)| *node)
-            .collect(self.alloc)
+        let mut nodes = Vec::with_capacity(self.alloc, self.last.len())?;
+        for (node, last) in &self.last {
+            if self.is_recent(*last, now) {
+                nodes.push(*node)?;
+            }
+        }
+        Ok(nodes)
     }
 
     // The same nodes, and this one if it sent a heartbeat before.
     fn recent_nodes_with(&self, node: NodeId, now: Moment) -> Result<Vec<NodeId>, AllocError>
         ensures { IfOk result (λ nodes. nodes.items ≡ keys_of (filter (λ entry. (entry.0 == node) || spec.is_recent self.now.dead now (Some entry.1)) self.now.last)) }
     {
-        self.last
-            .iter()
-            .filter(|(own, last)| **own == node || self.is_recent(**last, now))
-            .map(|(own, _)| *own)
-            .collect(self.alloc)
+        let mut nodes = Vec::with_capacity(self.alloc, self.last.len())?;
+        for (own, last) in &self.last {
+            if *own == node || self.is_recent(*last, now) {
+                nodes.push(*own)?;
+            }
+        }
+        Ok(nodes)
     }
 
     /// The nodes that are live. Costs a step for each node that ever sent a heartbeat.

@@ -1,13 +1,15 @@
 ghost use Rattle.std.specs.Prelude.{◌≡◌, ◌++◌, length, replicate, IfOk, OnOk, OnErr};
 
-use std::alloc::{AllocError, Global};
+use bytes::Bytes;
+use std::alloc::AllocError;
 use std::marker::Model;
 
 /// Bytes of a block, as a packet of a write pipeline carries them (HDFS Architecture, "Replication Pipelining").
 ///
-/// One byte many times takes no memory, so that a packet can be refused for its length before anything of that length is made.
+/// One byte many times takes no memory, so that a packet can be refused for its length before anything of that length is made. Others are
+/// shared by their copies, so that a packet that is passed on isn't copied.
 pub struct BlockBytes {
-    listed: Vec<u8>,
+    listed: Bytes,
     // behind those that are listed
     byte: u8,
     times: u64,
@@ -29,31 +31,35 @@ impl Model for BlockBytes {
 
     ghost Value = { List ℕ };
 
-    ghost view = { λ bytes. bytes.listed.items ++ replicate bytes.times bytes.byte };
+    ghost view = { λ bytes. bytes.listed ++ replicate bytes.times bytes.byte };
 
-    ghost invariant = { λ bytes. length bytes.listed.items + bytes.times < 2 ^ 64 };
+    ghost invariant = { λ bytes. length bytes.listed + bytes.times < 2 ^ 64 };
 }
 
 impl BlockBytes {
-    /// These bytes. Takes no memory.
-    pub fn new(bytes: Vec<u8>) -> BlockBytes
-        ensures { result ≡ bytes.items }
+    /// These bytes, which aren't copied.
+    ///
+    /// # Errors
+    /// Out of memory: their owners are counted.
+    pub fn new(bytes: Vec<u8>) -> Result<BlockBytes, AllocError>
+        ensures { IfOk result (λ own. own ≡ bytes.items) }
     {
+        let listed = Bytes::from_vec(bytes)?;
         // its contract bounds the length
-        let _length = bytes.len();
-        BlockBytes {
-            listed: bytes,
+        let _length = listed.len();
+        Ok(BlockBytes {
+            listed,
             byte: 0,
             times: 0,
-        }
+        })
     }
 
     /// One byte so many times. Takes no memory.
-    pub fn repeated(alloc: Global, byte: u8, times: u64) -> BlockBytes
+    pub fn repeated(byte: u8, times: u64) -> BlockBytes
         ensures { result ≡ replicate times byte }
     {
         BlockBytes {
-            listed: Vec::new(alloc),
+            listed: Bytes::new(),
             byte,
             times,
         }
@@ -75,7 +81,7 @@ impl BlockBytes {
         ensures err { OnErr result (others.new.items ≡ others.old.items) }
     {
         let before = others.len();
-        others.extend_from_slice(&self.listed)?;
+        others.extend_from_slice(self.listed.as_slice())?;
         let grown = append_repeated(others, self.byte, self.times);
         if grown.is_err() {
             others.truncate(before);

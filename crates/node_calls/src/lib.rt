@@ -8,5 +8,6 @@ pub mod chunks;
 pub mod message;
 pub mod node_list;
 pub mod presented;
+pub mod principal;
 pub mod refusal;
 pub mod reply;

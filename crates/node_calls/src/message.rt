@@ -61,6 +61,18 @@ impl Messages {
         }
     }
 
+    /// No message, and room for so many.
+    ///
+    /// # Errors
+    /// Out of memory.
+    pub fn with_room(alloc: Global, count: usize) -> Result<Messages, AllocError>
+        ensures { IfOk result (λ messages. messages ≡ []) }
+    {
+        Ok(Messages {
+            list: Vec::with_capacity(alloc, count)?,
+        })
+    }
+
     /// One message.
     ///
     /// # Errors
@@ -68,12 +80,13 @@ impl Messages {
     pub fn one(alloc: Global, message: Message) -> Result<Messages, AllocError>
         ensures { IfOk result (λ messages. messages ≡ message ∷ []) }
     {
-        let mut list = Vec::new(alloc);
-        list.push(message)?;
+        let mut list = Vec::with_capacity(alloc, 1)?;
+        list.push_reserved(message);
         Ok(Messages { list })
     }
 
-    /// Sends a message behind the others.
+    /// Sends a message behind the others. An event sends few, and they are kept for good: where there is no room, it is taken for this one
+    /// alone, which costs those that there are.
     ///
     /// # Errors
     /// Out of memory. Nothing has changed then.
@@ -81,7 +94,8 @@ impl Messages {
         ensures ok { OnOk result (self.new ≡ self.old ++ message ∷ []) }
         ensures err { OnErr result (self.new ≡ self.old) }
     {
-        self.list.push(message)?;
+        self.list.reserve_exact(1)?;
+        self.list.push_reserved(message);
         Ok(())
     }
 

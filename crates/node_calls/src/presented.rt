@@ -1,13 +1,15 @@
 ghost use Rattle.std.specs.Prelude.{◌≡◌, IfOk};
 
+use bytes::Bytes;
 use hdfs_values::ids::{BlockId, Stamp};
 use hdfs_values::who::Who;
 use std::alloc::{AllocError, Global};
 use std::marker::Model;
 
-/// The bytes that a caller presents as a block access token (HADOOP-4359). They may be anything.
+/// The bytes that a caller presents as a block access token (HADOOP-4359). They may be anything. What passes a call on, and what notes it
+/// down, shares them.
 pub struct PresentedToken {
-    bytes: Vec<u8>,
+    bytes: Bytes,
 }
 
 impl Drop for PresentedToken {
@@ -22,7 +24,7 @@ impl Model for PresentedToken {
 
     ghost Value = { List ℕ };
 
-    ghost view = { λ token. token.bytes.items };
+    ghost view = { λ token. token.bytes };
 }
 
 impl PresentedToken {
@@ -34,7 +36,7 @@ impl PresentedToken {
         ensures { IfOk result (λ token. token ≡ bytes.now) }
     {
         Ok(PresentedToken {
-            bytes: Vec::from_slice(alloc, bytes)?,
+            bytes: Bytes::copy_from_slice(alloc, bytes)?,
         })
     }
 
@@ -42,7 +44,7 @@ impl PresentedToken {
     pub fn as_bytes(&self) -> &[u8]
         ensures { result.now ≡ self.now }
     {
-        &self.bytes
+        self.bytes.as_slice()
     }
 }
 

@@ -24,12 +24,12 @@ fn byte_of(digits: &str) -> Option<u8>
 }
 
 /// One byte many times, which takes no memory.
-fn repeated_of(alloc: Global, times: &str, digits: &str) -> Option<BlockBytes>
+fn repeated_of(times: &str, digits: &str) -> Option<BlockBytes>
     ensures { result ≡ spec.repeated_of times.now digits.now }
 {
     let times = number_of(times)?;
     let byte = byte_of(digits)?;
-    Some(BlockBytes::repeated(alloc, byte, times))
+    Some(BlockBytes::repeated(byte, times))
 }
 
 /// The value of a hexadecimal digit of either case; 255 of what is none.
@@ -72,25 +72,25 @@ fn listed(alloc: Global, digits: &str) -> Result<BlockBytes, ParseFault>
     if !decode_all(digits, &mut bytes) {
         return Err(ParseFault::IllFormed(IllFormed::BadLine));
     }
-    Ok(BlockBytes::new(bytes))
+    Ok(BlockBytes::new(bytes)?)
 }
 
-fn repeated(alloc: Global, times: &str, digits: &str) -> Result<BlockBytes, ParseFault>
+fn repeated(times: &str, digits: &str) -> Result<BlockBytes, ParseFault>
     ensures { ParsesInParts IllFormed.BadLine result (spec.repeated_of times.now digits.now) }
 {
-    match repeated_of(alloc, times, digits) {
+    match repeated_of(times, digits) {
         Some(bytes) => Ok(bytes),
         None => Err(ParseFault::IllFormed(IllFormed::BadLine)),
     }
 }
 
 /// What a number and what stands behind the `*` spell: nothing where there is another `*`.
-fn repeated_once(alloc: Global, times: &str, digits: &str) -> Result<BlockBytes, ParseFault>
+fn repeated_once(times: &str, digits: &str) -> Result<BlockBytes, ParseFault>
     ensures { ParsesInParts IllFormed.BadLine result (spec.bytes_by (times.now ∷ pieces_at 42 digits.now)) }
 {
     match digits.split_once('*') {
         Some(_) => Err(ParseFault::IllFormed(IllFormed::BadLine)),
-        None => repeated(alloc, times, digits),
+        None => repeated(times, digits),
     }
 }
 
@@ -98,7 +98,7 @@ fn bytes_in(alloc: Global, word: &str) -> Result<BlockBytes, ParseFault>
     ensures { ParsesInParts IllFormed.BadLine result (spec.bytes_by (pieces_at 42 word.now)) }
 {
     match word.split_once('*') {
-        Some((times, digits)) => repeated_once(alloc, times, digits),
+        Some((times, digits)) => repeated_once(times, digits),
         None => listed(alloc, word),
     }
 }

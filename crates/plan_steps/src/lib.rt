@@ -4,4 +4,3 @@
 pub mod answered;
 pub mod lead;
 mod orders;
-pub mod principal;

@@ -2,12 +2,12 @@ ghost use Rattle.std.specs.Prelude.{◌≡◌, IfOk};
 ghost use Rattle.node_calls.specs.declared.call.TokenCall.TheVariants as made;
 ghost use Rattle.plan_steps.specs.PlanStep as spec;
 
-use crate::principal::principal_of;
 use hdfs_values::ids::{BlockId, Stamp};
 use hdfs_values::node_id::NodeId;
 use node_calls::call::{NodeCall, TokenCall};
 use node_calls::message::{Message, Messages};
 use node_calls::presented::{Presented, PresentedToken};
+use node_calls::principal::principal_of;
 use std::alloc::{AllocError, Global};
 
 // The leading node presents a token in its own name.
@@ -36,7 +36,7 @@ pub(crate) fn inits(
 ) -> Result<Messages, AllocError>
     ensures { IfOk result (λ sent. sent ≡ spec.to_each presented.now made.InitRecovery nodes.now) }
 {
-    let mut sent = Messages::new(alloc);
+    let mut sent = Messages::with_room(alloc, nodes.len())?;
     for node in nodes {
         let call = NodeCall::Presenting(presented.clone()?, TokenCall::InitRecovery);
         sent.push(Message::Node(*node, call))?;
@@ -53,7 +53,7 @@ pub(crate) fn updates(
 ) -> Result<Messages, AllocError>
     ensures { IfOk result (λ sent. sent ≡ spec.to_each presented.now (made.UpdateReplica length) nodes.now) }
 {
-    let mut sent = Messages::new(alloc);
+    let mut sent = Messages::with_room(alloc, nodes.len())?;
     for node in nodes {
         let call = NodeCall::Presenting(presented.clone()?, TokenCall::UpdateReplica(length));
         sent.push(Message::Node(*node, call))?;

@@ -19,7 +19,7 @@ fn begin(alloc: Global) -> TokenCall {
 }
 
 fn packet(alloc: Global, offset: u64, byte: u8, times: u64) -> TokenCall {
-    let bytes = BlockBytes::repeated(alloc, byte, times);
+    let bytes = BlockBytes::repeated(byte, times);
     TokenCall::Packet(offset, bytes, NodeList::new(Vec::new(alloc)))
 }
 
@@ -27,8 +27,8 @@ fn finalize(alloc: Global, length: u64) -> TokenCall {
     TokenCall::Finalize(length, NodeList::new(Vec::new(alloc)))
 }
 
-fn copy(alloc: Global, byte: u8, times: u64) -> TokenCall {
-    TokenCall::TakeCopy(BlockBytes::repeated(alloc, byte, times))
+fn copy(byte: u8, times: u64) -> TokenCall {
+    TokenCall::TakeCopy(BlockBytes::repeated(byte, times))
 }
 
 // Whether a call is let through, and done.
@@ -159,12 +159,7 @@ fn packets_are_judged(alloc: Global) -> bool {
             ReplicaRefusal::NoReplica,
         )
         && refused(&replicas, 6000, begin(alloc), ReplicaRefusal::ReplicaExists)
-        && refused(
-            &replicas,
-            1,
-            copy(alloc, b'a', 1),
-            ReplicaRefusal::ReplicaExists,
-        )
+        && refused(&replicas, 1, copy(b'a', 1), ReplicaRefusal::ReplicaExists)
 }
 
 #[test]
@@ -240,16 +235,16 @@ fn promises_stay(alloc: Global) -> bool {
         && refused(
             &replicas,
             1000,
-            copy(alloc, b'c', 1),
+            copy(b'c', 1),
             ReplicaRefusal::StampDiffers(Stamp::new(1001)),
         )
         && refused(
             &replicas,
             1001,
-            copy(alloc, b'c', LIMIT + 1),
+            copy(b'c', LIMIT + 1),
             ReplicaRefusal::OutOfRange,
         )
-        && done(&mut replicas, 1001, copy(alloc, b'c', 2))
+        && done(&mut replicas, 1001, copy(b'c', 2))
         && reads(&replicas, 0, 2, b"cc")
         && floor_is(&replicas, 1001)
 }

@@ -87,7 +87,7 @@ impl ReplicaBytes {
     pub fn copied(&self) -> Result<BlockBytes, AllocError>
         ensures { IfOk result (λ bytes. bytes ≡ self.now) }
     {
-        Ok(BlockBytes::new(self.bytes.clone()?))
+        BlockBytes::new(self.bytes.clone()?)
     }
 }
 

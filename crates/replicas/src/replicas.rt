@@ -101,7 +101,7 @@ impl Replicas {
     {
         match self.replica(block) {
             Some(replica) => replica.bytes.copied(),
-            None => Ok(BlockBytes::new(Vec::new(self.alloc))),
+            None => Ok(BlockBytes::repeated(0, 0)),
         }
     }
 

@@ -1,4 +1,4 @@
-use Rattle.std.proofs.Common.{◌≡◌, [], sym, ap, ◌∙◌, rules}
+use Rattle.std.proofs.Common.{◌≡◌, [], ap, ◌∙◌, rules}
 use Rattle.block_records.specs.Marks.{marks_for, with_marks}
 use Rattle.block_records.proofs.Waiting.{all_for}
 use Rattle.block_records.proofs.mark.Marks.for_node.Goals as goal

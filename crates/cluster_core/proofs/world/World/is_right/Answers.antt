@@ -1,7 +1,8 @@
 use Rattle.std.proofs.Common.{subst}
 use Rattle.cluster_trace.specs.Provenance.{AllRight}
 use Rattle.cluster_trace.specs.Typed.{AreTyped}
-use Rattle.cluster_core.proofs.Reaching.{reached_right}
+use Rattle.cluster_laws.specs.Laws.{RecordsOf}
+use Rattle.cluster_core.proofs.Reaching.{reached_right, reached_rest}
 use Rattle.cluster_core.specs.Past.{Past}
 use Rattle.cluster_core.proofs.world.World.is_right.Goals as goal
 
@@ -10,3 +11,6 @@ returns-clause-right c = subst (λ (past : Past). AllRight past.opening past.eve
 
 pub returns-clause-typed : goal.returns-clause-typed
 returns-clause-typed c = subst (λ (past : Past). AreTyped past.opening past.events) c.self.view_is c.self.invariant.typed
+
+pub returns-clause-rest : goal.returns-clause-rest
+returns-clause-rest c = subst (λ (past : Past). RecordsOf past.opening past.events) c.self.view_is (reached_rest c.self.inside c.self.invariant)
