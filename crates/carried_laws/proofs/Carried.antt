@@ -1,5 +1,5 @@
 -- Over every list of events, DataNodes tell the leading node of replicas that they had when they let a recovery begin, and when they were updated.
-use Rattle.std.proofs.Common.{◌≡◌, ℕ, Bool, true, false, List, [], ◌∷◌, length, Option, Some, None, unwrap_or, refl, sym, ap, ◌∙◌, subst, cond}
+use Rattle.std.proofs.Common.{◌≡◌, ℕ, List, [], ◌∷◌, length, Option, Some, None, unwrap_or, refl, sym, ap, ◌∙◌, subst, cond}
 use Rattle.std.specs.Prelude.{option_map}
 use Rattle.std.specs.Bool.{⊤}
 use Rattle.std.specs.List.{AllByRecursion}
@@ -10,7 +10,6 @@ use Rattle.block_tokens.specs.TokenTest.{token_test}
 use Rattle.datanode_laws.proofs.Nodes.{replica_passes}
 use Rattle.datanode_laws.proofs.Steps.{never}
 use Rattle.hdfs_types.specs.declared.commands.Recover.{Recover}
-use Rattle.hdfs_values.specs.NodeId.{node_principal}
 use Rattle.node_calls.specs.declared.call.NodeCall.{NodeCall}
 use Rattle.node_calls.specs.declared.call.NodeCall.TheVariants.{Presenting}
 use Rattle.node_calls.specs.declared.call.PlanCall.{PlanCall}
@@ -22,15 +21,14 @@ use Rattle.node_calls.specs.declared.call.TokenCall.TheVariants as call
 use Rattle.node_calls.specs.declared.message.Message.{Message}
 use Rattle.node_calls.specs.declared.message.Message.TheVariants as message
 use Rattle.node_calls.specs.declared.presented.Presented.{Presented}
-use Rattle.node_calls.specs.declared.refusal.NodeRefusal.{NodeRefusal}
 use Rattle.node_calls.specs.declared.refusal.ReplicaRefusal.TheVariants.{NoReplica}
-use Rattle.node_replies.specs.Asking.{asked_by, sends_copy}
+use Rattle.node_replies.specs.Asking.{asked_by}
 use Rattle.node_replies.specs.Sending.{call_reply}
 use Rattle.replicas.specs.ReplicaStep as step
 use Rattle.replicas.specs.ReplicaStep.{held_at, replica_refusal, blocks_after}
 use Rattle.replicas.specs.declared.held.Held.{Held}
 use Rattle.replicas.specs.declared.replica.Replica.{Replica}
-use Rattle.datanode.specs.NodeStep.{Node, node_after, node_answer, presented_after, presented_by, clock_with, call_refusal, access_of}
+use Rattle.datanode.specs.NodeStep.{Node, node_after, node_answer, clock_with, call_refusal, access_of}
 use Rattle.cluster_trace.specs.Provenance.{call_of}
 use Rattle.cluster_trace.specs.Trace.{Opening, Happened, happened, after}
 use Rattle.cluster_trace.specs.declared.event.Event.{Event}
@@ -41,6 +39,7 @@ use Rattle.fencing_laws.proofs.Behind.{set_there}
 use Rattle.kept_bytes_laws.proofs.Fronts.{asked_block, served_answer}
 use Rattle.kept_bytes_laws.proofs.Held.{IsFinal, update_leaves}
 use Rattle.kept_bytes_laws.proofs.Sent.{Calls, event_sends, entry_sends}
+use Rattle.kept_bytes_laws.proofs.Told.{blocks_left, asked_stamp}
 use Rattle.kept_bytes_laws.proofs.Since.{served_at, answered_at, ids_stand}
 use Rattle.carried_laws.specs.Carried.{HasAnswered, HasUpdated, AnswersAreHeld}
 
@@ -50,18 +49,6 @@ use Rattle.carried_laws.specs.Carried.{HasAnswered, HasUpdated, AnswersAreHeld}
 begins : (limit stamp promised : ℕ) (found : Option Replica) → replica_refusal limit call.InitRecovery stamp (record { replica = found; promised = promised }) ≡ None → (replica : Replica) × (found ≡ Some replica)
 begins limit stamp promised None e = absurd (never NoReplica e)
 begins limit stamp promised (Some replica) e = (replica, refl)
-
-blocks_left : (node : Node) (now : ℕ) (presented : Presented) (asked : TokenCall) → call_refusal node (clock_with node now) (asked_by node.id presented asked) asked ≡ None
-    → (node_after node now (Presenting presented asked)).blocks ≡ blocks_after asked (asked_by node.id presented asked).stamp (asked_by node.id presented asked).block node.blocks
-unfolding node_after presented_after
-blocks_left node now presented asked e = ap (λ (refused : Option NodeRefusal). (presented_by node (clock_with node now) (asked_by node.id presented asked) asked refused).blocks) e
-
-same_stamp : (b : Bool) (given : Presented) (principal : List ℕ) → (cond b (record given { caller = principal }) given).stamp ≡ given.stamp
-same_stamp true given principal = refl
-same_stamp false given principal = refl
-
-asked_stamp : (id : ℕ) (presented : Presented) (asked : TokenCall) → (asked_by id presented asked).stamp ≡ presented.stamp
-asked_stamp id presented asked = same_stamp (sends_copy asked) presented (node_principal id)
 
 -- ---- messages
 

@@ -1,24 +1,19 @@
 -- A plan notes DataNodes that told of their updates: so those that the end of a recovery names were updated.
-use Rattle.std.proofs.Common.{◌≡◌, ℕ, Bool, true, false, ◌&&◌, ◌||◌, ◌⊎◌, inl, inr, List, [], ◌∷◌, ◌++◌, Option, Some, None, unwrap_or, refl, sym, ap, ◌∙◌, subst, cond}
-use Rattle.std.specs.Prelude.{option_map}
+use Rattle.std.proofs.Common.{◌≡◌, ℕ, Bool, true, false, inl, inr, List, [], ◌∷◌, ◌++◌, Option, Some, unwrap_or, refl, sym, ap, ◌∙◌, subst, cond}
 use Rattle.std.specs.List.{list_any}
 use Rattle.block_records.specs.Numbers.{is_number, entry_at}
 use Rattle.block_records.proofs.Numbers.{number_is}
-use Rattle.block_recovery.specs.Plans.{PlanTable, plan_at, changed, new_plan, with_answer, with_decision, with_updated}
+use Rattle.block_recovery.specs.Plans.{PlanTable, plan_at}
 use Rattle.block_recovery.specs.declared.decision.Decision.{Decision}
-use Rattle.block_recovery.specs.declared.fault.PlanRefusal.{PlanRefusal}
 use Rattle.block_recovery.specs.declared.plan.Plan.{Plan}
-use Rattle.block_recovery.proofs.Lookups.{has_inserted}
-use Rattle.block_recovery.proofs.Steps.{plan_changed, plan_begun}
-use Rattle.node_calls.specs.declared.call.PlanCall.{PlanCall}
 use Rattle.node_calls.specs.declared.call.PlanCall.TheVariants as plan
 use Rattle.node_calls.specs.declared.message.Message.{Message}
 use Rattle.node_calls.specs.declared.message.Message.TheVariants as message
-use Rattle.plan_steps.specs.PlanStep.{recover_of, answer_of, plan_refusal, left_unless, plans_after}
+use Rattle.plan_steps.specs.PlanStep.{plans_after}
 use Rattle.cluster_trace.specs.Provenance.{IsIn, call_of}
 use Rattle.cluster_trace.specs.Trace.{State, Opening, Happened, happened, after}
 use Rattle.cluster_trace.specs.declared.event.Event.{Event}
-use Rattle.cluster_trace.proofs.Each.{some_is, never_some, each_in, in_append}
+use Rattle.cluster_trace.proofs.Each.{some_is, each_in, in_append}
 use Rattle.cluster_trace.proofs.Sound.{message_brings}
 use Rattle.fencing_laws.specs.Fencing.{plan_in, HasDecided}
 use Rattle.fencing_laws.proofs.Behind.{set_there}
@@ -26,82 +21,12 @@ use Rattle.fencing_laws.proofs.Decided.{CommitDecided, commits_are_decided}
 use Rattle.fencing_laws.proofs.OnePlan.{all_ordered, updates_follow}
 use Rattle.kept_bytes_laws.proofs.Noted.{NotedBy, Noted, all_noted}
 use Rattle.kept_bytes_laws.proofs.Sent.{is_driven, Leads, Does, does}
+use Rattle.kept_bytes_laws.proofs.Told.{HadOrNow, had_or_now}
 use Rattle.carried_laws.specs.Carried.{HasUpdated, CommitsNameTheUpdated}
 use Rattle.carried_laws.proofs.Carried.{CarriesHeld, all_carried}
 
--- ---- one call of a DataNode that leads
-
 abbrev HasNoted : ℕ → Plan → Type 0
 HasNoted node own = list_any (is_number node) own.updated ≡ true
-
--- it had noted the node before
-record Had (plans : PlanTable) (block stamp node : ℕ) : Type 0 where
-  old : Plan
-  there : plan_at block stamp plans ≡ Some old
-  noted : HasNoted node old
-
--- or is told now that the node updated its replica
-abbrev HadOrNow : PlanCall → PlanTable → ℕ → ℕ → ℕ → Type 0
-HadOrNow asked plans block stamp node = Had plans block stamp node ⊎ (asked ≡ plan.Updated node block stamp)
-
-had_changed : (change : Plan → Plan) → ((own : Plan) → (change own).updated ≡ own.updated) → (block stamp b s node : ℕ) (plans : PlanTable) (own : Plan)
-    → plan_at b s (changed change block stamp plans) ≡ Some own → HasNoted node own → Had plans b s node
-had_changed change keeps block stamp b s node plans own e noted = by (is_number block b && is_number stamp s) (plan_at b s plans) refl (sym (plan_changed change block stamp b s plans) ∙ e)
-  where
-    by : (x : Bool) (found : Option Plan) → plan_at b s plans ≡ found → cond x (option_map change found) found ≡ Some own → Had plans b s node
-    by true None at h = absurd (never_some own h)
-    by true (Some old) at h =
-        let is : change old ≡ own = some_is (change old) own h in
-        record { old = old; there = at; noted = ap (list_any (is_number node)) (sym (keeps old)) ∙ (ap (λ (p : Plan). list_any (is_number node) p.updated) is ∙ noted) }
-    by false None at h = absurd (never_some own h)
-    by false (Some old) at h = record { old = own; there = at ∙ h; noted = noted }
-
-noted_now : (from block stamp b s node : ℕ) (plans : PlanTable) (own : Plan) → plan_at b s (changed (with_updated from) block stamp plans) ≡ Some own → HasNoted node own
-    → HadOrNow (plan.Updated from block stamp) plans b s node
-noted_now from block stamp b s node plans own e noted =
-    by (is_number block b) refl (is_number stamp s) refl (plan_at b s plans) refl (sym (plan_changed (with_updated from) block stamp b s plans) ∙ e)
-  where
-    one : (old : Plan) → plan_at b s plans ≡ Some old → block ≡ b → stamp ≡ s → (y : Bool) → is_number node from ≡ y → (y || list_any (is_number node) old.updated) ≡ true → HadOrNow (plan.Updated from block stamp) plans b s node
-    one old at first second true is h = inr (
-        ap (λ (n : ℕ). plan.Updated n block stamp) (sym (number_is node from is))
-        ∙ (ap (λ (n : ℕ). plan.Updated node n stamp) first ∙ ap (λ (n : ℕ). plan.Updated node b n) second))
-    one old at first second false is h = inl (record { old = old; there = at; noted = h })
-
-    by : (x : Bool) → is_number block b ≡ x → (y : Bool) → is_number stamp s ≡ y → (found : Option Plan) → plan_at b s plans ≡ found
-        → cond (x && y) (option_map (with_updated from) found) found ≡ Some own → HadOrNow (plan.Updated from block stamp) plans b s node
-    by true p true q None at h = absurd (never_some own h)
-    by true p true q (Some old) at h =
-        let is : with_updated from old ≡ own = some_is (with_updated from old) own h in
-        one old at (number_is block b p) (number_is stamp s q) (is_number node from) refl
-        (sym (has_inserted from node old.updated) ∙ (ap (λ (p : Plan). list_any (is_number node) p.updated) is ∙ noted))
-    by true p false q found at h = inl (record { old = own; there = at ∙ h; noted = noted })
-    by false p y q found at h = inl (record { old = own; there = at ∙ h; noted = noted })
-
-begins_without : (block stamp : ℕ) (nodes token : List ℕ) (b s node : ℕ) (plans : PlanTable) (own : Plan)
-    → cond (is_number b block && is_number s stamp) (Some (new_plan (recover_of block stamp nodes token))) (plan_at b s plans) ≡ Some own → HasNoted node own → Had plans b s node
-begins_without block stamp nodes token b s node plans own e noted = by (is_number b block && is_number s stamp) e
-  where
-    never : false ≡ true → ⊥
-    never e = cc
-
-    by : (x : Bool) → cond x (Some (new_plan (recover_of block stamp nodes token))) (plan_at b s plans) ≡ Some own → Had plans b s node
-    by true h = absurd (never (ap (λ (p : Plan). list_any (is_number node) p.updated) (some_is (new_plan (recover_of block stamp nodes token)) own h) ∙ noted))
-    by false h = record { old = own; there = h; noted = noted }
-
-had_or_now : (asked : PlanCall) (plans : PlanTable) (b s node : ℕ) (own : Plan) → plan_at b s (plans_after asked plans) ≡ Some own → HasNoted node own → HadOrNow asked plans b s node
-unfolding plans_after
-had_or_now asked plans b s node own e noted = by (plan_refusal asked plans) e
-  where
-    left : (call : PlanCall) → plan_at b s (left_unless call plans None) ≡ Some own → HadOrNow call plans b s node
-    left (plan.Recover block stamp nodes token) h = inl (begins_without block stamp nodes token b s node plans own (sym (plan_begun (recover_of block stamp nodes token) b s plans) ∙ h) noted)
-    left (plan.Reply from block stamp state count) h = inl (had_changed (with_answer from (answer_of state count)) (λ one. refl) block stamp b s node plans own h noted)
-    left (plan.Decide block stamp) h = inl (had_changed with_decision (λ one. refl) block stamp b s node plans own h noted)
-    left (plan.Updated from block stamp) h = noted_now from block stamp b s node plans own h noted
-    left (plan.Commit block stamp) h = inl (record { old = own; there = h; noted = noted })
-
-    by : (refused : Option PlanRefusal) → plan_at b s (left_unless asked plans refused) ≡ Some own → HadOrNow asked plans b s node
-    by (Some refusal) h = inl (record { old = own; there = h; noted = noted })
-    by None h = left asked h
 
 -- ---- each event
 

@@ -78,7 +78,7 @@ held_now opening events id block stamp count own there final = record {
 
 -- ---- a call that is served
 
-blocks_left : (node : Node) (now : ℕ) (presented : Presented) (asked : TokenCall) → call_refusal node (clock_with node now) (asked_by node.id presented asked) asked ≡ None
+pub blocks_left : (node : Node) (now : ℕ) (presented : Presented) (asked : TokenCall) → call_refusal node (clock_with node now) (asked_by node.id presented asked) asked ≡ None
     → (node_after node now (Presenting presented asked)).blocks ≡ blocks_after asked (asked_by node.id presented asked).stamp (asked_by node.id presented asked).block node.blocks
 unfolding node_after presented_after
 blocks_left node now presented asked e = ap (λ (refused : Option NodeRefusal). (presented_by node (clock_with node now) (asked_by node.id presented asked) asked refused).blocks) e
@@ -87,7 +87,7 @@ same_stamp : (b : Bool) (given : Presented) (principal : List ℕ) → (cond b (
 same_stamp true given principal = refl
 same_stamp false given principal = refl
 
-asked_stamp : (id : ℕ) (presented : Presented) (asked : TokenCall) → (asked_by id presented asked).stamp ≡ presented.stamp
+pub asked_stamp : (id : ℕ) (presented : Presented) (asked : TokenCall) → (asked_by id presented asked).stamp ≡ presented.stamp
 asked_stamp id presented asked = same_stamp (sends_copy asked) presented (node_principal id)
 
 -- ---- messages
@@ -219,12 +219,12 @@ all_told opening (event ∷ earlier) =
 -- ---- one call of a DataNode that leads
 
 -- it had noted the node before
-record Had (plans : PlanTable) (block stamp node : ℕ) : Type 0 where
-  old : Plan
-  there : plan_at block stamp plans ≡ Some old
-  noted : list_any (is_number node) old.updated ≡ true
+pub record Had (plans : PlanTable) (block stamp node : ℕ) : Type 0 where
+  pub old : Plan
+  pub there : plan_at block stamp plans ≡ Some old
+  pub noted : list_any (is_number node) old.updated ≡ true
 
-abbrev HadOrNow : PlanCall → PlanTable → ℕ → ℕ → ℕ → Type 0
+abbrev pub HadOrNow : PlanCall → PlanTable → ℕ → ℕ → ℕ → Type 0
 HadOrNow asked plans block stamp node = Had plans block stamp node ⊎ (asked ≡ plan.Updated node block stamp)
 
 had_changed : (change : Plan → Plan) → ((own : Plan) → (change own).updated ≡ own.updated) → (block stamp b s node : ℕ) (plans : PlanTable) (own : Plan)
@@ -271,7 +271,7 @@ begins_without block stamp nodes token b s node plans own e noted = by (is_numbe
     by true h = absurd (never (ap (λ (p : Plan). list_any (is_number node) p.updated) (some_is (new_plan (recover_of block stamp nodes token)) own h) ∙ noted))
     by false h = record { old = own; there = h; noted = noted }
 
-had_or_now : (asked : PlanCall) (plans : PlanTable) (b s node : ℕ) (own : Plan) → plan_at b s (plans_after asked plans) ≡ Some own → list_any (is_number node) own.updated ≡ true → HadOrNow asked plans b s node
+pub had_or_now : (asked : PlanCall) (plans : PlanTable) (b s node : ℕ) (own : Plan) → plan_at b s (plans_after asked plans) ≡ Some own → list_any (is_number node) own.updated ≡ true → HadOrNow asked plans b s node
 unfolding plans_after
 had_or_now asked plans b s node own e noted = by (plan_refusal asked plans) e
   where
