@@ -61,7 +61,7 @@ fn with_code(key: &CodeKey, mut bytes: Vec<u8>) -> Result<TokenBytes, AllocError
 {
     let code = key.code(&bytes);
     bytes.extend_from_slice(&code)?;
-    Ok(TokenBytes::new(bytes))
+    TokenBytes::new(bytes)
 }
 
 impl KeyRing {

@@ -82,7 +82,7 @@ pub fn encode(alloc: Global, body: &Body) -> Result<TokenBytes, AllocError>
 {
     let mut bytes = coded(alloc, body)?;
     bytes.extend_from_slice(&body.code)?;
-    Ok(TokenBytes::new(bytes))
+    TokenBytes::new(bytes)
 }
 
 /// The parts of a token's text, in time linear in the text; it takes no memory. `None` where the bytes are no token's text.

@@ -97,7 +97,7 @@ fn copy_call(alloc: Global, node: NodeId, copy: &CopyOrder) -> Result<NodeCall, 
         caller: principal_of(alloc, node)?,
         block: copy.block,
         stamp: copy.stamp,
-        token: PresentedToken::copied(alloc, copy.token.as_bytes())?,
+        token: PresentedToken::granted(&copy.token)?,
     };
     Ok(NodeCall::Presenting(presented, TokenCall::SendCopy(copy.target)))
 }

@@ -1,11 +1,12 @@
-ghost use Rattle.std.specs.Prelude.{◌≡◌};
+ghost use Rattle.std.specs.Prelude.{◌≡◌, IfOk};
 
+use bytes::{Bytes, BytesMut};
 use std::alloc::AllocError;
 use std::marker::Model;
 
-/// The bytes of a token's text.
+/// The bytes of a token's text. Whoever holds the token shares them.
 pub struct TokenBytes {
-    bytes: Vec<u8>,
+    bytes: Bytes,
 }
 
 impl Drop for TokenBytes {
@@ -20,13 +21,26 @@ impl Model for TokenBytes {
 
     ghost Value = { List ℕ };
 
-    ghost view = { λ token. token.bytes.items };
+    ghost view = { λ token. token.bytes };
 }
 
 impl TokenBytes {
-    /// These bytes. Takes no memory.
-    pub fn new(bytes: Vec<u8>) -> TokenBytes
-        ensures { result ≡ bytes.items }
+    /// These bytes. They aren't copied.
+    ///
+    /// # Errors
+    /// Out of memory.
+    pub fn new(bytes: Vec<u8>) -> Result<TokenBytes, AllocError>
+        ensures { IfOk result (λ token. token ≡ bytes.items) }
+    {
+        match BytesMut::from_vec(bytes).freeze() {
+            Ok(bytes) => Ok(TokenBytes { bytes }),
+            Err(_) => Err(AllocError),
+        }
+    }
+
+    /// The token with these bytes, which are shared.
+    pub fn of(bytes: Bytes) -> TokenBytes
+        ensures { result ≡ bytes }
     {
         TokenBytes { bytes }
     }
@@ -35,6 +49,16 @@ impl TokenBytes {
         ensures { result.now ≡ self.now }
     {
         self.bytes.as_slice()
+    }
+
+    /// The bytes, which are shared with the token and not copied.
+    ///
+    /// # Errors
+    /// Out of memory.
+    pub fn shared(&self) -> Result<Bytes, AllocError>
+        ensures { IfOk result (λ bytes. bytes ≡ self.now) }
+    {
+        self.bytes.clone()
     }
 }
 

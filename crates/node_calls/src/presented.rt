@@ -1,6 +1,7 @@
 ghost use Rattle.std.specs.Prelude.{◌≡◌, IfOk};
 
 use bytes::Bytes;
+use hdfs_types::token_bytes::TokenBytes;
 use hdfs_values::ids::{BlockId, Stamp};
 use hdfs_values::who::Who;
 use std::alloc::{AllocError, Global};
@@ -38,6 +39,28 @@ impl PresentedToken {
         Ok(PresentedToken {
             bytes: Bytes::copy_from_slice(alloc, bytes)?,
         })
+    }
+
+    /// The token of a grant. Its bytes are shared, not copied.
+    ///
+    /// # Errors
+    /// Out of memory.
+    pub fn granted(token: &TokenBytes) -> Result<PresentedToken, AllocError>
+        ensures { IfOk result (λ presented. presented ≡ token.now) }
+    {
+        Ok(PresentedToken {
+            bytes: token.shared()?,
+        })
+    }
+
+    /// These bytes as those of a token, which nobody has tested. They are shared, not copied.
+    ///
+    /// # Errors
+    /// Out of memory.
+    pub fn to_token(&self) -> Result<TokenBytes, AllocError>
+        ensures { IfOk result (λ token. token ≡ self.now) }
+    {
+        Ok(TokenBytes::of(self.bytes.clone()?))
     }
 
     /// The bytes. Takes no memory.

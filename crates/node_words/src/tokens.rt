@@ -28,7 +28,7 @@ fn row_of<'a>(ledger: &'a [LedgerRow], word: &str) -> Option<&'a LedgerRow>
     row_at(ledger, number)
 }
 
-/// Reads a token that was granted: `#` and the number of its row in the ledger, counted from 1. It is copied. Costs no search.
+/// Reads a token that was granted: `#` and the number of its row in the ledger, counted from 1. Its bytes are shared. Costs no search.
 ///
 /// # Errors
 /// `BadLine` where the ledger has no such row, or out of memory.
@@ -40,7 +40,7 @@ pub fn token_word(
     ensures { Forms result (spec.token_word ledger.now word.now) }
 {
     match row_of(ledger, word) {
-        Some(row) => Ok(PresentedToken::copied(alloc, row.grant.token.as_bytes())?),
+        Some(row) => Ok(PresentedToken::granted(&row.grant.token)?),
         None => Err(ParseFault::IllFormed(IllFormed::BadLine)),
     }
 }

@@ -10,7 +10,6 @@ use block_recovery::answer::Answer;
 use block_recovery::fault::{PlanFault, PlanRefusal};
 use block_recovery::plans::Plans;
 use block_recovery::recover::Recover;
-use block_tokens::token::TokenBytes;
 use hdfs_values::ids::{BlockId, Stamp};
 use hdfs_values::node_id::NodeId;
 use node_calls::call::{PlanCall, ReplicaState};
@@ -51,7 +50,7 @@ pub fn begin(
     ensures err { OnErr result (plans.new ≡ plans.old) }
 {
     let (block, stamp) = (recover.block, recover.stamp);
-    let presented = presenting(alloc, leader, block, stamp, recover.token.as_bytes())?;
+    let presented = presenting(alloc, leader, block, stamp, &recover.token)?;
     let messages = inits(alloc, &presented, recover.nodes.as_slice())?;
     match plans.begin(recover) {
         Ok(nodes) => Ok(PlanAnswered {
@@ -65,7 +64,6 @@ pub fn begin(
 
 // The recovery that a message tells of.
 fn recover_of(
-    alloc: Global,
     block: BlockId,
     stamp: Stamp,
     nodes: &NodeSet,
@@ -77,7 +75,7 @@ fn recover_of(
         block,
         stamp,
         nodes: nodes.clone()?,
-        token: TokenBytes::new(Vec::from_slice(alloc, token.as_bytes())?),
+        token: token.to_token()?,
     })
 }
 
@@ -128,7 +126,7 @@ fn decided_updates(
     let Some(decision) = plan.answers.decision(alloc)? else {
         return Ok(Messages::new(alloc));
     };
-    let presented = presenting(alloc, leader, block, stamp, plan.token.as_bytes())?;
+    let presented = presenting(alloc, leader, block, stamp, &plan.token)?;
     updates(
         alloc,
         &presented,
@@ -217,7 +215,7 @@ pub fn lead(
 {
     match call {
         PlanCall::Recover(block, stamp, nodes, token) => {
-            let recover = recover_of(alloc, *block, *stamp, nodes, token)?;
+            let recover = recover_of(*block, *stamp, nodes, token)?;
             begin(alloc, plans, leader, &recover)
         }
         PlanCall::Reply(node, block, stamp, state, length) => {

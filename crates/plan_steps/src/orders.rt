@@ -2,6 +2,7 @@ ghost use Rattle.std.specs.Prelude.{◌≡◌, IfOk};
 ghost use Rattle.node_calls.specs.declared.call.TokenCall.TheVariants as made;
 ghost use Rattle.plan_steps.specs.PlanStep as spec;
 
+use hdfs_types::token_bytes::TokenBytes;
 use hdfs_values::ids::{BlockId, Stamp};
 use hdfs_values::node_id::NodeId;
 use node_calls::call::{NodeCall, TokenCall};
@@ -16,7 +17,7 @@ pub(crate) fn presenting(
     leader: NodeId,
     block: BlockId,
     stamp: Stamp,
-    token: &[u8],
+    token: &TokenBytes,
 ) -> Result<Presented, AllocError>
     ensures { IfOk result (λ presented. presented ≡ spec.presenting leader block stamp token.now) }
 {
@@ -24,7 +25,7 @@ pub(crate) fn presenting(
         caller: principal_of(alloc, leader)?,
         block,
         stamp,
-        token: PresentedToken::copied(alloc, token)?,
+        token: PresentedToken::granted(token)?,
     })
 }
 
