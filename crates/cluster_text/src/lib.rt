@@ -3,5 +3,6 @@
 
 pub mod event_line;
 pub mod node_reply;
+mod numbers;
 pub mod plan_reply;
 pub mod told;

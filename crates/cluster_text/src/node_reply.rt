@@ -6,6 +6,7 @@ ghost use Rattle.hex.specs.Hex.{encode_lower, lower_digits};
 ghost use Rattle.node_calls.specs.declared.reply.NodeReply.TheVariants as reply;
 ghost use Rattle.cluster_text.specs.ToldText as spec;
 
+use crate::numbers::push_number;
 use bytes::Bytes;
 use hdfs_values::ids::Stamp;
 use node_calls::call::ReplicaState;
@@ -128,8 +129,8 @@ fn print_replica(
 fn print_number(word: &str, number: u64, line: &mut String) -> Result<(), AllocError>
     ensures { OnOk result (string_bytes line.new ≡ string_bytes line.old ++ (word.now ++ decimal number)) }
 {
-    write!(line, "{word}{number}")?;
-    Ok(())
+    line.push_str(word)?;
+    push_number(number, line)
 }
 
 fn print_reply(reply: &NodeReply, line: &mut String) -> Result<(), AllocError>

@@ -4,10 +4,12 @@ ghost use Rattle.cluster_trace.specs.Refusals.{cluster_refusal_text};
 ghost use Rattle.cluster_text.specs.ToldText as spec;
 
 use crate::node_reply::print_called;
+use crate::numbers::push_number;
 use crate::plan_reply::print_led;
 use cluster_trace::outcome::{ClusterRefusal, EventAnswer, Outcome};
 use flat_rows::verdict::Verdict;
 use hdfs_values::fault::IllFormed;
+use itoa::Buffer;
 use script_text::answer::Answer;
 use std::alloc::{AllocError, Global};
 
@@ -56,8 +58,10 @@ fn print_sent(first: u64, count: u64, line: &mut String) -> Result<(), AllocErro
         return Ok(());
     }
     let last = u128::from(first) + u128::from(count - 1);
-    write!(line, " sent {first}-{last}")?;
-    Ok(())
+    line.push_str(" sent ")?;
+    push_number(first, line)?;
+    line.push('-')?;
+    line.push_str(Buffer::new().format(last))
 }
 
 /// Adds what comes of an event behind so many rows of the ledger, where this is the verdict of the newest entry behind it.
@@ -92,7 +96,8 @@ pub fn print_told(
     ensures err { OnErr result (string_bytes out.new ≡ string_bytes out.old) }
 {
     line.clear();
-    write!(line, "{number} ")?;
+    push_number(number as u64, line)?;
+    line.push(' ')?;
     print_outcome(alloc, rows, newest, outcome, line)?;
     line.push('\n')?;
     out.push_str(line.as_str())

@@ -23,6 +23,7 @@ use hdfs_types::file::LastBlock;
 use hdfs_types::op::Op;
 use hdfs_types::reply::{ObjectKind, Refusal, Reply};
 use hdfs_types::verb::Write;
+use hdfs_values::node_id::node_of;
 use hdfs_values::path::Path;
 use hdfs_values::who::Who;
 use inode_tree::tree::Tree;
@@ -217,7 +218,8 @@ pub fn judge_rights(
     walk(alloc, tree, &users.caller(caller), needs)
 }
 
-/// Judges an operation for DataNodes by its needs alone, for which it is of no use to be a superuser: the denial, or none.
+/// Judges an operation for DataNodes by its needs alone, for which it is of no use to be a superuser: the denial, or none. For the
+/// principal of a DataNode there is none, and nothing is looked up.
 ///
 /// # Errors
 /// Out of memory.
@@ -230,6 +232,9 @@ pub fn judge_node(
 ) -> Result<Option<Denial>, AllocError>
     ensures { (op : Op) → is_for_nodes op ≡ true → needs.now ≡ required_rights op → IfOk result (λ denial. denial ≡ decision tree.now users.now caller.now op) }
 {
+    if node_of(caller).is_some() {
+        return Ok(None);
+    }
     let user = users.caller(caller);
     let asking = Caller::new(user.name(), user.groups(), false);
     walk(alloc, tree, &asking, needs)
