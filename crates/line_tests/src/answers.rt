@@ -27,7 +27,7 @@ fn node_set(alloc: Global, ids: &[u32]) -> Result<NodeSet, AllocError> {
 /// A new block, with the token of one byte.
 fn added(alloc: Global, block: u64, stamp: u64, ids: &[u32]) -> Result<Reply, AllocError> {
     let targets = node_set(alloc, ids)?;
-    let token = TokenBytes::new(b"t".to_vec(alloc)?);
+    let token = TokenBytes::new(b"t".to_vec(alloc)?)?;
     let (block, stamp) = (BlockId::new(block), Stamp::new(stamp));
     Ok(Reply::Added(AddedBlock::new(alloc, block, stamp, targets, token)?))
 }
@@ -40,7 +40,7 @@ fn located(alloc: Global, numbers: [u64; 3], ids: &[u32]) -> Result<LocatedBlock
         stamp: Stamp::new(stamp),
         length,
         nodes: node_set(alloc, ids)?,
-        token: TokenBytes::new(b"t".to_vec(alloc)?),
+        token: TokenBytes::new(b"t".to_vec(alloc)?)?,
     })
 }
 

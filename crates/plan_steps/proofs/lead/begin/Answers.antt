@@ -20,8 +20,7 @@ returns-in-Ok-clause-answer c =
     (ap (λ (nodes : List ℕ). length nodes) (c.as_slice-in-Ok.ensures.nodes ∙ c.in-Ok.ensures.asked))
     (c.in_ok-messages.ensures
     ∙ (ap (λ (presented : Presented). to_each presented InitRecovery c.as_slice.result.now) c.in_ok-presented.ensures
-    ∙ (ap (λ (token : List ℕ). to_each (presenting c.args.leader own.block own.stamp token) InitRecovery c.as_slice.result.now) c.as_bytes.ensures
-    ∙ ap (λ (nodes : List ℕ). to_each (presenting c.args.leader own.block own.stamp own.token) InitRecovery nodes) c.as_slice.ensures.nodes)))
+    ∙ ap (λ (nodes : List ℕ). to_each (presenting c.args.leader own.block own.stamp own.token) InitRecovery nodes) c.as_slice.ensures.nodes))
 
 pub returns-in-Err-Refused-clause-ok : goal.returns-in-Err-Refused-clause-ok
 returns-in-Err-Refused-clause-ok c =
