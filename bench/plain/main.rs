@@ -33,7 +33,7 @@ mod sha1;
 mod text;
 mod tokens;
 mod tree;
-#[path = "../../crates/hdfs_bench/src/workload.rt"]
+#[path = "../../crates/bench_lines/src/workload.rt"]
 mod workload;
 
 use session::Session;
@@ -42,9 +42,7 @@ use std::mem;
 use std::process::ExitCode;
 use std::time::{Duration, Instant};
 use text::text_of;
-use workload::{
-    BLOCK_WORKLOADS, FILE_WORKLOADS, Operations, REPLICA_WORKLOADS, TREE_WORKLOADS, Workload,
-};
+use workload::{WORKLOADS, Workload, count_at, workload_named};
 
 /// The exit status for a fault of the command line.
 const BAD_COMMAND_LINE: u8 = 2;
@@ -71,11 +69,10 @@ fn run(session: &mut Session, before: &str, timed: &str) -> Duration {
 }
 
 /// How many operations the timed lines of a workload are.
-fn operations(workload: &Workload, size: u32, timed: &str) -> u128 {
+fn operations(workload: Workload, size: u32, timed: &str) -> u128 {
     match workload.operations {
-        Operations::Lines => timed.lines().count() as u128,
-        Operations::Size => size.into(),
-        Operations::Fixed(count) => count.into(),
+        "lines" => timed.lines().count() as u128,
+        count => count_at(count, size).into(),
     }
 }
 
@@ -83,7 +80,7 @@ fn print(text: &str) -> io::Result<()> {
     io::stdout().lock().write_all(text.as_bytes())
 }
 
-fn show(workload: &Workload, size: u32, shown: &str) -> io::Result<()> {
+fn show(name: &str, workload: Workload, size: u32, shown: &str) -> io::Result<()> {
     let before = text_of(workload.before, size);
     let timed = text_of(workload.timed, size);
     if shown == "script" {
@@ -97,30 +94,25 @@ fn show(workload: &Workload, size: u32, shown: &str) -> io::Result<()> {
     } else {
         let operations = operations(workload, size, &timed);
         let rate = operations * 1_000_000_000 / taken.as_nanos().max(1);
-        println!("{} {size} {rate}", workload.name);
+        println!("{name} {size} {rate}");
     }
     // what it holds needn't be given back
     mem::forget(session);
     Ok(())
 }
 
-fn workloads() -> impl Iterator<Item = &'static Workload> {
-    TREE_WORKLOADS
-        .iter()
-        .chain(&FILE_WORKLOADS)
-        .chain(&BLOCK_WORKLOADS)
-        .chain(&REPLICA_WORKLOADS)
+fn first_word(line: &str) -> Option<&str> {
+    line.split(' ').next()
 }
 
-/// A workload of a size, and what is shown of it.
-fn asked(words: &[&str]) -> Option<(&'static Workload, u32, String)> {
+/// A workload of a size, with its name, and what is shown of it.
+fn asked<'a>(words: &[&'a str]) -> Option<(&'a str, Workload, u32, &'a str)> {
     let (name, size, shown) = match words {
         [_, name, size] => (name, size, "rate"),
         [_, name, size, shown @ ("script" | "answers")] => (name, size, *shown),
         _ => return None,
     };
-    let workload = workloads().find(|workload| workload.name == *name)?;
-    Some((workload, size.parse().ok()?, shown.to_string()))
+    Some((name, workload_named(name)?, size.parse().ok()?, shown))
 }
 
 /// The workload that is no script.
@@ -156,14 +148,14 @@ fn main() -> io::Result<ExitCode> {
         show_tokens(count);
         return Ok(ExitCode::SUCCESS);
     }
-    let Some((workload, size, shown)) = asked(&words) else {
-        let names: Vec<&str> = workloads().map(|workload| workload.name).collect();
+    let Some((name, workload, size, shown)) = asked(&words) else {
+        let names: Vec<&str> = WORKLOADS.lines().filter_map(first_word).collect();
         eprintln!(
             "usage: plain NAME N [script|answers], with a NAME of: {} {CHECK_TOKEN}",
             names.join(" ")
         );
         return Ok(ExitCode::from(BAD_COMMAND_LINE));
     };
-    show(workload, size, &shown)?;
+    show(name, workload, size, shown)?;
     Ok(ExitCode::SUCCESS)
 }

@@ -1,10 +1,9 @@
-//! The lines of workloads, spelled by the rules of `crates/hdfs_bench/src/text.rt`.
+//! The lines of workloads, spelled by the rules of `crates/bench_lines/src/text.rt`.
 
-use crate::workload::{Block, Turns};
+use crate::workload::{block_named, count_at};
 use std::fmt::Write;
 
 const WRITERS: u32 = 100;
-const NODES: u32 = 10;
 
 /// How many bytes are listed.
 const BYTES: u32 = 512;
@@ -22,18 +21,6 @@ fn jumping(turn: u32, bound: u32) -> u32 {
 struct Turn {
     size: u32,
     number: u32,
-}
-
-impl Turns {
-    /// How many turns that is at a size.
-    fn at(self, size: u32) -> u32 {
-        match self {
-            Turns::Fixed(count) => count,
-            Turns::Size => size,
-            Turns::Half => size / 2,
-            Turns::Every(step) => size.div_ceil(step),
-        }
-    }
 }
 
 /// The number whose path a mark is, and how many of the five names.
@@ -84,7 +71,6 @@ fn push_mark(text: &mut String, mark: &str, turn: Turn) {
     }
     match mark {
         "writer" => write!(text, "u{:02}", turn.number % WRITERS).expect("memory"),
-        "node" => write!(text, "{}", turn.number % NODES + 1).expect("memory"),
         "bytes" => push_bytes(text, turn.number),
         _ => push_path(text, mark, turn),
     }
@@ -110,11 +96,12 @@ fn push_turn(text: &mut String, lines: &str, turn: Turn) {
     }
 }
 
-/// The lines of blocks at a size.
-pub fn text_of(blocks: &[Block], size: u32) -> String {
+/// The lines of the blocks of these names at a size.
+pub fn text_of(names: &str, size: u32) -> String {
     let mut text = String::new();
-    for block in blocks {
-        for number in 0..block.turns.at(size) {
+    for name in names.split_whitespace() {
+        let block = block_named(name).unwrap_or_else(|| panic!("no block {name}"));
+        for number in 0..count_at(block.turns, size) {
             push_turn(&mut text, block.lines, Turn { size, number });
         }
     }

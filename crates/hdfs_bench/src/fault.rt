@@ -1,9 +1,10 @@
 use cluster_timing::timing::TimingFault;
 use std::alloc::AllocError;
 use std::io;
+use token_timing::timing::TokenFault;
 
 /// Why a workload has no rate.
-#[derive(Clone, Copy, Debug, PartialEq, Eq)]
+#[derive(Clone, Copy, Debug)]
 pub enum Fault {
     OutOfMemory,
     /// No command line, no clock, or the output can't be written.
@@ -31,6 +32,16 @@ impl From<TimingFault> for Fault {
         match fault {
             TimingFault::OutOfMemory => Fault::OutOfMemory,
             TimingFault::NoClock => Fault::System,
+        }
+    }
+}
+
+impl From<TokenFault> for Fault {
+    fn from(fault: TokenFault) -> Fault {
+        match fault {
+            TokenFault::OutOfMemory => Fault::OutOfMemory,
+            TokenFault::NoClock => Fault::System,
+            TokenFault::NoToken => Fault::NoToken,
         }
     }
 }

@@ -10,24 +10,18 @@
 //! `hdfs_bench NAME N script` prints the lines and runs none, and `hdfs_bench NAME N answers` prints what they are answered.
 #![tactic(auto)]
 
-mod answers;
 mod fault;
 mod run;
-mod text;
-mod tokens;
-mod workload;
 
-use crate::answers::count_lines;
 use crate::fault::Fault;
-use crate::run::Script;
-use crate::text::push_blocks;
-use crate::workload::{
-    BLOCK_WORKLOADS, Block, FILE_WORKLOADS, Operations, REPLICA_WORKLOADS, TREE_WORKLOADS, Workload,
-};
-use std::alloc::{AllocError, Global};
+use crate::run::run_alone;
+use bench_lines::answers::{rate, rate_of};
+use bench_lines::command::{Asked, Shown, asked_by};
+use bench_lines::text::{Script, text_of};
+use bench_lines::workload::{Workload, workload_named};
 use std::env;
 use std::process::ExitCode;
-use std::time::Duration;
+use token_timing::timing::check_uncached;
 
 /// The exit status for a fault of the command line.
 const BAD_COMMAND_LINE: u8 = 2;
@@ -40,185 +34,87 @@ const USAGE: &str = "usage: hdfs_bench NAME N [script|answers]
 /// The workload that is no script.
 const CHECK_TOKEN: &str = "check_token_uncached";
 
-/// What is shown of a script.
-#[derive(Clone, Copy)]
-enum Shown {
-    Rate,
-    Lines,
-    Answers,
+fn refuse(rt: &HostRuntime) -> Result<ExitCode, Fault> {
+    eprintln!(rt; "{USAGE}")?;
+    Ok(ExitCode::from(BAD_COMMAND_LINE))
 }
 
-/// What a command line asks for.
-#[derive(Clone, Copy)]
-enum Asked {
-    /// How fast a token is judged, so many times.
-    Tokens(u32),
-    /// A workload of a size.
-    Script(&'static Workload, u32, Shown),
+fn print_rate(rt: &HostRuntime, asked: Asked, rate: u64) -> Result<ExitCode, Fault> {
+    let (name, size) = (asked.name, asked.size);
+    println!(rt; "{name} {size} {rate}")?;
+    Ok(ExitCode::SUCCESS)
 }
 
-/// The first of some workloads with this name.
-fn named_in<'a>(workloads: &'a [Workload], name: &str) -> Option<&'a Workload> {
-    for workload in workloads {
-        if workload.name == name {
-            return Some(workload);
-        }
-    }
-    None
+fn show_lines(rt: &HostRuntime, script: Script) -> Result<ExitCode, Fault> {
+    rt.print(script.before)?;
+    rt.print(script.timed)?;
+    Ok(ExitCode::SUCCESS)
 }
 
-fn on_trees(name: &str) -> Option<&'static Workload> {
-    named_in(&TREE_WORKLOADS, name)
-}
-
-fn on_files(name: &str) -> Option<&'static Workload> {
-    named_in(&FILE_WORKLOADS, name)
-}
-
-fn on_blocks(name: &str) -> Option<&'static Workload> {
-    named_in(&BLOCK_WORKLOADS, name)
-}
-
-fn on_replicas(name: &str) -> Option<&'static Workload> {
-    named_in(&REPLICA_WORKLOADS, name)
-}
-
-fn named(name: &str) -> Option<&'static Workload> {
-    on_trees(name)
-        .or_else(|| on_files(name))
-        .or_else(|| on_blocks(name))
-        .or_else(|| on_replicas(name))
-}
-
-fn script_asked(name: &str, size: u32, shown: Shown) -> Option<Asked> {
-    let workload = named(name)?;
-    Some(Asked::Script(workload, size, shown))
-}
-
-fn rate_asked(name: &str, size: u32) -> Option<Asked> {
-    if name == CHECK_TOKEN {
-        return Some(Asked::Tokens(size));
-    }
-    script_asked(name, size, Shown::Rate)
-}
-
-fn text_asked(name: &str, size: u32, text: &str) -> Option<Asked> {
-    match text {
-        "script" => script_asked(name, size, Shown::Lines),
-        "answers" => script_asked(name, size, Shown::Answers),
-        _ => None,
-    }
-}
-
-fn asked_by(words: &[String]) -> Option<Asked> {
-    match words {
-        [_, name, size] => rate_asked(name.as_str(), size.parse::<u32>().ok()?),
-        [_, name, size, text] => text_asked(
-            name.as_str(),
-            size.parse::<u32>().ok()?,
-            text.as_str(),
-        ),
-        _ => None,
-    }
-}
-
-fn read_command(rt: &HostRuntime) -> Result<Option<Asked>, Fault> {
-    let words: Vec<String> = env::args(rt)?.collect(rt.alloc())?;
-    Ok(asked_by(&words))
-}
-
-/// Whole operations in a second. A time below a nanosecond counts as one; above 18,446,744,073 operations the rate is too low.
-fn rate(operations: u64, taken: Duration) -> u64 {
-    let nanoseconds = u64::try_from(taken.as_nanos()).unwrap_or(u64::MAX);
-    operations.saturating_mul(1_000_000_000) / nanoseconds.max(1)
-}
-
-fn print_rate(rt: &HostRuntime, name: &str, size: u32, rate: u64) -> Result<(), Fault> {
-    Ok(println!(rt; "{name} {size} {rate}")?)
-}
-
-fn show_tokens(rt: &HostRuntime, size: u32) -> Result<(), Fault> {
-    let taken = tokens::check_uncached(rt, size)?;
-    print_rate(rt, CHECK_TOKEN, size, rate(u64::from(size), taken))
-}
-
-/// How many operations the timed lines of a workload are.
-fn operations(workload: &Workload, size: u32, timed: &str) -> u64 {
-    match workload.operations {
-        Operations::Lines => count_lines(timed),
-        Operations::Size => u64::from(size),
-        Operations::Fixed(count) => u64::from(count),
-    }
+fn show_answers(rt: &HostRuntime, script: Script) -> Result<ExitCode, Fault> {
+    run_alone(rt, script, true)?;
+    Ok(ExitCode::SUCCESS)
 }
 
 fn show_rate(
     rt: &HostRuntime,
-    workload: &Workload,
-    size: u32,
+    asked: Asked,
+    workload: Workload,
     script: Script,
-) -> Result<(), Fault> {
-    let taken = run::run_alone(rt, script, false)?;
-    let operations = operations(workload, size, script.timed);
-    print_rate(rt, workload.name, size, rate(operations, taken))
-}
-
-fn show_lines(rt: &HostRuntime, script: Script) -> Result<(), Fault> {
-    rt.print(script.before)?;
-    Ok(rt.print(script.timed)?)
-}
-
-fn show_answers(rt: &HostRuntime, script: Script) -> Result<(), Fault> {
-    run::run_alone(rt, script, true)?;
-    Ok(())
+) -> Result<ExitCode, Fault> {
+    let taken = run_alone(rt, script, false)?;
+    let rate = rate_of(workload, asked.size, script.timed, taken);
+    print_rate(rt, asked, rate)
 }
 
 fn show_texts(
     rt: &HostRuntime,
-    workload: &Workload,
-    size: u32,
-    shown: Shown,
+    asked: Asked,
+    workload: Workload,
     script: Script,
-) -> Result<(), Fault> {
-    match shown {
-        Shown::Rate => show_rate(rt, workload, size, script),
+) -> Result<ExitCode, Fault> {
+    match asked.shown {
+        Shown::Rate => show_rate(rt, asked, workload, script),
         Shown::Lines => show_lines(rt, script),
         Shown::Answers => show_answers(rt, script),
     }
 }
 
-fn text_of(alloc: Global, blocks: &[Block], size: u32) -> Result<String, AllocError> {
-    let mut text = String::new(alloc);
-    push_blocks(&mut text, blocks, size)?;
-    Ok(text)
-}
-
-fn show_script(
-    rt: &HostRuntime,
-    workload: &Workload,
-    size: u32,
-    shown: Shown,
-) -> Result<(), Fault> {
-    let before = text_of(rt.alloc(), workload.before, size)?;
-    let timed = text_of(rt.alloc(), workload.timed, size)?;
+fn show_script(rt: &HostRuntime, asked: Asked, workload: Workload) -> Result<ExitCode, Fault> {
+    let before = text_of(rt.alloc(), workload.before, asked.size)?;
+    let timed = text_of(rt.alloc(), workload.timed, asked.size)?;
     let script = Script {
         before: before.as_str(),
         timed: timed.as_str(),
     };
-    show_texts(rt, workload, size, shown, script)
+    show_texts(rt, asked, workload, script)
 }
 
-fn show(rt: &HostRuntime, asked: Asked) -> Result<(), Fault> {
-    match asked {
-        Asked::Tokens(size) => show_tokens(rt, size),
-        Asked::Script(workload, size, shown) => show_script(rt, workload, size, shown),
+/// Shows how fast a token is judged, so many times.
+fn show_tokens(rt: &HostRuntime, asked: Asked) -> Result<ExitCode, Fault> {
+    let taken = check_uncached(rt, asked.size)?;
+    print_rate(rt, asked, rate(u64::from(asked.size), taken))
+}
+
+/// Shows what is no script.
+fn show_other(rt: &HostRuntime, asked: Asked) -> Result<ExitCode, Fault> {
+    match asked.shown {
+        Shown::Rate if asked.name == CHECK_TOKEN => show_tokens(rt, asked),
+        _ => refuse(rt),
+    }
+}
+
+fn show(rt: &HostRuntime, asked: Asked) -> Result<ExitCode, Fault> {
+    match workload_named(asked.name) {
+        Some(workload) => show_script(rt, asked, workload),
+        None => show_other(rt, asked),
     }
 }
 
 fn main(rt: HostRuntime) -> Result<ExitCode, Fault> {
-    let Some(asked) = read_command(&rt)? else {
-        eprintln!(rt; "{USAGE}")?;
-        return Ok(ExitCode::from(BAD_COMMAND_LINE));
-    };
-    show(&rt, asked)?;
-    Ok(ExitCode::SUCCESS)
+    let words: Vec<String> = env::args(&rt)?.collect(rt.alloc())?;
+    match asked_by(&words) {
+        Some(asked) => show(&rt, asked),
+        None => refuse(&rt),
+    }
 }

@@ -1,16 +1,16 @@
 ghost use Rattle.std.specs.Prelude.{◌<◌};
 
-use crate::workload::{Block, Turns};
-use std::alloc::AllocError;
+use crate::workload::{Block, block_named, count_at, number};
+use std::alloc::{AllocError, Global};
 
 /// How many clients write files, by turns.
 const WRITERS: u32 = 100;
 
-/// How many DataNodes there are.
-const NODES: u32 = 10;
-
 /// How many bytes are listed.
 const BYTES: u32 = 512;
+
+/// How many names a path has.
+const NAMES: u32 = 5;
 
 /// A number below the bound, the same in each run, which jumps about from turn to turn (the mixing steps of SplitMix64).
 fn jumping(turn: u32, bound: u32) -> u32
@@ -32,42 +32,27 @@ struct Turn {
     number: u32,
 }
 
-impl Turns {
-    /// How many turns that is at a size.
-    fn at(self, size: u32) -> u32 {
-        match self {
-            Turns::Fixed(count) => count,
-            Turns::Size => size,
-            Turns::Half => size / 2,
-            Turns::Every(step) => size.saturating_sub(1) / step.max(1) + u32::from(size > 0),
-        }
-    }
-}
-
-/// The number whose path a mark is.
+/// The number whose path a mark is, or the last names of its path.
 fn number_at(mark: &str, turn: Turn) -> u32 {
     let twice = turn.number.saturating_mul(2);
     match mark {
-        "any" | "any_parent" => jumping(twice, turn.size.max(1)),
+        "any" => jumping(twice, turn.size.max(1)),
+        "any_parent" => jumping(twice, turn.size.max(1)) / 100,
         "other" => jumping(twice.saturating_add(1), turn.size.max(1)),
         "earlier" => jumping(turn.number, turn.number.max(1)),
         "behind" => turn.size.saturating_add(turn.number),
-        "level4" => turn.number.saturating_mul(100),
-        "level3" => turn.number.saturating_mul(10_000),
-        "level2" => turn.number.saturating_mul(1_000_000),
-        "level1" => turn.number.saturating_mul(100_000_000),
         _ => turn.number,
     }
 }
 
-/// How many of the five names a mark is.
+/// How many names of a path a mark is.
 fn names_at(mark: &str) -> u32 {
     match mark {
         "level4" | "any_parent" => 4,
         "level3" => 3,
         "level2" => 2,
         "level1" => 1,
-        _ => 5,
+        _ => NAMES,
     }
 }
 
@@ -82,8 +67,9 @@ fn digits(number: u32, name: u32) -> u32 {
     }
 }
 
+/// Adds so many names, the last ones of the path of a number.
 fn push_path(text: &mut String, number: u32, names: u32) -> Result<(), AllocError> {
-    for name in 0..names {
+    for name in NAMES.saturating_sub(names)..NAMES {
         let digits = digits(number, name);
         write!(text, "/d{digits:02}")?;
     }
@@ -95,11 +81,6 @@ fn push_writer(text: &mut String, number: u32) -> Result<(), AllocError> {
     write!(text, "u{number:02}")
 }
 
-fn push_node(text: &mut String, number: u32) -> Result<(), AllocError> {
-    let node = number % NODES + 1;
-    write!(text, "{node}")
-}
-
 /// Adds 512 bytes in hexadecimal digits, which count on from a number.
 fn push_bytes(text: &mut String, number: u32) -> Result<(), AllocError> {
     for more in 0..BYTES {
@@ -109,32 +90,30 @@ fn push_bytes(text: &mut String, number: u32) -> Result<(), AllocError> {
     Ok(())
 }
 
-/// The number that a mark is which names two: the turn's number so many times, and so many more.
-fn counted_by_turn(mark: &str, number: u32) -> Option<u64> {
-    let (times, more) = mark.split_once('n')?;
-    let times = times.parse::<u64>().ok()?;
-    let more = more.strip_prefix('+')?.parse::<u64>().ok()?;
-    Some(u64::from(number).saturating_mul(times).saturating_add(more))
+/// A number so many times, as a word says.
+fn times(word: &str, counted: u32) -> Option<u64> {
+    let times = number(word)?;
+    Some(u64::from(times).saturating_mul(u64::from(counted)))
 }
 
-/// The number that a mark is which names three: the size so many times, and what the other two are.
-fn counted_by_size(mark: &str, turn: Turn) -> Option<u64> {
-    let (times, rest) = mark.split_once('s')?;
-    let times = times.parse::<u64>().ok()?;
-    let more = counted_by_turn(rest.strip_prefix('+')?, turn.number)?;
-    Some(
-        u64::from(turn.size)
-            .saturating_mul(times)
-            .saturating_add(more),
-    )
-}
-
-/// The number that a mark is which names numbers.
-fn counted(mark: &str, turn: Turn) -> Option<u64> {
-    match counted_by_turn(mark, turn.number) {
-        Some(number) => Some(number),
-        None => counted_by_size(mark, turn),
+/// The number that a word of a mark is: so many times the size, or the turn's number, or a number itself.
+fn number_of(word: &str, turn: Turn) -> Option<u64> {
+    if let Some(count) = word.strip_suffix('s') {
+        return times(count, turn.size);
     }
+    match word.strip_suffix('n') {
+        Some(count) => times(count, turn.number),
+        None => times(word, 1),
+    }
+}
+
+/// The number that a mark is whose words all name numbers: their sum.
+fn counted(mark: &str, turn: Turn) -> Option<u64> {
+    let mut sum: u64 = 0;
+    for word in mark.split('+') {
+        sum = sum.saturating_add(number_of(word, turn)?);
+    }
+    Some(sum)
 }
 
 fn push_number(text: &mut String, number: u64) -> Result<(), AllocError> {
@@ -144,7 +123,6 @@ fn push_number(text: &mut String, number: u64) -> Result<(), AllocError> {
 fn push_word(text: &mut String, mark: &str, turn: Turn) -> Result<(), AllocError> {
     match mark {
         "writer" => push_writer(text, turn.number),
-        "node" => push_node(text, turn.number),
         "bytes" => push_bytes(text, turn.number),
         _ => push_path(text, number_at(mark, turn), names_at(mark)),
     }
@@ -175,17 +153,37 @@ fn push_turn(text: &mut String, lines: &str, turn: Turn) -> Result<(), AllocErro
     Ok(())
 }
 
-fn push_block(text: &mut String, block: &Block, size: u32) -> Result<(), AllocError> {
-    for number in 0..block.turns.at(size) {
+fn push_block(text: &mut String, block: Block, size: u32) -> Result<(), AllocError> {
+    for number in 0..count_at(block.turns, size) {
         push_turn(text, block.lines, Turn { size, number })?;
     }
     Ok(())
 }
 
-/// Adds the lines of blocks at a size.
-pub fn push_blocks(text: &mut String, blocks: &[Block], size: u32) -> Result<(), AllocError> {
-    for block in blocks {
-        push_block(text, block, size)?;
+/// The two texts of a workload of a size.
+#[derive(Clone, Copy)]
+pub struct Script<'a> {
+    /// The lines that prepare.
+    pub before: &'a str,
+    /// The lines that are timed.
+    pub timed: &'a str,
+}
+
+/// The lines of a text, without the end of the last one: behind it would stand one line more.
+pub fn lines_of(text: &str) -> &str {
+    match text.strip_suffix('\n') {
+        Some(lines) => lines,
+        None => text,
     }
-    Ok(())
+}
+
+/// The lines of the blocks of these names at a size.
+pub fn text_of(alloc: Global, names: &str, size: u32) -> Result<String, AllocError> {
+    let mut text = String::new(alloc);
+    for name in names.split(' ') {
+        if let Some(block) = block_named(name) {
+            push_block(&mut text, block, size)?;
+        }
+    }
+    Ok(text)
 }
