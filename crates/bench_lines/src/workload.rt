@@ -53,7 +53,7 @@ pub struct Block {
 /// - `open_granted`: a caller opens as often files, of which each block has a length and a DataNode that holds it: it is told, and a
 ///   token to read it is granted.
 /// - `report`: a DataNode's reports of as many replicas are delivered to the NameNode. An operation is one report.
-/// - `heartbeat_idle`: dataNodes are heard of, among as many blocks, when none of them is to be told anything. An operation is one
+/// - `heartbeat_idle`: DataNodes are heard of, among as many blocks, when none of them is to be told anything. An operation is one
 ///   heartbeat.
 /// - `recovery`: blocks whose writers are gone are recovered: one tick takes all files, and one node leads all recoveries. An
 ///   operation is one block.
