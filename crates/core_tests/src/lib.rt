@@ -7,6 +7,8 @@ mod block_tests;
 #[cfg(test)]
 mod node_tests;
 #[cfg(test)]
+mod open_path_tests;
+#[cfg(test)]
 mod recovery_tests;
 #[cfg(test)]
-mod tests;
+mod steps;

@@ -1,164 +1,112 @@
-//! What DataNodes report, and what they are told.
+//! What DataNodes report, and what they are told; the keys, and who lives.
 
-use block_tokens::key::KeyList;
-use flat_rows::denial::Denial;
-use flat_rows::verdict::Verdict;
-use hdfs_types::commands::Commands;
-use hdfs_types::key::Key;
-use hdfs_types::op::{Op, Request};
-use hdfs_types::replica::ReportedReplica;
-use hdfs_types::reply::Reply;
-use hdfs_values::ids::{BlockId, Stamp};
-use hdfs_values::moment::Moment;
-use hdfs_values::who::Who;
-use history::config::Config;
-use name_core::namenode::NameCore;
-use std::alloc::Global;
-use std::fmt::Write;
+use crate::steps::{Case, Step, tell};
+use history::config::Counters;
 use std::test::Fail;
 
-// What is asked.
-#[derive(Clone, Copy)]
-enum Asked {
-    Heartbeat,
-    // of a replica of 10 bytes of block 7, by its stamp
-    Report(u64),
-    // to a key of such bytes
-    RollKey(u8),
-}
+// The superuser makes two keys.
+const TWO_KEYS: &[Step] = &[Step::Lines(
+    "0 hdfs rollkey 1616161616161616161616161616161616161616\n\
+     0 hdfs rollkey 1616161616161616161616161616161616161616",
+)];
 
-fn op_of(asked: Asked) -> Op {
-    match asked {
-        Asked::Heartbeat => Op::Heartbeat,
-        Asked::Report(stamp) => Op::Reported(ReportedReplica {
-            block: BlockId::new(7),
-            stamp: Stamp::new(stamp),
-            length: 10,
+static CASES: [Case; 6] = [
+    // A node reports a replica of a block that isn't known twice, another node another one of it, and then they beat. No superuser reports.
+    Case {
+        name: "a replica of no known block is removed once",
+        first: None,
+        steps: &[
+            Step::Lines("0 dn-1 heartbeat"),
+            Step::Report("dn-1", 7, 1001, 10),
+            Step::Report("dn-1", 7, 1001, 10),
+            Step::Report("dn-2", 7, 1000, 10),
+            Step::Report("hdfs", 7, 1001, 10),
+            Step::Lines(
+                "0 dn-1 heartbeat\n\
+                 0 dn-1 heartbeat\n\
+                 0 dn-2 heartbeat",
+            ),
+            Step::Granted,
+        ],
+        told: "ok heartbeat key 1\n\
+               ok\n\
+               ok\n\
+               ok\n\
+               denied / node by node\n\
+               ok heartbeat key 1 remove 7 1001\n\
+               ok heartbeat key 1\n\
+               ok heartbeat key 1 remove 7 1000\n\
+               granted 0\n",
+    },
+    // A key is rolled at moment 5, and serves until the tokens under it have expired.
+    Case {
+        name: "keys leave with heartbeats until they expire",
+        first: None,
+        steps: &[Step::Lines(
+            "0 dn-1 heartbeat\n\
+             5 hdfs rollkey 0202020202020202020202020202020202020202\n\
+             36000004 dn-1 heartbeat\n\
+             36000005 dn-1 heartbeat",
+        )],
+        told: "ok heartbeat key 1\n\
+               ok serial 2\n\
+               ok heartbeat key 1 until 36000005 key 2\n\
+               ok heartbeat key 2\n",
+    },
+    Case {
+        name: "the last serial but the greatest is given",
+        first: Some(Counters {
+            block: 1,
+            stamp: 1001,
+            serial: u32::MAX - 2,
         }),
-        Asked::RollKey(byte) => Op::RollKey(Key::new([byte; 20])),
-    }
-}
-
-fn request(alloc: Global, now: u64, caller: &str, asked: Asked) -> Result<Request, Fail> {
-    let moment = Moment::new(now).ok_or("a moment")?;
-    let caller = Who::parse(alloc, caller)?;
-    Ok(Request {
-        caller,
-        moment,
-        op: op_of(asked),
-    })
-}
-
-// Each key with its expiry, where it has one.
-fn write_keys(keys: &KeyList, text: &mut String) -> Result<(), Fail> {
-    for (serial, key) in keys.as_slice() {
-        let serial = serial.get();
-        match key.expiry {
-            Some(expiry) => write!(text, " key {serial} until {expiry}")?,
-            None => write!(text, " key {serial}")?,
-        }
-    }
-    Ok(())
-}
-
-fn write_commands(commands: &Commands, text: &mut String) -> Result<(), Fail> {
-    text.push_str("told")?;
-    write_keys(commands.keys(), text)?;
-    for removal in commands.removals() {
-        let (block, stamp) = (removal.block.get(), removal.stamp.get());
-        write!(text, " remove {block} {stamp}")?;
-    }
-    let (recoveries, copies) = (commands.recoveries().len(), commands.copies().len());
-    Ok(write!(text, " lead {recoveries} copy {copies};")?)
-}
-
-fn write_denial(denial: &Denial, text: &mut String) -> Result<(), Fail> {
-    Ok(write!(text, "denied {denial};")?)
-}
-
-fn write_verdict(verdict: &Verdict, text: &mut String) -> Result<(), Fail> {
-    match verdict {
-        Verdict::Done(Reply::Commands(commands)) => write_commands(commands, text),
-        Verdict::Done(_) => Ok(text.push_str("done;")?),
-        Verdict::Denied(denial) => write_denial(denial, text),
-        Verdict::Refused(_) => Ok(text.push_str("refused;")?),
-    }
-}
-
-// What the last entry tells.
-fn write_last(core: &NameCore, text: &mut String) -> Result<(), Fail> {
-    match core.last() {
-        Some(entry) => write_verdict(&entry.verdict, text),
-        None => Ok(()),
-    }
-}
-
-// Steps what a caller asks at a moment, and writes what it is answered.
-fn ask(
-    core: &mut NameCore,
-    text: &mut String,
-    alloc: Global,
-    now: u64,
-    caller: &str,
-    asked: Asked,
-) -> Result<(), Fail> {
-    let request = request(alloc, now, caller, asked)?;
-    let answer = core.step(0, 0, &request);
-    drop(request);
-    drop(answer?);
-    write_last(core, text)
-}
-
-// A node reports a replica of a block that isn't known twice, another node another one of it, and then they beat.
-fn unknown_block(alloc: Global, core: &mut NameCore, text: &mut String) -> Result<(), Fail> {
-    ask(core, text, alloc, 0, "dn-1", Asked::Heartbeat)?;
-    ask(core, text, alloc, 0, "dn-1", Asked::Report(1001))?;
-    ask(core, text, alloc, 0, "dn-1", Asked::Report(1001))?;
-    ask(core, text, alloc, 0, "dn-2", Asked::Report(1000))?;
-    ask(core, text, alloc, 0, "hdfs", Asked::Report(1001))?;
-    ask(core, text, alloc, 0, "dn-1", Asked::Heartbeat)?;
-    ask(core, text, alloc, 0, "dn-1", Asked::Heartbeat)?;
-    ask(core, text, alloc, 0, "dn-2", Asked::Heartbeat)
-}
-
-// A key is rolled at moment 5, and serves until the tokens under it have expired.
-fn rolled_key(alloc: Global, core: &mut NameCore, text: &mut String) -> Result<(), Fail> {
-    ask(core, text, alloc, 0, "dn-1", Asked::Heartbeat)?;
-    ask(core, text, alloc, 5, "hdfs", Asked::RollKey(2))?;
-    ask(core, text, alloc, 36_000_004, "dn-1", Asked::Heartbeat)?;
-    ask(core, text, alloc, 36_000_005, "dn-1", Asked::Heartbeat)
-}
-
-fn open(alloc: Global) -> Result<NameCore, Fail> {
-    Ok(NameCore::open(alloc, Config::standard(), Key::new([1; 20]))?)
-}
+        steps: TWO_KEYS,
+        told: "ok serial 4294967294\nrefused 18 Spent Serial\n",
+    },
+    Case {
+        name: "the greatest serial is never given",
+        first: Some(Counters {
+            block: 1,
+            stamp: 1001,
+            serial: u32::MAX - 1,
+        }),
+        steps: TWO_KEYS,
+        told: "refused 18 Spent Serial\nrefused 18 Spent Serial\n",
+    },
+    // The DataNode 1 is heard of at moment 0.
+    Case {
+        name: "a node lives for as long as its heartbeat counts",
+        first: None,
+        steps: &[
+            Step::Lines("0 dn-1 heartbeat"),
+            Step::Lives(630_000),
+            Step::Lives(630_001),
+        ],
+        told: "ok heartbeat key 1\nlives true\nlives false\n",
+    },
+    // Others are heard of.
+    Case {
+        name: "nodes live by their own heartbeats",
+        first: None,
+        steps: &[
+            Step::Lines(
+                "0 hdfs heartbeat\n\
+                 0 dn-2 heartbeat\n\
+                 0 dn-01 heartbeat",
+            ),
+            Step::Lives(0),
+        ],
+        told: "denied / node by node\nok heartbeat key 1\ndenied / node by node\nlives false\n",
+    },
+];
 
 #[test]
-fn a_replica_of_no_known_block_is_removed_once(rt: HostRuntime) -> Result<(), Fail> {
+fn nodes_report_and_are_told(rt: HostRuntime) -> Result<(), Fail> {
     let mut text = String::new(rt.alloc());
-    let mut core = open(rt.alloc())?;
-    let told = unknown_block(rt.alloc(), &mut core, &mut text);
-    let granted = core.ledger().len();
-    drop(core);
-    told?;
-    assert_eq!(rt; granted, 0);
-    assert_eq!(rt;
-        text.as_str(),
-        "told key 1 lead 0 copy 0;done;done;done;denied / node by node;told key 1 remove 7 1001 lead 0 copy 0;told key 1 lead 0 copy 0;told key 1 remove 7 1000 lead 0 copy 0;"
-    );
-    Ok(())
-}
-
-#[test]
-fn keys_leave_with_heartbeats_until_they_expire(rt: HostRuntime) -> Result<(), Fail> {
-    let mut text = String::new(rt.alloc());
-    let mut core = open(rt.alloc())?;
-    let told = rolled_key(rt.alloc(), &mut core, &mut text);
-    drop(core);
-    told?;
-    assert_eq!(rt;
-        text.as_str(),
-        "told key 1 lead 0 copy 0;done;told key 1 until 36000005 key 2 lead 0 copy 0;told key 2 lead 0 copy 0;"
-    );
+    for case in &CASES {
+        text.clear();
+        tell(rt.alloc(), case, &mut text)?;
+        assert_eq!(rt; text.as_str(), case.told, "{}", case.name);
+    }
     Ok(())
 }

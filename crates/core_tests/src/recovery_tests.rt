@@ -1,151 +1,143 @@
 //! Files that are taken from the clients who have them open, and recoveries of their last blocks, from their beginning to their end.
 
-use crate::block_tests::{ask, ask_all, open, step};
-use block_records::node_set::NodeSet;
-use hdfs_types::op::{Op, Request};
-use hdfs_types::replica::RecoveredBlock;
-use hdfs_values::ids::{BlockId, Stamp};
-use hdfs_values::moment::Moment;
-use hdfs_values::node_id::NodeId;
-use hdfs_values::who::Who;
-use name_core::namenode::NameCore;
-use std::alloc::Global;
+use crate::steps::{Case, Step, tell};
 use std::test::Fail;
 
-fn nodes_of(alloc: Global, ids: &[u32]) -> Result<NodeSet, Fail> {
-    let mut nodes = Vec::new(alloc);
-    for id in ids {
-        nodes.push(NodeId::new(*id).ok_or("a node")?)?;
-    }
-    Ok(NodeSet::from_ascending(nodes).ok_or("nodes by their ids")?)
-}
-
-fn ending(
-    alloc: Global,
-    block: u64,
-    stamp: u64,
-    length: u64,
-    ids: &[u32],
-) -> Result<Request, Fail> {
-    let moment = Moment::new(0).ok_or("a moment")?;
-    let nodes = nodes_of(alloc, ids)?;
-    let caller = Who::parse(alloc, "dn-1")?;
-    Ok(Request {
-        caller,
-        moment,
-        op: Op::CommitRecovery(RecoveredBlock {
-            block: BlockId::new(block),
-            stamp: Stamp::new(stamp),
-            length,
-            nodes,
-        }),
-    })
-}
-
-// A DataNode tells of the end of a recovery; what it is answered is written.
-fn end(
-    core: &mut NameCore,
-    text: &mut String,
-    alloc: Global,
-    block: u64,
-    stamp: u64,
-    length: u64,
-    ids: &[u32],
-) -> Result<(), Fail> {
-    step(core, text, ending(alloc, block, stamp, length, ids)?)
-}
-
 // A file whose last block isn't committed is taken over by an append.
-fn taken_by_append(core: &mut NameCore, text: &mut String, alloc: Global) -> Result<(), Fail> {
-    ask_all(
-        core,
-        text,
-        alloc,
-        "0 hdfs mkdirs /d 777\n0 dn-1 heartbeat\n0 dn-2 heartbeat\n0 dn-3 heartbeat\n0 alice create /d/f 666 3\n0 alice addblock /d/f\n60000 bob append /d/f\n60001 dn-1 heartbeat\n60001 alice append /d/f\n60001 bob append /d/f\n60001 carol append /d/f\n60001 alice renew\n60001 hdfs stat /d/f\n60001 dn-1 heartbeat",
-    )
-}
+const TAKEN: Step = Step::Lines(
+    "0 hdfs mkdirs /d 777\n\
+     0 dn-1 heartbeat\n\
+     0 dn-2 heartbeat\n\
+     0 dn-3 heartbeat\n\
+     0 alice create /d/f 666 3\n\
+     0 alice addblock /d/f\n\
+     60000 bob append /d/f\n\
+     60001 dn-1 heartbeat\n\
+     60001 alice append /d/f\n\
+     60001 bob append /d/f\n\
+     60001 carol append /d/f\n\
+     60001 alice renew\n\
+     60001 hdfs stat /d/f\n\
+     60001 dn-1 heartbeat",
+);
 
-fn ended(core: &mut NameCore, text: &mut String, alloc: Global) -> Result<(), Fail> {
-    taken_by_append(core, text, alloc)?;
-    end(core, text, alloc, 9, 1002, 512, &[1, 2, 3])?;
-    end(core, text, alloc, 1, 1001, 512, &[1, 2, 3])?;
-    end(core, text, alloc, 1, 1002, 512, &[1, 2, 3])?;
-    end(core, text, alloc, 1, 1002, 512, &[1, 2, 3])?;
-    ask_all(
-        core,
-        text,
-        alloc,
-        "60001 hdfs stat /d/f\n60001 bob open /d/f\n60001 bob append /d/f",
-    )
-}
+static CASES: [Case; 3] = [
+    Case {
+        name: "an append begins a recovery",
+        first: None,
+        steps: &[
+            TAKEN,
+            Step::End(9, 1002, 512, &[1, 2, 3]),
+            Step::End(1, 1001, 512, &[1, 2, 3]),
+            Step::End(1, 1002, 512, &[1, 2, 3]),
+            Step::End(1, 1002, 512, &[1, 2, 3]),
+            Step::Lines(
+                "60001 hdfs stat /d/f\n\
+                 60001 bob open /d/f\n\
+                 60001 bob append /d/f",
+            ),
+        ],
+        told: "ok\n\
+               ok heartbeat key 1\n\
+               ok heartbeat key 1\n\
+               ok heartbeat key 1\n\
+               ok\n\
+               ok block 1 1001 targets 1,2,3 token #1\n\
+               refused 11 LeaseHeld alice\n\
+               ok heartbeat key 1\n\
+               refused 11 LeaseHeld alice\n\
+               ok recovering 1 1002\n\
+               refused 12 RecoveryRunning\n\
+               refused 13 NoLease\n\
+               ok file 0666 alice supergroup 3 0 recovering\n\
+               ok heartbeat key 1 lead 1\n\
+               refused 2 NotFound\n\
+               refused 17 StaleStamp 1002\n\
+               ok\n\
+               refused 14 NotOpen\n\
+               ok file 0666 alice supergroup 3 512 closed\n\
+               ok open 512 1:1002:512:1,2,3:#3\n\
+               ok\n",
+    },
+    // A recovery begins anew once it lasted longer than the retry limit, and where it ended late the older stamp is refused.
+    Case {
+        name: "a tick begins a recovery anew",
+        first: None,
+        steps: &[
+            TAKEN,
+            Step::Forget,
+            Step::Lines(
+                "120001 hdfs tick\n\
+                 120002 hdfs tick\n\
+                 120002 hdfs rename /d /e",
+            ),
+            Step::End(1, 1002, 512, &[1, 2, 3]),
+            Step::End(1, 1003, 700, &[2, 3]),
+            Step::Lines(
+                "120002 hdfs stat /e/f\n\
+                 999999 hdfs tick",
+            ),
+        ],
+        told: "ok closed 0 recovering 0\n\
+               ok closed 0 recovering 1\n\
+               ok\n\
+               refused 17 StaleStamp 1003\n\
+               ok\n\
+               ok file 0666 alice supergroup 3 700 closed\n\
+               ok closed 0 recovering 0\n",
+    },
+    // A tick takes the files of a client past the hard limit in the order of their paths.
+    Case {
+        name: "a tick takes files in the order of paths",
+        first: None,
+        steps: &[
+            Step::Lines(
+                "0 hdfs mkdirs /d 777\n\
+                 0 dn-1 heartbeat\n\
+                 0 alice create /d/b 644 1\n\
+                 0 alice addblock /d/b\n\
+                 0 alice create /d/a 644 1\n\
+                 0 alice addblock /d/a\n\
+                 0 alice create /d/c 644 1\n\
+                 1200001 hdfs tick\n\
+                 1200001 dn-1 heartbeat\n\
+                 1200001 hdfs tick\n\
+                 1200001 hdfs tick\n\
+                 1200001 alice renew\n\
+                 1200001 hdfs delete /d/b",
+            ),
+            Step::End(1, 1004, 5, &[1]),
+            Step::End(2, 1004, 5, &[1]),
+            Step::End(2, 1003, 5, &[1]),
+            Step::Lines("1200001 hdfs stat /d/a"),
+        ],
+        told: "ok\n\
+               ok heartbeat key 1\n\
+               ok\n\
+               ok block 1 1001 targets 1 token #1\n\
+               ok\n\
+               ok block 2 1002 targets 1 token #2\n\
+               ok\n\
+               ok closed 1 recovering 0\n\
+               ok heartbeat key 1\n\
+               ok closed 0 recovering 2\n\
+               ok closed 0 recovering 0\n\
+               refused 13 NoLease\n\
+               ok deleted 1\n\
+               refused 2 NotFound\n\
+               refused 17 StaleStamp 1003\n\
+               ok\n\
+               ok file 0644 alice supergroup 1 5 closed\n",
+    },
+];
 
 #[test]
-fn an_append_begins_a_recovery(rt: HostRuntime) -> Result<(), Fail> {
+fn files_are_taken_and_their_last_blocks_recovered(rt: HostRuntime) -> Result<(), Fail> {
     let mut text = String::new(rt.alloc());
-    let mut core = open(rt.alloc())?;
-    let told = ended(&mut core, &mut text, rt.alloc());
-    drop(core);
-    told?;
-    assert_eq!(rt;
-        text.as_str(),
-        "ok\nok heartbeat\nok heartbeat\nok heartbeat\nok\nok block 1 1001 targets 1,2,3 token #1\nrefused 11 LeaseHeld alice\nok heartbeat\nrefused 11 LeaseHeld alice\nok recovering 1 1002\nrefused 12 RecoveryRunning\nrefused 13 NoLease\nok file 0666 alice supergroup 3 0 recovering\nok heartbeat\nrefused 2 NotFound\nrefused 17 StaleStamp 1002\nok\nrefused 14 NotOpen\nok file 0666 alice supergroup 3 512 closed\nok open 512 1:1002:512:1,2,3:#3\nok\n"
-    );
-    Ok(())
-}
-
-// A recovery begins anew once it lasted longer than the retry limit, and where it ended late the older stamp is refused.
-fn begun_anew(core: &mut NameCore, text: &mut String, alloc: Global) -> Result<(), Fail> {
-    taken_by_append(core, text, alloc)?;
-    text.clear();
-    ask_all(
-        core,
-        text,
-        alloc,
-        "120001 hdfs tick\n120002 hdfs tick\n120002 hdfs rename /d /e",
-    )?;
-    end(core, text, alloc, 1, 1002, 512, &[1, 2, 3])?;
-    end(core, text, alloc, 1, 1003, 700, &[2, 3])?;
-    ask_all(core, text, alloc, "120002 hdfs stat /e/f\n999999 hdfs tick")
-}
-
-#[test]
-fn a_tick_begins_a_recovery_anew(rt: HostRuntime) -> Result<(), Fail> {
-    let mut text = String::new(rt.alloc());
-    let mut core = open(rt.alloc())?;
-    let told = begun_anew(&mut core, &mut text, rt.alloc());
-    drop(core);
-    told?;
-    assert_eq!(rt;
-        text.as_str(),
-        "ok closed 0 recovering 0\nok closed 0 recovering 1\nok\nrefused 17 StaleStamp 1003\nok\nok file 0666 alice supergroup 3 700 closed\nok closed 0 recovering 0\n"
-    );
-    Ok(())
-}
-
-// A tick takes the files of a client past the hard limit in the order of their paths.
-fn taken_by_tick(core: &mut NameCore, text: &mut String, alloc: Global) -> Result<(), Fail> {
-    ask_all(
-        core,
-        text,
-        alloc,
-        "0 hdfs mkdirs /d 777\n0 dn-1 heartbeat\n0 alice create /d/b 644 1\n0 alice addblock /d/b\n0 alice create /d/a 644 1\n0 alice addblock /d/a\n0 alice create /d/c 644 1\n1200001 hdfs tick\n1200001 dn-1 heartbeat\n1200001 hdfs tick\n1200001 hdfs tick\n1200001 alice renew\n1200001 hdfs delete /d/b",
-    )?;
-    end(core, text, alloc, 1, 1004, 5, &[1])?;
-    end(core, text, alloc, 2, 1004, 5, &[1])?;
-    end(core, text, alloc, 2, 1003, 5, &[1])?;
-    ask(core, text, alloc, "1200001 hdfs stat /d/a")
-}
-
-#[test]
-fn a_tick_takes_files_in_the_order_of_paths(rt: HostRuntime) -> Result<(), Fail> {
-    let mut text = String::new(rt.alloc());
-    let mut core = open(rt.alloc())?;
-    let told = taken_by_tick(&mut core, &mut text, rt.alloc());
-    drop(core);
-    told?;
-    assert_eq!(rt;
-        text.as_str(),
-        "ok\nok heartbeat\nok\nok block 1 1001 targets 1 token #1\nok\nok block 2 1002 targets 1 token #2\nok\nok closed 1 recovering 0\nok heartbeat\nok closed 0 recovering 2\nok closed 0 recovering 0\nrefused 13 NoLease\nok deleted 1\nrefused 2 NotFound\nrefused 17 StaleStamp 1003\nok\nok file 0644 alice supergroup 1 5 closed\n"
-    );
+    for case in &CASES {
+        text.clear();
+        tell(rt.alloc(), case, &mut text)?;
+        assert_eq!(rt; text.as_str(), case.told, "{}", case.name);
+    }
     Ok(())
 }
