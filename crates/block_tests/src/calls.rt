@@ -13,6 +13,7 @@ use hdfs_values::ids::{BlockId, Stamp};
 use hdfs_values::moment::Moment;
 use hdfs_values::node_id::NodeId;
 use hdfs_values::replication::Repl;
+use node_orders::instructions::Instructions;
 use std::alloc::Global;
 use std::fmt::Write;
 use std::test::Fail;
@@ -28,11 +29,6 @@ fn node(id: u32) -> Result<NodeId, Fail> {
 
 fn moment(milliseconds: u64) -> Result<Moment, Fail> {
     Ok(Moment::new(milliseconds).ok_or("a moment")?)
-}
-
-fn set_of(alloc: Global, id: u32) -> Result<NodeSet, Fail> {
-    let nodes = vec![in alloc; node(id)?]?;
-    Ok(NodeSet::from_ascending(nodes).ok_or("ascending nodes")?)
 }
 
 // Writes ids with a comma behind each.
@@ -83,16 +79,6 @@ fn tell_done(done: Result<(), BlockFault>, text: &mut String) -> Result<(), Fail
     }
 }
 
-fn beat(blocks: &mut Blocks, id: u32, now: u64) -> Result<(), Fail> {
-    Ok(blocks.heartbeat(node(id)?, moment(now)?)?)
-}
-
-fn set_replication(blocks: &mut Blocks, block: u64, replication: u8) -> Result<(), Fail> {
-    let replication = Repl::new(replication).ok_or("a replication")?;
-    blocks.set_replication(BlockId::new(block), replication);
-    Ok(())
-}
-
 fn tell_new(new: &NewBlock, text: &mut String) -> Result<(), Fail> {
     let (id, number) = (new.block.get(), new.stamp.get());
     write!(text, "{id}:{number}:")?;
@@ -116,40 +102,14 @@ fn add_behind(
 // Makes a new block behind a file's last one, and writes its id, its stamp and its targets.
 fn add(
     blocks: &mut Blocks,
-    last: &Option<LastBlock>,
+    last: Option<LastBlock>,
     replication: u8,
     now: u64,
     text: &mut String,
 ) -> Result<(), Fail> {
     let replication = Repl::new(replication).ok_or("a replication")?;
-    match add_behind(blocks, last, replication, moment(now)?) {
+    match add_behind(blocks, &last, replication, moment(now)?) {
         Ok(new) => tell_new(&new, text),
-        Err(fault) => tell_fault(fault, text),
-    }
-}
-
-fn last_of(block: u64, length: u64) -> LastBlock {
-    LastBlock {
-        block: BlockId::new(block),
-        length,
-    }
-}
-
-fn report(blocks: &mut Blocks, id: u32, block: u64, stamp: u64, length: u64) -> Result<(), Fail> {
-    Ok(blocks.report(node(id)?, BlockId::new(block), Stamp::new(stamp), length)?)
-}
-
-fn commit(blocks: &mut Blocks, block: u64, length: u64, text: &mut String) -> Result<(), Fail> {
-    tell_done(blocks.commit(BlockId::new(block), length), text)
-}
-
-// Begins a recovery, and writes its stamp.
-fn begin(blocks: &mut Blocks, block: u64, now: u64, text: &mut String) -> Result<(), Fail> {
-    match blocks.begin_recovery(BlockId::new(block), moment(now)?) {
-        Ok(stamp) => {
-            let number = stamp.get();
-            Ok(write!(text, "{number} ")?)
-        }
         Err(fault) => tell_fault(fault, text),
     }
 }
@@ -170,10 +130,13 @@ fn begin_many(
     now: u64,
     text: &mut String,
 ) -> Result<(), Fail> {
-    let ids: Vec<BlockId> = ids.iter().map(|id| BlockId::new(*id)).collect(alloc)?;
     let now = moment(now)?;
-    let planned = blocks.plan_recoveries(&ids, now)?;
-    blocks.begin_recoveries(&ids, &planned, now)?;
+    let mut those = Vec::new(alloc);
+    for id in ids {
+        those.push(BlockId::new(*id))?;
+    }
+    let planned = blocks.plan_recoveries(&those, now)?;
+    blocks.begin_recoveries(&those, &planned, now)?;
     tell_begun(&planned, text)
 }
 
@@ -187,24 +150,20 @@ fn commit_recovery(
     id: u32,
     text: &mut String,
 ) -> Result<(), Fail> {
-    let nodes = set_of(alloc, id)?;
+    let nodes = vec![in alloc; node(id)?]?;
+    let nodes = NodeSet::from_ascending(nodes).ok_or("ascending nodes")?;
     tell_done(
         blocks.commit_recovery(BlockId::new(block), Stamp::new(stamp), length, nodes),
         text,
     )
 }
 
-fn tell_recovery(recovery: &Recovery, text: &mut String) -> Result<(), Fail> {
-    let (block, stamp) = (recovery.block.get(), recovery.stamp.get());
-    write!(text, "{block}:{stamp}:")?;
-    tell_nodes(recovery.nodes.as_slice(), text)?;
-    Ok(text.push(' ')?)
-}
-
 // Writes block, stamp and nodes of each recovery, and a stop.
 fn tell_recoveries(recoveries: &[Recovery], text: &mut String) -> Result<(), Fail> {
     for recovery in recoveries {
-        tell_recovery(recovery, text)?;
+        write!(text, "{}:{}:", recovery.block.get(), recovery.stamp.get())?;
+        tell_nodes(recovery.nodes.as_slice(), text)?;
+        text.push(' ')?;
     }
     Ok(text.push_str(". ")?)
 }
@@ -218,11 +177,6 @@ fn tell_blocks(blocks: &[BlockId], text: &mut String) -> Result<(), Fail> {
     Ok(text.push_str(". ")?)
 }
 
-fn tell_due(blocks: &Blocks, now: u64, text: &mut String) -> Result<(), Fail> {
-    let due = blocks.due_recoveries(moment(now)?)?;
-    tell_blocks(&due, text)
-}
-
 // Writes block and stamp of each replica that is to be removed, and a stop.
 fn tell_marks(marks: &[Mark], text: &mut String) -> Result<(), Fail> {
     for mark in marks {
@@ -230,11 +184,6 @@ fn tell_marks(marks: &[Mark], text: &mut String) -> Result<(), Fail> {
         write!(text, "{block}:{stamp} ")?;
     }
     Ok(text.push_str(". ")?)
-}
-
-fn tell_invalid(blocks: &Blocks, id: u32, text: &mut String) -> Result<(), Fail> {
-    let marks = blocks.invalid_for(node(id)?)?;
-    tell_marks(&marks, text)
 }
 
 // Writes block, stamp and target of each copy, and a stop.
@@ -247,19 +196,19 @@ fn tell_transfers(transfers: &[Transfer], text: &mut String) -> Result<(), Fail>
     Ok(text.push_str(". ")?)
 }
 
-// A node's heartbeat, and what it is told: recoveries, replicas to be removed, and copies.
-fn hand_out(blocks: &mut Blocks, id: u32, now: u64, text: &mut String) -> Result<(), Fail> {
-    let (node, now) = (node(id)?, moment(now)?);
-    let told = blocks.instructions(node, now)?;
-    blocks.hand_out(node, now, &told)?;
+// Recoveries, replicas to be removed, and copies.
+fn tell_instructions(told: &Instructions, text: &mut String) -> Result<(), Fail> {
     tell_recoveries(&told.recoveries, text)?;
     tell_marks(&told.removals, text)?;
     tell_transfers(&told.copies, text)
 }
 
-fn under_replicated(blocks: &Blocks, id: u32, now: u64, text: &mut String) -> Result<(), Fail> {
-    let transfers = blocks.under_replicated(node(id)?, moment(now)?)?;
-    tell_transfers(&transfers, text)
+// A node's heartbeat, and what it is told.
+fn hand_out(blocks: &mut Blocks, id: u32, now: u64, text: &mut String) -> Result<(), Fail> {
+    let (node, now) = (node(id)?, moment(now)?);
+    let told = blocks.instructions(node, now)?;
+    blocks.hand_out(node, now, &told)?;
+    tell_instructions(&told, text)
 }
 
 /// A call of the map of blocks: nodes, blocks, stamps, lengths and moments as numbers.
@@ -297,10 +246,29 @@ pub enum Call {
 // Calls that ask for what is due and for what nodes are to be told.
 fn ask(blocks: &Blocks, call: Call, text: &mut String) -> Result<(), Fail> {
     match call {
-        Call::Due(now) => tell_due(blocks, now, text),
-        Call::Invalid(id) => tell_invalid(blocks, id, text),
-        Call::Short(id, now) => under_replicated(blocks, id, now, text),
+        Call::Due(now) => tell_blocks(&blocks.due_recoveries(moment(now)?)?, text),
+        Call::Invalid(id) => tell_marks(&blocks.invalid_for(node(id)?)?, text),
+        Call::Short(id, now) => {
+            tell_transfers(&blocks.under_replicated(node(id)?, moment(now)?)?, text)
+        }
         _ => Ok(()),
+    }
+}
+
+// Calls that begin or end recoveries, and those that ask.
+fn recover(alloc: Global, blocks: &mut Blocks, call: Call, text: &mut String) -> Result<(), Fail> {
+    match call {
+        Call::Begin(block, now) => {
+            match blocks.begin_recovery(BlockId::new(block), moment(now)?) {
+                Ok(stamp) => Ok(write!(text, "{} ", stamp.get())?),
+                Err(fault) => tell_fault(fault, text),
+            }
+        }
+        Call::Many(ids, now) => begin_many(alloc, blocks, ids, now, text),
+        Call::End(block, stamp, length, id) => {
+            commit_recovery(alloc, blocks, block, stamp, length, id, text)
+        }
+        _ => ask(blocks, call, text),
     }
 }
 
@@ -311,28 +279,30 @@ fn call_once(
     text: &mut String,
 ) -> Result<(), Fail> {
     match call {
-        Call::Beat(id, now) => beat(blocks, id, now),
-        Call::Add(replication, now) => add(blocks, &None, replication, now, text),
+        Call::Beat(id, now) => Ok(blocks.heartbeat(node(id)?, moment(now)?)?),
+        Call::Add(replication, now) => add(blocks, None, replication, now, text),
         Call::Behind(block, length, replication, now) => {
+            let block = BlockId::new(block);
             add(
                 blocks,
-                &Some(last_of(block, length)),
+                Some(LastBlock { block, length }),
                 replication,
                 now,
                 text,
             )
         }
         Call::Tell(id, now) => hand_out(blocks, id, now, text),
-        Call::Replicate(block, replication) => set_replication(blocks, block, replication),
-        Call::Report(id, block, stamp, length) => report(blocks, id, block, stamp, length),
-        Call::Commit(block, length) => commit(blocks, block, length, text),
-        Call::Remove(block) => Ok(blocks.remove(BlockId::new(block))?),
-        Call::Begin(block, now) => begin(blocks, block, now, text),
-        Call::Many(ids, now) => begin_many(alloc, blocks, ids, now, text),
-        Call::End(block, stamp, length, id) => {
-            commit_recovery(alloc, blocks, block, stamp, length, id, text)
+        Call::Replicate(block, replication) => {
+            let replication = Repl::new(replication).ok_or("a replication")?;
+            blocks.set_replication(BlockId::new(block), replication);
+            Ok(())
         }
-        _ => ask(blocks, call, text),
+        Call::Report(id, block, stamp, length) => {
+            Ok(blocks.report(node(id)?, BlockId::new(block), Stamp::new(stamp), length)?)
+        }
+        Call::Commit(block, length) => tell_done(blocks.commit(BlockId::new(block), length), text),
+        Call::Remove(block) => Ok(blocks.remove(BlockId::new(block))?),
+        _ => recover(alloc, blocks, call, text),
     }
 }
 
@@ -348,17 +318,21 @@ fn perform(
     Ok(())
 }
 
-/// What the calls answered, where blocks and stamps are given from these numbers on.
-pub fn told(
-    alloc: Global,
-    first_block: u64,
-    first_stamp: u64,
-    calls: &[Call],
-) -> Result<String, Fail> {
-    let mut blocks = Blocks::new(alloc, DEAD, RETRY, first_block, first_stamp);
-    let mut text = String::new(alloc);
-    let done = perform(alloc, &mut blocks, calls, &mut text);
+/// Calls, and what they are to answer.
+pub struct Case {
+    pub name: &'static str,
+    /// Blocks are given from this number on.
+    pub first_block: u64,
+    /// Stamps are given from this number on.
+    pub first_stamp: u64,
+    pub calls: &'static [Call],
+    pub told: &'static str,
+}
+
+/// Writes what the calls of a case answer.
+pub fn tell(alloc: Global, case: &Case, text: &mut String) -> Result<(), Fail> {
+    let mut blocks = Blocks::new(alloc, DEAD, RETRY, case.first_block, case.first_stamp);
+    let done = perform(alloc, &mut blocks, case.calls, text);
     drop(blocks);
-    done?;
-    Ok(text)
+    done
 }
