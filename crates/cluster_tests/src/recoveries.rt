@@ -1,13 +1,10 @@
 //! A recovery from the death of a writer to its end, with each of its messages in turn lost, doubled, or delivered behind all others.
 
-use crate::lines::open;
+use crate::lines::{open, step_line};
 use crate::schedules::check_nodes;
 use cluster_core::world::World;
-use cluster_text::event_line::read_event;
-use cluster_trace::outcome::{EventAnswer, Outcome};
 use flat_rows::verdict::Verdict;
 use hdfs_types::reply::Reply;
-use plan_steps::answered::PlanReply;
 use std::alloc::Global;
 use std::test::Fail;
 
@@ -21,7 +18,7 @@ enum Change {
 
 // Three DataNodes have 900, 700 and 512 bytes of a block when its writer dies. At an empty line all messages are delivered that were sent by
 // then, and what they send.
-const LINES: [&str; 22] = [
+static LINES: [&str; 22] = [
     "0 hdfs mkdirs /d 777",
     "0 dn-1 heartbeat",
     "0 dn-2 heartbeat",
@@ -50,7 +47,7 @@ const LINES: [&str; 22] = [
 // order to lead, 7 to 9 the question and 10 to 12 the answers, of the DataNodes 1 to 3; 13 to 15 have them cut their replicas, and each
 // confirms and reports that with two of 16 to 21; 22 is the end. Without the keys, the question or the answer of DataNode 3 its 512 bytes
 // don't count. Without the order nothing is decided, and nothing is told before the end comes.
-const LOST: [(u64, u64); 22] = [
+static LOST: [(u64, u64); 22] = [
     (512, 512),
     (512, 512),
     (700, 700),
@@ -75,7 +72,8 @@ const LOST: [(u64, u64); 22] = [
     (512, 0),
 ];
 
-// Which message goes another way, how many were sent and how many have had their turn, what was decided, and how many records there are.
+// Which message goes another way, how many were sent and how many have had their turn, what was decided, what a reader is told, and how many
+// records there are.
 #[derive(Clone, Copy)]
 struct Run {
     number: u64,
@@ -83,24 +81,15 @@ struct Run {
     sent: u64,
     done: u64,
     decided: u64,
+    opened: u64,
     records: [usize; 3],
-}
-
-fn decided_in(outcome: &Outcome) -> u64 {
-    match &outcome.answer {
-        EventAnswer::Led(Ok(PlanReply::Decided(decision))) => decision.length,
-        _ => 0,
-    }
 }
 
 // Steps a line, behind which each record has to rest on a grant.
 fn step(alloc: Global, world: &mut World, run: &mut Run, line: &str) -> Result<(), Fail> {
-    let said = read_event(alloc, world.core().ledger().as_slice(), line)?;
-    let event = said.map_err(|_| "an ill-formed line")?;
-    let outcome = world.step(event)?;
-    run.sent = run.sent.wrapping_add(outcome.count);
-    run.decided = run.decided.max(decided_in(&outcome));
-    drop(outcome);
+    let told = step_line(alloc, world, line)?;
+    run.sent = run.sent.wrapping_add(told.sent);
+    run.decided = run.decided.max(told.decided);
     run.records = check_nodes(world, run.records)?;
     Ok(())
 }
@@ -132,8 +121,18 @@ fn deliver_all(alloc: Global, world: &mut World, run: &mut Run) -> Result<(), Fa
     Ok(())
 }
 
+// What the last request was told of the length of a file.
+fn opened(world: &World) -> Result<u64, Fail> {
+    let entry = world.core().last().ok_or("an entry")?;
+    match &entry.verdict {
+        Verdict::Done(Reply::Opened(file)) => Ok(file.length()),
+        _ => Err(Fail::from("no file is opened")),
+    }
+}
+
+// Steps the lines, and has a reader open the file at the end.
 fn step_lines(alloc: Global, world: &mut World, run: &mut Run) -> Result<(), Fail> {
-    for line in LINES {
+    for line in &LINES {
         if line.is_empty() {
             deliver_all(alloc, world, run)?;
         } else {
@@ -145,21 +144,9 @@ fn step_lines(alloc: Global, world: &mut World, run: &mut Run) -> Result<(), Fai
         deliver(alloc, world, run, number)?;
         deliver_all(alloc, world, run)?;
     }
-    step(alloc, world, run, "60001 bob open /d/f")
-}
-
-// What the last request was told of the length of a file.
-fn opened(world: &World) -> Result<u64, Fail> {
-    let entry = world.core().last().ok_or("an entry")?;
-    match &entry.verdict {
-        Verdict::Done(Reply::Opened(file)) => Ok(file.length()),
-        _ => Err(Fail::from("no file is opened")),
-    }
-}
-
-fn run_lines(alloc: Global, world: &mut World, run: &mut Run) -> Result<(u64, u64), Fail> {
-    step_lines(alloc, world, run)?;
-    Ok((run.decided, opened(world)?))
+    step(alloc, world, run, "60001 bob open /d/f")?;
+    run.opened = opened(world)?;
+    Ok(())
 }
 
 // The length that is decided and the one that a reader is told at the end.
@@ -170,22 +157,24 @@ fn lengths(alloc: Global, number: u64, change: Change) -> Result<(u64, u64), Fai
         sent: 0,
         done: 0,
         decided: 0,
+        opened: 0,
         records: [0; 3],
     };
     let mut world = open(alloc)?;
-    let found = run_lines(alloc, &mut world, &mut run);
+    let done = step_lines(alloc, &mut world, &mut run);
     drop(world);
-    found
+    done?;
+    Ok((run.decided, run.opened))
 }
 
 // The messages that make another length than they have to.
 fn wrong(alloc: Global) -> Result<Vec<u64>, Fail> {
     let mut numbers = Vec::new(alloc);
     let mut number = 0u64;
-    for lost in LOST {
+    for lost in &LOST {
         number = number.wrapping_add(1);
-        let last = if number == 22 { (512, 512) } else { lost };
-        if lengths(alloc, number, Change::Lost)? != lost
+        let last = if number == 22 { (512, 512) } else { *lost };
+        if lengths(alloc, number, Change::Lost)? != *lost
             || lengths(alloc, number, Change::Doubled)? != (512, 512)
             || lengths(alloc, number, Change::Last)? != last
         {

@@ -1,32 +1,21 @@
 //! A list of events that is run, where there is memory: all of it.
 
 use crate::lines::{open, step_line};
-use crate::sources::{LINES, sources_of};
+use crate::sources::{LINES, WANTED, sources_of};
 use cluster_core::world::{Trace, World, run};
 use cluster_text::event_line::read_event;
 use cluster_trace::event::Event;
 use std::alloc::Global;
 use std::collections::VecDeque;
 use std::test::Fail;
-use token_provenance::source::Source;
-
-// Puts the event of a line behind the others.
-fn add_event(
-    alloc: Global,
-    world: &World,
-    line: &str,
-    events: &mut VecDeque<Event>,
-) -> Result<(), Fail> {
-    let said = read_event(alloc, world.core().ledger().as_slice(), line)?;
-    let event = said.map_err(|_| "an ill-formed line")?;
-    events.push_back(event)?;
-    Ok(())
-}
 
 // The events of the lines, each read behind those before, which are stepped.
 fn add_events(alloc: Global, world: &mut World, events: &mut VecDeque<Event>) -> Result<(), Fail> {
-    for line in LINES {
-        add_event(alloc, world, line, events)?;
+    for line in &LINES {
+        let Ok(event) = read_event(alloc, world.core().ledger().as_slice(), line)? else {
+            return Err("an ill-formed line".into());
+        };
+        events.push_back(event)?;
         step_line(alloc, world, line)?;
     }
     Ok(())
@@ -51,13 +40,7 @@ fn sent(trace: &Trace) -> u64 {
 // What came of tokens over time: an outcome for each event, an entry for each request and for the report, the keys twice and the report
 // once, and records that rest on grants.
 fn check(alloc: Global, trace: &Trace) -> Result<(), Fail> {
-    let wanted = [
-        Source::Grant(4),
-        Source::Grant(4),
-        Source::Grant(4),
-        Source::Grant(7),
-    ];
-    if sources_of(alloc, &trace.world)?.as_slice() != wanted.as_slice() {
+    if sources_of(alloc, &trace.world)?.as_slice() != WANTED.as_slice() {
         return Err("other records".into());
     }
     if trace.outcomes.len() != 23 || trace.world.core().place() != 11 || sent(trace) != 3 {

@@ -3,14 +3,13 @@
 
 ghost use Rattle.std.specs.Prelude.{◌<◌, length};
 
-use crate::lines::{open, step_line};
+use crate::lines::{open, step_line, step_lines};
 use crate::random::Dice;
 use bitflags::Flags;
 use cluster_core::world::World;
 use grant_ledger::ledger::LedgerRow;
 use hdfs_values::node_id::NodeId;
 use node_calls::access_log::AccessRecord;
-use permission_specs::modes::Modes;
 use std::alloc::Global;
 use std::fmt::Write;
 use std::test::Fail;
@@ -18,7 +17,7 @@ use std::test::Fail;
 const LINES: usize = 100;
 
 // Every DataNode is live, and has the first key.
-const FIRST_LINES: [&str; 7] = [
+static FIRST_LINES: [&str; 7] = [
     "0 hdfs mkdirs /d 777",
     "0 dn-1 heartbeat",
     "0 dn-2 heartbeat",
@@ -29,7 +28,7 @@ const FIRST_LINES: [&str; 7] = [
 ];
 
 // A question mark stands for one of the numbers 1 to 3, and a B for a block of which a token was granted.
-const REQUESTS: [&str; 16] = [
+static REQUESTS: [&str; 16] = [
     "dn-? heartbeat",
     "dn-? heartbeat",
     "dn-? heartbeat",
@@ -49,7 +48,7 @@ const REQUESTS: [&str; 16] = [
 ];
 
 // A call of a DataNode: its verb, and what stands behind the block and its stamp.
-const CALLS: [(&str, &str); 8] = [
+static CALLS: [(&str, &str); 8] = [
     ("begin", "-"),
     ("begin", "1"),
     ("packet", "0 61 -"),
@@ -115,8 +114,12 @@ fn write_call(rows: &[LedgerRow], dice: &mut Dice, line: &mut String) -> Result<
 }
 
 // The next line of a script, where so many messages were sent before.
-fn write_line(world: &World, dice: &mut Dice, sent: u64, line: &mut String) -> Result<(), Fail> {
-    let rows = world.core().ledger().as_slice();
+fn write_line(
+    rows: &[LedgerRow],
+    dice: &mut Dice,
+    sent: u64,
+    line: &mut String,
+) -> Result<(), Fail> {
     match dice.below(4) {
         0 => write!(line, "- deliver {}", 1 + dice.below(sent.max(1)))?,
         1 => write_request(rows, dice, line)?,
@@ -125,17 +128,14 @@ fn write_line(world: &World, dice: &mut Dice, sent: u64, line: &mut String) -> R
     Ok(())
 }
 
-fn has_modes(granted: Modes, asked: Modes) -> bool {
-    granted.bits() & asked.bits() == asked.bits()
-}
-
 // Whether a grant lets the caller of a record do what he did.
 fn lets(row: &LedgerRow, record: &AccessRecord) -> bool {
     let grant = &row.grant;
+    let asked = record.mode.bits();
     grant.token.as_bytes() == record.token.as_bytes()
         && grant.user.as_str() == record.caller.as_str()
         && grant.block.get() == record.block.get()
-        && has_modes(grant.modes, record.mode)
+        && grant.modes.bits() & asked == asked
         && record.moment.milliseconds() < grant.expiry
 }
 
@@ -184,13 +184,6 @@ pub(crate) fn check_nodes(world: &World, seen: [usize; 3]) -> Result<[usize; 3],
     Ok([first, second, third])
 }
 
-fn step_first(alloc: Global, world: &mut World) -> Result<(), Fail> {
-    for line in FIRST_LINES {
-        step_line(alloc, world, line)?;
-    }
-    Ok(())
-}
-
 // Milliseconds to the next line: seldom up to so many.
 fn pause(dice: &mut Dice, leap: u64) -> u64
     requires { 0 < leap }
@@ -202,10 +195,10 @@ fn pause(dice: &mut Dice, leap: u64) -> u64
 }
 
 // Steps lines that look random, and looks behind each at what the DataNodes have noted down. Tells how many records there are.
-fn step_lines(alloc: Global, world: &mut World, seed: u64, leap: u64) -> Result<usize, Fail>
+fn step_script(alloc: Global, world: &mut World, seed: u64, leap: u64) -> Result<usize, Fail>
     requires { 0 < leap }
 {
-    step_first(alloc, world)?;
+    step_lines(alloc, world, &FIRST_LINES)?;
     let mut dice = Dice::of(seed);
     let mut line = String::new(alloc);
     let mut seen = [0; 3];
@@ -215,8 +208,8 @@ fn step_lines(alloc: Global, world: &mut World, seed: u64, leap: u64) -> Result<
         moment = moment.wrapping_add(pause(&mut dice, leap));
         line.clear();
         write!(line, "{moment} ")?;
-        write_line(world, &mut dice, sent, &mut line)?;
-        sent = sent.wrapping_add(step_line(alloc, world, &line)?);
+        write_line(world.core().ledger().as_slice(), &mut dice, sent, &mut line)?;
+        sent = sent.wrapping_add(step_line(alloc, world, &line)?.sent);
         seen = check_nodes(world, seen)?;
     }
     Ok(seen[0].wrapping_add(seen[1]).wrapping_add(seen[2]))
@@ -227,7 +220,7 @@ fn records_of(alloc: Global, seed: u64, leap: u64) -> Result<usize, Fail>
     requires { 0 < leap }
 {
     let mut world = open(alloc)?;
-    let records = step_lines(alloc, &mut world, seed, leap);
+    let records = step_script(alloc, &mut world, seed, leap);
     drop(world);
     records
 }

@@ -1,6 +1,6 @@
 //! What the records of a DataNode's log rest on.
 
-use crate::lines::{open, step_line};
+use crate::lines::{open, step_lines};
 use cluster_core::world::World;
 use hdfs_values::node_id::NodeId;
 use std::alloc::Global;
@@ -11,7 +11,7 @@ use token_provenance::source::Source;
 
 // Tokens over time: of those that call the DataNode 1, the writer presents a token that the fourth request was granted, and the reader one
 // of the seventh, of which the other calls are refused.
-pub(crate) const LINES: [&str; 23] = [
+pub(crate) static LINES: [&str; 23] = [
     "0 hdfs mkdirs /d 777",
     "0 dn-1 heartbeat",
     "0 - deliver 1",
@@ -37,6 +37,14 @@ pub(crate) const LINES: [&str; 23] = [
     "36000200 bob @1 read 1 1001 0 2 #2",
 ];
 
+/// What the records of the DataNode 1 rest on behind the lines.
+pub(crate) static WANTED: [Source; 4] = [
+    Source::Grant(4),
+    Source::Grant(4),
+    Source::Grant(4),
+    Source::Grant(7),
+];
+
 /// What the records of the DataNode 1 rest on.
 pub(crate) fn sources_of(alloc: Global, world: &World) -> Result<Vec<Source>, Fail> {
     let id = NodeId::new(1).ok_or("an id")?;
@@ -46,25 +54,18 @@ pub(crate) fn sources_of(alloc: Global, world: &World) -> Result<Vec<Source>, Fa
     Ok(provenance(alloc, world.core().ledger(), &logs)?)
 }
 
-fn step_lines(alloc: Global, world: &mut World) -> Result<Vec<Source>, Fail> {
-    for line in LINES {
-        step_line(alloc, world, line)?;
-    }
+// What the records rest on behind the lines.
+fn sources_behind(alloc: Global, world: &mut World) -> Result<Vec<Source>, Fail> {
+    step_lines(alloc, world, &LINES)?;
     sources_of(alloc, world)
 }
 
 #[test]
 fn records_rest_on_the_entries_that_granted_their_tokens(rt: HostRuntime) -> Result<(), Fail> {
     let mut world = open(rt.alloc())?;
-    let stepped = step_lines(rt.alloc(), &mut world);
+    let found = sources_behind(rt.alloc(), &mut world);
     drop(world);
-    let sources = stepped?;
-    let wanted = [
-        Source::Grant(4),
-        Source::Grant(4),
-        Source::Grant(4),
-        Source::Grant(7),
-    ];
-    assert_eq!(rt; sources.as_slice(), wanted.as_slice());
+    let sources = found?;
+    assert_eq!(rt; sources.as_slice(), WANTED.as_slice());
     Ok(())
 }
