@@ -1,125 +1,145 @@
-use crate::story::Story;
-use flat_rows::verdict::Verdict;
-use hdfs_types::reply::Reply;
-use hdfs_values::moment::Moment;
-use history::entry::{Answer, HistoryEntry};
-use std::alloc::AllocError;
-use std::mem;
+//! Two callers who ask in turn, and keep their answers as the rules have it; and what is altered of that.
 
-/// What is done to a story. A receipt is told by its pass and the number of those before it, an entry by the number of those before.
+use crate::story::{Row, Rows, Told};
+use std::alloc::{AllocError, Global};
+use std::test::Fail;
+
+/// What is done to a receipt or an entry.
+#[derive(Clone, Copy, Debug)]
+pub enum Change {
+    /// It isn't there.
+    Dropped,
+    /// It and another one stand for one another.
+    Exchanged(usize),
+    /// It says that its request was done, without a reply.
+    Done,
+    /// It has another place.
+    Moved(u64),
+    /// It has another moment, by this line.
+    Later(&'static str),
+    /// It comes once more, behind itself.
+    Repeated,
+}
+
+/// What is done to a story: to a receipt of a pass, to an entry or to an entry of the opening, told by the number of those before it.
 #[derive(Clone, Copy, Debug)]
 pub enum Altered {
-    /// A receipt isn't there.
-    ReceiptDropped(u64, usize),
-    /// Two receipts of a pass stand for one another.
-    ReceiptsExchanged(u64, usize, usize),
-    /// A receipt says that its request was done, without a reply.
-    ReceiptDone(u64, usize),
-    /// A receipt has another place.
-    ReceiptMoved(u64, usize, u64),
-    /// An entry says that its request was done, without a reply.
-    EntryDone(usize),
-    /// An entry has another moment.
-    EntryLater(usize),
-    /// An entry has another place.
-    EntryMoved(usize, u64),
-    /// An entry comes once more, behind itself.
-    EntryRepeated(usize),
-    /// An entry isn't there.
-    EntryDropped(usize),
-    /// An entry of the opening has another place.
-    OpeningMoved(usize, u64),
+    Receipt(u64, usize, Change),
+    Entry(usize, Change),
+    Opening(usize, Change),
 }
 
-fn say_done(verdict: &mut Verdict) {
-    let old = mem::replace(verdict, Verdict::Done(Reply::Empty));
-    drop(old);
+// A request of a pass, with its place and its answer. A look makes no entry.
+#[derive(Clone, Copy)]
+enum Asked {
+    Entry(u64, u64, &'static str, Told),
+    Look(u64, u64, &'static str, Told),
 }
 
-fn receipt_done(answers: &mut [Answer], index: usize) {
-    if let Some(answer) = answers.get_mut(index) {
-        say_done(&mut answer.verdict);
-    }
-}
+// What was there before has the names of requests of the first caller.
+static BEFORE: [Row; 2] = [
+    Row {
+        pass: 0,
+        index: 0,
+        place: 1,
+        line: "0 hdfs mkdirs /d 777",
+        told: Told::Done,
+    },
+    Row {
+        pass: 0,
+        index: 1,
+        place: 2,
+        line: "0 hdfs mkdirs /e 700",
+        told: Told::Done,
+    },
+];
 
-fn receipt_moved(answers: &mut [Answer], index: usize, place: u64) {
-    if let Some(answer) = answers.get_mut(index) {
-        answer.place = place;
-    }
-}
+static PASSES: [Asked; 9] = [
+    Asked::Entry(0, 3, "1 alice create /d/a 644 1", Told::Done),
+    Asked::Look(1, 3, "1 bob du /d", Told::Counted(1, 1)),
+    Asked::Entry(1, 4, "2 bob mkdirs /d/b 755", Told::Done),
+    Asked::Look(0, 4, "3 alice du /d", Told::Counted(2, 1)),
+    Asked::Entry(0, 5, "3 alice complete /d/a", Told::Closed),
+    Asked::Look(1, 5, "3 bob stat /d/c", Told::NotFound),
+    Asked::Entry(1, 6, "4 bob delete /d/a", Told::Deleted),
+    Asked::Entry(0, 7, "5 alice append /d/a", Told::NotFound),
+    Asked::Look(0, 7, "5 alice du /d", Told::Counted(2, 0)),
+];
 
-fn receipt_dropped(answers: &mut Vec<Answer>, index: usize) {
-    if index < answers.len() {
-        drop(answers.remove(index));
-    }
-}
-
-fn receipts_exchanged(answers: &mut [Answer], index: usize, other: usize) {
-    if index < answers.len() && other < answers.len() {
-        answers.swap(index, other);
-    }
-}
-
-fn entry_done(entries: &mut [HistoryEntry], before: usize) {
-    if let Some(entry) = entries.get_mut(before) {
-        say_done(&mut entry.verdict);
-    }
-}
-
-fn entry_later(entries: &mut [HistoryEntry], before: usize) {
-    if let Some(entry) = entries.get_mut(before)
-        && let Some(moment) = Moment::new(1000)
-    {
-        entry.request.moment = moment;
-    }
-}
-
-fn entry_moved(entries: &mut [HistoryEntry], before: usize, place: u64) {
-    if let Some(entry) = entries.get_mut(before) {
-        entry.place = place;
-    }
-}
-
-fn entry_repeated(entries: &mut Vec<HistoryEntry>, before: usize) -> Result<(), AllocError> {
-    if before < entries.len() {
-        let again = entries[before].clone()?;
-        entries.insert(before + 1, again)?;
-    }
-    Ok(())
-}
-
-fn entry_dropped(entries: &mut Vec<HistoryEntry>, before: usize) {
-    if before < entries.len() {
-        drop(entries.remove(before));
-    }
-}
-
-fn answers_of(story: &mut Story, pass: u64) -> &mut Vec<Answer> {
+fn receipts_of(rows: &mut Rows, pass: u64) -> &mut Vec<Row> {
     if pass == 0 {
-        return &mut story.first;
+        return &mut rows.first;
     }
-    &mut story.second
+    &mut rows.second
 }
 
-/// Does this to a story.
-pub fn alter(story: &mut Story, altered: Altered) -> Result<(), AllocError> {
-    match altered {
-        Altered::ReceiptDropped(pass, index) => receipt_dropped(answers_of(story, pass), index),
-        Altered::ReceiptsExchanged(pass, index, other) => {
-            receipts_exchanged(answers_of(story, pass), index, other);
+// Adds the receipt of a request, and its entry.
+fn add(rows: &mut Rows, asked: Asked) -> Result<(), AllocError> {
+    let (pass, place, line, told, is_look) = match asked {
+        Asked::Entry(pass, place, line, told) => (pass, place, line, told, false),
+        Asked::Look(pass, place, line, told) => (pass, place, line, told, true),
+    };
+    let kept = receipts_of(rows, pass);
+    let index = kept.len() as u64;
+    let row = Row {
+        pass,
+        index,
+        place,
+        line,
+        told,
+    };
+    kept.push(row)?;
+    if !is_look {
+        rows.history.push(row)?;
+    }
+    Ok(())
+}
+
+fn alter_row(rows: &mut Vec<Row>, index: usize, change: Change) -> Result<(), AllocError> {
+    if index >= rows.len() {
+        return Ok(());
+    }
+    match change {
+        Change::Dropped => {
+            rows.remove(index);
         }
-        Altered::ReceiptDone(pass, index) => receipt_done(answers_of(story, pass), index),
-        Altered::ReceiptMoved(pass, index, place) => {
-            receipt_moved(answers_of(story, pass), index, place);
+        Change::Exchanged(other) => {
+            if other < rows.len() {
+                rows.swap(index, other);
+            }
         }
-        Altered::EntryDone(before) => entry_done(&mut story.history, before),
-        Altered::EntryLater(before) => entry_later(&mut story.history, before),
-        Altered::EntryMoved(before, place) => entry_moved(&mut story.history, before, place),
-        Altered::EntryRepeated(before) => return entry_repeated(&mut story.history, before),
-        Altered::EntryDropped(before) => entry_dropped(&mut story.history, before),
-        Altered::OpeningMoved(before, place) => {
-            entry_moved(&mut story.opening.entries, before, place);
+        Change::Done => rows[index].told = Told::Done,
+        Change::Moved(place) => rows[index].place = place,
+        Change::Later(line) => rows[index].line = line,
+        Change::Repeated => {
+            let again = rows[index];
+            rows.insert(index + 1, again)?;
         }
     }
     Ok(())
+}
+
+fn alter(rows: &mut Rows, altered: Altered) -> Result<(), AllocError> {
+    match altered {
+        Altered::Receipt(pass, index, change) => alter_row(receipts_of(rows, pass), index, change),
+        Altered::Entry(index, change) => alter_row(&mut rows.history, index, change),
+        Altered::Opening(index, change) => alter_row(&mut rows.opening, index, change),
+    }
+}
+
+/// The rows of the two callers, with these alterations.
+pub fn altered_rows(alloc: Global, altered: &[Altered]) -> Result<Rows, Fail> {
+    let mut rows = Rows {
+        opening: Vec::from_slice(alloc, &BEFORE)?,
+        history: Vec::from_slice(alloc, &BEFORE)?,
+        first: Vec::new(alloc),
+        second: Vec::new(alloc),
+    };
+    for asked in &PASSES {
+        add(&mut rows, *asked)?;
+    }
+    for one in altered {
+        alter(&mut rows, *one)?;
+    }
+    Ok(rows)
 }

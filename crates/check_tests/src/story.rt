@@ -1,7 +1,8 @@
+//! What a NameNode has, and what two callers of it kept.
+
 use audit_check::check::{CheckFault, Opening, check};
 use flat_rows::verdict::Verdict;
 use hdfs_types::key::Key;
-use hdfs_types::op::{Request, is_look};
 use hdfs_types::reply::{ContentSummary, Refusal, Reply};
 use history::config::Config;
 use history::entry::{Answer, HistoryEntry};
@@ -19,8 +20,9 @@ pub struct Story {
     pub second: Vec<Answer>,
 }
 
+/// What is answered.
 #[derive(Clone, Copy)]
-enum Told {
+pub enum Told {
     Done,
     Closed,
     Deleted,
@@ -29,22 +31,23 @@ enum Told {
     Counted(u64, u64),
 }
 
-/// A request of a pass, and its answer.
+/// A request by its line, and its answer: a receipt of a pass, or an entry.
 #[derive(Clone, Copy)]
-struct Asked {
-    pass: u64,
-    place: u64,
-    line: &'static str,
-    told: Told,
+pub struct Row {
+    pub pass: u64,
+    pub index: u64,
+    pub place: u64,
+    pub line: &'static str,
+    pub told: Told,
 }
 
-fn ask(pass: u64, place: u64, line: &'static str, told: Told) -> Asked {
-    Asked {
-        pass,
-        place,
-        line,
-        told,
-    }
+/// The entries of the opening and of the history, and the receipts of the passes, by their rows.
+#[derive(Drop)]
+pub struct Rows {
+    pub opening: Vec<Row>,
+    pub history: Vec<Row>,
+    pub first: Vec<Row>,
+    pub second: Vec<Row>,
 }
 
 fn verdict_of(told: Told) -> Verdict {
@@ -61,91 +64,51 @@ fn verdict_of(told: Told) -> Verdict {
     }
 }
 
-/// The request of a line.
-pub(crate) fn request_of(alloc: Global, line: &str) -> Result<Request, Fail> {
-    match read_line(alloc, line)? {
-        Ok(request) => Ok(request),
-        Err(_) => Err(Fail::new("no request")),
-    }
-}
-
-fn answer_of(alloc: Global, asked: Asked) -> Result<Answer, Fail> {
-    let request = request_of(alloc, asked.line)?;
-    Ok(Answer {
-        place: asked.place,
-        request,
-        verdict: verdict_of(asked.told),
-    })
-}
-
-fn entry_of(alloc: Global, asked: Asked, index: u64) -> Result<HistoryEntry, Fail> {
-    let request = request_of(alloc, asked.line)?;
-    Ok(HistoryEntry {
-        place: asked.place,
-        pass: asked.pass,
-        index,
-        request,
-        verdict: verdict_of(asked.told),
-    })
-}
-
-// A request from before the passes.
-fn add_before(alloc: Global, story: &mut Story, asked: Asked, index: u64) -> Result<(), Fail> {
-    story.opening.entries.push(entry_of(alloc, asked, index)?)?;
-    story.history.push(entry_of(alloc, asked, index)?)?;
-    Ok(())
-}
-
-// A request of a pass. A look makes no entry.
-fn add(alloc: Global, story: &mut Story, asked: Asked) -> Result<(), Fail> {
-    let kept = if asked.pass == 0 {
-        &mut story.first
-    } else {
-        &mut story.second
+fn add_entry(alloc: Global, entries: &mut Vec<HistoryEntry>, row: &Row) -> Result<(), Fail> {
+    let Ok(request) = read_line(alloc, row.line)? else {
+        return Err("no request".into());
     };
-    let index = kept.len() as u64;
-    let answer = answer_of(alloc, asked)?;
-    let is_look = is_look(&answer.request.op);
-    kept.push(answer)?;
-    if !is_look {
-        story.history.push(entry_of(alloc, asked, index)?)?;
-    }
+    entries.push(HistoryEntry {
+        place: row.place,
+        pass: row.pass,
+        index: row.index,
+        request,
+        verdict: verdict_of(row.told),
+    })?;
     Ok(())
 }
 
-// What was there before has the names of requests of the first caller.
-fn tell(alloc: Global, story: &mut Story) -> Result<(), Fail> {
-    add_before(
-        alloc,
-        story,
-        ask(0, 1, "0 hdfs mkdirs /d 777", Told::Done),
-        0,
-    )?;
-    add_before(
-        alloc,
-        story,
-        ask(0, 2, "0 hdfs mkdirs /e 700", Told::Done),
-        1,
-    )?;
-    let passes = [
-        ask(0, 3, "1 alice create /d/a 644 1", Told::Done),
-        ask(1, 3, "1 bob du /d", Told::Counted(1, 1)),
-        ask(1, 4, "2 bob mkdirs /d/b 755", Told::Done),
-        ask(0, 4, "3 alice du /d", Told::Counted(2, 1)),
-        ask(0, 5, "3 alice complete /d/a", Told::Closed),
-        ask(1, 5, "3 bob stat /d/c", Told::NotFound),
-        ask(1, 6, "4 bob delete /d/a", Told::Deleted),
-        ask(0, 7, "5 alice append /d/a", Told::NotFound),
-        ask(0, 7, "5 alice du /d", Told::Counted(2, 0)),
-    ];
-    for one in passes {
-        add(alloc, story, one)?;
+fn add_answer(alloc: Global, answers: &mut Vec<Answer>, row: &Row) -> Result<(), Fail> {
+    let Ok(request) = read_line(alloc, row.line)? else {
+        return Err("no request".into());
+    };
+    answers.push(Answer {
+        place: row.place,
+        request,
+        verdict: verdict_of(row.told),
+    })?;
+    Ok(())
+}
+
+/// Adds what the rows say.
+pub fn tell(alloc: Global, story: &mut Story, rows: &Rows) -> Result<(), Fail> {
+    for row in &rows.opening {
+        add_entry(alloc, &mut story.opening.entries, row)?;
+    }
+    for row in &rows.history {
+        add_entry(alloc, &mut story.history, row)?;
+    }
+    for row in &rows.first {
+        add_answer(alloc, &mut story.first, row)?;
+    }
+    for row in &rows.second {
+        add_answer(alloc, &mut story.second, row)?;
     }
     Ok(())
 }
 
 /// Nothing was asked.
-pub(crate) fn empty(alloc: Global) -> Story {
+pub fn empty(alloc: Global) -> Story {
     Story {
         opening: Opening {
             config: Config::standard(),
@@ -156,13 +119,6 @@ pub(crate) fn empty(alloc: Global) -> Story {
         first: Vec::new(alloc),
         second: Vec::new(alloc),
     }
-}
-
-/// Two callers ask in turn, and keep their answers: as the rules have it.
-pub fn make_story(alloc: Global) -> Result<Story, Fail> {
-    let mut story = empty(alloc);
-    tell(alloc, &mut story)?;
-    Ok(story)
 }
 
 /// What the check answers.
