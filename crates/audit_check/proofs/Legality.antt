@@ -6,10 +6,10 @@ use Rattle.flat_rows.specs.declared.verdict.Verdict.{Verdict}
 use Rattle.history.specs.declared.entry.HistoryEntry.{HistoryEntry}
 use Rattle.history.specs.Config.{Opening}
 use Rattle.history.specs.LegalHistory.{IsLegal, verdict_of}
-use Rattle.receipt_checks.specs.Agreement.{Claims, Agrees, IsLegalAt, replayed}
+use Rattle.receipt_checks.specs.Agreement.{Claims, Agrees, IsLegalAt, replayed_history}
 
 -- a legal history is what its requests give
-replayed_legal : (opening : Opening) (entries : List HistoryEntry) → IsLegal opening entries → replayed opening entries ≡ entries
+replayed_legal : (opening : Opening) (entries : List HistoryEntry) → IsLegal opening entries → replayed_history opening entries ≡ entries
 replayed_legal opening [] legal = refl
 replayed_legal opening (entry ∷ earlier) legal =
     ap (λ (own : List HistoryEntry). record entry { place = length own + 1; verdict = verdict_of opening own entry.request } ∷ own) (replayed_legal opening earlier legal.2)
@@ -108,7 +108,7 @@ agreed_at claims agree legal n entry at = by (slice_get_cases claims.begun n).1
         let same : own ≡ entry = let e : Some own ≡ Some entry = sym (stays claims agree n own stood) ∙ at in cc in
         let here : IsLegalAt claims.opening claims.begun n own = legal_at claims.opening claims.begun n own legal stood in
         subst (λ (x : HistoryEntry). IsLegalAt claims.opening claims.history n x) same
-        (here.0, here.1 ∙ ap (λ (front : List HistoryEntry). verdict_of claims.opening (replayed claims.opening (reverse front)) own.request) (same_front claims.begun claims.history (stays claims agree) n (omega arith)))
+        (here.0, here.1 ∙ ap (λ (front : List HistoryEntry). verdict_of claims.opening (replayed_history claims.opening (reverse front)) own.request) (same_front claims.begun claims.history (stays claims agree) n (omega arith)))
     by (inr (since, none)) = (agree entry.pass entry.index).legal n entry since at (refl, refl)
 
 pub agreed_legal : (claims : Claims) → ((pass index : ℕ) → Agrees claims pass index) → IsLegal claims.opening (reverse claims.begun) → IsLegal claims.opening (reverse claims.history)

@@ -6,11 +6,11 @@ use Rattle.history.specs.Config as history
 use Rattle.receipt_checks.specs.Agreement.{Claims, Placed, Received, Opened}
 use Rattle.audit_check.specs.declared.check.Opening.{Opening}
 
-abbrev pub opening_of : Opening → history.Opening
-opening_of opening = record { config = opening.config; key = opening.first_key }
+abbrev pub history_opening : Opening → history.Opening
+history_opening opening = record { config = opening.config; key = opening.first_key }
 
 abbrev pub claims_of : Opening → List HistoryEntry → List (List Answer) → Claims
-claims_of opening history passes = record { opening = opening_of opening; begun = opening.entries.items; history = history; passes = passes }
+claims_of opening history passes = record { opening = history_opening opening; begun = opening.entries.items; history = history; passes = passes }
 
 -- what can be told of a pair without the rules
 pub record Standing (begun history : List HistoryEntry) (passes : List (List Answer)) (pass index : ℕ) : Type 0 where

@@ -10,18 +10,18 @@ use Rattle.node_calls.specs.declared.call.NodeCall.{NodeCall}
 use Rattle.node_calls.specs.declared.call.PlanCall.{PlanCall}
 use Rattle.node_calls.specs.declared.message.Message.{Message}
 use Rattle.node_calls.specs.declared.message.Message.TheVariants as message
-use Rattle.datanode.specs.NodeStep.{Node}
+use Rattle.datanode.specs.NodeStep.{DataNode}
 use Rattle.block_recovery.specs.Plans.{PlanTable}
 use Rattle.cluster_trace.specs.DataCall.{as_message}
 use Rattle.cluster_trace.specs.Trace as trace
 use Rattle.cluster_trace.specs.declared.event.Event.{Event}
 use Rattle.cluster_trace.specs.declared.event.Event.TheVariants.{Name, Deliver, Data}
 use Rattle.cluster_trace.specs.declared.outcome.ClusterRefusal.TheVariants.{NotFromOutside}
-use Rattle.cluster_core.specs.Past.{Past}
-use Rattle.cluster_core.specs.World.{state_after, stepped}
+use Rattle.cluster_core.specs.Past.{World}
+use Rattle.cluster_core.specs.World.{state_after, with_event}
 use Rattle.script_words.specs.Words.{lines_of, is_skipped, without_return}
-use Rattle.cluster_runs.specs.Output.{State, no_lines, event_in, answered, after_answer, after_line, after_lines}
-use Rattle.audit_runs.specs.Audit.{history_after, history_of}
+use Rattle.cluster_runs.specs.Output.{State, no_lines, event_in, line_answered, after_answer, after_line, after_lines}
+use Rattle.audit_runs.specs.Audit.{history_after, history_of_script}
 use Rattle.audit_runs.specs.Recorded.{AreFirstOf}
 
 -- entries are only added
@@ -37,32 +37,32 @@ adds_on a b c p q = record { more = q.more ++ p.more; is = q.is ∙ ap (λ l. q.
 
 -- ---- one event
 
-adds_named : (state : trace.State) (request : Request) → Adds state.entries (trace.named state request).entries
+adds_named : (state : trace.Cluster) (request : Request) → Adds state.entries (trace.request_named state request).entries
 adds_named state request = record { more = trace.entry_of state request ∷ []; is = refl }
 
-adds_called : (state : trace.State) (id now : ℕ) (asked : NodeCall) (found : Option Node) → Adds state.entries (trace.called_at state id now asked found).entries
+adds_called : (state : trace.Cluster) (id now : ℕ) (asked : NodeCall) (found : Option DataNode) → Adds state.entries (trace.called_at state id now asked found).entries
 adds_called state id now asked None = adds_none state.entries
 adds_called state id now asked (Some node) = adds_none state.entries
 
-adds_led : (state : trace.State) (id : ℕ) (asked : PlanCall) (found : Option PlanTable) → Adds state.entries (trace.led_at state id asked found).entries
+adds_led : (state : trace.Cluster) (id : ℕ) (asked : PlanCall) (found : Option PlanTable) → Adds state.entries (trace.led_at state id asked found).entries
 adds_led state id asked None = adds_none state.entries
 adds_led state id asked (Some plans) = adds_none state.entries
 
-adds_delivered : (state : trace.State) (now : ℕ) (found : Option Message) → Adds state.entries (trace.delivered state now found).entries
+adds_delivered : (state : trace.Cluster) (now : ℕ) (found : Option Message) → Adds state.entries (trace.message_delivered state now found).entries
 adds_delivered state now None = adds_none state.entries
 adds_delivered state now (Some (message.Node node asked)) = adds_called state node now asked (entry_at node state.nodes)
 adds_delivered state now (Some (message.Plan node asked)) = adds_led state node asked (entry_at node state.plans)
-adds_delivered state now (Some (message.Reported node block stamp bytes)) = adds_named state (trace.reporting node now block stamp bytes)
-adds_delivered state now (Some (message.CommitRecovery node block stamp bytes nodes)) = adds_named state (trace.committing node now block stamp bytes nodes)
+adds_delivered state now (Some (message.Reported node block stamp bytes)) = adds_named state (trace.report_request node now block stamp bytes)
+adds_delivered state now (Some (message.CommitRecovery node block stamp bytes nodes)) = adds_named state (trace.commit_request node now block stamp bytes nodes)
 
-adds_asked : (state : trace.State) (request : Request) → Adds state.entries (trace.happened state (Name request)).entries
+adds_asked : (state : trace.Cluster) (request : Request) → Adds state.entries (trace.event_happened state (Name request)).entries
 adds_asked state request = by (trace.is_from_outside request.op)
   where
-    by : (outside : Bool) → Adds state.entries (if outside then trace.named state request else trace.lost state NotFromOutside).entries
+    by : (outside : Bool) → Adds state.entries (if outside then trace.request_named state request else trace.event_lost state NotFromOutside).entries
     by true = adds_named state request
     by false = adds_none state.entries
 
-adds_event : (state : trace.State) (event : Event) → Adds state.entries (trace.happened state event).entries
+adds_event : (state : trace.Cluster) (event : Event) → Adds state.entries (trace.event_happened state event).entries
 adds_event state (Name request) = adds_asked state request
 adds_event state (Deliver number now) = adds_delivered state now (trace.message_at number state.messages)
 adds_event state (Data node now asked) = adds_delivered state now (Some (as_message node asked))
@@ -70,10 +70,10 @@ adds_event state (Data node now asked) = adds_delivered state now (Some (as_mess
 -- ---- lines
 
 -- what a past leaves of the NameNode's entries
-abbrev entries_after : Past → List HistoryEntry
+abbrev entries_after : World → List HistoryEntry
 entries_after past = (state_after past).entries
 
-adds_said : (state : State) (said : Result Event IllFormed) → Adds (entries_after state.past) (entries_after (after_answer state (answered state.past said)).past)
+adds_said : (state : State) (said : Result Event IllFormed) → Adds (entries_after state.past) (entries_after (after_answer state (line_answered state.past said)).past)
 adds_said state (Ok event) = adds_event (state_after state.past) event
 adds_said state (Err fault) = adds_none (entries_after state.past)
 
@@ -81,7 +81,7 @@ adds_line : (state : State) (line : List ℕ) → Adds (entries_after state.past
 adds_line state line = by (is_skipped (without_return line))
   where
     by : (skipped : Bool)
-        → Adds (entries_after state.past) (entries_after (if skipped then record state { number = state.number + 1 } else after_answer state (answered state.past (event_in state.past (without_return line)))).past)
+        → Adds (entries_after state.past) (entries_after (if skipped then record state { number = state.number + 1 } else after_answer state (line_answered state.past (event_in state.past (without_return line)))).past)
     by true = adds_none (entries_after state.past)
     by false = adds_said state (event_in state.past (without_return line))
 
@@ -109,10 +109,10 @@ first_of early more late is =
     }
 
 -- what the first lines of a script leave
-pub first_lines : (script : List ℕ) (count : ℕ) (past : Past) → past ≡ (after_lines (take count (lines_of script))).past → AreFirstOf (history_of script) (history_after past)
+pub first_lines : (script : List ℕ) (count : ℕ) (past : World) → past ≡ (after_lines (take count (lines_of script))).past → AreFirstOf (history_of_script script) (history_after past)
 first_lines script count past is =
     let rest = adds_behind no_lines (lines_of script) count in
-    subst (λ (early : Past). AreFirstOf (history_of script) (history_after early)) (sym is)
+    subst (λ (early : World). AreFirstOf (history_of_script script) (history_after early)) (sym is)
     (first_of (entries_after (after_lines (take count (lines_of script))).past) rest.more (entries_after (after_lines (lines_of script)).past) rest.is)
 
 -- all of them are

@@ -10,7 +10,7 @@ use Rattle.script_runs.specs.Channel.{AppendsFront}
 use Rattle.script_runs.proofs.Known.{Appends-trans}
 use Rattle.script_runs.proofs.Endings.{Front, front_written, appends_none}
 use Rattle.audit_text.specs.AuditText.{entry_line, audit_text}
-use Rattle.audit_runs.specs.Audit.{AppendsFirst, history_of, audit_of}
+use Rattle.audit_runs.specs.Audit.{AppendsFirst, history_of_script, audit_of}
 use Rattle.audit_runs.specs.Recorded.{AreFirstOf}
 
 moved : (old new : Option (List ℕ)) (a b : List ℕ) → a ≡ b → Appends old new a → Appends old new b
@@ -89,14 +89,14 @@ all_are_first old new entries written = record { within = omega arith; written =
 
 -- ---- where the script is known
 
-pub known_first : (known old new : Option (List ℕ)) (script : List ℕ) (count : ℕ) → IfSome known (λ input. script ≡ input) → AppendsFirst count old new (history_of script) → IfSome known (λ input. AppendsFirst count old new (history_of input))
+pub known_first : (known old new : Option (List ℕ)) (script : List ℕ) (count : ℕ) → IfSome known (λ input. script ≡ input) → AppendsFirst count old new (history_of_script script) → IfSome known (λ input. AppendsFirst count old new (history_of_script input))
 known_first None old new script count h written = tt
-known_first (Some input) old new script count h written = subst (λ input. AppendsFirst count old new (history_of input)) h written
+known_first (Some input) old new script count h written = subst (λ input. AppendsFirst count old new (history_of_script input)) h written
 
 pub known_front : (known old new : Option (List ℕ)) (script : List ℕ) → IfSome known (λ input. script ≡ input) → AppendsFront old new (audit_of script) → IfSome known (λ input. AppendsFront old new (audit_of input))
 known_front None old new script h written = tt
 known_front (Some input) old new script h written = subst (λ input. AppendsFront old new (audit_of input)) h written
 
-pub known_none : (known old : Option (List ℕ)) (count : ℕ) → count ≡ 0 → IfSome known (λ input. AppendsFirst count old old (history_of input))
+pub known_none : (known old : Option (List ℕ)) (count : ℕ) → count ≡ 0 → IfSome known (λ input. AppendsFirst count old old (history_of_script input))
 known_none None old count e = tt
-known_none (Some input) old count e = subst (λ n. AppendsFirst n old old (history_of input)) (sym e) (record { within = omega arith; written = appends_none old })
+known_none (Some input) old count e = subst (λ n. AppendsFirst n old old (history_of_script input)) (sym e) (record { within = omega arith; written = appends_none old })

@@ -2,7 +2,7 @@ ghost use Rattle.std.specs.Prelude.{◌≡◌, ◌≢◌, ◌≤◌, ℕ, length
 ghost use Rattle.std.specs.Io.KnownBytes.{Appends, Keeps};
 ghost use Rattle.std.specs.Str.{IsUtf8};
 ghost use Rattle.script_runs.specs.Channel.{AppendsFront};
-ghost use Rattle.cluster_runs.specs.Output.{status_of, answers_of};
+ghost use Rattle.cluster_runs.specs.Output.{script_status, answers_of};
 ghost use Rattle.audit_text.specs.AuditText.{audit_text};
 ghost use Rattle.audit_runs.specs.Audit as spec;
 ghost use Rattle.audit_runs.specs.Audit.{AppendsFirst};
@@ -79,9 +79,9 @@ struct RecordedRun {
 
 /// Records a script on a cluster of its own. Where memory ran out, the entries of the lines before are held.
 fn record_script(alloc: Global, script: &str) -> Result<RecordedRun, AllocError>
-    ensures ok { IfOk result (λ recorded. OnOk recorded.ended (spec.history_after recorded.recording.world ≡ spec.history_of script.now)) }
-    ensures status { IfOk result (λ recorded. IfOk recorded.ended (λ status. status ≡ status_of (answers_of script.now))) }
-    ensures err { IfOk result (λ recorded. OnErr recorded.ended (AreFirstOf (spec.history_of script.now) (spec.history_after recorded.recording.world))) }
+    ensures ok { IfOk result (λ recorded. OnOk recorded.ended (spec.history_after recorded.recording.world ≡ spec.history_of_script script.now)) }
+    ensures status { IfOk result (λ recorded. IfOk recorded.ended (λ status. status ≡ script_status (answers_of script.now))) }
+    ensures err { IfOk result (λ recorded. OnErr recorded.ended (AreFirstOf (spec.history_of_script script.now) (spec.history_after recorded.recording.world))) }
 {
     let mut recording = Recording::open(alloc)?;
     let ended = recording.run(script);
@@ -125,10 +125,10 @@ pub fn audit<R: Read, W: Write>(
     reader: &mut R,
     writer: &mut W,
 ) -> Result<Status, ScriptFault>
-    ensures ok { IfOk result (λ status. IfSome (R.remaining reader.old) (λ script. IsUtf8 script × Appends (W.contents writer.old) (W.contents writer.new) (spec.audit_of script) × (status ≡ status_of (answers_of script)))) }
+    ensures ok { IfOk result (λ status. IfSome (R.remaining reader.old) (λ script. IsUtf8 script × Appends (W.contents writer.old) (W.contents writer.new) (spec.audit_of script) × (status ≡ script_status (answers_of script)))) }
     ensures unread { result ≡ Err ScriptFault.CannotRead → Keeps (W.contents writer.old) (W.contents writer.new) }
     ensures not_text { result ≡ Err ScriptFault.NotUtf8 → Keeps (W.contents writer.old) (W.contents writer.new) × IfSome (R.remaining reader.old) (λ script. ¬ (IsUtf8 script)) }
-    ensures no_memory { (count : ℕ) → result ≡ Err (ScriptFault.OutOfMemory count) → IfSome (R.remaining reader.old) (λ script. AppendsFirst count (W.contents writer.old) (W.contents writer.new) (spec.history_of script)) }
+    ensures no_memory { (count : ℕ) → result ≡ Err (ScriptFault.OutOfMemory count) → IfSome (R.remaining reader.old) (λ script. AppendsFirst count (W.contents writer.old) (W.contents writer.new) (spec.history_of_script script)) }
     ensures unwritten { result ≡ Err ScriptFault.CannotWrite → IfSome (R.remaining reader.old) (λ script. AppendsFront (W.contents writer.old) (W.contents writer.new) (spec.audit_of script)) }
 {
     let script = read_script(alloc, reader)?;

@@ -1,6 +1,6 @@
 ghost use Rattle.std.specs.Prelude.{◌≡◌, List, ℕ, IfOk, OnOk, OnErr, Ok, Err, map};
 ghost use Rattle.cluster_runs.specs.Output as spec;
-ghost use Rattle.audit_runs.specs.Audit.{history_after, history_of};
+ghost use Rattle.audit_runs.specs.Audit.{history_after, history_of_script};
 ghost use Rattle.audit_runs.specs.Recorded.{Holds, HoldsFirst, AreFirstOf};
 
 use cluster_core::world::World;
@@ -46,7 +46,7 @@ impl Recording {
 
     /// Records an event. Where memory runs out it hasn't happened.
     fn record_event(&mut self, event: Event) -> Result<(), AllocError>
-        ensures ok { (state : spec.State) → Holds state self.old → OnOk result (Holds (spec.after_answer state (spec.answered state.past (Ok event))) self.new) }
+        ensures ok { (state : spec.State) → Holds state self.old → OnOk result (Holds (spec.after_answer state (spec.line_answered state.past (Ok event))) self.new) }
         ensures err { OnErr result (self.new.world ≡ self.old.world) }
     {
         let outcome = self.world.step(event)?;
@@ -56,7 +56,7 @@ impl Recording {
 
     /// Takes in what the next line says.
     fn take_in(&mut self, said: Result<Event, IllFormed>) -> Result<(), AllocError>
-        ensures ok { (state : spec.State) → Holds state self.old → OnOk result (Holds (spec.after_answer state (spec.answered state.past said)) self.new) }
+        ensures ok { (state : spec.State) → Holds state self.old → OnOk result (Holds (spec.after_answer state (spec.line_answered state.past said)) self.new) }
         ensures err { OnErr result (self.new.world ≡ self.old.world) }
     {
         match said {
@@ -102,9 +102,9 @@ impl Recording {
     /// Runs a script on a cluster in which nothing has happened. Where memory runs out, the entries of the lines before are held.
     pub(crate) fn run(&mut self, script: &str) -> Result<Status, AllocError>
         requires { Holds spec.no_lines self.old }
-        ensures entries { OnOk result (history_after self.new.world ≡ history_of script.now) }
-        ensures status { IfOk result (λ status. status ≡ spec.status_of (spec.answers_of script.now)) }
-        ensures err { OnErr result (AreFirstOf (history_of script.now) (history_after self.new.world)) }
+        ensures entries { OnOk result (history_after self.new.world ≡ history_of_script script.now) }
+        ensures status { IfOk result (λ status. status ≡ spec.script_status (spec.answers_of script.now)) }
+        ensures err { OnErr result (AreFirstOf (history_of_script script.now) (history_after self.new.world)) }
     {
         let lines = pieces_between(self.alloc, script, '\n')?;
         self.serve_all(&lines)?;

@@ -5,7 +5,7 @@ use Rattle.std.specs.List.{filter_map}
 use Rattle.json.specs.Token.{Token, begin_object, end_object}
 use Rattle.json.specs.Print.{print, print_from, escape, escape_byte}
 use Rattle.json.specs.Print as json
-use Rattle.audit_text.specs.JsonText.{Value, text, number, Member, escaped, quoted, member_text, object_text}
+use Rattle.audit_text.specs.JsonText.{Value, text, number, Member, escaped_byte, quoted_text, member_text, object_text}
 use Rattle.audit_text.specs.Tokens.{member_tokens, told_tokens, object_tokens}
 
 -- ---- escapes
@@ -35,16 +35,16 @@ agree byte false false false false false true t control is_quote is_slash = refl
 agree byte false false false false false false true control is_quote is_slash = refl
 agree byte false false false false false false false control is_quote is_slash = refl
 
-escapes : (byte : ℕ) → escape_byte byte ≡ escaped byte
+escapes : (byte : ℕ) → escape_byte byte ≡ escaped_byte byte
 unfolding escape_byte
 escapes byte =
     agree byte (byte == 34) (byte == 92) (byte == 8) (byte == 12) (byte == 10) (byte == 13) (byte == 9) (nat_lt byte 32) (eqb-true byte 34) (eqb-true byte 92)
 
-all_escapes : (bytes : List ℕ) → escape bytes ≡ flat_map escaped bytes
+all_escapes : (bytes : List ℕ) → escape bytes ≡ flat_map escaped_byte bytes
 all_escapes [] = refl
-all_escapes (byte ∷ bytes) = ap (λ front. front ++ escape bytes) (escapes byte) ∙ ap (λ rest. escaped byte ++ rest) (all_escapes bytes)
+all_escapes (byte ∷ bytes) = ap (λ front. front ++ escape bytes) (escapes byte) ∙ ap (λ rest. escaped_byte byte ++ rest) (all_escapes bytes)
 
-quotes : (bytes : List ℕ) → json.quoted bytes ≡ quoted bytes
+quotes : (bytes : List ℕ) → json.quoted bytes ≡ quoted_text bytes
 quotes bytes = ap (λ inner. 34 ∷ (inner ++ (34 ∷ []))) (all_escapes bytes)
 
 -- ---- members
@@ -60,9 +60,9 @@ one member rest = by member.value
     by : (value : Value) → print_from false (member_tokens (record { key = member.key; value = value }) ++ rest) ≡ member_text (record { key = member.key; value = value }) ++ print_from true rest
     by (text t) =
         ap (λ key. (key ++ 58 ∷ []) ++ (json.quoted t ++ print_from true rest)) (quotes member.key)
-        ∙ ap (λ value. (quoted member.key ++ 58 ∷ []) ++ (value ++ print_from true rest)) (quotes t)
-        ∙ joined (quoted member.key) (quoted t) (print_from true rest)
-    by (number n) = ap (λ key. (key ++ 58 ∷ []) ++ (decimal n ++ print_from true rest)) (quotes member.key) ∙ joined (quoted member.key) (decimal n) (print_from true rest)
+        ∙ ap (λ value. (quoted_text member.key ++ 58 ∷ []) ++ (value ++ print_from true rest)) (quotes t)
+        ∙ joined (quoted_text member.key) (quoted_text t) (print_from true rest)
+    by (number n) = ap (λ key. (key ++ 58 ∷ []) ++ (decimal n ++ print_from true rest)) (quotes member.key) ∙ joined (quoted_text member.key) (decimal n) (print_from true rest)
 
 -- members behind the first, and the closing brace
 abbrev others : List Member → List ℕ

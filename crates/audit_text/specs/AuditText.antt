@@ -84,8 +84,8 @@ refused_code _ = None
 abbrev pub text_at : List ℕ → List ℕ → Member
 text_at key told = record { key = key; value = text told }
 
-abbrev pub number_at : List ℕ → ℕ → Member
-number_at key told = record { key = key; value = number told }
+abbrev pub number_member : List ℕ → ℕ → Member
+number_member key told = record { key = key; value = number told }
 
 abbrev pub path_at : List ℕ → List (List ℕ) → Member
 path_at key path = text_at key (path_text path)
@@ -96,8 +96,8 @@ told_front request verdict =
     option_map (path_at (codes "at")) (denied_at verdict)
     ∷ option_map (text_at (codes "by")) (denied_by verdict)
     ∷ Some (text_at (codes "caller") request.caller)
-    ∷ option_map (number_at (codes "code")) (refused_code verdict)
-    ∷ Some (number_at (codes "moment") request.moment)
+    ∷ option_map (number_member (codes "code")) (refused_code verdict)
+    ∷ Some (number_member (codes "moment") request.moment)
     ∷ []
 
 abbrev pub told_rest : HistoryEntry → List (Option Member)
@@ -105,7 +105,7 @@ told_rest entry =
     option_map (text_at (codes "need")) (denied_need entry.verdict)
     ∷ Some (text_at (codes "op") (asked_of entry.request.op).name)
     ∷ option_map (path_at (codes "path")) (asked_of entry.request.op).path
-    ∷ Some (number_at (codes "place") entry.place)
+    ∷ Some (number_member (codes "place") entry.place)
     ∷ option_map (path_at (codes "to")) (asked_of entry.request.op).to
     ∷ Some (text_at (codes "verdict") (verdict_word entry.verdict))
     ∷ []

@@ -9,8 +9,8 @@ abbrev pub hexadecimal : ℕ → List ℕ
 hexadecimal byte = digit_char (byte / 16) ∷ digit_char (byte % 16) ∷ []
 
 -- what stands in a text for a byte: those of a quote, a backslash and a control character are escaped, all others stand as they are
-abbrev pub escaped : ℕ → List ℕ
-escaped byte =
+abbrev pub escaped_byte : ℕ → List ℕ
+escaped_byte byte =
     if byte == 34 then codes "\\\"" else
     if byte == 92 then codes "\\\\" else
     if byte == 8 then codes "\\b" else
@@ -21,15 +21,15 @@ escaped byte =
     if nat_lt byte 32 then codes "\\u00" ++ hexadecimal byte else byte ∷ []
 
 -- between quotes
-abbrev pub quoted : List ℕ → List ℕ
-quoted text = 34 ∷ (flat_map escaped text ++ (34 ∷ []))
+abbrev pub quoted_text : List ℕ → List ℕ
+quoted_text text = 34 ∷ (flat_map escaped_byte text ++ (34 ∷ []))
 
 pub data Value : Type 0 where
   text : List ℕ → Value
   number : ℕ → Value
 
 abbrev pub value_text : Value → List ℕ
-value_text (text t) = quoted t
+value_text (text t) = quoted_text t
 value_text (number n) = decimal n
 
 pub record Member : Type 0 where
@@ -38,7 +38,7 @@ pub record Member : Type 0 where
 
 -- the key, a colon and the value
 abbrev pub member_text : Member → List ℕ
-member_text member = quoted member.key ++ (58 ∷ value_text member.value)
+member_text member = quoted_text member.key ++ (58 ∷ value_text member.value)
 
 -- in braces, with a comma between each two members
 abbrev pub object_text : List Member → List ℕ

@@ -25,7 +25,7 @@ fn put_text(writer: &mut Writer, key: &str, text: &str) -> Result<(), AllocError
 
 /// Adds a member that is a number.
 fn put_number(writer: &mut Writer, key: &str, number: u64) -> Result<(), AllocError>
-    ensures { OnOk result (Tells writer.old writer.new (Some (spec.number_at key.now number) ∷ [])) }
+    ensures { OnOk result (Tells writer.old writer.new (Some (spec.number_member key.now number) ∷ [])) }
 {
     writer.key(key)?;
     writer.u64(number)
@@ -75,7 +75,7 @@ fn put_denied(writer: &mut Writer, shown: &mut String, verdict: &Verdict) -> Res
 
 /// Adds the number of a refusal.
 fn put_code(writer: &mut Writer, verdict: &Verdict) -> Result<(), AllocError>
-    ensures { OnOk result (Tells writer.old writer.new (option_map (spec.number_at (codes "code")) (spec.refused_code verdict.now) ∷ [])) }
+    ensures { OnOk result (Tells writer.old writer.new (option_map (spec.number_member (codes "code")) (spec.refused_code verdict.now) ∷ [])) }
 {
     match verdict {
         Verdict::Refused(refusal) => put_number(writer, "code", u64::from(refusal.code())),

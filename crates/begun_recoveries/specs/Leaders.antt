@@ -9,7 +9,7 @@ use Rattle.block_records.specs.declared.fault.BlockRefusal.TheVariants.{NotFound
 use Rattle.heartbeats.specs.Live.{Heartbeats, primary_of}
 use Rattle.recovery_queue.specs.Queue.{put}
 use Rattle.recovery_queue.specs.declared.begun.BegunRecovery.{BegunRecovery}
-use Rattle.known_blocks.specs.Known.{Known, block_of, stamped, refused_new_stamp}
+use Rattle.known_blocks.specs.Known.{KnownBlocks, block_of, with_stamps, refused_new_stamp}
 
 -- the nodes that are to hold a block; none where it isn't known
 abbrev pub expected_by : Option BlockRecord → List ℕ
@@ -17,8 +17,8 @@ expected_by None = []
 expected_by (Some own) = own.expected
 
 -- the node that is to lead a recovery of a block: of its expected nodes the live one that was heard of last
-abbrev pub leader : Known → Heartbeats → ℕ → ℕ → Option ℕ
-leader known nodes block now = primary_of nodes now (expected_by (block_of known block))
+abbrev pub leader_of : KnownBlocks → Heartbeats → ℕ → ℕ → Option ℕ
+leader_of known nodes block now = primary_of nodes now (expected_by (block_of known block))
 
 -- ---- one recovery
 
@@ -27,12 +27,12 @@ refused_unled None = Some TooFewNodes
 refused_unled (Some node) = None
 
 -- the block has to be known, and a stamp to be left
-abbrev pub refused_unstamped : Known → ℕ → Option BlockRefusal
+abbrev pub refused_unstamped : KnownBlocks → ℕ → Option BlockRefusal
 refused_unstamped known block = if not (is_some (block_of known block)) then Some NotFound else refused_new_stamp known
 
 -- and one of its expected nodes to be live
-abbrev pub refused_recovery : Known → Heartbeats → ℕ → ℕ → Option BlockRefusal
-refused_recovery known nodes block now = option_or (refused_unstamped known block) (refused_unled (leader known nodes block now))
+abbrev pub refused_to_begin : KnownBlocks → Heartbeats → ℕ → ℕ → Option BlockRefusal
+refused_to_begin known nodes block now = option_or (refused_unstamped known block) (refused_unled (leader_of known nodes block now))
 
 abbrev pub queued_for : Option ℕ → ℕ → List (ℕ × ℕ) → List (ℕ × ℕ)
 queued_for None block queued = queued
@@ -41,9 +41,9 @@ queued_for (Some primary) block queued = put queued block primary
 -- ---- many at once
 
 -- those of these blocks that a live node can lead, each with this node, in this order
-abbrev pub led : Known → Heartbeats → List ℕ → ℕ → List (ℕ × ℕ)
-led known nodes blocks now = filter_map (λ block. option_map (λ node. (block, node)) (leader known nodes block now)) blocks
+abbrev pub blocks_with_leaders : KnownBlocks → Heartbeats → List ℕ → ℕ → List (ℕ × ℕ)
+blocks_with_leaders known nodes blocks now = filter_map (λ block. option_map (λ node. (block, node)) (leader_of known nodes block now)) blocks
 
 -- their recoveries, as long as stamps are left; the other blocks are passed over
-abbrev pub recoveries_begun : Known → Heartbeats → List ℕ → ℕ → List BegunRecovery
-recoveries_begun known nodes blocks now = stamped known.next_stamp (led known nodes blocks now)
+abbrev pub recoveries_to_begin : KnownBlocks → Heartbeats → List ℕ → ℕ → List BegunRecovery
+recoveries_to_begin known nodes blocks now = with_stamps known.next_stamp (blocks_with_leaders known nodes blocks now)

@@ -1,7 +1,7 @@
 ghost use Rattle.std.specs.Prelude.{◌≡◌, None, Some, IfOk, IfErr, OnOk, OnErr};
 ghost use Rattle.block_records.specs.Marks.{with_marks};
 ghost use Rattle.block_tables.specs.Changes.{with_recovered};
-ghost use Rattle.known_blocks.specs.Known.{block_of, altered};
+ghost use Rattle.known_blocks.specs.Known.{block_of, with_block_changed};
 ghost use Rattle.new_blocks.specs.Behind.{IsFaultOf};
 ghost use Rattle.begun_recoveries.specs.Ends as spec;
 
@@ -66,7 +66,7 @@ pub fn end(
     nodes: NodeSet,
 ) -> Result<(), BlockFault>
     ensures allowed { OnOk result (spec.refused_recovered_by (block_of known.old block) stamp ≡ None) }
-    ensures ok { OnOk result (known.new ≡ altered (with_recovered length nodes) block known.old) }
+    ensures ok { OnOk result (known.new ≡ with_block_changed (with_recovered length nodes) block known.old) }
     ensures marked { OnOk result (marks.new ≡ with_marks marks.old (spec.marks_but_of nodes block length (block_of known.old block))) }
     ensures fault { IfErr result (IsFaultOf (spec.refused_recovered_by (block_of known.old block) stamp)) }
     ensures err { OnErr result ((known.new ≡ known.old) × (marks.new ≡ marks.old)) }

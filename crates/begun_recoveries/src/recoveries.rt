@@ -20,7 +20,7 @@ fn leader(
     block: BlockId,
     now: Moment,
 ) -> Result<Option<NodeId>, AllocError>
-    ensures { IfOk result (λ node. node ≡ spec.leader known.now nodes.now block now) }
+    ensures { IfOk result (λ node. node ≡ spec.leader_of known.now nodes.now block now) }
 {
     let Some(own) = known.get(block) else {
         return Ok(None);
@@ -53,11 +53,11 @@ pub fn begin(
     block: BlockId,
     now: Moment,
 ) -> Result<Stamp, BlockFault>
-    ensures allowed { OnOk result (spec.refused_recovery known.old nodes.now block now ≡ None) }
+    ensures allowed { OnOk result (spec.refused_to_begin known.old nodes.now block now ≡ None) }
     ensures given { IfOk result (λ stamp. stamp ≡ known.old.next_stamp) }
-    ensures begun { OnOk result (known.new ≡ known_spec.begun known.old block now) }
-    ensures queued { OnOk result (queue.new ≡ spec.queued_for (spec.leader known.old nodes.now block now) block queue.old) }
-    ensures fault { IfErr result (IsFaultOf (spec.refused_recovery known.old nodes.now block now)) }
+    ensures begun { OnOk result (known.new ≡ known_spec.with_next_recovery known.old block now) }
+    ensures queued { OnOk result (queue.new ≡ spec.queued_for (spec.leader_of known.old nodes.now block now) block queue.old) }
+    ensures fault { IfErr result (IsFaultOf (spec.refused_to_begin known.old nodes.now block now)) }
     ensures err { OnErr result ((known.new ≡ known.old) × (queue.new ≡ queue.old)) }
 {
     if let Err(refusal) = check(known, block) {
@@ -77,7 +77,7 @@ fn led(
     blocks: &[BlockId],
     now: Moment,
 ) -> Result<Vec<(BlockId, NodeId)>, AllocError>
-    ensures { IfOk result (λ led. led.items ≡ spec.led known.now nodes.now blocks.now now) }
+    ensures { IfOk result (λ led. led.items ≡ spec.blocks_with_leaders known.now nodes.now blocks.now now) }
 {
     let mut led = Vec::new(alloc);
     for block in blocks {
@@ -100,7 +100,7 @@ pub fn plan(
     blocks: &[BlockId],
     now: Moment,
 ) -> Result<Vec<BegunRecovery>, AllocError>
-    ensures { IfOk result (λ begun. begun.items ≡ spec.recoveries_begun known.now nodes.now blocks.now now) }
+    ensures { IfOk result (λ begun. begun.items ≡ spec.recoveries_to_begin known.now nodes.now blocks.now now) }
 {
     let led = led(alloc, known, nodes, blocks, now)?;
     known.stamped(&led)

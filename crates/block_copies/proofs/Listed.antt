@@ -16,10 +16,10 @@ use Rattle.block_records.specs.Verdicts.{holds_by}
 use Rattle.block_records.specs.declared.block_record.BlockRecord.{BlockRecord}
 use Rattle.block_records.proofs.Ascending.{same_ascending, kept_ascending}
 use Rattle.block_records.proofs.Numbers.{number_is}
-use Rattle.block_tables.specs.Kept.{blocks_of, load}
+use Rattle.block_tables.specs.Kept.{blocks_on, load}
 use Rattle.block_tables.proofs.Held.{has_block}
-use Rattle.scarce_blocks.specs.Scarce.{is_lacking, Covers}
-use Rattle.block_copies.specs.Copies.{may_hand_out, reports, is_the, copies_from, is_short, target_of, transfer_of, transfer_by, transfers_for}
+use Rattle.scarce_blocks.specs.Scarce.{is_lacking, CoversLacking}
+use Rattle.block_copies.specs.Copies.{may_hand_out, reports, is_the, copies_from, is_short, target_of, transfer_of, transfer_by, transfers_of}
 use Rattle.block_copies.specs.declared.transfer.HandOut.{HandOut}
 use Rattle.block_copies.specs.declared.transfer.Transfer.{Transfer}
 
@@ -62,7 +62,7 @@ listed_in table (entry ∷ rest) at node there = by (holds_by node (Some entry.1
         rest_is ∙ ap (λ one. cons_option one (filter_map (λ entry. transfer_of (load table) at node entry.0 entry.1) rest)) (sym (nothing (load table) at node entry.0 entry.1 lacks))
 
 listed : (table : List (ℕ × BlockRecord)) (at : HandOut) (node : ℕ) → IsStrictlySortedBy nat_cmp (keys_of table)
-    → filter_map (λ block. transfer_by (load table) at node block (entry_at block table)) (blocks_of table node) ≡ transfers_for table at node
+    → filter_map (λ block. transfer_by (load table) at node block (entry_at block table)) (blocks_on table node) ≡ transfers_of table at node
 listed table at node up = listed_in table table at node
     (λ i block own is. lookup_from_place (eq_by_cmp_equiv nat_cmp_total) table i block own (IsDistinct-from_sorted nat_cmp (keys_of table) up) is)
 
@@ -123,8 +123,8 @@ wants loads at node block (Some own) some = by (copies_from at.live node own) (i
     by false short copies is one = absurd (true≢false (sym one))
 
 pub covered : (table : List (ℕ × BlockRecord)) (at : HandOut) (node : ℕ) (blocks : List ℕ) → IsStrictlySortedBy nat_cmp (keys_of table) → IsStrictlySortedBy nat_cmp blocks
-    → Covers table at.live node blocks → filter_map (λ block. transfer_by (load table) at node block (entry_at block table)) blocks ≡ transfers_for table at node
+    → CoversLacking table at.live node blocks → filter_map (λ block. transfer_by (load table) at node block (entry_at block table)) blocks ≡ transfers_of table at node
 covered table at node blocks up own covers =
-    found_alike (λ block. transfer_by (load table) at node block (entry_at block table)) blocks (blocks_of table node) own (kept_ascending (λ (entry : ℕ × BlockRecord). holds_by node (Some entry.1)) table up)
+    found_alike (λ block. transfer_by (load table) at node block (entry_at block table)) blocks (blocks_on table node) own (kept_ascending (λ (entry : ℕ × BlockRecord). holds_by node (Some entry.1)) table up)
     (λ q some. let both = wants (load table) at node q (entry_at q table) some in (covers q both.0 both.1, has_block table node q up ∙ both.0))
     ∙ listed table at node up

@@ -21,17 +21,17 @@ may_hand_out retry now (Some last) = nat_lt retry (now - last)
 abbrev pub reports : BlockRecord → ℕ → Bool
 reports own node = is_some (entry_at node own.reports)
 
-abbrev pub reporting : BlockRecord → List ℕ → List ℕ
-reporting own live = filter (reports own) live
+abbrev pub reporting_nodes : BlockRecord → List ℕ → List ℕ
+reporting_nodes own live = filter (reports own) live
 
-abbrev pub lacking : BlockRecord → List ℕ → List ℕ
-lacking own live = filter (λ node. not (reports own node)) live
+abbrev pub lacking_nodes : BlockRecord → List ℕ → List ℕ
+lacking_nodes own live = filter (λ node. not (reports own node)) live
 
 -- ---- one block
 
 -- its length is committed, fewer live nodes report it than there are to be replicas, and it may be handed out
 abbrev pub is_short : HandOut → BlockRecord → Bool
-is_short at own = is_some own.committed && (may_hand_out at.retry at.moment own.handed_out && nat_lt (length (reporting own at.live)) own.replication)
+is_short at own = is_some own.committed && (may_hand_out at.retry at.moment own.handed_out && nat_lt (length (reporting_nodes own at.live)) own.replication)
 
 abbrev pub is_the : ℕ → Option ℕ → Bool
 is_the node None = false
@@ -43,7 +43,7 @@ copies_from live node own = is_the node (find (reports own) live)
 
 -- to the one with the fewest blocks of the live nodes that don't report it; there may be none
 abbrev pub target_of : (ℕ → ℕ) → List ℕ → BlockRecord → Option ℕ
-target_of load live own = slice_get (targets load 1 (lacking own live)) 0
+target_of load live own = slice_get (targets load 1 (lacking_nodes own live)) 0
 
 abbrev pub transfer_of : (ℕ → ℕ) → HandOut → ℕ → ℕ → BlockRecord → Option Transfer
 transfer_of load at node block own =
@@ -58,5 +58,5 @@ transfer_by load at node block (Some own) = transfer_of load at node block own
 -- ---- all blocks
 
 -- what a node is to copy, by block
-abbrev pub transfers_for : List (ℕ × BlockRecord) → HandOut → ℕ → List Transfer
-transfers_for blocks at node = filter_map (λ entry. transfer_of (load blocks) at node entry.0 entry.1) blocks
+abbrev pub transfers_of : List (ℕ × BlockRecord) → HandOut → ℕ → List Transfer
+transfers_of blocks at node = filter_map (λ entry. transfer_of (load blocks) at node entry.0 entry.1) blocks

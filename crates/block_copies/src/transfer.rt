@@ -44,7 +44,7 @@ fn may_hand_out(at: &HandOut, last: Option<Moment>) -> bool
 
 // How many of these nodes report a block.
 fn count_reporting(own: &BlockRecord, nodes: &[NodeId]) -> usize
-    ensures { result ≡ length (spec.reporting own.now nodes.now) }
+    ensures { result ≡ length (spec.reporting_nodes own.now nodes.now) }
 {
     let mut count = 0;
     for node in nodes {
@@ -86,7 +86,7 @@ fn copies_from(own: &BlockRecord, nodes: &[NodeId], node: NodeId) -> bool
 
 // Those of these nodes that don't report a block.
 fn lacking(alloc: Global, own: &BlockRecord, nodes: &NodeSet) -> Result<NodeSet, AllocError>
-    ensures { IfOk result (λ lacking. lacking ≡ spec.lacking own.now nodes.now) }
+    ensures { IfOk result (λ lacking. lacking ≡ spec.lacking_nodes own.now nodes.now) }
 {
     let lacking = nodes
         .as_slice()
@@ -170,7 +170,7 @@ pub fn transfers_for(
     at: &HandOut,
     node: NodeId,
 ) -> Result<Vec<Transfer>, AllocError>
-    ensures { IfOk result (λ transfers. transfers.items ≡ spec.transfers_for known.now.blocks at.now node) }
+    ensures { IfOk result (λ transfers. transfers.items ≡ spec.transfers_of known.now.blocks at.now node) }
 {
     let blocks = known.candidates(node, &at.live)?;
     transfers_of(alloc, known, at, node, &blocks)

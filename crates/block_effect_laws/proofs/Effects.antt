@@ -2,7 +2,7 @@
 use Rattle.std.proofs.Common.{◌≡◌, ℕ, ◌==◌, ◌&&◌, Bool, true, false, List, [], ◌∷◌, map, fold, nat_lt, is_some, inl, inr, Option, Some, None, refl, sym, ap, ◌∙◌, subst, cond, arith}
 use Rattle.std.specs.Option.{option_and_then}
 use Rattle.block_records.specs.Numbers.{is_number}
-use Rattle.block_records.specs.Reports.{is_reported, agreeing}
+use Rattle.block_records.specs.Reports.{is_reported, agreeing_reports}
 use Rattle.block_records.specs.Verdicts.{agrees, verdict_by}
 use Rattle.block_records.specs.declared.block_record.BlockRecord.{BlockRecord}
 use Rattle.block_records.specs.declared.fault.BlockRefusal.TheVariants.{NotYetReplicated}
@@ -12,49 +12,49 @@ use Rattle.block_tables.specs.Changes.{with_report, without_report, with_replica
 use Rattle.recovery_queue.specs.declared.begun.BegunRecovery.{BegunRecovery}
 use Rattle.new_blocks.specs.Behind.{refused_length}
 use Rattle.known_blocks.specs.Known as known
-use Rattle.known_blocks.specs.Known.{Known, block_of, altered, new_record}
-use Rattle.block_map.specs.BlockFacts.{BlockFacts, chosen_targets, newest_stamp, transfers_for}
-use Rattle.block_map.specs.BlockEffects.{committed, committed_last, begun, recoveries_begun, beaten, without_report_at, reported_by}
+use Rattle.known_blocks.specs.Known.{KnownBlocks, block_of, with_block_changed, new_record}
+use Rattle.block_map.specs.BlockFacts.{Blocks, chosen_targets, newest_stamp, transfers_for}
+use Rattle.block_map.specs.BlockEffects.{with_length_committed, committed_last, with_recovery_begun, recoveries_begun, with_node_heard, without_report_at, reported_by}
 use Rattle.block_copies.specs.declared.transfer.Transfer.{Transfer}
-use Rattle.block_effect_laws.specs.Laws.{AgreeOn, IsSoundAt, IsSound, GoesOn, IsKept, AdditionKeeps, RemovalKeeps, RemovalsKeep, ReplicationKeeps, CommitKeeps, RequestKeeps, BeginKeeps, BeginsKeep, RecoveryKeeps, HeartbeatKeeps, ReportKeeps}
+use Rattle.block_effect_laws.specs.Laws.{AgreeOn, IsSoundAt, IsSound, GoesOn, KeepsKnown, AdditionKeeps, RemovalKeeps, RemovalsKeep, ReplicationKeeps, CommitKeeps, RequestKeeps, BeginKeeps, BeginsKeep, RecoveryKeeps, HeartbeatKeeps, ReportKeeps}
 use Rattle.block_effect_laws.proofs.Orders.{put_in_order, taken_in_order, changed_in_order}
 use Rattle.block_effect_laws.proofs.Reports.{agreeing_have, reported_is, more_have, agree_on_put, agree_on_left, agree_on_none}
 use Rattle.block_effect_laws.proofs.Looking.{added_at, changed_at, removed_at}
 use Rattle.block_effect_laws.proofs.Turning.{kept_same, kept_in_turn, kept_changed, kept_removed, kept_added}
 
 -- the stamp stays, and what is committed
-goes : (before : Known) (own later : BlockRecord) → later.stamp ≡ own.stamp → later.committed ≡ own.committed → GoesOn before own later
+goes : (before : KnownBlocks) (own later : BlockRecord) → later.stamp ≡ own.stamp → later.committed ≡ own.committed → GoesOn before own later
 goes before own later stamp committed = record { stamp = inl stamp; committed = λ length is. committed ∙ is }
 
 -- ---- a record given anew
 
 -- the numbers that are given next stay
-module _ (change : BlockRecord → BlockRecord) (block : ℕ) (before : Known) (sound : IsSound before) where
+module _ (change : BlockRecord → BlockRecord) (block : ℕ) (before : KnownBlocks) (sound : IsSound before) where
   pub altered_keeps : ((own : BlockRecord) → block_of before block ≡ Some own → IsSoundAt before block own → GoesOn before own (change own))
       → ((own : BlockRecord) → IsSoundAt before block own → (change own).stamp ≡ own.stamp)
-      → ((own : BlockRecord) → block_of before block ≡ Some own → IsSoundAt before block own → AgreeOn (change own).committed (change own).reports) → IsKept before (altered change block before)
+      → ((own : BlockRecord) → block_of before block ≡ Some own → IsSoundAt before block own → AgreeOn (change own).committed (change own).reports) → KeepsKnown before (with_block_changed change block before)
   altered_keeps goes_on stamp agreed =
-      kept_changed before (altered change block before) sound (changed_in_order change block before.blocks sound.once) block change (omega arith) (omega arith) (changed_at change block before.blocks)
+      kept_changed before (with_block_changed change block before) sound (changed_in_order change block before.blocks sound.once) block change (omega arith) (omega arith) (changed_at change block before.blocks)
       (λ own is was. record { goes_on = goes_on own is was; stamped = omega (arith, was.stamped, stamp own was); agreed = agreed own is was })
 
 pub addition_keeps : AdditionKeeps
 addition_keeps facts targets replication sound =
     let before = facts.known in
-    kept_added before (known.added before targets replication) sound (put_in_order before.next_block (new_record before.next_stamp targets replication) before.blocks sound.once)
+    kept_added before (known.with_new_block before targets replication) sound (put_in_order before.next_block (new_record before.next_stamp targets replication) before.blocks sound.once)
     (new_record before.next_stamp targets replication) refl (omega arith) (added_at before targets replication) (omega arith) (omega arith) tt
 
-removal : (before : Known) (block : ℕ) → IsSound before → IsKept before (known.removed before block)
+removal : (before : KnownBlocks) (block : ℕ) → IsSound before → KeepsKnown before (known.without_block before block)
 removal before block sound =
-    kept_removed before (known.removed before block) sound (taken_in_order (is_number block) before.blocks sound.once) block (omega arith) (omega arith) (removed_at block before.blocks sound.once)
+    kept_removed before (known.without_block before block) sound (taken_in_order (is_number block) before.blocks sound.once) block (omega arith) (omega arith) (removed_at block before.blocks sound.once)
 
 pub removal_keeps : RemovalKeeps
 removal_keeps facts block sound = removal facts.known block sound
 
-pub removals : (before : Known) (blocks : List ℕ) → IsSound before → IsKept before (known.all_removed before blocks)
+pub removals : (before : KnownBlocks) (blocks : List ℕ) → IsSound before → KeepsKnown before (known.without_each_block before blocks)
 removals before [] sound = kept_same before sound
 removals before (block ∷ blocks) sound =
     let first = removal before block sound in
-    kept_in_turn before (known.removed before block) (known.all_removed (known.removed before block) blocks) sound first (removals (known.removed before block) blocks first.sound)
+    kept_in_turn before (known.without_block before block) (known.without_each_block (known.without_block before block) blocks) sound first (removals (known.without_block before block) blocks first.sound)
 
 pub removals_keep : RemovalsKeep
 removals_keep facts blocks sound = removals facts.known blocks sound
@@ -90,26 +90,26 @@ commit_keeps facts block length allowed sound =
 pub request_keeps : RequestKeeps
 request_keeps facts None now replication allowed sound = addition_keeps facts (chosen_targets (committed_last facts None) now replication) replication sound
 request_keeps facts (Some last) now replication allowed sound =
-    let between = committed facts last.block last.length in
+    let between = with_length_committed facts last.block last.length in
     let first = commit_keeps facts last.block last.length allowed sound in
     let targets = chosen_targets between now replication in
-    kept_in_turn facts.known between.known (known.added between.known targets replication) sound first (addition_keeps between targets replication first.sound)
+    kept_in_turn facts.known between.known (known.with_new_block between.known targets replication) sound first (addition_keeps between targets replication first.sound)
 
 -- ---- recoveries
 
 pub begin_keeps : BeginKeeps
 begin_keeps facts block now sound =
     let before = facts.known in
-    kept_changed before (known.begun before block now) sound (changed_in_order (with_recovery before.next_stamp now) block before.blocks sound.once) block (with_recovery before.next_stamp now)
+    kept_changed before (known.with_next_recovery before block now) sound (changed_in_order (with_recovery before.next_stamp now) block before.blocks sound.once) block (with_recovery before.next_stamp now)
     (omega arith) (omega arith) (changed_at (with_recovery before.next_stamp now) block before.blocks)
     (λ own is was. record { goes_on = record { stamp = inr (omega arith); committed = λ length committed. committed }; stamped = omega arith; agreed = agree_on_none own.committed })
 
-begun_in_turn : (facts : BlockFacts) (recoveries : List BegunRecovery) (now : ℕ) → IsSound facts.known → IsKept facts.known (fold (λ left (own : BegunRecovery). begun left own.block now) facts recoveries).known
+begun_in_turn : (facts : Blocks) (recoveries : List BegunRecovery) (now : ℕ) → IsSound facts.known → KeepsKnown facts.known (fold (λ left (own : BegunRecovery). with_recovery_begun left own.block now) facts recoveries).known
 begun_in_turn facts [] now sound = kept_same facts.known sound
 begun_in_turn facts (own ∷ recoveries) now sound =
     let first = begin_keeps facts own.block now sound in
-    let between = begun facts own.block now in
-    kept_in_turn facts.known between.known (fold (λ left (own : BegunRecovery). begun left own.block now) between recoveries).known sound first (begun_in_turn between recoveries now first.sound)
+    let between = with_recovery_begun facts own.block now in
+    kept_in_turn facts.known between.known (fold (λ left (own : BegunRecovery). with_recovery_begun left own.block now) between recoveries).known sound first (begun_in_turn between recoveries now first.sound)
 
 pub begins_keep : BeginsKeep
 begins_keep facts blocks now sound = begun_in_turn facts (recoveries_begun facts blocks now) now sound
@@ -129,27 +129,27 @@ pub recovery_keeps : RecoveryKeeps
 recovery_keeps facts block length nodes none sound =
     altered_keeps (with_recovered length nodes) block facts.known sound
     (λ own is was. record { stamp = inl refl; committed = λ bytes before. never own.committed bytes (uncommitted (block_of facts.known block) own is none) before })
-    (λ own was. refl) (λ own is was. more_have length nodes (agreeing length own.reports) (agreeing_have length own.reports))
+    (λ own was. refl) (λ own is was. more_have length nodes (agreeing_reports length own.reports) (agreeing_have length own.reports))
 
 -- ---- nodes
 
-told_in_turn : (before : Known) (blocks : List ℕ) (now : ℕ) → IsSound before → IsKept before (known.told before blocks now)
+told_in_turn : (before : KnownBlocks) (blocks : List ℕ) (now : ℕ) → IsSound before → KeepsKnown before (known.with_copies_told before blocks now)
 told_in_turn before [] now sound = kept_same before sound
 told_in_turn before (block ∷ blocks) now sound =
-    let between = altered (with_hand_out now) block before in
+    let between = with_block_changed (with_hand_out now) block before in
     let first = altered_keeps (with_hand_out now) block before sound (λ own is was. goes before own (with_hand_out now own) refl refl) (λ own was. refl) (λ own is was. was.agreed) in
-    kept_in_turn before between (known.told between blocks now) sound first (told_in_turn between blocks now first.sound)
+    kept_in_turn before between (known.with_copies_told between blocks now) sound first (told_in_turn between blocks now first.sound)
 
 pub heartbeat_keeps : HeartbeatKeeps
-heartbeat_keeps facts node now sound = told_in_turn facts.known (map (λ (transfer : Transfer). transfer.block) (transfers_for (beaten facts node now) now node)) now sound
+heartbeat_keeps facts node now sound = told_in_turn facts.known (map (λ (transfer : Transfer). transfer.block) (transfers_for (with_node_heard facts node now) now node)) now sound
 
 -- ---- reports
 
-unreported : (found : Option ℕ) (stamp node block : ℕ) (before : Known) → IsSound before → IsKept before (without_report_at found stamp node block before)
+unreported : (found : Option ℕ) (stamp node block : ℕ) (before : KnownBlocks) → IsSound before → KeepsKnown before (without_report_at found stamp node block before)
 unreported None stamp node block before sound = kept_same before sound
 unreported (Some newest) stamp node block before sound = by (newest == stamp)
   where
-    by : (b : Bool) → IsKept before (cond b (altered (without_report node) block before) before)
+    by : (b : Bool) → KeepsKnown before (cond b (with_block_changed (without_report node) block before) before)
     by true =
         altered_keeps (without_report node) block before sound (λ own is was. goes before own (without_report node own) refl refl) (λ own was. refl)
         (λ own is was. agree_on_left own.committed (is_number node) own.reports was.agreed)
@@ -169,8 +169,8 @@ valid_agrees (Some other) own stamp length is valid = subst (λ (o : BlockRecord
     by false true false h = cc
     by false false c h = cc
 
-by_verdict : (facts : BlockFacts) (node block stamp length : ℕ) (verdict : ReportVerdict) → verdict_by (block_of facts.known block) stamp length ≡ verdict → IsSound facts.known
-    → IsKept facts.known (reported_by verdict facts node block stamp length).known
+by_verdict : (facts : Blocks) (node block stamp length : ℕ) (verdict : ReportVerdict) → verdict_by (block_of facts.known block) stamp length ≡ verdict → IsSound facts.known
+    → KeepsKnown facts.known (reported_by verdict facts node block stamp length).known
 by_verdict facts node block stamp length Superseded is sound = kept_same facts.known sound
 by_verdict facts node block stamp length Invalid is sound = unreported (newest_stamp facts block) stamp node block facts.known sound
 by_verdict facts node block stamp length Valid valid sound =

@@ -12,9 +12,9 @@ use Rattle.std.specs.declared.cmp.Ordering.TheVariants.{Less, Equal, Greater}
 use Rattle.block_records.specs.Numbers.{is_number, entry_at}
 use Rattle.block_records.specs.declared.block_record.BlockRecord.{BlockRecord}
 use Rattle.block_records.proofs.Numbers.{number_is}
-use Rattle.block_tables.specs.Changes.{changed, changed_by}
+use Rattle.block_tables.specs.Changes.{with_record_changed, changed_by}
 use Rattle.scarce_blocks.proofs.Stays.{put_at}
-use Rattle.known_blocks.specs.Known.{Known, block_of, added, new_record}
+use Rattle.known_blocks.specs.Known.{KnownBlocks, block_of, with_new_block, new_record}
 use Rattle.known_blocks.proofs.Behind.{same_entry}
 use Rattle.block_effect_laws.proofs.Orders.{AreInOrder}
 
@@ -39,20 +39,20 @@ turned a b apart = by (is_number b a) refl
     by false is = refl
 
 -- a new block
-pub added_at : (known : Known) (targets : List ℕ) (replication q : ℕ)
-    → block_of (added known targets replication) q ≡ cond (is_number known.next_block q) (Some (new_record known.next_stamp targets replication)) (block_of known q)
+pub added_at : (known : KnownBlocks) (targets : List ℕ) (replication q : ℕ)
+    → block_of (with_new_block known targets replication) q ≡ cond (is_number known.next_block q) (Some (new_record known.next_stamp targets replication)) (block_of known q)
 added_at known targets replication q = by (is_number known.next_block q) refl
   where
     own : BlockRecord
     own = new_record known.next_stamp targets replication
 
-    by : (b : Bool) → is_number known.next_block q ≡ b → block_of (added known targets replication) q ≡ cond b (Some own) (block_of known q)
-    by true is = ap (block_of (added known targets replication)) (sym (number_is known.next_block q is)) ∙ entry_put known.next_block own known.blocks
+    by : (b : Bool) → is_number known.next_block q ≡ b → block_of (with_new_block known targets replication) q ≡ cond b (Some own) (block_of known q)
+    by true is = ap (block_of (with_new_block known targets replication)) (sym (number_is known.next_block q is)) ∙ entry_put known.next_block own known.blocks
     by false apart = same_entry q known.next_block own (turned known.next_block q apart) known.blocks
 
 -- one block's record changes
 pub changed_at : (change : BlockRecord → BlockRecord) (block : ℕ) (table : List (ℕ × BlockRecord)) (q : ℕ)
-    → entry_at q (changed change block table) ≡ cond (is_number block q) (option_map change (entry_at block table)) (entry_at q table)
+    → entry_at q (with_record_changed change block table) ≡ cond (is_number block q) (option_map change (entry_at block table)) (entry_at q table)
 changed_at change block table q = by (entry_at block table) refl
   where
     unknown : (b : Bool) → is_number block q ≡ b → entry_at block table ≡ None → entry_at q table ≡ cond b None (entry_at q table)

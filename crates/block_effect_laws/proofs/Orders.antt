@@ -12,7 +12,7 @@ use Rattle.std.specs.declared.cmp.Ordering.TheVariants.{Less, Equal, Greater}
 use Rattle.block_records.specs.Numbers.{is_number, entry_at}
 use Rattle.block_records.specs.declared.block_record.BlockRecord.{BlockRecord}
 use Rattle.block_records.proofs.Ascending.{AreAbove, above_lower}
-use Rattle.block_tables.specs.Changes.{changed, changed_by}
+use Rattle.block_tables.specs.Changes.{with_record_changed, changed_by}
 
 abbrev pub AreInOrder : {X : Type 0} → List (ℕ × X) → Type 0
 AreInOrder table = IsStrictlySortedBy nat_cmp (keys_of table)
@@ -60,7 +60,7 @@ module _ {X : Type 0} (test : ℕ → Bool) where
       by true rest = sorted_tail nat_cmp entry.0 (keys_of table) up
       by false rest = (above_taken entry.0 table (sorted_head nat_cmp entry.0 (keys_of table) up), rest)
 
-pub changed_in_order : (change : BlockRecord → BlockRecord) (block : ℕ) (table : List (ℕ × BlockRecord)) → AreInOrder table → AreInOrder (changed change block table)
+pub changed_in_order : (change : BlockRecord → BlockRecord) (block : ℕ) (table : List (ℕ × BlockRecord)) → AreInOrder table → AreInOrder (with_record_changed change block table)
 changed_in_order change block table up = by (entry_at block table)
   where
     by : (found : Option BlockRecord) → AreInOrder (changed_by change block found table)

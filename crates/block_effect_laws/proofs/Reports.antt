@@ -7,18 +7,18 @@ use Rattle.std.specs.Map.{remove_entry}
 use Rattle.std.specs.Ordering.{nat_cmp, match_ordering}
 use Rattle.std.specs.declared.cmp.Ordering.{Ordering}
 use Rattle.std.specs.declared.cmp.Ordering.TheVariants.{Less, Equal, Greater}
-use Rattle.block_records.specs.Reports.{is_reported, agreeing, with_reports_of}
+use Rattle.block_records.specs.Reports.{is_reported, agreeing_reports, with_reports_of}
 use Rattle.block_records.specs.Verdicts.{agrees}
 use Rattle.block_effect_laws.specs.Laws.{AgreeOn}
 
 abbrev pub AllHave : ℕ → List (ℕ × ℕ) → Type 0
 AllHave length reports = AllByRecursion (λ (report : ℕ × ℕ). report.1 ≡ length) reports
 
-pub agreeing_have : (length : ℕ) (reports : List (ℕ × ℕ)) → AllHave length (agreeing length reports)
+pub agreeing_have : (length : ℕ) (reports : List (ℕ × ℕ)) → AllHave length (agreeing_reports length reports)
 agreeing_have length [] = tt
 agreeing_have length (report ∷ reports) = by (report.1 == length) refl (agreeing_have length reports)
   where
-    by : (b : Bool) → (report.1 == length) ≡ b → AllHave length (agreeing length reports) → AllHave length (cond b (report ∷ agreeing length reports) (agreeing length reports))
+    by : (b : Bool) → (report.1 == length) ≡ b → AllHave length (agreeing_reports length reports) → AllHave length (cond b (report ∷ agreeing_reports length reports) (agreeing_reports length reports))
     by true is rest = (eqb-true report.1 length is, rest)
     by false is rest = rest
 

@@ -4,21 +4,21 @@ use Rattle.std.specs.Option.{option_map}
 use Rattle.block_records.specs.Numbers.{is_number}
 use Rattle.block_records.specs.declared.block_record.BlockRecord.{BlockRecord}
 use Rattle.block_records.proofs.Numbers.{number_is}
-use Rattle.known_blocks.specs.Known.{Known, block_of}
-use Rattle.block_effect_laws.specs.Laws.{AgreeOn, IsSoundAt, AreApart, IsSound, GoesOn, Becomes, IsKept}
+use Rattle.known_blocks.specs.Known.{KnownBlocks, block_of}
+use Rattle.block_effect_laws.specs.Laws.{AgreeOn, IsSoundAt, AreApart, IsSound, GoesOn, Becomes, KeepsKnown}
 use Rattle.block_effect_laws.proofs.Orders.{AreInOrder}
 
 one : (own other : BlockRecord) → Some own ≡ Some other → own ≡ other
 one own other e = cc
 
-stays : (before : Known) (own : BlockRecord) → GoesOn before own own
+stays : (before : KnownBlocks) (own : BlockRecord) → GoesOn before own own
 stays before own = record { stamp = inl refl; committed = λ length is. is }
 
-pub becomes_itself : (before : Known) (block : ℕ) (found : Option BlockRecord) → Becomes before block found found
+pub becomes_itself : (before : KnownBlocks) (block : ℕ) (found : Option BlockRecord) → Becomes before block found found
 becomes_itself before block None = tt
 becomes_itself before block (Some own) = stays before own
 
-pub kept_same : (known : Known) → IsSound known → IsKept known known
+pub kept_same : (known : KnownBlocks) → IsSound known → KeepsKnown known known
 kept_same known sound = record { sound = sound; next_block = omega arith; next_stamp = omega arith; blocks = λ block. becomes_itself known block (block_of known block) }
 
 -- ---- one step after another
@@ -33,7 +33,7 @@ new_still : (mid late first second : ℕ) → first ≤ mid → (late ≡ mid) �
 new_still mid late first second h (inl k) le = omega (arith, h, k)
 new_still mid late first second h (inr k) le = omega (arith, k, le)
 
-module _ (before between later : Known) (sound : IsSound before) (first : IsKept before between) (second : IsKept between later) where
+module _ (before between later : KnownBlocks) (sound : IsSound before) (first : KeepsKnown before between) (second : KeepsKnown between later) where
   in_turn : (block : ℕ) (a b c : Option BlockRecord) → block_of before block ≡ a → block_of between block ≡ b → block_of later block ≡ c
       → Becomes before block a b → Becomes between block b c → Becomes before block a c
   in_turn block None None None x y z f s = tt
@@ -47,7 +47,7 @@ module _ (before between later : Known) (sound : IsSound before) (first : IsKept
     committed = λ length is. s.committed length (f.committed length is);
   }
 
-  pub kept_in_turn : IsKept before later
+  pub kept_in_turn : KeepsKnown before later
   kept_in_turn = record {
     sound = second.sound;
     next_block = omega (arith, first.next_block, second.next_block);
@@ -58,7 +58,7 @@ module _ (before between later : Known) (sound : IsSound before) (first : IsKept
 -- ---- stamps
 
 -- where one block at most gets a stamp that wasn't given before, no two have one
-module _ (before later : Known) (sound : IsSound before) (blocks : (q : ℕ) → Becomes before q (block_of before q) (block_of later q)) (only : ℕ)
+module _ (before later : KnownBlocks) (sound : IsSound before) (blocks : (q : ℕ) → Becomes before q (block_of before q) (block_of later q)) (only : ℕ)
     (new : (q : ℕ) (own : BlockRecord) → block_of later q ≡ Some own → (only ≡ q) ⊎ (own.stamp < before.next_stamp)) where
   -- a block that had this stamp before
   abbrev HadIt : ℕ → BlockRecord → Type 0
@@ -90,7 +90,7 @@ module _ (before later : Known) (sound : IsSound before) (blocks : (q : ℕ) →
 
 -- ---- one step
 
-module _ (before later : Known) (sound : IsSound before) (up : AreInOrder later.blocks) (block : ℕ) where
+module _ (before later : KnownBlocks) (sound : IsSound before) (up : AreInOrder later.blocks) (block : ℕ) where
   -- a record given anew
   pub record IsAllowed (own new : BlockRecord) : Type 0 where
     pub goes_on : GoesOn before own new
@@ -99,7 +99,7 @@ module _ (before later : Known) (sound : IsSound before) (up : AreInOrder later.
 
   pub kept_changed : (change : BlockRecord → BlockRecord) → before.next_block ≤ later.next_block → before.next_stamp ≤ later.next_stamp
       → ((q : ℕ) → block_of later q ≡ cond (is_number block q) (option_map change (block_of before block)) (block_of before q))
-      → ((own : BlockRecord) → block_of before block ≡ Some own → IsSoundAt before block own → IsAllowed own (change own)) → IsKept before later
+      → ((own : BlockRecord) → block_of before block ≡ Some own → IsSoundAt before block own → IsAllowed own (change own)) → KeepsKnown before later
   kept_changed change blocks stamps at allowed = record {
     sound = record {
       once = up;
@@ -141,7 +141,7 @@ module _ (before later : Known) (sound : IsSound before) (up : AreInOrder later.
       new_by q own false apart there = inr (sound.each q own there).stamped
 
   -- a block goes
-  pub kept_removed : before.next_block ≤ later.next_block → before.next_stamp ≤ later.next_stamp → ((q : ℕ) → block_of later q ≡ cond (is_number block q) None (block_of before q)) → IsKept before later
+  pub kept_removed : before.next_block ≤ later.next_block → before.next_stamp ≤ later.next_stamp → ((q : ℕ) → block_of later q ≡ cond (is_number block q) None (block_of before q)) → KeepsKnown before later
   kept_removed blocks stamps at = record {
     sound = record {
       once = up;
@@ -175,7 +175,7 @@ module _ (before later : Known) (sound : IsSound before) (up : AreInOrder later.
       new_by q own false there = inr (sound.each q own there).stamped
 
 -- a block comes
-module _ (before later : Known) (sound : IsSound before) (up : AreInOrder later.blocks) (new : BlockRecord) where
+module _ (before later : KnownBlocks) (sound : IsSound before) (up : AreInOrder later.blocks) (new : BlockRecord) where
   -- the number that was the next is that of no block
   unknown : (found : Option BlockRecord) → block_of before before.next_block ≡ found → found ≡ None
   unknown None is = refl
@@ -183,7 +183,7 @@ module _ (before later : Known) (sound : IsSound before) (up : AreInOrder later.
 
   pub kept_added : later.next_block ≡ before.next_block + 1 → before.next_stamp ≤ later.next_stamp
       → ((q : ℕ) → block_of later q ≡ cond (is_number before.next_block q) (Some new) (block_of before q))
-      → before.next_stamp ≤ new.stamp → new.stamp < later.next_stamp → AgreeOn new.committed new.reports → IsKept before later
+      → before.next_stamp ≤ new.stamp → new.stamp < later.next_stamp → AgreeOn new.committed new.reports → KeepsKnown before later
   kept_added blocks stamps at fresh stamped agreed = record {
     sound = record {
       once = up;

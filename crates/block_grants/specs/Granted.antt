@@ -2,14 +2,14 @@
 use Rattle.std.specs.Prelude.{ℕ, List}
 use Rattle.permission_specs.specs.Modes.{modes}
 use Rattle.hdfs_types.specs.declared.located.LocatedBlock.{LocatedBlock}
-use Rattle.block_tokens.specs.Ring.{Ring}
+use Rattle.block_tokens.specs.Ring.{KeyRing}
 use Rattle.grant_ledger.specs.declared.ledger.LedgerRow.{LedgerRow}
-use Rattle.history.specs.Grants.{row_of}
+use Rattle.history.specs.Grants.{ledger_row}
 
 -- of a new block, to write it
-abbrev pub writer_row : ℕ → Ring → ℕ → List ℕ → ℕ → LedgerRow
-writer_row place ring now caller block = row_of place ring now caller (record { block = block; modes = modes 2 })
+abbrev pub writer_row : ℕ → KeyRing → ℕ → List ℕ → ℕ → LedgerRow
+writer_row place ring now caller block = ledger_row place ring now caller (record { block = block; modes = modes 2 })
 
 -- of a block of a file, to read it
-abbrev pub reader_row : ℕ → Ring → ℕ → List ℕ → LocatedBlock → LedgerRow
-reader_row place ring now caller located = row_of place ring now caller (record { block = located.block; modes = modes 1 })
+abbrev pub reader_row : ℕ → KeyRing → ℕ → List ℕ → LocatedBlock → LedgerRow
+reader_row place ring now caller located = ledger_row place ring now caller (record { block = located.block; modes = modes 1 })

@@ -2,7 +2,7 @@ ghost use Rattle.std.specs.Prelude.{◌≡◌, ◌++◌, map, IfOk, OnOk, OnErr}
 ghost use Rattle.std.specs.List.{filter_map};
 ghost use Rattle.std.specs.Map.{keys_of};
 ghost use Rattle.std.specs.Option.{option_to_list};
-ghost use Rattle.flat_rows.specs.BlockOutcome.{located, opened};
+ghost use Rattle.flat_rows.specs.BlockOutcome.{located_block, opened_reply};
 ghost use Rattle.hdfs_types.specs.declared.reply.Reply.TheVariants as reply;
 ghost use Rattle.node_commands.specs.Granted.{tokens_of};
 ghost use Rattle.block_grants.specs.Granted.{reader_row};
@@ -71,8 +71,8 @@ fn push_located(
     found: &mut Vec<LocatedBlock>,
     rows: &mut Vec<LedgerRow>,
 ) -> Result<(), AllocError>
-    ensures found { OnOk result (found.new.items ≡ found.old.items ++ option_to_list (located (tokens_of ring.now now) caller.now blocks.now block.now)) }
-    ensures rows { OnOk result (rows.new.items ≡ rows.old.items ++ map (reader_row place ring.now now caller.now) (option_to_list (located (tokens_of ring.now now) caller.now blocks.now block.now))) }
+    ensures found { OnOk result (found.new.items ≡ found.old.items ++ option_to_list (located_block (tokens_of ring.now now) caller.now blocks.now block.now)) }
+    ensures rows { OnOk result (rows.new.items ≡ rows.old.items ++ map (reader_row place ring.now now caller.now) (option_to_list (located_block (tokens_of ring.now now) caller.now blocks.now block.now))) }
 {
     let Some(length) = block.committed else {
         return Ok(());
@@ -97,8 +97,8 @@ fn located_blocks(
     own: &[FileBlock],
     rows: &mut Vec<LedgerRow>,
 ) -> Result<Vec<LocatedBlock>, AllocError>
-    ensures found { IfOk result (λ found. found.items ≡ filter_map (located (tokens_of ring.now now) caller.now blocks.now) own.now) }
-    ensures rows { OnOk result (rows.new.items ≡ rows.old.items ++ map (reader_row place ring.now now caller.now) (filter_map (located (tokens_of ring.now now) caller.now blocks.now) own.now)) }
+    ensures found { IfOk result (λ found. found.items ≡ filter_map (located_block (tokens_of ring.now now) caller.now blocks.now) own.now) }
+    ensures rows { OnOk result (rows.new.items ≡ rows.old.items ++ map (reader_row place ring.now now caller.now) (filter_map (located_block (tokens_of ring.now now) caller.now blocks.now) own.now)) }
 {
     let mut found = Vec::with_capacity(alloc, own.len())?;
     for block in own {
@@ -119,9 +119,9 @@ fn prepare(
     caller: &Who,
     own: &FileBlocks,
 ) -> Result<Prepared, AllocError>
-    ensures opened { IfOk result (λ made. reply.Opened made.given.opened ≡ opened (tokens_of ring.now now) caller.now blocks.now own.now) }
+    ensures opened { IfOk result (λ made. reply.Opened made.given.opened ≡ opened_reply (tokens_of ring.now now) caller.now blocks.now own.now) }
     ensures copy { IfOk result (λ made. made.given.copy ≡ made.given.opened) }
-    ensures rows { IfOk result (λ made. made.rows.items ≡ map (reader_row place ring.now now caller.now) (filter_map (located (tokens_of ring.now now) caller.now blocks.now) own.now)) }
+    ensures rows { IfOk result (λ made. made.rows.items ≡ map (reader_row place ring.now now caller.now) (filter_map (located_block (tokens_of ring.now now) caller.now blocks.now) own.now)) }
 {
     let Some(length) = own.length() else {
         return Err(AllocError);
@@ -160,9 +160,9 @@ pub fn open_file(
     own: &FileBlocks,
     now: Moment,
 ) -> Result<GivenFile, AllocError>
-    ensures opened { IfOk result (λ given. reply.Opened given.opened ≡ opened (tokens_of ring.now now) caller.now blocks.now own.now) }
+    ensures opened { IfOk result (λ given. reply.Opened given.opened ≡ opened_reply (tokens_of ring.now now) caller.now blocks.now own.now) }
     ensures copy { IfOk result (λ given. given.copy ≡ given.opened) }
-    ensures ledger { OnOk result (ledger.new.rows ≡ ledger.old.rows ++ map (reader_row place ring.now now caller.now) (filter_map (located (tokens_of ring.now now) caller.now blocks.now) own.now)) }
+    ensures ledger { OnOk result (ledger.new.rows ≡ ledger.old.rows ++ map (reader_row place ring.now now caller.now) (filter_map (located_block (tokens_of ring.now now) caller.now blocks.now) own.now)) }
     ensures err_ledger { OnErr result (ledger.new.rows ≡ ledger.old.rows) }
 {
     let made = prepare(alloc, blocks, ring, place, now, caller, own)?;

@@ -1,6 +1,6 @@
 ghost use Rattle.std.specs.Prelude.{◌≡◌, ◌++◌, ◌∷◌, [], ℕ, List, Option, None, IfOk, OnOk, OnErr};
 ghost use Rattle.block_map.specs.BlockEffects.{refused_behind, given_behind, added_behind};
-ghost use Rattle.flat_rows.specs.BlockOutcome.{added, with_block_at};
+ghost use Rattle.flat_rows.specs.BlockOutcome.{added_reply, with_block_at};
 ghost use Rattle.file_effects.specs.Effected.{IsExact};
 ghost use Rattle.hdfs_types.specs.declared.reply.Reply.TheVariants as reply;
 ghost use Rattle.lease_manager.specs.declared.writers.Writers.{Writers};
@@ -47,7 +47,7 @@ fn prepare(
     caller: &Who,
     new: &NewBlock,
 ) -> Result<Prepared, AllocError>
-    ensures added { IfOk result (λ made. reply.Added made.given.added ≡ added (tokens_of ring.now now) caller.now new.now) }
+    ensures added { IfOk result (λ made. reply.Added made.given.added ≡ added_reply (tokens_of ring.now now) caller.now new.now) }
     ensures copy { IfOk result (λ made. made.given.copy ≡ made.given.added) }
     ensures rows { IfOk result (λ made. made.rows.items ≡ writer_row place ring.now now caller.now new.now.block ∷ []) }
 {
@@ -84,7 +84,7 @@ pub fn give_block(
 ) -> Result<GivenBlock, AllocError>
     requires allowed { refused_behind blocks.old last.now now ≡ None }
     requires given { new ≡ given_behind blocks.old last.now now replication }
-    ensures added { IfOk result (λ given. reply.Added given.added ≡ added (tokens_of ring.now now) caller.now new) }
+    ensures added { IfOk result (λ given. reply.Added given.added ≡ added_reply (tokens_of ring.now now) caller.now new) }
     ensures copy { IfOk result (λ given. given.copy ≡ given.added) }
     ensures tree { OnOk result (tree.new ≡ with_block_at path.now last.now new.block tree.old) }
     ensures blocks { OnOk result (blocks.new ≡ added_behind blocks.old last.now now replication) }

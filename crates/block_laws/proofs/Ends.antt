@@ -6,11 +6,11 @@ use Rattle.hdfs_types.specs.declared.file.FileState.{FileState}
 use Rattle.hdfs_types.specs.declared.file.FileState.TheVariants.{Closed, Open, Recovering}
 use Rattle.block_records.specs.declared.block_record.BlockRecord.{BlockRecord}
 use Rattle.block_tables.specs.Changes.{with_recovered}
-use Rattle.known_blocks.specs.Known.{Known, block_of, altered}
+use Rattle.known_blocks.specs.Known.{KnownBlocks, block_of, with_block_changed}
 use Rattle.namespace_rows.specs.declared.file_row.FileRow.{FileRow}
 use Rattle.namespace_rows.specs.declared.row.Row.{Row}
 use Rattle.namespace_rows.specs.Files.{with_state, committed_at, state_recovers, recovered_at}
-use Rattle.flat_rows.specs.Changes.{edited, recovery_ended}
+use Rattle.flat_rows.specs.Changes.{file_edited, recovery_ended}
 use Rattle.block_laws.proofs.Sums.{once, sum_files, sum_given, spare, sum_spared, sum_neither, sum_through}
 use Rattle.block_laws.proofs.Totals.{Weight, total, by_blocks, in_rows, has}
 use Rattle.block_laws.proofs.Changes.{committed, changes_one, unchanged}
@@ -24,7 +24,7 @@ module _ (block bytes : ℕ) where
   ended its = option_map (recovered_at block bytes) its
 
   pub ended_sum : (c : Option FileRow → ℕ) (rows : List Row) → sum_files c (recovery_ended block bytes rows) ≡ sum_files (λ its. c (ended its)) rows
-  ended_sum c rows = sum_through c (edited (recovered_at block bytes)) ended (λ row. refl) rows
+  ended_sum c rows = sum_through c (file_edited (recovered_at block bytes)) ended (λ row. refl) rows
 
   -- ---- states
 
@@ -88,7 +88,7 @@ module _ (block bytes : ℕ) where
 
   -- ---- all rows
 
-  module _ (own : Known) (rows : List Row) (agree : Agree (told own) rows) (recover : Recover own rows) (stamp : ℕ) (running : IsRunning own block stamp) where
+  module _ (own : KnownBlocks) (rows : List Row) (agree : Agree (told own) rows) (recover : Recover own rows) (stamp : ℕ) (running : IsRunning own block stamp) where
     -- one file recovers the block
     pub one_recovers : sum_files (in_file block one) rows ≡ 1
     one_recovers = recover.runs block one ∙ (ap (λ found. worth one (seen_by run_of found)) running.there ∙ ap (λ since. worth one (Some (option_map (λ n. (running.known.stamp, n)) since))) running.begun)
@@ -119,20 +119,20 @@ module _ (block bytes : ℕ) where
             each_file w its
             (all (amiss its) (by_blocks (has block) its) (in_file block one its) h (recovered_has block its (first (amiss its) (spare (in_file block one) (by_blocks (has block)) its) h)))
 
-    pub agree_ended : (nodes : List ℕ) → Agree (told (altered (with_recovered bytes nodes) block own)) (recovery_ended block bytes rows)
+    pub agree_ended : (nodes : List ℕ) → Agree (told (with_block_changed (with_recovered bytes nodes) block own)) (recovery_ended block bytes rows)
     agree_ended nodes =
-        agree_committed (told own) (told (altered (with_recovered bytes nodes) block own)) rows (recovery_ended block bytes rows) agree block bytes
+        agree_committed (told own) (told (with_block_changed (with_recovered bytes nodes) block own)) rows (recovery_ended block bytes rows) agree block bytes
         (ap (λ found. is_some (option_map (λ (known : BlockRecord). known.committed) found)) running.there)
         (told_recovered bytes nodes block own) sum_committed
 
-    pub recover_ended : (nodes : List ℕ) → Recover (altered (with_recovered bytes nodes) block own) (recovery_ended block bytes rows)
+    pub recover_ended : (nodes : List ℕ) → Recover (with_block_changed (with_recovered bytes nodes) block own) (recovery_ended block bytes rows)
     recover_ended nodes = record {
       runs = λ number v. by number v (block == number) refl;
       right = ended_sum amiss rows ∙ (sum_given amiss (λ its. amiss (ended its)) amiss right_ended rows recover.right ∙ recover.right);
     }
       where
-        later : Known
-        later = altered (with_recovered bytes nodes) block own
+        later : KnownBlocks
+        later = with_block_changed (with_recovered bytes nodes) block own
 
         ended_run : (found : Option BlockRecord) (v : RunWeight) → worth v (seen_by run_of (option_map (with_recovered bytes nodes) found)) ≡ 0
         ended_run None v = refl

@@ -12,16 +12,16 @@ use Rattle.std.specs.declared.cmp.Ordering.TheVariants.{Less, Equal, Greater}
 use Rattle.hdfs_types.specs.LocatedBlocks.{AddedBlock}
 use Rattle.block_records.specs.Numbers.{has_number}
 use Rattle.block_records.specs.declared.block_record.BlockRecord.{BlockRecord}
-use Rattle.known_blocks.specs.Known.{Known, block_of}
-use Rattle.block_map.specs.BlockFacts.{BlockFacts, newest_stamp}
-use Rattle.block_effect_laws.specs.Laws.{Becomes, IsKept}
+use Rattle.known_blocks.specs.Known.{KnownBlocks, block_of}
+use Rattle.block_map.specs.BlockFacts.{Blocks, newest_stamp}
+use Rattle.block_effect_laws.specs.Laws.{Becomes, KeepsKnown}
 use Rattle.namespace_rows.specs.declared.file_row.FileBlock.{FileBlock}
 use Rattle.namespace_rows.specs.declared.row.Row.{Row}
 use Rattle.history.specs.declared.entry.HistoryEntry.{HistoryEntry}
 use Rattle.history.specs.Config.{Opening}
 use Rattle.history.specs.LegalHistory.{now_at, IsLegal}
 use Rattle.history.specs.State.{users_of, rows_of, blocks_of, facts_of}
-use Rattle.block_laws.specs.Laws.{blocks_by, new_blocks, ids_given, stamps_given, LengthsAre, IdsAscend, StampsAscend, KnownBlocksWereGiven, StampsAreOwn, StampsAreOwnAtAllTimes, StampsNeverFall, LengthsStay, BlocksStandOnce, BlocksAreBelow, FilesTellLengths, RowsAreNamespace}
+use Rattle.block_laws.specs.Laws.{blocks_given_by, new_blocks, ids_given, stamps_given, LengthsAre, IdsAscend, StampsAscend, KnownBlocksWereGiven, StampsAreOwn, StampsAreOwnAtAllTimes, StampsNeverFall, LengthsStay, BlocksStandOnce, BlocksAreBelow, FilesTellLengths, RowsAreNamespace}
 use Rattle.block_laws.proofs.Totals.{bit, total, own, in_rows, times_in}
 use Rattle.block_laws.proofs.Told.{told_by, told}
 use Rattle.block_laws.proofs.Standing.{same_length, length_told, length_of, wrong}
@@ -30,11 +30,11 @@ use Rattle.block_laws.proofs.Steps.{Gives, Standing, Turned, turned}
 -- ---- one entry more
 
 module _ (opening : Opening) where
-  abbrev known_behind : List HistoryEntry → Known
+  abbrev known_behind : List HistoryEntry → KnownBlocks
   known_behind entries = (blocks_of opening entries).known
 
   turned_behind : (entry : HistoryEntry) (earlier : List HistoryEntry) → IsLegal opening (entry ∷ earlier) → Standing (rows_of opening earlier) (known_behind earlier)
-      → Turned (known_behind earlier) (known_behind (entry ∷ earlier)) (rows_of opening (entry ∷ earlier)) (blocks_by entry.verdict)
+      → Turned (known_behind earlier) (known_behind (entry ∷ earlier)) (rows_of opening (entry ∷ earlier)) (blocks_given_by entry.verdict)
   turned_behind entry earlier legal standing =
       turned (facts_of opening earlier (now_at earlier entry.request)) (rows_of opening earlier) (users_of earlier) entry.request.caller entry.request.op standing entry.verdict legal.1
 
@@ -49,7 +49,7 @@ module _ (opening : Opening) where
   stands (entry ∷ earlier) legal = (turned_behind entry earlier legal (stands earlier legal.2)).standing
 
   turns : (entry : HistoryEntry) (earlier : List HistoryEntry) → IsLegal opening (entry ∷ earlier)
-      → Turned (known_behind earlier) (known_behind (entry ∷ earlier)) (rows_of opening (entry ∷ earlier)) (blocks_by entry.verdict)
+      → Turned (known_behind earlier) (known_behind (entry ∷ earlier)) (rows_of opening (entry ∷ earlier)) (blocks_given_by entry.verdict)
   turns entry earlier legal = turned_behind entry earlier legal (stands earlier legal.2)
 
 pub namespaces : RowsAreNamespace
@@ -102,7 +102,7 @@ below_still bound later (n ∷ numbers) le below = (lower n bound later below.0 
     lower a b c h k = omega (arith, h, k)
 
 -- by what a step gives
-ids_more : (before later : Known) (new some : List AddedBlock) → before.next_block ≤ later.next_block → Gives before later new
+ids_more : (before later : KnownBlocks) (new some : List AddedBlock) → before.next_block ≤ later.next_block → Gives before later new
     → AreUp (map (λ (one : AddedBlock). one.block) some) before.next_block → AreUp (map (λ (one : AddedBlock). one.block) (some ++ new)) later.next_block
 ids_more before later [] some le gives up =
     subst (λ all. AreUp (map (λ (one : AddedBlock). one.block) all) later.next_block) (sym (append-nil some))
@@ -111,7 +111,7 @@ ids_more before later (new ∷ []) some le gives up =
     up_more (λ (one : AddedBlock). one.block) new before.next_block (omega (arith, gives.0)) some later.next_block (omega (arith, gives.0, gives.1)) up
 ids_more before later (new ∷ other ∷ more) some le gives up = absurd gives
 
-stamps_more : (before later : Known) (new some : List AddedBlock) → before.next_stamp ≤ later.next_stamp → Gives before later new
+stamps_more : (before later : KnownBlocks) (new some : List AddedBlock) → before.next_stamp ≤ later.next_stamp → Gives before later new
     → AreUp (map (λ (one : AddedBlock). one.stamp) some) before.next_stamp → AreUp (map (λ (one : AddedBlock). one.stamp) (some ++ new)) later.next_stamp
 stamps_more before later [] some le gives up =
     subst (λ all. AreUp (map (λ (one : AddedBlock). one.stamp) all) later.next_stamp) (sym (append-nil some))
@@ -126,14 +126,14 @@ module _ (opening : Opening) where
   ids_up [] legal = record { order = tt; below = tt }
   ids_up (entry ∷ earlier) legal =
       let turn = turns opening entry earlier legal in
-      ids_more (known_behind opening earlier) (known_behind opening (entry ∷ earlier)) (blocks_by entry.verdict) (new_blocks earlier) turn.kept.next_block turn.gives (ids_up earlier legal.2)
+      ids_more (known_behind opening earlier) (known_behind opening (entry ∷ earlier)) (blocks_given_by entry.verdict) (new_blocks earlier) turn.kept.next_block turn.gives (ids_up earlier legal.2)
 
   stamps_up : (entries : List HistoryEntry) → IsLegal opening entries → AreUp (stamps_given entries) (known_behind opening entries).next_stamp
   unfolding IsStrictlySortedBy
   stamps_up [] legal = record { order = tt; below = tt }
   stamps_up (entry ∷ earlier) legal =
       let turn = turns opening entry earlier legal in
-      stamps_more (known_behind opening earlier) (known_behind opening (entry ∷ earlier)) (blocks_by entry.verdict) (new_blocks earlier) turn.kept.next_stamp turn.gives (stamps_up earlier legal.2)
+      stamps_more (known_behind opening earlier) (known_behind opening (entry ∷ earlier)) (blocks_given_by entry.verdict) (new_blocks earlier) turn.kept.next_stamp turn.gives (stamps_up earlier legal.2)
 
 pub ids_ascend : IdsAscend
 ids_ascend opening entries legal = IsStrictlyIncreasing-from_sorted (ids_given entries) (ids_up opening entries legal).order
@@ -144,7 +144,7 @@ stamps_ascend opening entries legal = IsStrictlyIncreasing-from_sorted (stamps_g
 -- ---- what is known of a block
 
 -- it was known before, or has the number that was given
-given_now : (before later : Known) (new some : List AddedBlock) (block : ℕ) → IsKept before later → Gives before later new
+given_now : (before later : KnownBlocks) (new some : List AddedBlock) (block : ℕ) → KeepsKnown before later → Gives before later new
     → (is_some (block_of before block) ≡ true → has_number block (map (λ (one : AddedBlock). one.block) some) ≡ true)
     → is_some (block_of later block) ≡ true → has_number block (map (λ (one : AddedBlock). one.block) (some ++ new)) ≡ true
 given_now before later new some block kept gives was there = by (block_of before block) refl (block_of later block) refl (kept.blocks block) there
@@ -182,7 +182,7 @@ pub known_were_given : KnownBlocksWereGiven
 known_were_given opening [] block legal there = cc
 known_were_given opening (entry ∷ earlier) block legal there =
     let turn = turns opening entry earlier legal in
-    given_now (known_behind opening earlier) (known_behind opening (entry ∷ earlier)) (blocks_by entry.verdict) (new_blocks earlier) block turn.kept turn.gives
+    given_now (known_behind opening earlier) (known_behind opening (entry ∷ earlier)) (blocks_given_by entry.verdict) (new_blocks earlier) block turn.kept turn.gives
     (λ was. known_were_given opening earlier block legal.2 was) there
 
 with_stamp : (stamp : ℕ) (found : Option BlockRecord) → option_map (λ (own : BlockRecord). own.stamp) found ≡ Some stamp → (own : BlockRecord) × (found ≡ Some own) × (own.stamp ≡ stamp)
@@ -199,7 +199,7 @@ stamps_are_own opening entries block other stamp legal x y =
     (stands opening entries legal).sound.apart block other own.0 also.0 own.1 also.1 (own.2 ∙ sym also.2)
 
 -- a stamp that was given before is no new one: it was that of the block then
-was_stamp : (before : Known) (block bound stamp : ℕ) → bound ≤ before.next_stamp → stamp < bound → (a b : Option BlockRecord) → Becomes before block a b
+was_stamp : (before : KnownBlocks) (block bound stamp : ℕ) → bound ≤ before.next_stamp → stamp < bound → (a b : Option BlockRecord) → Becomes before block a b
     → option_map (λ (own : BlockRecord). own.stamp) b ≡ Some stamp → option_map (λ (own : BlockRecord). own.stamp) a ≡ Some stamp
 was_stamp before block bound stamp le less a None turn y = cc
 was_stamp before block bound stamp le less None (Some own) turn y = let is : own.stamp ≡ stamp = cc in let new = turn.1 in absurd (omega (arith, le, less, is, new))
@@ -247,7 +247,7 @@ stamps_are_own_ever opening later earlier block other stamp legal x y =
     below : (a b c : ℕ) → a ≡ b → a < c → b < c
     below a b c h k = omega (arith, h, k)
 
-stamp_stays : (before : Known) (block stamp later : ℕ) (a b : Option BlockRecord) → ((own : BlockRecord) → a ≡ Some own → own.stamp < before.next_stamp) → Becomes before block a b
+stamp_stays : (before : KnownBlocks) (block stamp later : ℕ) (a b : Option BlockRecord) → ((own : BlockRecord) → a ≡ Some own → own.stamp < before.next_stamp) → Becomes before block a b
     → option_map (λ (own : BlockRecord). own.stamp) a ≡ Some stamp → option_map (λ (own : BlockRecord). own.stamp) b ≡ Some later → stamp ≤ later
 stamp_stays before block stamp later None b given turn x y = cc
 stamp_stays before block stamp later (Some old) None given turn x y = cc
@@ -266,7 +266,7 @@ stamps_never_fall opening entry earlier block stamp later legal x y =
     stamp_stays (known_behind opening earlier) block stamp later (block_of (known_behind opening earlier) block) (block_of (known_behind opening (entry ∷ earlier)) block)
     (λ own is. ((stands opening earlier legal.2).sound.each block own is).stamped) (turn.kept.blocks block) x y
 
-length_stays : (before : Known) (block length : ℕ) (a b : Option BlockRecord) → Becomes before block a b → option_and_then (λ (own : BlockRecord). own.committed) a ≡ Some length
+length_stays : (before : KnownBlocks) (block length : ℕ) (a b : Option BlockRecord) → Becomes before block a b → option_and_then (λ (own : BlockRecord). own.committed) a ≡ Some length
     → is_some b ≡ true → option_and_then (λ (own : BlockRecord). own.committed) b ≡ Some length
 length_stays before block length None b turn x y = cc
 length_stays before block length (Some old) None turn x y = cc
@@ -308,7 +308,7 @@ unset false h = cc
 parts : (a b : ℕ) → a + b ≡ 0 → (a ≡ 0) × (b ≡ 0)
 parts a b h = (omega (arith, h), omega (arith, h))
 
-module _ (facts : BlockFacts) where
+module _ (facts : Blocks) where
   right_each : (blocks : List FileBlock) → total (wrong (told facts.known)) blocks ≡ 0 → AllByRecursion (λ (block : FileBlock). option_and_then (λ (own : BlockRecord). own.committed) (block_of facts.known block.id) ≡ block.committed) blocks
   right_each [] h = tt
   right_each (block ∷ blocks) h =

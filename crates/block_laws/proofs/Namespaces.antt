@@ -24,7 +24,7 @@ use Rattle.namespace_rows.proofs.Tests.{or_right}
 use Rattle.namespace_rows.proofs.PathOrders.{same_path_is}
 use Rattle.namespace_rows.proofs.Namespaces.{namespace_tests, with_sub_tree_namespace}
 use Rattle.flat_rows.specs.BlockOutcome.{last_committed}
-use Rattle.flat_rows.specs.Changes.{rewritten, suits_change, block_added}
+use Rattle.flat_rows.specs.Changes.{row_rewritten, suits_change, block_added}
 use Rattle.flat_rows.specs.FileOutcome.{directory_there, file_there, holder_at}
 use Rattle.flat_rows.specs.Takeover.{unfinished_at, state_after_append, begun_in}
 use Rattle.flat_rows.specs.Facts.{Facts}
@@ -137,7 +137,7 @@ module _ (facts : Facts) (caller : List ℕ) (rows : List Row) (users : Users) (
       let block = facts.blocks.known.next_block in
       committed_namespace path last (block_added path block rows) (added_namespace path block rows namespace)
   namespace_stays (op.Complete path last) h =
-      committed_namespace path last (rewritten path (change.State Closed) rows)
+      committed_namespace path last (row_rewritten path (change.State Closed) rows)
       (rewritten_namespace path (change.State Closed) rows namespace (always (change.State Closed) (λ row. refl) (row_at path rows)))
   namespace_stays (op.SetReplication path replication) h = rewritten_namespace path (change.Replication replication) rows namespace (always (change.Replication replication) (λ row. refl) (row_at path rows))
   namespace_stays op.Tick h = ticked_namespace facts (begun_in facts rows) rows namespace

@@ -13,10 +13,10 @@ use Rattle.block_records.specs.declared.block_record.BlockRecord.{BlockRecord}
 use Rattle.block_records.specs.declared.last_block.LastBlock.{LastBlock}
 use Rattle.block_tables.specs.Changes.{with_length}
 use Rattle.known_blocks.specs.Known as known
-use Rattle.known_blocks.specs.Known.{Known, block_of, altered}
-use Rattle.block_map.specs.BlockFacts.{BlockFacts, chosen_targets}
-use Rattle.block_map.specs.BlockEffects.{replicated, committed_last, refused_last}
-use Rattle.block_effect_laws.specs.Laws.{IsSound, IsKept}
+use Rattle.known_blocks.specs.Known.{KnownBlocks, block_of, with_block_changed}
+use Rattle.block_map.specs.BlockFacts.{Blocks, chosen_targets}
+use Rattle.block_map.specs.BlockEffects.{with_block_replication, committed_last, refused_last}
+use Rattle.block_effect_laws.specs.Laws.{IsSound, KeepsKnown}
 use Rattle.block_effect_laws.proofs.Turning.{kept_same, kept_in_turn}
 use Rattle.block_effect_laws.proofs.Effects.{removals, replication_keeps, commit_keeps, request_keeps, begin_keeps, begins_keep, recovery_keeps, heartbeat_keeps, report_keeps}
 use Rattle.principals.specs.Users.{Users}
@@ -28,14 +28,14 @@ use Rattle.namespace_rows.specs.Namespace.{IsNamespace}
 use Rattle.namespace_rows.specs.Rows.{row_at, ancestor}
 use Rattle.namespace_rows.proofs.Namespaces.{namespace_tests}
 use Rattle.flat_rows.specs.BlockOutcome as file
-use Rattle.flat_rows.specs.BlockOutcome.{is_last, is_named, replication_of, replication_at, ids_at, with_block_at, ended_at}
-use Rattle.flat_rows.specs.Changes.{rows_under, without, changed, edited, rewritten, block_added}
+use Rattle.flat_rows.specs.BlockOutcome.{is_last, has_block_id, replication_of, replication_at, ids_at, with_block_at, ended_at}
+use Rattle.flat_rows.specs.Changes.{rows_under, without, with_change, file_edited, row_rewritten, block_added}
 use Rattle.flat_rows.specs.FileOutcome.{holder_at}
 use Rattle.flat_rows.specs.Takeover.{unfinished_at, state_after_append, sought_blocks}
 use Rattle.flat_rows.specs.Facts.{Facts}
 use Rattle.flat_rows.specs.Outcome.{first_refusal, rows_after, with_new, made_at, with_mode_at, with_owner_at, with_acl_at}
 use Rattle.flat_rows.proofs.Blocks.{row_at_map}
-use Rattle.history.specs.Blocks.{heard_of, reported_of, extended, ended, all_replicated, taken_over, blocks_after}
+use Rattle.history.specs.Blocks.{heard_of, reported_of, file_extended, file_ended, all_replicated, taken_over, blocks_after}
 use Rattle.block_laws.proofs.Sums.{sum_moved}
 use Rattle.block_laws.proofs.Totals.{bit, Weight, total, own, by_blocks, in_rows, has, total_append}
 use Rattle.block_laws.proofs.Changes.{state_blocks, replication_blocks, rows_rewritten, rows_added, rows_committed, counted}
@@ -49,38 +49,38 @@ use Rattle.block_laws.proofs.Ends.{one_recovers, agree_ended}
 
 -- ---- block facts
 
-all_replicated_keeps : (replication : ℕ) (numbers : List ℕ) (facts : BlockFacts) → IsSound facts.known → IsKept facts.known (all_replicated replication numbers facts).known
+all_replicated_keeps : (replication : ℕ) (numbers : List ℕ) (facts : Blocks) → IsSound facts.known → KeepsKnown facts.known (all_replicated replication numbers facts).known
 all_replicated_keeps replication [] facts sound = kept_same facts.known sound
 all_replicated_keeps replication (block ∷ numbers) facts sound =
-    let between = replicated facts block replication in
+    let between = with_block_replication facts block replication in
     let first = replication_keeps facts block replication sound in
     kept_in_turn facts.known between.known (all_replicated replication numbers between).known sound first (all_replicated_keeps replication numbers between first.sound)
 
-module _ (facts : BlockFacts) (now : ℕ) (sound : IsSound facts.known) where
-  kept_extended : (last : Option LastBlock) (replication : Option ℕ) → refused_last facts last ≡ None → IsKept facts.known (extended last now replication facts).known
+module _ (facts : Blocks) (now : ℕ) (sound : IsSound facts.known) where
+  kept_extended : (last : Option LastBlock) (replication : Option ℕ) → refused_last facts last ≡ None → KeepsKnown facts.known (file_extended last now replication facts).known
   kept_extended last None h = kept_same facts.known sound
   kept_extended last (Some replication) h = request_keeps facts last now replication h sound
 
-  kept_ended : (last : Option LastBlock) → refused_last facts last ≡ None → IsKept facts.known (ended last facts).known
+  kept_ended : (last : Option LastBlock) → refused_last facts last ≡ None → KeepsKnown facts.known (file_ended last facts).known
   kept_ended None h = kept_same facts.known sound
   kept_ended (Some last) h = commit_keeps facts last.block last.length h sound
 
-  kept_heard : (node : Option ℕ) → IsKept facts.known (heard_of node now facts).known
+  kept_heard : (node : Option ℕ) → KeepsKnown facts.known (heard_of node now facts).known
   kept_heard None = kept_same facts.known sound
   kept_heard (Some node) = heartbeat_keeps facts node now sound
 
-  kept_taken : (holder : Option (List ℕ)) (block : Option ℕ) → IsKept facts.known (taken_over holder block now facts).known
+  kept_taken : (holder : Option (List ℕ)) (block : Option ℕ) → KeepsKnown facts.known (taken_over holder block now facts).known
   kept_taken None None = kept_same facts.known sound
   kept_taken (Some holder) None = kept_same facts.known sound
   kept_taken None (Some block) = kept_same facts.known sound
   kept_taken (Some holder) (Some block) = begin_keeps facts block now sound
 
-  kept_reported : (node : Option ℕ) (replica : ReportedReplica) → IsKept facts.known (reported_of node replica facts).known
+  kept_reported : (node : Option ℕ) (replica : ReportedReplica) → KeepsKnown facts.known (reported_of node replica facts).known
   kept_reported None replica = kept_same facts.known sound
   kept_reported (Some node) replica = report_keeps facts node replica.block replica.stamp replica.length sound
 
 -- what the block facts tell of lengths where a file is taken
-same_taken : (holder : Option (List ℕ)) (block : Option ℕ) (now : ℕ) (facts : BlockFacts) → TellTheSame facts.known (taken_over holder block now facts).known
+same_taken : (holder : Option (List ℕ)) (block : Option ℕ) (now : ℕ) (facts : Blocks) → TellTheSame facts.known (taken_over holder block now facts).known
 same_taken None None now facts number = refl
 same_taken (Some holder) None now facts number = refl
 same_taken None (Some block) now facts number = refl
@@ -94,17 +94,17 @@ last_counted last blocks h = by (last_of blocks) refl h
     more : (a b : ℕ) → a ≤ b → a ≡ 1 → 1 ≤ b
     more a b le is = omega (arith, le, is)
 
-    by : (found : Option FileBlock) → last_of blocks ≡ found → is_named last.block found ≡ true → 1 ≤ total (has last.block) blocks
+    by : (found : Option FileBlock) → last_of blocks ≡ found → has_block_id last.block found ≡ true → 1 ≤ total (has last.block) blocks
     by None at named = cc
     by (Some block) at named =
         more (has last.block block) (total (has last.block) blocks) (counted (has last.block) blocks (length blocks - 1) block at) (ap bit (eq-eqb block.id last.block (sym (eqb-true last.block block.id named))))
 
 -- where it is the last of the file at the path, and known, its length is committed in both
-commit_agrees : (now : Known) (path : List (List ℕ)) (last : LastBlock) (rows : List Row) (row : Row) → Agree (told now) rows → is_some (told now last.block) ≡ true
+commit_agrees : (now : KnownBlocks) (path : List (List ℕ)) (last : LastBlock) (rows : List Row) (row : Row) → Agree (told now) rows → is_some (told now last.block) ≡ true
     → row_at path rows ≡ Some row → 1 ≤ total (has last.block) (own row)
-    → Agree (told (altered (with_length last.length) last.block now)) (rewritten path (change.Committed last.block last.length) rows)
+    → Agree (told (with_block_changed (with_length last.length) last.block now)) (row_rewritten path (change.Committed last.block last.length) rows)
 commit_agrees now path last rows row agree there at some =
-    agree_committed (told now) (told (altered (with_length last.length) last.block now)) rows (rewritten path (change.Committed last.block last.length) rows) agree last.block last.length there
+    agree_committed (told now) (told (with_block_changed (with_length last.length) last.block now)) rows (row_rewritten path (change.Committed last.block last.length) rows) agree last.block last.length there
     (told_committed last.length last.block now)
     (λ w. rows_committed w last.block last.length path rows row (subst (λ n. n ≤ 1) (sym (agree.once last.block)) (bit_few (is_some (told now last.block)))) at some)
 
@@ -133,13 +133,13 @@ module _ (path : List (List ℕ)) (f : Row → Row) (paths : (row : Row) → (f 
 -- ---- each operation
 
 module _ (facts : Facts) (caller : List ℕ) (rows : List Row) (users : Users) (namespace : IsNamespace rows) (sound : IsSound facts.blocks.known) (agree : Agree (told facts.blocks.known) rows) (recover : Recover facts.blocks.known rows) where
-  abbrev before : Known
+  abbrev before : KnownBlocks
   before = facts.blocks.known
 
-  abbrev after : Op → Known
+  abbrev after : Op → KnownBlocks
   after what = (blocks_after facts what caller rows facts.blocks).known
 
-  pub blocks_kept : (what : Op) → first_refusal facts caller what rows users ≡ None → IsKept before (after what)
+  pub blocks_kept : (what : Op) → first_refusal facts caller what rows users ≡ None → KeepsKnown before (after what)
   blocks_kept (op.Create path mode replication over) h = removals before (blocks_in (rows_under path rows)) sound
   blocks_kept (op.Delete path recursive) h = removals before (blocks_in (rows_under path rows)) sound
   blocks_kept (op.AddBlock path last) h = kept_extended facts.blocks facts.now sound last (replication_at (row_at path rows)) (block_asked facts caller path last rows users namespace h).1
@@ -164,13 +164,13 @@ module _ (facts : Facts) (caller : List ℕ) (rows : List Row) (users : Users) (
   rows_kept : (left : List Row) → AreKept rows left → Agree (told before) left
   rows_kept left same = rows_alone left (λ w. same (by_blocks w) refl)
 
-  facts_alone : (later : Known) → TellTheSame before later → Agree (told later) rows
+  facts_alone : (later : KnownBlocks) → TellTheSame before later → Agree (told later) rows
   facts_alone later same = agree_same (told before) (told later) rows rows agree same (λ w. refl)
 
   taken : (path : List (List ℕ)) (left : List Row) → ((w : Weight) → in_rows w left + in_rows w (rows_under path rows) ≡ in_rows w rows)
-      → Agree (told (known.all_removed before (blocks_in (rows_under path rows)))) left
+      → Agree (told (known.without_each_block before (blocks_in (rows_under path rows)))) left
   taken path left parts =
-      agree_taken (told before) (told (known.all_removed before (blocks_in (rows_under path rows)))) rows left agree (rows_under path rows)
+      agree_taken (told before) (told (known.without_each_block before (blocks_in (rows_under path rows)))) rows left agree (rows_under path rows)
       (seen_removed committed_of (blocks_in (rows_under path rows)) before sound.once) parts
 
   -- a writer asks for a block behind the last one of his file
@@ -178,17 +178,17 @@ module _ (facts : Facts) (caller : List ℕ) (rows : List Row) (users : Users) (
     abbrev longer : List Row
     longer = block_added path before.next_block rows
 
-    more : (targets : List ℕ) (replication : ℕ) → Agree (told (known.added before targets replication)) longer
+    more : (targets : List ℕ) (replication : ℕ) → Agree (told (known.with_new_block before targets replication)) longer
     more targets replication =
-        agree_added (told before) (told (known.added before targets replication)) rows longer agree before.next_block (next_unknown committed_of before sound) (seen_added committed_of before targets replication)
+        agree_added (told before) (told (known.with_new_block before targets replication)) rows longer agree before.next_block (next_unknown committed_of before sound) (seen_added committed_of before targets replication)
         (λ w. rows_added w path before.next_block rows at.row at.its (namespace_tests rows namespace).ascending at.there at.file)
 
     its_count : (number : ℕ) → 1 ≤ total (has number) at.its.blocks → 1 ≤ total (has number) (own at.row)
-    its_count number h = subst (λ o. 1 ≤ total (has number) (file.blocks_of o)) (sym at.file) h
+    its_count number h = subst (λ o. 1 ≤ total (has number) (file.blocks_of_file o)) (sym at.file) h
 
-    longer_count : (number : ℕ) → 1 ≤ total (has number) at.its.blocks → 1 ≤ total (has number) (own (edited (with_block before.next_block) at.row))
+    longer_count : (number : ℕ) → 1 ≤ total (has number) at.its.blocks → 1 ≤ total (has number) (own (file_edited (with_block before.next_block) at.row))
     longer_count number h =
-        subst (λ o. 1 ≤ total (has number) (file.blocks_of (option_map (with_block before.next_block) o))) (sym at.file)
+        subst (λ o. 1 ≤ total (has number) (file.blocks_of_file (option_map (with_block before.next_block) o))) (sym at.file)
         (subst (λ n. 1 ≤ n) (sym (total_append (has number) at.its.blocks (new_block before.next_block ∷ []))) (enough (total (has number) at.its.blocks) (total (has number) (new_block before.next_block ∷ [])) h))
       where
         enough : (a b : ℕ) → 1 ≤ a → 1 ≤ a + b
@@ -203,30 +203,30 @@ module _ (facts : Facts) (caller : List ℕ) (rows : List Row) (users : Users) (
     told_some (Some one) h = refl
 
     asked : (last : Option LastBlock) (replication : ℕ) → is_last last at.its.blocks ≡ true → refused_last facts.blocks last ≡ None
-        → Agree (told (extended last facts.now (Some replication) facts.blocks).known) (with_block_at path last before.next_block rows)
+        → Agree (told (file_extended last facts.now (Some replication) facts.blocks).known) (with_block_at path last before.next_block rows)
     asked None replication named h = more (chosen_targets (committed_last facts.blocks None) facts.now replication) replication
     asked (Some last) replication named h =
         let targets = chosen_targets (committed_last facts.blocks (Some last)) facts.now replication in
-        let between = known.added before targets replication in
+        let between = known.with_new_block before targets replication in
         let count = last_counted last at.its.blocks named in
         subst (λ own. Agree (told own) (with_block_at path (Some last) before.next_block rows)) (sym (added_first facts.blocks last facts.now replication sound h))
-        (commit_agrees between path last longer (at_path path (edited (with_block before.next_block)) (λ row. refl) rows at.row) (more targets replication)
+        (commit_agrees between path last longer (at_path path (file_edited (with_block before.next_block)) (λ row. refl) rows at.row) (more targets replication)
         (subst (λ t. is_some t ≡ true) (sym (seen_added committed_of before targets replication last.block))
         (still_some (is_number before.next_block last.block) (told before last.block) (told_some (block_of before last.block) (last_known facts.blocks last h))))
-        (found_anew path (edited (with_block before.next_block)) (λ row. refl) rows at.row at.there)
-        (counts_still path (edited (with_block before.next_block)) (λ row. refl) rows last.block at.row (its_count last.block count) (longer_count last.block count)))
+        (found_anew path (file_edited (with_block before.next_block)) (λ row. refl) rows at.row at.there)
+        (counts_still path (file_edited (with_block before.next_block)) (λ row. refl) rows last.block at.row (its_count last.block count) (longer_count last.block count)))
 
     -- a writer completes his file
-    completed : (last : Option LastBlock) → is_last last at.its.blocks ≡ true → refused_last facts.blocks last ≡ None → Agree (told (ended last facts.blocks).known) (ended_at path last rows)
-    completed None named h = rows_alone (rewritten path (change.State Closed) rows) (λ w. rows_rewritten w path (change.State Closed) (state_blocks Closed) rows)
+    completed : (last : Option LastBlock) → is_last last at.its.blocks ≡ true → refused_last facts.blocks last ≡ None → Agree (told (file_ended last facts.blocks).known) (ended_at path last rows)
+    completed None named h = rows_alone (row_rewritten path (change.State Closed) rows) (λ w. rows_rewritten w path (change.State Closed) (state_blocks Closed) rows)
     completed (Some last) named h =
-        let left = rewritten path (change.State Closed) rows in
+        let left = row_rewritten path (change.State Closed) rows in
         let count = its_count last.block (last_counted last at.its.blocks named) in
-        commit_agrees before path last left (at_path path (changed (change.State Closed)) (λ row. refl) rows at.row)
+        commit_agrees before path last left (at_path path (with_change (change.State Closed)) (λ row. refl) rows at.row)
         (rows_alone left (λ w. rows_rewritten w path (change.State Closed) (state_blocks Closed) rows))
         (told_some (block_of before last.block) (last_known facts.blocks last h))
-        (found_anew path (changed (change.State Closed)) (λ row. refl) rows at.row at.there)
-        (counts_still path (changed (change.State Closed)) (λ row. refl) rows last.block at.row count (subst (λ blocks. 1 ≤ total (has last.block) blocks) (sym (state_blocks Closed at.row)) count))
+        (found_anew path (with_change (change.State Closed)) (λ row. refl) rows at.row at.there)
+        (counts_still path (with_change (change.State Closed)) (λ row. refl) rows last.block at.row count (subst (λ blocks. 1 ≤ total (has last.block) blocks) (sym (state_blocks Closed at.row)) count))
 
   pub agree_stays : (what : Op) → first_refusal facts caller what rows users ≡ None → Agree (told (after what)) (rows_after facts what caller rows)
   agree_stays (op.Mkdirs path mode) h = rows_kept (made_at path mode caller (row_at path rows) rows) (made_keeps rows namespace path mode caller (row_at path rows) refl)
@@ -242,19 +242,19 @@ module _ (facts : Facts) (caller : List ℕ) (rows : List Row) (users : Users) (
       let holder = holder_at (row_at path rows) in
       let block = unfinished_at (row_at path rows) in
       let state = state_after_append facts.blocks facts.now caller holder block in
-      agree_same (told before) (told (after (op.Append path))) rows (rewritten path (change.State state) rows) agree (same_taken holder block facts.now facts.blocks)
+      agree_same (told before) (told (after (op.Append path))) rows (row_rewritten path (change.State state) rows) agree (same_taken holder block facts.now facts.blocks)
       (λ w. rows_rewritten w path (change.State state) (state_blocks state) rows)
   agree_stays (op.AddBlock path last) h =
       let parts = block_asked facts caller path last rows users namespace h in
       let at = parts.0.at in
-      subst (λ replication. Agree (told (extended last facts.now replication facts.blocks).known) (with_block_at path last before.next_block rows))
+      subst (λ replication. Agree (told (file_extended last facts.now replication facts.blocks).known) (with_block_at path last before.next_block rows))
       (sym (ap replication_at at.there ∙ ap replication_of at.file)) (asked path at last at.its.replication parts.0.named parts.1)
   agree_stays (op.Complete path last) h =
       let parts = file_completed facts caller path last rows users namespace h in
       completed path parts.0.at last parts.0.named parts.1
   agree_stays (op.SetReplication path replication) h =
       let later = (all_replicated replication (ids_at (row_at path rows)) facts.blocks).known in
-      agree_same (told before) (told later) rows (rewritten path (change.Replication replication) rows) agree (same_replicated committed_of lengths_ignore replication (ids_at (row_at path rows)) facts.blocks)
+      agree_same (told before) (told later) rows (row_rewritten path (change.Replication replication) rows) agree (same_replicated committed_of lengths_ignore replication (ids_at (row_at path rows)) facts.blocks)
       (λ w. rows_rewritten w path (change.Replication replication) (replication_blocks replication) rows)
   agree_stays op.Tick h =
       agree_same (told before) (told (after op.Tick)) rows (rows_after facts op.Tick caller rows) agree (same_all_begun (sought_blocks facts rows) facts.now facts.blocks) (ticked_blocks facts rows)

@@ -16,18 +16,18 @@ use Rattle.block_records.specs.declared.block_record.BlockRecord.{BlockRecord}
 use Rattle.block_records.proofs.Reporting.{number_eq}
 use Rattle.block_effect_laws.proofs.Looking.{number_itself}
 use Rattle.known_blocks.specs.Known.{block_of, is_due}
-use Rattle.block_map.specs.BlockFacts.{BlockFacts}
+use Rattle.block_map.specs.BlockFacts.{Blocks}
 use Rattle.namespace_rows.specs.declared.file_row.FileRow.{FileRow}
 use Rattle.namespace_rows.specs.declared.row.Row.{Row}
 use Rattle.namespace_rows.specs.First.{first}
-use Rattle.namespace_rows.specs.Files.{unfinished, state_recovers, recovered_at}
+use Rattle.namespace_rows.specs.Files.{unfinished_block, state_recovers, recovered_at}
 use Rattle.namespace_rows.specs.Rows.{row_at}
 use Rattle.namespace_rows.proofs.Tests.{and}
 use Rattle.flat_rows.specs.Changes.{is_recovered, recovers_nowhere_else, recovery_ended}
 use Rattle.flat_rows.specs.Takeover.{sought_of, sought_by_state}
 use Rattle.flat_rows.specs.declared.takeover.Sought.{Sought}
 use Rattle.history.specs.State.{rows_of, blocks_of}
-use Rattle.block_laws.specs.Laws.{running, recovery_in, recoveries_in, RecoversLast, FileRecoversLast, is_overdue, RecoveriesAreThoseOfFiles, OneFileRecovers, FilesRecoverLast, OverdueFilesAreDue}
+use Rattle.block_laws.specs.Laws.{running_recovery, recovery_in, recoveries_in, RecoversLast, FileRecoversLast, is_row_overdue, RecoveriesAreThoseOfFiles, OneFileRecovers, FilesRecoverLast, OverdueFilesAreDue}
 use Rattle.block_laws.proofs.Sums.{once, Count, sum_files, sum_same, sum_plus, none_both, one_row, part}
 use Rattle.block_laws.proofs.Totals.{bit}
 use Rattle.block_laws.proofs.Told.{seen}
@@ -133,7 +133,7 @@ worth_flat : (v : RunWeight) (seen : Option (Option (ℕ × ℕ))) → worth v s
 worth_flat v None = refl
 worth_flat v (Some run) = refl
 
-running_is : (facts : BlockFacts) (block : ℕ) → option_map (as_state block) (flat (seen run_of facts.known block)) ≡ running facts block
+running_is : (facts : Blocks) (block : ℕ) → option_map (as_state block) (flat (seen run_of facts.known block)) ≡ running_recovery facts block
 running_is facts block = by (block_of facts.known block)
   where
     by_since : (stamp : ℕ) (since : Option ℕ) → option_map (as_state block) (option_map (λ n. (stamp, n)) since) ≡ option_map (Recovering block stamp) since
@@ -229,10 +229,10 @@ recovers_last (Some its) h = by its.state h
         by_number true is h = ap (λ n. Some n) (eqb-true block own is)
         by_number false is h = cc
 
-    by : (state : FileState) → amiss_state (unfinished its.blocks) state ≡ 0 → RecoversLast (unfinished its.blocks) state
+    by : (state : FileState) → amiss_state (unfinished_block its.blocks) state ≡ 0 → RecoversLast (unfinished_block its.blocks) state
     by Closed h = tt
     by (Open client) h = tt
-    by (Recovering own stamp begun) h = is_last own (unfinished its.blocks) h
+    by (Recovering own stamp begun) h = is_last own (unfinished_block its.blocks) h
 
 all_recover_last : (rows : List Row) → sum_files amiss rows ≡ 0 → AllByRecursion (λ (row : Row). FileRecoversLast row.file) rows
 all_recover_last [] h = tt
@@ -356,16 +356,16 @@ module _ (retry now : ℕ) where
       by_test true sought = refl
       by_test false sought = refl
 
-      by : (state : FileState) → bit (is_some (sought_by_state (λ client. false) (λ begun. nat_lt retry (now - begun)) (unfinished its.blocks) state)) ≡ any_state late state
+      by : (state : FileState) → bit (is_some (sought_by_state (λ client. false) (λ begun. nat_lt retry (now - begun)) (unfinished_block its.blocks) state)) ≡ any_state late state
       by Closed = refl
       by (Open client) = refl
       by (Recovering own stamp begun) = by_test (nat_lt retry (now - begun)) (record { holder = None; block = Some own })
 
-  late_rows : (rows : List Row) → length (filter (is_overdue retry now) rows) ≡ sum_files (in_any late) rows
+  late_rows : (rows : List Row) → length (filter (is_row_overdue retry now) rows) ≡ sum_files (in_any late) rows
   late_rows [] = refl
   late_rows (row ∷ rows) =
-      head_counts (is_overdue retry now row) row (filter (is_overdue retry now) rows)
-      ∙ (ap (λ n. n + length (filter (is_overdue retry now) rows)) (late_file row.file) ∙ ap (λ n. in_any late row.file + n) (late_rows rows))
+      head_counts (is_row_overdue retry now row) row (filter (is_row_overdue retry now) rows)
+      ∙ (ap (λ n. n + length (filter (is_row_overdue retry now) rows)) (late_file row.file) ∙ ap (λ n. in_any late row.file + n) (late_rows rows))
 
   late_since : (stamp : ℕ) (since : Option ℕ) → bit (is_due retry now since) ≡ worth late (Some (option_map (λ n. (stamp, n)) since))
   late_since stamp None = refl

@@ -13,15 +13,15 @@ use Rattle.block_tables.specs.Changes as table
 use Rattle.recovery_queue.specs.Queue.{all_put}
 use Rattle.recovery_queue.specs.declared.begun.BegunRecovery.{BegunRecovery}
 use Rattle.known_blocks.specs.Known as known
-use Rattle.known_blocks.specs.Known.{Known, block_of}
-use Rattle.block_map.specs.BlockFacts.{BlockFacts}
-use Rattle.block_map.specs.BlockEffects.{recoveries_begun, all_begun}
+use Rattle.known_blocks.specs.Known.{KnownBlocks, block_of}
+use Rattle.block_map.specs.BlockFacts.{Blocks}
+use Rattle.block_map.specs.BlockEffects.{recoveries_begun, with_recoveries_begun}
 use Rattle.block_map.proofs.InTurn.{all_begun_where_done}
 use Rattle.block_effect_laws.proofs.Looking.{changed_at}
 use Rattle.namespace_rows.specs.declared.file_row.FileBlock.{FileBlock}
 use Rattle.namespace_rows.specs.declared.file_row.FileRow.{FileRow}
 use Rattle.namespace_rows.specs.declared.row.Row.{Row}
-use Rattle.namespace_rows.specs.Files.{last_of, if_uncommitted, unfinished, blocks_in}
+use Rattle.namespace_rows.specs.Files.{last_of, if_uncommitted, unfinished_block, blocks_in}
 use Rattle.namespace_rows.specs.Rows.{row_at}
 use Rattle.flat_rows.specs.Takeover.{stamp_in}
 use Rattle.block_laws.proofs.Sums.{once, Count, sum_files, sum_given, spare, sum_spared, none_both, part}
@@ -80,9 +80,9 @@ amiss_state block (Recovering own stamp begun) = bit (not (is_block own block))
 
 abbrev pub amiss : Count
 amiss None = 0
-amiss (Some its) = amiss_state (unfinished its.blocks) its.state
+amiss (Some its) = amiss_state (unfinished_block its.blocks) its.state
 
-pub record Recover (own : Known) (rows : List Row) : Type 0 where
+pub record Recover (own : KnownBlocks) (rows : List Row) : Type 0 where
   pub runs : (number : ℕ) (v : RunWeight) → sum_files (in_file number v) rows ≡ worth v (seen run_of own number)
   pub right : sum_files amiss rows ≡ 0
 
@@ -109,7 +109,7 @@ module _ (number : ℕ) where
   unset true h = refl
   unset false h = cc
 
-  open_last : (blocks : List FileBlock) → unfinished blocks ≡ Some number → 1 ≤ total (open_at number) blocks
+  open_last : (blocks : List FileBlock) → unfinished_block blocks ≡ Some number → 1 ≤ total (open_at number) blocks
   open_last blocks h = by (last_of blocks) refl h
     where
       more : (a b : ℕ) → a ≤ b → a ≡ 1 → 1 ≤ b
@@ -141,14 +141,14 @@ module _ (number : ℕ) where
       both : (a b c d : ℕ) → a ≤ b → c ≤ d → a + c ≤ b + d
       both a b c d h k = omega (arith, h, k)
 
-  pub has_last : (blocks : List FileBlock) → unfinished blocks ≡ Some number → 1 ≤ total (has number) blocks
+  pub has_last : (blocks : List FileBlock) → unfinished_block blocks ≡ Some number → 1 ≤ total (has number) blocks
   has_last blocks h = onward (total (open_at number) blocks) (total (has number) blocks) (open_last blocks h) (total_upto blocks)
     where
       onward : (a b : ℕ) → 1 ≤ a → a ≤ b → 1 ≤ b
       onward a b h k = omega (arith, h, k)
 
   -- a file in recovery has the block, uncommitted
-  module _ (w : Weight) (last : (blocks : List FileBlock) → unfinished blocks ≡ Some number → 1 ≤ total w blocks) where
+  module _ (w : Weight) (last : (blocks : List FileBlock) → unfinished_block blocks ≡ Some number → 1 ≤ total w blocks) where
     recovered_upto : (its : Option FileRow) → amiss its ≡ 0 → in_file number one its ≤ by_blocks w its
     recovered_upto None right = omega arith
     recovered_upto (Some its) right = by its.state right
@@ -157,14 +157,14 @@ module _ (number : ℕ) where
         of_last block None h = cc
         of_last block (Some own) h = ap (λ n. Some n) (eqb-true own block h)
 
-        by_number : (block : ℕ) (b : Bool) → (block == number) ≡ b → unfinished its.blocks ≡ Some block → once b ≤ total w its.blocks
+        by_number : (block : ℕ) (b : Bool) → (block == number) ≡ b → unfinished_block its.blocks ≡ Some block → once b ≤ total w its.blocks
         by_number block true is e = last its.blocks (e ∙ ap (λ n. Some n) (eqb-true block number is))
         by_number block false is e = omega arith
 
-        by : (state : FileState) → amiss_state (unfinished its.blocks) state ≡ 0 → in_state number one state ≤ total w its.blocks
+        by : (state : FileState) → amiss_state (unfinished_block its.blocks) state ≡ 0 → in_state number one state ≤ total w its.blocks
         by Closed h = omega arith
         by (Open client) h = omega arith
-        by (Recovering block stamp begun) h = by_number block (block == number) refl (of_last block (unfinished its.blocks) (unset (is_block block (unfinished its.blocks)) h))
+        by (Recovering block stamp begun) h = by_number block (block == number) refl (of_last block (unfinished_block its.blocks) (unset (is_block block (unfinished_block its.blocks)) h))
 
   pub recovered_has : (its : Option FileRow) → amiss its ≡ 0 → in_file number one its ≤ by_blocks (has number) its
   recovered_has its right = recovered_upto (has number) has_last its right
@@ -215,7 +215,7 @@ module _ (number : ℕ) where
 
 -- ---- nothing changes
 
-module _ (before later : Known) (rows left : List Row) (recover : Recover before rows) where
+module _ (before later : KnownBlocks) (rows left : List Row) (recover : Recover before rows) where
   pub recover_same : ((number : ℕ) (v : RunWeight) → worth v (seen run_of later number) ≡ worth v (seen run_of before number))
       → ((number : ℕ) (v : RunWeight) → sum_files (in_file number v) left ≡ sum_files (in_file number v) rows) → sum_files amiss left ≡ 0 → Recover later left
   recover_same told same right = record { runs = λ number v. same number v ∙ (recover.runs number v ∙ sym (told number v)); right = right }
@@ -259,19 +259,19 @@ still_known stamp now None = refl
 still_known stamp now (Some own) = refl
 
 pub run_begun : (stamp now block number : ℕ) (own : List (ℕ × BlockRecord)) → is_some (entry_at block own) ≡ true
-    → seen_by run_of (entry_at number (table.changed (with_recovery stamp now) block own)) ≡ cond (is_number block number) (Some (Some (stamp, now))) (seen_by run_of (entry_at number own))
+    → seen_by run_of (entry_at number (table.with_record_changed (with_recovery stamp now) block own)) ≡ cond (is_number block number) (Some (Some (stamp, now))) (seen_by run_of (entry_at number own))
 run_begun stamp now block number own there =
     seen_at run_of (with_recovery stamp now) block own number
     ∙ ap (λ t. cond (is_number block number) t (seen_by run_of (entry_at number own))) (of_known stamp now (entry_at block own) there)
 
 module _ (now number : ℕ) where
-  changed_same : (own : BegunRecovery) (blocks : List (ℕ × BlockRecord)) → (own.block == number) ≡ false → entry_at number (table.changed (with_recovery own.stamp now) own.block blocks) ≡ entry_at number blocks
+  changed_same : (own : BegunRecovery) (blocks : List (ℕ × BlockRecord)) → (own.block == number) ≡ false → entry_at number (table.with_record_changed (with_recovery own.stamp now) own.block blocks) ≡ entry_at number blocks
   changed_same own blocks apart =
       changed_at (with_recovery own.stamp now) own.block blocks number
       ∙ ap (λ b. cond b (option_map (with_recovery own.stamp now) (entry_at own.block blocks)) (entry_at number blocks)) (number_equal own.block number ∙ apart)
 
   changed_here : (own : BegunRecovery) (blocks : List (ℕ × BlockRecord)) → (own.block == number) ≡ true
-      → entry_at number (table.changed (with_recovery own.stamp now) own.block blocks) ≡ option_map (with_recovery own.stamp now) (entry_at number blocks)
+      → entry_at number (table.with_record_changed (with_recovery own.stamp now) own.block blocks) ≡ option_map (with_recovery own.stamp now) (entry_at number blocks)
   changed_here own blocks same =
       changed_at (with_recovery own.stamp now) own.block blocks number
       ∙ (ap (λ b. cond b (option_map (with_recovery own.stamp now) (entry_at own.block blocks)) (entry_at number blocks)) (number_equal own.block number ∙ same)
@@ -280,19 +280,19 @@ module _ (now number : ℕ) where
   -- the last of those of a block counts
   begun_in_turn : (begun : List BegunRecovery) (stamp : Option ℕ) (was : Option (Option (ℕ × ℕ))) (blocks : List (ℕ × BlockRecord)) → is_some (entry_at number blocks) ≡ true
       → seen_by run_of (entry_at number blocks) ≡ begun_by now stamp was
-      → seen_by run_of (entry_at number (fold (λ left (own : BegunRecovery). table.changed (with_recovery own.stamp now) own.block left) blocks begun))
+      → seen_by run_of (entry_at number (fold (λ left (own : BegunRecovery). table.with_record_changed (with_recovery own.stamp now) own.block left) blocks begun))
       ≡ begun_by now (last_or stamp (map (λ (own : BegunRecovery). own.stamp) (filter (λ (own : BegunRecovery). own.block == number) begun))) was
   begun_in_turn [] stamp was blocks there h = h
   begun_in_turn (own ∷ begun) stamp was blocks there h = by (own.block == number) refl (λ later left known is. begun_in_turn begun later was left known is)
     where
       next : List (ℕ × BlockRecord)
-      next = table.changed (with_recovery own.stamp now) own.block blocks
+      next = table.with_record_changed (with_recovery own.stamp now) own.block blocks
 
       by : (b : Bool) → (own.block == number) ≡ b
           → ((later : Option ℕ) (left : List (ℕ × BlockRecord)) → is_some (entry_at number left) ≡ true → seen_by run_of (entry_at number left) ≡ begun_by now later was
-          → seen_by run_of (entry_at number (fold (λ left (own : BegunRecovery). table.changed (with_recovery own.stamp now) own.block left) left begun))
+          → seen_by run_of (entry_at number (fold (λ left (own : BegunRecovery). table.with_record_changed (with_recovery own.stamp now) own.block left) left begun))
           ≡ begun_by now (last_or later (map (λ (own : BegunRecovery). own.stamp) (filter (λ (own : BegunRecovery). own.block == number) begun))) was)
-          → seen_by run_of (entry_at number (fold (λ left (own : BegunRecovery). table.changed (with_recovery own.stamp now) own.block left) next begun))
+          → seen_by run_of (entry_at number (fold (λ left (own : BegunRecovery). table.with_record_changed (with_recovery own.stamp now) own.block left) next begun))
           ≡ begun_by now (last_or stamp (map (λ (own : BegunRecovery). own.stamp) (cond b (own ∷ filter (λ (own : BegunRecovery). own.block == number) begun) (filter (λ (own : BegunRecovery). own.block == number) begun)))) was
       by true same rest =
           rest (Some own.stamp) next
@@ -300,16 +300,16 @@ module _ (now number : ℕ) where
           (ap (seen_by run_of) (changed_here own blocks same) ∙ of_known own.stamp now (entry_at number blocks) there)
       by false apart rest = rest stamp next (ap is_some (changed_same own blocks apart) ∙ there) (ap (seen_by run_of) (changed_same own blocks apart) ∙ h)
 
-  pub runs_begun : (facts : BlockFacts) (blocks : List ℕ) → is_some (block_of facts.known number) ≡ true
-      → seen run_of (all_begun facts blocks now).known number ≡ begun_by now (stamp_in (recoveries_begun facts blocks now) number) (seen run_of facts.known number)
+  pub runs_begun : (facts : Blocks) (blocks : List ℕ) → is_some (block_of facts.known number) ≡ true
+      → seen run_of (with_recoveries_begun facts blocks now).known number ≡ begun_by now (stamp_in (recoveries_begun facts blocks now) number) (seen run_of facts.known number)
   runs_begun facts blocks there =
       let begun = recoveries_begun facts blocks now in
-      ap (λ (left : BlockFacts). seen run_of left.known number)
-      (sym (all_begun_where_done {E = ℕ} (Ok tt) facts blocks now begun (known.all_begun facts.known begun now) (all_put facts.queued begun) refl refl refl))
+      ap (λ (left : Blocks). seen run_of left.known number)
+      (sym (all_begun_where_done {E = ℕ} (Ok tt) facts blocks now begun (known.with_next_recoveries facts.known begun now) (all_put facts.queued begun) refl refl refl))
       ∙ begun_in_turn begun None (seen run_of facts.known number) facts.known.blocks there refl
 
 -- nothing is seen of a block that isn't known
-pub unknown_run : (own : Known) (number : ℕ) → told own number ≡ None → seen run_of own number ≡ None
+pub unknown_run : (own : KnownBlocks) (number : ℕ) → told own number ≡ None → seen run_of own number ≡ None
 unknown_run own number none = by (block_of own number) none
   where
     by : (found : Option BlockRecord) → told_by found ≡ None → seen_by run_of found ≡ None

@@ -13,20 +13,20 @@ use Rattle.block_records.specs.declared.block_record.BlockRecord.{BlockRecord}
 use Rattle.block_records.specs.declared.last_block.LastBlock.{LastBlock}
 use Rattle.block_tables.specs.Changes.{with_length}
 use Rattle.known_blocks.specs.Known as known
-use Rattle.known_blocks.specs.Known.{Known, block_of}
-use Rattle.block_map.specs.BlockFacts.{BlockFacts, chosen_targets}
-use Rattle.block_map.specs.BlockEffects.{begun, committed_last, refused_last}
+use Rattle.known_blocks.specs.Known.{KnownBlocks, block_of}
+use Rattle.block_map.specs.BlockFacts.{Blocks, chosen_targets}
+use Rattle.block_map.specs.BlockEffects.{with_recovery_begun, committed_last, refused_last}
 use Rattle.block_effect_laws.specs.Laws.{IsSound}
 use Rattle.principals.specs.Users.{Users}
 use Rattle.namespace_rows.specs.declared.file_row.FileRow.{FileRow}
 use Rattle.namespace_rows.specs.declared.row.Row.{Row}
 use Rattle.namespace_rows.specs.declared.row.Change.TheVariants as change
-use Rattle.namespace_rows.specs.Files.{blocks_in, unfinished, with_state, with_replication, with_block, committed_at, new_file}
+use Rattle.namespace_rows.specs.Files.{blocks_in, unfinished_block, with_state, with_file_replication, with_block, committed_at, new_file}
 use Rattle.namespace_rows.specs.Namespace.{IsNamespace}
 use Rattle.namespace_rows.specs.Rows.{row_at, ancestor}
 use Rattle.namespace_rows.proofs.Namespaces.{namespace_tests}
 use Rattle.flat_rows.specs.BlockOutcome.{replication_at, ids_at, last_committed, with_block_at, ended_at}
-use Rattle.flat_rows.specs.Changes.{rows_under, without, edited, rewritten, block_added}
+use Rattle.flat_rows.specs.Changes.{rows_under, without, file_edited, row_rewritten, block_added}
 use Rattle.flat_rows.specs.FileOutcome.{holder_at}
 use Rattle.flat_rows.specs.Takeover.{unfinished_at, unfinished_of, state_after_append}
 use Rattle.flat_rows.specs.Facts.{Facts}
@@ -34,7 +34,7 @@ use Rattle.flat_rows.proofs.Blocks.{row_at_map}
 use Rattle.flat_rows.proofs.Changes.{edited_namespace}
 use Rattle.flat_rows.proofs.Firsts.{first_found}
 use Rattle.flat_rows.specs.Outcome.{first_refusal, rows_after, with_new, made_at, with_mode_at, with_owner_at, with_acl_at}
-use Rattle.history.specs.Blocks.{extended, ended, taken_over, blocks_after}
+use Rattle.history.specs.Blocks.{file_extended, file_ended, taken_over, blocks_after}
 use Rattle.block_laws.proofs.Sums.{Count, sum_files, sum_map, sum_rewritten, sum_moved, anew, sum_anew, part}
 use Rattle.block_laws.proofs.Totals.{bit, by_blocks, has}
 use Rattle.block_laws.proofs.Told.{seen, seen_added, seen_removed, committed_of, told, same_altered, same_replicated, same_heard, same_reported_of, next_unknown, added_first, number_equal}
@@ -50,37 +50,37 @@ use Rattle.block_laws.proofs.Operations.{agree_stays}
 -- ---- the block facts
 
 -- what is seen of each number counts as before
-abbrev CountTheSame : Known → Known → Type 0
+abbrev CountTheSame : KnownBlocks → KnownBlocks → Type 0
 CountTheSame before later = (number : ℕ) (v : RunWeight) → worth v (seen run_of later number) ≡ worth v (seen run_of before number)
 
-module _ (facts : BlockFacts) (now : ℕ) (sound : IsSound facts.known) where
+module _ (facts : Blocks) (now : ℕ) (sound : IsSound facts.known) where
   -- a new block isn't recovered, and no other had its number
-  count_added : (targets : List ℕ) (replication : ℕ) → CountTheSame facts.known (known.added facts.known targets replication)
+  count_added : (targets : List ℕ) (replication : ℕ) → CountTheSame facts.known (known.with_new_block facts.known targets replication)
   count_added targets replication number v = ap (worth v) (seen_added run_of facts.known targets replication number) ∙ by (is_number facts.known.next_block number) refl
     where
       by : (b : Bool) → is_number facts.known.next_block number ≡ b → worth v (cond b (Some None) (seen run_of facts.known number)) ≡ worth v (seen run_of facts.known number)
       by true is = sym (ap (λ n. worth v (seen run_of facts.known n)) (sym (eqb-true facts.known.next_block number (sym (number_equal facts.known.next_block number) ∙ is))) ∙ ap (worth v) (next_unknown run_of facts.known sound))
       by false is = refl
 
-  count_extended : (last : Option LastBlock) (replication : Option ℕ) → refused_last facts last ≡ None → CountTheSame facts.known (extended last now replication facts).known
+  count_extended : (last : Option LastBlock) (replication : Option ℕ) → refused_last facts last ≡ None → CountTheSame facts.known (file_extended last now replication facts).known
   count_extended last None h number v = refl
   count_extended None (Some replication) h number v = count_added (chosen_targets (committed_last facts None) now replication) replication number v
   count_extended (Some last) (Some replication) h number v =
       let targets = chosen_targets (committed_last facts (Some last)) now replication in
       ap (λ own. worth v (seen run_of own number)) (added_first facts last now replication sound h)
-      ∙ (ap (worth v) (same_altered run_of (with_length last.length) (λ own. refl) last.block (known.added facts.known targets replication) number) ∙ count_added targets replication number v)
+      ∙ (ap (worth v) (same_altered run_of (with_length last.length) (λ own. refl) last.block (known.with_new_block facts.known targets replication) number) ∙ count_added targets replication number v)
 
-  count_ended : (last : Option LastBlock) → CountTheSame facts.known (ended last facts).known
+  count_ended : (last : Option LastBlock) → CountTheSame facts.known (file_ended last facts).known
   count_ended None number v = refl
   count_ended (Some last) number v = ap (worth v) (same_altered run_of (with_length last.length) (λ own. refl) last.block facts.known number)
 
 -- ---- files that aren't in recovery
 
-replicated_state : (number : ℕ) (v : RunWeight) (replication : ℕ) (its : Option FileRow) → in_file number v (option_map (with_replication replication) its) ≡ in_file number v its
+replicated_state : (number : ℕ) (v : RunWeight) (replication : ℕ) (its : Option FileRow) → in_file number v (option_map (with_file_replication replication) its) ≡ in_file number v its
 replicated_state number v replication None = refl
 replicated_state number v replication (Some its) = refl
 
-replicated_right : (replication : ℕ) (its : Option FileRow) → amiss (option_map (with_replication replication) its) ≡ amiss its
+replicated_right : (replication : ℕ) (its : Option FileRow) → amiss (option_map (with_file_replication replication) its) ≡ amiss its
 replicated_right replication None = refl
 replicated_right replication (Some its) = refl
 
@@ -89,22 +89,22 @@ edited_state : (edit : FileRow → FileRow) → ((its : FileRow) → (edit its).
 edited_state edit same number v None = refl
 edited_state edit same number v (Some its) = ap (in_state number v) (same its)
 
-edited_anew : (path : List (List ℕ)) (edit : FileRow → FileRow) → ((its : FileRow) → (edit its).state ≡ its.state) → (number : ℕ) (v : RunWeight) (row : Row) → in_file number v (anew path (edited edit) row).file ≡ in_file number v row.file
+edited_anew : (path : List (List ℕ)) (edit : FileRow → FileRow) → ((its : FileRow) → (edit its).state ≡ its.state) → (number : ℕ) (v : RunWeight) (row : Row) → in_file number v (anew path (file_edited edit) row).file ≡ in_file number v row.file
 edited_anew path edit same number v row = by (same_path path row.path)
   where
-    by : (b : Bool) → in_file number v (cond b (edited edit row) row).file ≡ in_file number v row.file
+    by : (b : Bool) → in_file number v (cond b (file_edited edit row) row).file ≡ in_file number v row.file
     by true = edited_state edit same number v row.file
     by false = refl
 
 module _ (path : List (List ℕ)) (rows : List Row) (namespace : IsNamespace rows) (at : IsFileAt path rows) (f : FileRow → FileRow) where
   abbrev left : List Row
-  left = map (anew path (edited f)) rows
+  left = map (anew path (file_edited f)) rows
 
   -- the file at the path is edited
   file_sum : (c : Count) → sum_files c left + c (Some at.its) ≡ sum_files c rows + c (Some (f at.its))
   file_sum c =
       ap (λ its. sum_files c left + c its) (sym at.file)
-      ∙ (sum_anew path (edited f) c rows at.row (namespace_tests rows namespace).ascending at.there
+      ∙ (sum_anew path (file_edited f) c rows at.row (namespace_tests rows namespace).ascending at.there
       ∙ ap (λ its. sum_files c rows + c (option_map f its)) at.file)
 
   quiet_sum : (c : Count) → c (Some at.its) ≡ 0 → sum_files c left ≡ sum_files c rows + c (Some (f at.its))
@@ -116,15 +116,15 @@ module _ (path : List (List ℕ)) (rows : List Row) (namespace : IsNamespace row
   -- and has the path still
   found_edited : IsFileAt path left
   found_edited = record {
-    row = edited f at.row;
+    row = file_edited f at.row;
     its = f at.its;
     there =
-        row_at_map (anew path (edited f)) (λ row. by row (same_path path row.path)) path rows
-        ∙ (ap (option_map (anew path (edited f))) at.there ∙ ap (λ b. Some (cond b (edited f at.row) at.row)) (first_found (λ row. same_path path row.path) rows at.row at.there));
+        row_at_map (anew path (file_edited f)) (λ row. by row (same_path path row.path)) path rows
+        ∙ (ap (option_map (anew path (file_edited f))) at.there ∙ ap (λ b. Some (cond b (file_edited f at.row) at.row)) (first_found (λ row. same_path path row.path) rows at.row at.there));
     file = ap (option_map f) at.file;
   }
     where
-      by : (row : Row) (b : Bool) → (cond b (edited f row) row).path ≡ row.path
+      by : (row : Row) (b : Bool) → (cond b (file_edited f row) row).path ≡ row.path
       by row true = refl
       by row false = refl
 
@@ -137,26 +137,26 @@ module _ (path : List (List ℕ)) (rows : List Row) (namespace : IsNamespace row
 -- ---- each operation
 
 module _ (facts : Facts) (caller : List ℕ) (rows : List Row) (users : Users) (namespace : IsNamespace rows) (sound : IsSound facts.blocks.known) (agree : Agree (told facts.blocks.known) rows) (recover : Recover facts.blocks.known rows) where
-  abbrev before : Known
+  abbrev before : KnownBlocks
   before = facts.blocks.known
 
-  abbrev after : Op → Known
+  abbrev after : Op → KnownBlocks
   after what = (blocks_after facts what caller rows facts.blocks).known
 
-  abbrev Stays : Known → List Row → Type 0
+  abbrev Stays : KnownBlocks → List Row → Type 0
   Stays later left = Recover later left
 
   rows_alone : (left : List Row) → AreKept rows left → Stays before left
   rows_alone left same = recover_same before before rows left recover (λ number v. refl) (λ number v. same (in_file number v) refl) (same amiss refl ∙ recover.right)
 
-  facts_alone : (later : Known) → ((number : ℕ) → seen run_of later number ≡ seen run_of before number) → Stays later rows
+  facts_alone : (later : KnownBlocks) → ((number : ℕ) → seen run_of later number ≡ seen run_of before number) → Stays later rows
   facts_alone later same = recover_same before later rows rows recover (λ number v. ap (worth v) (same number)) (λ number v. refl) recover.right
 
-  gone : (path : List (List ℕ)) (left : List Row) → Agree (told (known.all_removed before (blocks_in (rows_under path rows)))) left
+  gone : (path : List (List ℕ)) (left : List Row) → Agree (told (known.without_each_block before (blocks_in (rows_under path rows)))) left
       → ((c : Count) → c None ≡ 0 → ((replication : ℕ) → c (Some (new_file replication caller)) ≡ 0) → sum_files c left + sum_files c (rows_under path rows) ≡ sum_files c rows)
-      → Stays (known.all_removed before (blocks_in (rows_under path rows))) left
+      → Stays (known.without_each_block before (blocks_in (rows_under path rows))) left
   gone path left stays parts =
-      let later = known.all_removed before (blocks_in (rows_under path rows)) in
+      let later = known.without_each_block before (blocks_in (rows_under path rows)) in
       recover_taken before later rows left recover (rows_under path rows) (told later) stays
       (λ number is. seen_removed committed_of (blocks_in (rows_under path rows)) before sound.once number ∙ ap (λ b. cond b None (told before number)) is)
       (seen_removed run_of (blocks_in (rows_under path rows)) before sound.once)
@@ -172,53 +172,53 @@ module _ (facts : Facts) (caller : List ℕ) (rows : List Row) (users : Users) (
     committed_right : (last : Option LastBlock) (some : List Row) → IsNamespace some → (at : IsFileAt path some) → is_recovery at.its.state ≡ false → sum_files amiss some ≡ 0 → sum_files amiss (last_committed path last some) ≡ 0
     committed_right None some names at quiet right = right
     committed_right (Some last) some names at quiet right =
-        quiet_same path some names at (committed_at last.block last.length) amiss (right_state (unfinished at.its.blocks) at.its.state quiet)
-        (right_state (unfinished (committed_at last.block last.length at.its).blocks) at.its.state quiet)
+        quiet_same path some names at (committed_at last.block last.length) amiss (right_state (unfinished_block at.its.blocks) at.its.state quiet)
+        (right_state (unfinished_block (committed_at last.block last.length at.its).blocks) at.its.state quiet)
         ∙ right
 
     asked : (last : Option LastBlock) (at : IsFileAt path rows) → is_recovery at.its.state ≡ false → refused_last facts.blocks last ≡ None → IsNamespace (block_added path before.next_block rows)
-        → Stays (extended last facts.now (replication_at (row_at path rows)) facts.blocks).known (with_block_at path last before.next_block rows)
+        → Stays (file_extended last facts.now (replication_at (row_at path rows)) facts.blocks).known (with_block_at path last before.next_block rows)
     unfolding found_edited
     asked last at quiet h names =
         let longer = block_added path before.next_block rows in
-        recover_same before (extended last facts.now (replication_at (row_at path rows)) facts.blocks).known rows (with_block_at path last before.next_block rows) recover
+        recover_same before (file_extended last facts.now (replication_at (row_at path rows)) facts.blocks).known rows (with_block_at path last before.next_block rows) recover
         (count_extended facts.blocks facts.now sound last (replication_at (row_at path rows)) h)
-        (λ number v. committed_states last longer number v ∙ sum_map (in_file number v) (anew path (edited (with_block before.next_block))) (λ row. edited_anew path (with_block before.next_block) (λ its. refl) number v row) rows)
+        (λ number v. committed_states last longer number v ∙ sum_map (in_file number v) (anew path (file_edited (with_block before.next_block))) (λ row. edited_anew path (with_block before.next_block) (λ its. refl) number v row) rows)
         (committed_right last longer names (found_edited path rows namespace at (with_block before.next_block)) quiet
-        (quiet_same path rows namespace at (with_block before.next_block) amiss (right_state (unfinished at.its.blocks) at.its.state quiet)
-        (right_state (unfinished (with_block before.next_block at.its).blocks) at.its.state quiet) ∙ recover.right))
+        (quiet_same path rows namespace at (with_block before.next_block) amiss (right_state (unfinished_block at.its.blocks) at.its.state quiet)
+        (right_state (unfinished_block (with_block before.next_block at.its).blocks) at.its.state quiet) ∙ recover.right))
 
-    closed : (last : Option LastBlock) (at : IsFileAt path rows) → is_recovery at.its.state ≡ false → IsNamespace (rewritten path (change.State Closed) rows)
-        → Stays (ended last facts.blocks).known (ended_at path last rows)
+    closed : (last : Option LastBlock) (at : IsFileAt path rows) → is_recovery at.its.state ≡ false → IsNamespace (row_rewritten path (change.State Closed) rows)
+        → Stays (file_ended last facts.blocks).known (ended_at path last rows)
     unfolding found_edited
     closed last at quiet names =
-        let left = rewritten path (change.State Closed) rows in
-        recover_same before (ended last facts.blocks).known rows (ended_at path last rows) recover (count_ended facts.blocks facts.now sound last)
+        let left = row_rewritten path (change.State Closed) rows in
+        recover_same before (file_ended last facts.blocks).known rows (ended_at path last rows) recover (count_ended facts.blocks facts.now sound last)
         (λ number v. committed_states last left number v ∙ quiet_same path rows namespace at (with_state Closed) (in_file number v) (quiet_state number v at.its.state quiet) refl)
         (committed_right last left names (found_edited path rows namespace at (with_state Closed)) refl
-        (quiet_same path rows namespace at (with_state Closed) amiss (right_state (unfinished at.its.blocks) at.its.state quiet) refl ∙ recover.right))
+        (quiet_same path rows namespace at (with_state Closed) amiss (right_state (unfinished_block at.its.blocks) at.its.state quiet) refl ∙ recover.right))
 
     -- ---- a file is opened, or taken
 
     given : (state : FileState) (at : IsFileAt path rows) → is_recovery at.its.state ≡ false → (number : ℕ) (v : RunWeight)
-        → sum_files (in_file number v) (rewritten path (change.State state) rows) ≡ sum_files (in_file number v) rows + in_state number v state
+        → sum_files (in_file number v) (row_rewritten path (change.State state) rows) ≡ sum_files (in_file number v) rows + in_state number v state
     given state at quiet number v = quiet_sum path rows namespace at (with_state state) (in_file number v) (quiet_state number v at.its.state quiet)
 
-    given_right : (state : FileState) (at : IsFileAt path rows) → is_recovery at.its.state ≡ false → amiss_state (unfinished at.its.blocks) state ≡ 0 → sum_files amiss (rewritten path (change.State state) rows) ≡ 0
+    given_right : (state : FileState) (at : IsFileAt path rows) → is_recovery at.its.state ≡ false → amiss_state (unfinished_block at.its.blocks) state ≡ 0 → sum_files amiss (row_rewritten path (change.State state) rows) ≡ 0
     given_right state at quiet right =
-        quiet_same path rows namespace at (with_state state) amiss (right_state (unfinished at.its.blocks) at.its.state quiet) right ∙ recover.right
+        quiet_same path rows namespace at (with_state state) amiss (right_state (unfinished_block at.its.blocks) at.its.state quiet) right ∙ recover.right
 
-    opened : (state : FileState) (at : IsFileAt path rows) → is_recovery at.its.state ≡ false → is_recovery state ≡ false → Stays before (rewritten path (change.State state) rows)
+    opened : (state : FileState) (at : IsFileAt path rows) → is_recovery at.its.state ≡ false → is_recovery state ≡ false → Stays before (row_rewritten path (change.State state) rows)
     opened state at quiet calm =
-        recover_same before before rows (rewritten path (change.State state) rows) recover (λ number v. refl)
+        recover_same before before rows (row_rewritten path (change.State state) rows) recover (λ number v. refl)
         (λ number v. given state at quiet number v ∙ nothing (sum_files (in_file number v) rows) (in_state number v state) (quiet_state number v state calm))
-        (given_right state at quiet (right_state (unfinished at.its.blocks) state calm))
+        (given_right state at quiet (right_state (unfinished_block at.its.blocks) state calm))
       where
         nothing : (a b : ℕ) → b ≡ 0 → a + b ≡ a
         nothing a b h = omega (arith, h)
 
-    recovering : (block : ℕ) (at : IsFileAt path rows) → is_recovery at.its.state ≡ false → unfinished at.its.blocks ≡ Some block
-        → Stays (begun facts.blocks block facts.now).known (rewritten path (change.State (Recovering block before.next_stamp facts.now)) rows)
+    recovering : (block : ℕ) (at : IsFileAt path rows) → is_recovery at.its.state ≡ false → unfinished_block at.its.blocks ≡ Some block
+        → Stays (with_recovery_begun facts.blocks block facts.now).known (row_rewritten path (change.State (Recovering block before.next_stamp facts.now)) rows)
     recovering block at quiet last = record {
       runs = λ number v. given state at quiet number v ∙ by number v (block == number) refl;
       right = given_right state at quiet (ap (λ o. bit (not (is_block block o))) last ∙ ap (λ b. bit (not b)) (eq-eqb block block refl));
@@ -227,8 +227,8 @@ module _ (facts : Facts) (caller : List ℕ) (rows : List Row) (users : Users) (
         state : FileState
         state = Recovering block before.next_stamp facts.now
 
-        later : Known
-        later = (begun facts.blocks block facts.now).known
+        later : KnownBlocks
+        later = (with_recovery_begun facts.blocks block facts.now).known
 
         its_has : 1 ≤ by_blocks (has block) at.row.file
         its_has = subst (λ its. 1 ≤ by_blocks (has block) its) (sym at.file) (has_last block at.its.blocks last)
@@ -272,8 +272,8 @@ module _ (facts : Facts) (caller : List ℕ) (rows : List Row) (users : Users) (
             nothing : (a : ℕ) → a + 0 ≡ a
             nothing a = omega arith
 
-    appended_by : (at : IsFileAt path rows) → is_recovery at.its.state ≡ false → (holder : Option (List ℕ)) (block : Option ℕ) → unfinished at.its.blocks ≡ block
-        → Stays (taken_over holder block facts.now facts.blocks).known (rewritten path (change.State (state_after_append facts.blocks facts.now caller holder block)) rows)
+    appended_by : (at : IsFileAt path rows) → is_recovery at.its.state ≡ false → (holder : Option (List ℕ)) (block : Option ℕ) → unfinished_block at.its.blocks ≡ block
+        → Stays (taken_over holder block facts.now facts.blocks).known (row_rewritten path (change.State (state_after_append facts.blocks facts.now caller holder block)) rows)
     appended_by at quiet None None last = opened (Open caller) at quiet refl
     appended_by at quiet None (Some block) last = opened (Open caller) at quiet refl
     appended_by at quiet (Some holder) None last = opened Closed at quiet refl
@@ -303,7 +303,7 @@ module _ (facts : Facts) (caller : List ℕ) (rows : List Row) (users : Users) (
       let parts = file_completed facts caller path last rows users namespace h in
       closed path last parts.0.at parts.0.quiet (edited_namespace (with_state Closed) (λ row. same_path path row.path) rows namespace)
   recover_stays (op.SetReplication path replication) h =
-      recover_same before (after (op.SetReplication path replication)) rows (rewritten path (change.Replication replication) rows) recover
+      recover_same before (after (op.SetReplication path replication)) rows (row_rewritten path (change.Replication replication) rows) recover
       (λ number v. ap (worth v) (same_replicated run_of runs_ignore replication (ids_at (row_at path rows)) facts.blocks number))
       (λ number v. sum_rewritten (in_file number v) path (change.Replication replication) (λ row. replicated_state number v replication row.file) rows)
       (sum_rewritten amiss path (change.Replication replication) (λ row. replicated_right replication row.file) rows ∙ recover.right)

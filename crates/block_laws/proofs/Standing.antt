@@ -8,7 +8,7 @@ use Rattle.block_records.proofs.Numbers.{number_is}
 use Rattle.block_records.proofs.Reporting.{number_eq}
 use Rattle.namespace_rows.specs.declared.file_row.FileBlock.{FileBlock}
 use Rattle.namespace_rows.specs.declared.row.Row.{Row}
-use Rattle.namespace_rows.specs.Files.{blocks_in, has_id, with_length, new_block}
+use Rattle.namespace_rows.specs.Files.{blocks_in, has_id, with_length_where, new_block}
 use Rattle.block_laws.specs.Laws.{times}
 use Rattle.block_laws.proofs.Totals.{bit, Weight, in_rows, has, rows_same, rows_less, rows_where, rows_apart, is_gone, times_in, times_some, times_none}
 use Rattle.block_laws.proofs.Changes.{committed}
@@ -135,7 +135,7 @@ module _ (tells later : Tells) (rows left : List Row) (agree : Agree tells rows)
       none : (a b : ℕ) → a ≤ b → b ≡ 0 → a ≡ 0
       none a b h k = omega (arith, h, k)
 
-      id_stays : (number : ℕ) (own : FileBlock) (b : Bool) → has number (with_length b length own) ≡ has number own
+      id_stays : (number : ℕ) (own : FileBlock) (b : Bool) → has number (with_length_where b length own) ≡ has number own
       id_stays number own true = refl
       id_stays number own false = refl
 
@@ -156,9 +156,9 @@ module _ (tells later : Tells) (rows left : List Row) (agree : Agree tells rows)
       nothing : (a b : ℕ) → a ≡ 0 → a ≤ b
       nothing a b h = omega (arith, h)
 
-      less : (own : FileBlock) (b : Bool) → has_id block own ≡ b → wrong later (with_length b length own) ≤ wrong tells own
+      less : (own : FileBlock) (b : Bool) → has_id block own ≡ b → wrong later (with_length_where b length own) ≤ wrong tells own
       less own true is =
-          nothing (wrong later (with_length true length own)) (wrong tells own)
+          nothing (wrong later (with_length_where true length own)) (wrong tells own)
           (ap (λ t. bit (not (same_length (length_told t) (Some length)))) (told own.id ∙ ap (λ b. cond b (option_map (λ (was : Option ℕ). Some length) (tells block)) (tells own.id)) (number_eq block own.id ∙ is))
           ∙ right_now (tells block) known)
       less own false is =

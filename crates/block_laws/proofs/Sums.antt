@@ -8,11 +8,11 @@ use Rattle.namespace_rows.specs.declared.file_row.FileRow.{FileRow}
 use Rattle.namespace_rows.specs.declared.row.Row.{Row}
 use Rattle.namespace_rows.specs.declared.row.Change.{Change}
 use Rattle.namespace_rows.specs.First.{first}
-use Rattle.namespace_rows.specs.Rows.{is_missing, row_at, ancestor, is_before, is_beyond, replaced}
+use Rattle.namespace_rows.specs.Rows.{is_missing, row_at, ancestor, is_before, is_beyond, rows_replaced}
 use Rattle.namespace_rows.specs.Namespace.{IsNamespace, is_ascending, is_before_all}
 use Rattle.namespace_rows.proofs.Tests.{both, all_kept}
 use Rattle.namespace_rows.proofs.PathOrders.{same_path_is, less_is, starts_upto, tied_starts}
-use Rattle.flat_rows.specs.Changes.{rows_under, without, moved_row, moved, changed, rewritten}
+use Rattle.flat_rows.specs.Changes.{rows_under, without, moved_row, with_rows_moved, with_change, row_rewritten}
 use Rattle.flat_rows.specs.Outcome.{new_rows, new_row, mode_of_new, file_of_new, with_new}
 use Rattle.flat_rows.proofs.NewDirectories.{beneath_parts, ancestor_above}
 use Rattle.history.proofs.Apart.{missing_apart, none_under, under_top}
@@ -122,10 +122,10 @@ module _ (c : Count) where
   sum_map f h [] = refl
   sum_map f h (row ∷ rows) = ap (λ n. n + sum_files c (map f rows)) (h row) ∙ ap (λ n. c row.file + n) (sum_map f h rows)
 
-  pub sum_rewritten : (path : List (List ℕ)) (what : Change) → ((row : Row) → c (changed what row).file ≡ c row.file) → (rows : List Row) → sum_files c (rewritten path what rows) ≡ sum_files c rows
-  sum_rewritten path what h rows = sum_map (λ row. cond (same_path path row.path) (changed what row) row) (λ row. by row (same_path path row.path)) rows
+  pub sum_rewritten : (path : List (List ℕ)) (what : Change) → ((row : Row) → c (with_change what row).file ≡ c row.file) → (rows : List Row) → sum_files c (row_rewritten path what rows) ≡ sum_files c rows
+  sum_rewritten path what h rows = sum_map (λ row. cond (same_path path row.path) (with_change what row) row) (λ row. by row (same_path path row.path)) rows
     where
-      by : (row : Row) (b : Bool) → c (cond b (changed what row) row).file ≡ c row.file
+      by : (row : Row) (b : Bool) → c (cond b (with_change what row) row).file ≡ c row.file
       by row true = h row
       by row false = refl
 
@@ -172,9 +172,9 @@ module _ (c : Count) where
         by Greater true upto tied lows unders highs rest = absurd (differ (upto refl))
         by Greater false upto tied lows unders highs rest = before_all (c row.file) (sum_files c lows) (sum_files c unders) (sum_files c highs) (sum_files c rows) rest
 
-    pub sum_replaced : (block rows : List Row) → sum_files c (replaced path block rows) + sum_files c (rows_under path rows) ≡ sum_files c block + sum_files c rows
+    pub sum_replaced : (block rows : List Row) → sum_files c (rows_replaced path block rows) + sum_files c (rows_under path rows) ≡ sum_files c block + sum_files c rows
     sum_replaced block rows =
-        sum (sum_files c (filter (is_before path) rows)) (sum_files c block) (sum_files c (filter (is_beyond path) rows)) (sum_files c (rows_under path rows)) (sum_files c rows) (sum_files c (block ++ filter (is_beyond path) rows)) (sum_files c (replaced path block rows))
+        sum (sum_files c (filter (is_before path) rows)) (sum_files c block) (sum_files c (filter (is_beyond path) rows)) (sum_files c (rows_under path rows)) (sum_files c rows) (sum_files c (block ++ filter (is_beyond path) rows)) (sum_files c (rows_replaced path block rows))
         (sum_append (filter (is_before path) rows) (block ++ filter (is_beyond path) rows)) (sum_append block (filter (is_beyond path) rows)) (sum_parted rows)
       where
         sum : (before block beyond under all rest whole : ℕ) → whole ≡ before + rest → rest ≡ block + beyond → (before + under) + beyond ≡ all → whole + under ≡ block + all
@@ -182,11 +182,11 @@ module _ (c : Count) where
 
   -- ---- what moves, and what is made
 
-  pub sum_moved : (from to : List (List ℕ)) (rows : List Row) → IsNamespace rows → is_missing to rows ≡ true → sum_files c (moved from to rows) ≡ sum_files c rows
+  pub sum_moved : (from to : List (List ℕ)) (rows : List Row) → IsNamespace rows → is_missing to rows ≡ true → sum_files c (with_rows_moved from to rows) ≡ sum_files c rows
   sum_moved from to rows namespace missing =
       let block : List Row = map (moved_row from to) (rows_under from rows) in
       let free : rows_under to (without from rows) ≡ [] = none_under to (without from rows) (all_kept (λ row. not (is_prefix from row.path)) (λ row. not (is_prefix to row.path)) rows (missing_apart rows to namespace missing)) in
-      sum (sum_files c (moved from to rows)) (sum_files c (rows_under to (without from rows))) (sum_files c block) (sum_files c (without from rows)) (sum_files c (rows_under from rows)) (sum_files c rows)
+      sum (sum_files c (with_rows_moved from to rows)) (sum_files c (rows_under to (without from rows))) (sum_files c block) (sum_files c (without from rows)) (sum_files c (rows_under from rows)) (sum_files c rows)
       (sum_replaced to block (without from rows)) (ap (sum_files c) free) (sum_map (moved_row from to) (λ row. refl) (rows_under from rows)) (sum_without from rows)
     where
       sum : (a b c d e f : ℕ) → a + b ≡ c + d → b ≡ 0 → c ≡ e → e + d ≡ f → a ≡ f
@@ -216,7 +216,7 @@ module _ (c : Count) where
         let top : List (List ℕ) = above.path ++ parts.name ∷ [] in
         let block : List Row = new_rows above owner mode its (parts.name ∷ parts.names) in
         rw parts.left
-        (sum (sum_files c (replaced top block rows)) (sum_files c (rows_under top rows)) (sum_files c (rows_under path rows)) (sum_files c block) (sum_files c rows) (c its)
+        (sum (sum_files c (rows_replaced top block rows)) (sum_files c (rows_under top rows)) (sum_files c (rows_under path rows)) (sum_files c block) (sum_files c rows) (c its)
         (sum_replaced top block rows) (ap (sum_files c) (under_top path rows above parts.name parts.names namespace found whole)) (sum_made owner mode its above parts.name parts.names))
       where
         sum : (new top under block all one : ℕ) → new + top ≡ block + all → top ≡ under → block ≡ one → new + under ≡ one + all

@@ -9,14 +9,14 @@ use Rattle.block_records.specs.Numbers.{has_number}
 use Rattle.block_records.specs.declared.block_record.BlockRecord.{BlockRecord}
 use Rattle.recovery_queue.specs.declared.begun.BegunRecovery.{BegunRecovery}
 use Rattle.heartbeats.specs.Live.{Heartbeats}
-use Rattle.known_blocks.specs.Known.{Known, block_of, is_spent, stamped}
-use Rattle.begun_recoveries.specs.Leaders.{leader, led}
-use Rattle.block_map.specs.BlockEffects.{all_begun}
+use Rattle.known_blocks.specs.Known.{KnownBlocks, block_of, is_spent, with_stamps}
+use Rattle.begun_recoveries.specs.Leaders.{leader_of, blocks_with_leaders}
+use Rattle.block_map.specs.BlockEffects.{with_recoveries_begun}
 use Rattle.namespace_rows.specs.declared.file_row.FileRow.{FileRow}
 use Rattle.namespace_rows.specs.declared.row.Row.{Row}
-use Rattle.namespace_rows.specs.Files.{unfinished, with_state}
+use Rattle.namespace_rows.specs.Files.{unfinished_block, with_state}
 use Rattle.flat_rows.specs.Facts.{Facts}
-use Rattle.flat_rows.specs.Takeover.{sought_by_state, sought_of, stamp_in, recovering_from, with_begun, taken_row, is_overdue, sought_in, sought_blocks, begun_in, ticked}
+use Rattle.flat_rows.specs.Takeover.{sought_by_state, sought_of, stamp_in, recovering_from, with_begun, taken_row, is_overdue, sought_in, sought_blocks, begun_in, row_ticked}
 use Rattle.flat_rows.specs.declared.takeover.Sought.{Sought}
 use Rattle.block_laws.proofs.Sums.{once, Count, sum_files, sum_given, spare, sum_spared, sum_neither, sum_one, sum_through}
 use Rattle.block_laws.proofs.Totals.{bit, Weight, total, by_blocks, in_rows, has}
@@ -83,7 +83,7 @@ recovers_other block (Recovering own stamp begun) = not (own == block)
 
 abbrev Suits : FileRow → Option ℕ → Type 0
 Suits its None = is_recovery its.state ≡ false
-Suits its (Some block) = (unfinished its.blocks ≡ Some block) × (recovers_other block its.state ≡ false)
+Suits its (Some block) = (unfinished_block its.blocks ≡ Some block) × (recovers_other block its.state ≡ false)
 
 abbrev SuitsSought : FileRow → Option Sought → Type 0
 SuitsSought its None = Unit {0}
@@ -98,22 +98,22 @@ module _ (is_past : List ℕ → Bool) (is_late : ℕ → Bool) where
   is_last own None h = cc
   is_last own (Some block) h = ap (λ n. Some n) (eqb-true block own h)
 
-  opened : (its : FileRow) (block : Option ℕ) → unfinished its.blocks ≡ block → is_recovery its.state ≡ false → ((n : ℕ) → recovers_other n its.state ≡ false) → Suits its block
+  opened : (its : FileRow) (block : Option ℕ) → unfinished_block its.blocks ≡ block → is_recovery its.state ≡ false → ((n : ℕ) → recovers_other n its.state ≡ false) → Suits its block
   opened its None is quiet none = quiet
   opened its (Some block) is quiet none = (is, none block)
 
-  suits_sought : (its : FileRow) → amiss_state (unfinished its.blocks) its.state ≡ 0 → SuitsSought its (sought_by_state is_past is_late (unfinished its.blocks) its.state)
+  suits_sought : (its : FileRow) → amiss_state (unfinished_block its.blocks) its.state ≡ 0 → SuitsSought its (sought_by_state is_past is_late (unfinished_block its.blocks) its.state)
   suits_sought its right = by its.state refl right
     where
-      by_past : (holder : List ℕ) (b : Bool) → its.state ≡ Open holder → SuitsSought its (cond b (Some (record { holder = Some holder; block = unfinished its.blocks })) None)
-      by_past holder true is = opened its (unfinished its.blocks) refl (ap is_recovery is) (λ n. ap (recovers_other n) is)
+      by_past : (holder : List ℕ) (b : Bool) → its.state ≡ Open holder → SuitsSought its (cond b (Some (record { holder = Some holder; block = unfinished_block its.blocks })) None)
+      by_past holder true is = opened its (unfinished_block its.blocks) refl (ap is_recovery is) (λ n. ap (recovers_other n) is)
       by_past holder false is = tt
 
-      by_late : (own stamp begun : ℕ) (b : Bool) → its.state ≡ Recovering own stamp begun → bit (not (is_block own (unfinished its.blocks))) ≡ 0 → SuitsSought its (cond b (Some (record { holder = None; block = Some own })) None)
-      by_late own stamp begun true is h = (is_last own (unfinished its.blocks) (unset (is_block own (unfinished its.blocks)) h), ap (recovers_other own) is ∙ ap not (eq-eqb own own refl))
+      by_late : (own stamp begun : ℕ) (b : Bool) → its.state ≡ Recovering own stamp begun → bit (not (is_block own (unfinished_block its.blocks))) ≡ 0 → SuitsSought its (cond b (Some (record { holder = None; block = Some own })) None)
+      by_late own stamp begun true is h = (is_last own (unfinished_block its.blocks) (unset (is_block own (unfinished_block its.blocks)) h), ap (recovers_other own) is ∙ ap not (eq-eqb own own refl))
       by_late own stamp begun false is h = tt
 
-      by : (state : FileState) → its.state ≡ state → amiss_state (unfinished its.blocks) state ≡ 0 → SuitsSought its (sought_by_state is_past is_late (unfinished its.blocks) state)
+      by : (state : FileState) → its.state ≡ state → amiss_state (unfinished_block its.blocks) state ≡ 0 → SuitsSought its (sought_by_state is_past is_late (unfinished_block its.blocks) state)
       by Closed is h = tt
       by (Open holder) is h = by_past holder (is_past holder) is
       by (Recovering own stamp begun) is h = by_late own stamp begun (is_late begun) is h
@@ -188,7 +188,7 @@ sought_has : (number : ℕ) (its : FileRow) (sought : Option Sought) → SuitsSo
 sought_has number its None suits = omega arith
 sought_has number its (Some sought) suits = by_block sought.block suits
   where
-    by : (block : ℕ) (b : Bool) → (block == number) ≡ b → unfinished its.blocks ≡ Some block → once b ≤ by_blocks (has number) (Some its)
+    by : (block : ℕ) (b : Bool) → (block == number) ≡ b → unfinished_block its.blocks ≡ Some block → once b ≤ by_blocks (has number) (Some its)
     by block true is last = has_last number its.blocks (last ∙ ap (λ n. Some n) (eqb-true block number is))
     by block false is last = omega arith
 
@@ -198,16 +198,16 @@ sought_has number its (Some sought) suits = by_block sought.block suits
 
 -- a file in recovery recovers its last block still
 module _ (begun : List BegunRecovery) (now : ℕ) (its : FileRow) where
-  right_from : (block : ℕ) (stamp : Option ℕ) → unfinished its.blocks ≡ Some block → amiss_state (unfinished its.blocks) its.state ≡ 0
+  right_from : (block : ℕ) (stamp : Option ℕ) → unfinished_block its.blocks ≡ Some block → amiss_state (unfinished_block its.blocks) its.state ≡ 0
       → amiss (Some (recovers_from begun now block stamp its)) ≡ 0
   right_from block None last right = right
   right_from block (Some stamp) last right = ap (λ o. bit (not (is_block block o))) last ∙ ap (λ b. bit (not b)) (eq-eqb block block refl)
 
-  right_behind : (block : Option ℕ) → Suits its block → amiss_state (unfinished its.blocks) its.state ≡ 0 → amiss (Some (behind begun now block its)) ≡ 0
+  right_behind : (block : Option ℕ) → Suits its block → amiss_state (unfinished_block its.blocks) its.state ≡ 0 → amiss (Some (behind begun now block its)) ≡ 0
   right_behind None suits right = refl
   right_behind (Some block) suits right = right_from block (stamp_in begun block) suits.0 right
 
-  right_tick : (sought : Option Sought) → SuitsSought its sought → amiss_state (unfinished its.blocks) its.state ≡ 0 → amiss (Some (behind_tick begun now sought its)) ≡ 0
+  right_tick : (sought : Option Sought) → SuitsSought its sought → amiss_state (unfinished_block its.blocks) its.state ≡ 0 → amiss (Some (behind_tick begun now sought its)) ≡ 0
   right_tick None suits right = right
   right_tick (Some sought) suits right = right_behind sought.block suits right
 
@@ -222,24 +222,24 @@ listed (own ∷ begun) number stamp h = by (own.block == number) h (listed begun
     by true k rest = refl
     by false k rest = rest k
 
-led_first : (number next : ℕ) (some : List (ℕ × ℕ)) → list_any (λ (own : BegunRecovery). own.block == number) (stamped next some) ≡ true → list_any (λ (own : ℕ × ℕ). own.0 == number) some ≡ true
+led_first : (number next : ℕ) (some : List (ℕ × ℕ)) → list_any (λ (own : BegunRecovery). own.block == number) (with_stamps next some) ≡ true → list_any (λ (own : ℕ × ℕ). own.0 == number) some ≡ true
 led_first number next [] h = h
 led_first number next (own ∷ some) h = by (is_spent next) h (led_first number (next + 1) some)
   where
-    more : (b : Bool) → (b || list_any (λ (other : BegunRecovery). other.block == number) (stamped (next + 1) some)) ≡ true → (list_any (λ (other : BegunRecovery). other.block == number) (stamped (next + 1) some) ≡ true → list_any (λ (other : ℕ × ℕ). other.0 == number) some ≡ true) → (b || list_any (λ (other : ℕ × ℕ). other.0 == number) some) ≡ true
+    more : (b : Bool) → (b || list_any (λ (other : BegunRecovery). other.block == number) (with_stamps (next + 1) some)) ≡ true → (list_any (λ (other : BegunRecovery). other.block == number) (with_stamps (next + 1) some) ≡ true → list_any (λ (other : ℕ × ℕ). other.0 == number) some ≡ true) → (b || list_any (λ (other : ℕ × ℕ). other.0 == number) some) ≡ true
     more true k rest = refl
     more false k rest = rest k
 
-    by : (b : Bool) → list_any (λ (other : BegunRecovery). other.block == number) (cond b [] (record { block = own.0; stamp = next; primary = own.1 } ∷ stamped (next + 1) some)) ≡ true
-        → (list_any (λ (other : BegunRecovery). other.block == number) (stamped (next + 1) some) ≡ true → list_any (λ (other : ℕ × ℕ). other.0 == number) some ≡ true) → list_any (λ (other : ℕ × ℕ). other.0 == number) (own ∷ some) ≡ true
+    by : (b : Bool) → list_any (λ (other : BegunRecovery). other.block == number) (cond b [] (record { block = own.0; stamp = next; primary = own.1 } ∷ with_stamps (next + 1) some)) ≡ true
+        → (list_any (λ (other : BegunRecovery). other.block == number) (with_stamps (next + 1) some) ≡ true → list_any (λ (other : ℕ × ℕ). other.0 == number) some ≡ true) → list_any (λ (other : ℕ × ℕ). other.0 == number) (own ∷ some) ≡ true
     by true k rest = cc
     by false k rest = more (own.0 == number) k rest
 
-sought_first : (number : ℕ) (own : Known) (nodes : Heartbeats) (blocks : List ℕ) (now : ℕ) → list_any (λ (other : ℕ × ℕ). other.0 == number) (led own nodes blocks now) ≡ true → has_number number blocks ≡ true
+sought_first : (number : ℕ) (own : KnownBlocks) (nodes : Heartbeats) (blocks : List ℕ) (now : ℕ) → list_any (λ (other : ℕ × ℕ). other.0 == number) (blocks_with_leaders own nodes blocks now) ≡ true → has_number number blocks ≡ true
 sought_first number own nodes [] now h = h
-sought_first number own nodes (block ∷ blocks) now h = by (leader own nodes block now) h (sought_first number own nodes blocks now)
+sought_first number own nodes (block ∷ blocks) now h = by (leader_of own nodes block now) h (sought_first number own nodes blocks now)
   where
-    more : (b : Bool) → (b || list_any (λ (other : ℕ × ℕ). other.0 == number) (led own nodes blocks now)) ≡ true → (list_any (λ (other : ℕ × ℕ). other.0 == number) (led own nodes blocks now) ≡ true → has_number number blocks ≡ true) → (b || has_number number blocks) ≡ true
+    more : (b : Bool) → (b || list_any (λ (other : ℕ × ℕ). other.0 == number) (blocks_with_leaders own nodes blocks now)) ≡ true → (list_any (λ (other : ℕ × ℕ). other.0 == number) (blocks_with_leaders own nodes blocks now) ≡ true → has_number number blocks ≡ true) → (b || has_number number blocks) ≡ true
     more true k rest = refl
     more false k rest = rest k
 
@@ -247,7 +247,7 @@ sought_first number own nodes (block ∷ blocks) now h = by (leader own nodes bl
     later true k = refl
     later false k = k
 
-    by : (node : Option ℕ) → list_any (λ (other : ℕ × ℕ). other.0 == number) (cons_option (option_map (λ node. (block, node)) node) (led own nodes blocks now)) ≡ true → (list_any (λ (other : ℕ × ℕ). other.0 == number) (led own nodes blocks now) ≡ true → has_number number blocks ≡ true) → has_number number (block ∷ blocks) ≡ true
+    by : (node : Option ℕ) → list_any (λ (other : ℕ × ℕ). other.0 == number) (cons_option (option_map (λ node. (block, node)) node) (blocks_with_leaders own nodes blocks now)) ≡ true → (list_any (λ (other : ℕ × ℕ). other.0 == number) (blocks_with_leaders own nodes blocks now) ≡ true → has_number number blocks ≡ true) → has_number number (block ∷ blocks) ≡ true
     by None k rest = later (block == number) (rest k)
     by (Some node) k rest = more (block == number) k rest
 
@@ -261,13 +261,13 @@ module _ (facts : Facts) (rows : List Row) where
   starts = begun_in facts rows
 
   abbrev left : List Row
-  left = map (ticked facts starts) rows
+  left = map (row_ticked facts starts) rows
 
   abbrev its_left : Option FileRow → Option FileRow
   its_left its = option_map (behind_tick starts facts.now (sought_its its)) its
 
   pub left_sum : (c : Count) → sum_files c left ≡ sum_files (λ its. c (its_left its)) rows
-  left_sum c = sum_through c (ticked facts starts) its_left (λ row. taken_is starts facts.now (sought_in facts row) row) rows
+  left_sum c = sum_through c (row_ticked facts starts) its_left (λ row. taken_is starts facts.now (sought_in facts row) row) rows
 
   pub ticked_blocks : (w : Weight) → in_rows w left ≡ in_rows w rows
   ticked_blocks w = left_sum (by_blocks w) ∙ sum_all rows
@@ -321,11 +321,11 @@ module _ (facts : Facts) (rows : List Row) where
   wants_few number (Some its) right = sought_has number its (sought_its (Some its)) (suits its right)
 
   module _ (agree : Agree (told facts.blocks.known) rows) (recover : Recover facts.blocks.known rows) where
-    abbrev own : Known
+    abbrev own : KnownBlocks
     own = facts.blocks.known
 
-    abbrev later : Known
-    later = (all_begun facts.blocks (sought_blocks facts rows) facts.now).known
+    abbrev later : KnownBlocks
+    later = (with_recoveries_begun facts.blocks (sought_blocks facts rows) facts.now).known
 
     right_left : sum_files amiss left ≡ 0
     right_left = left_sum amiss ∙ (sum_given amiss (λ its. amiss (its_left its)) amiss each rows recover.right ∙ recover.right)
@@ -354,7 +354,7 @@ module _ (facts : Facts) (rows : List Row) where
           among : has_number number (sought_blocks facts rows) ≡ true
           among =
               sought_first number facts.blocks.known facts.blocks.nodes (sought_blocks facts rows) facts.now
-              (led_first number facts.blocks.known.next_stamp (led facts.blocks.known facts.blocks.nodes (sought_blocks facts rows) facts.now) (listed starts number stamp at))
+              (led_first number facts.blocks.known.next_stamp (blocks_with_leaders facts.blocks.known facts.blocks.nodes (sought_blocks facts rows) facts.now) (listed starts number stamp at))
 
           sum : (some spared all : ℕ) → some + spared ≡ all → all ≤ 1 → 1 ≤ some → (some ≡ 1) × (spared ≡ 0)
           sum some spared all h few more = (omega (arith, h, few, more), omega (arith, h, few, more))

@@ -25,11 +25,11 @@ total w [] = 0
 total w (block ∷ blocks) = w block + total w blocks
 
 abbrev pub own : Row → List FileBlock
-own row = file.blocks_of row.file
+own row = file.blocks_of_file row.file
 
 -- what each file counts by its blocks
 abbrev pub by_blocks : Weight → Count
-by_blocks w its = total w (file.blocks_of its)
+by_blocks w its = total w (file.blocks_of_file its)
 
 abbrev pub in_rows : Weight → List Row → ℕ
 in_rows w rows = sum_files (by_blocks w) rows
@@ -59,10 +59,10 @@ total_less w v h [] = omega arith
 total_less w v h (block ∷ blocks) = both_less (w block) (v block) (total w blocks) (total v blocks) (h block) (total_less w v h blocks)
 
 pub rows_same : (w v : Weight) → ((block : FileBlock) → w block ≡ v block) → (rows : List Row) → in_rows w rows ≡ in_rows v rows
-rows_same w v h rows = sum_same (by_blocks w) (by_blocks v) (λ its. total_same w v h (file.blocks_of its)) rows
+rows_same w v h rows = sum_same (by_blocks w) (by_blocks v) (λ its. total_same w v h (file.blocks_of_file its)) rows
 
 pub rows_less : (w v : Weight) → ((block : FileBlock) → w block ≤ v block) → (rows : List Row) → in_rows w rows ≤ in_rows v rows
-rows_less w v h rows = sum_less (by_blocks w) (by_blocks v) (λ its. total_less w v h (file.blocks_of its)) rows
+rows_less w v h rows = sum_less (by_blocks w) (by_blocks v) (λ its. total_less w v h (file.blocks_of_file its)) rows
 
 -- ---- how often a number stands
 
@@ -80,7 +80,7 @@ times_ids : (number : ℕ) (blocks : List FileBlock) → times number (map (λ (
 times_ids number [] = refl
 times_ids number (block ∷ blocks) = times_head number block.id (map (λ (block : FileBlock). block.id) blocks) ∙ ap (λ n. bit (block.id == number) + n) (times_ids number blocks)
 
-times_own : (number : ℕ) (its : Option FileRow) → times number (ids_in its) ≡ total (has number) (file.blocks_of its)
+times_own : (number : ℕ) (its : Option FileRow) → times number (ids_in its) ≡ total (has number) (file.blocks_of_file its)
 times_own number None = refl
 times_own number (Some its) = times_ids number its.blocks
 

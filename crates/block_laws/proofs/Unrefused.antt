@@ -18,11 +18,11 @@ use Rattle.hdfs_values.specs.Path.{is_prefix}
 use Rattle.begun_recoveries.specs.Ends.{refused_recovered_by}
 use Rattle.block_map.specs.BlockFacts.{refused_commit, refused_targets, refused_recovered}
 use Rattle.block_map.specs.BlockEffects as effect
-use Rattle.known_blocks.specs.Known.{Known, block_of, refused_new_block}
+use Rattle.known_blocks.specs.Known.{KnownBlocks, block_of, refused_new_block}
 use Rattle.principals.specs.Users.{Users}
 use Rattle.namespace_rows.specs.declared.file_row.FileRow.{FileRow}
 use Rattle.namespace_rows.specs.declared.row.Row.{Row}
-use Rattle.namespace_rows.specs.Files.{unfinished}
+use Rattle.namespace_rows.specs.Files.{unfinished_block}
 use Rattle.namespace_rows.specs.Namespace.{IsNamespace, is_root, suits_parts, suits_kind}
 use Rattle.namespace_rows.specs.Rows.{is_directory, is_none, is_missing, row_at, file_above, directory_of}
 use Rattle.namespace_rows.proofs.Namespaces.{namespace_tests}
@@ -30,7 +30,7 @@ use Rattle.flat_rows.specs.declared.verdict.Verdict.TheVariants.{Done}
 use Rattle.flat_rows.specs.Denial as denied
 use Rattle.flat_rows.specs.Decision.{decision}
 use Rattle.flat_rows.specs.Facts.{Facts}
-use Rattle.flat_rows.specs.BlockOutcome.{is_last, refused_last, refused_by, refused_new, refused_end}
+use Rattle.flat_rows.specs.BlockOutcome.{is_last, refused_unless_last, refused_by, refused_new, refused_end}
 use Rattle.flat_rows.specs.FileOutcome.{directory_there, of_file, if_some_file, refused_by_state, refused_write}
 use Rattle.flat_rows.specs.Takeover.{refused_state, refused_append}
 use Rattle.flat_rows.specs.Outcome.{step, denied_or_outcome, refused_or_done, first_refusal, first_some, refusals_of_file, refused_where, nothing_at, something_at, beneath_file, reply_of}
@@ -168,8 +168,8 @@ not_recovered caller Closed h = refl
 not_recovered caller (Open client) h = refl
 not_recovered caller (Recovering block stamp begun) h = cc
 
-last_named : (path : List (List ℕ)) (last : Option LastBlock) (rows : List Row) (at : IsFileAt path rows) → of_file (refused_last last) (row_at path rows) ≡ None → is_last last at.its.blocks ≡ true
-last_named path last rows at h = by (is_last last at.its.blocks) (of_file_at path rows at (refused_last last) h)
+last_named : (path : List (List ℕ)) (last : Option LastBlock) (rows : List Row) (at : IsFileAt path rows) → of_file (refused_unless_last last) (row_at path rows) ≡ None → is_last last at.its.blocks ≡ true
+last_named path last rows at h = by (is_last last at.its.blocks) (of_file_at path rows at (refused_unless_last last) h)
   where
     by : (b : Bool) → cond b None (Some NotYetReplicated) ≡ None → b ≡ true
     by true h = refl
@@ -180,14 +180,14 @@ unrefused_by None h = refl
 unrefused_by (Some refusal) h = cc
 
 module _ (facts : Facts) (caller : List ℕ) (path : List (List ℕ)) (last : Option LastBlock) (rows : List Row) (users : Users) (namespace : IsNamespace rows) where
-  written : (own : Option Refusal) → first_some (refusals_of_file path rows ++ of_file (refused_write caller) (row_at path rows) ∷ of_file (refused_last last) (row_at path rows) ∷ own ∷ []) ≡ None
+  written : (own : Option Refusal) → first_some (refusals_of_file path rows ++ of_file (refused_write caller) (row_at path rows) ∷ of_file (refused_unless_last last) (row_at path rows) ∷ own ∷ []) ≡ None
       → IsWritten path last rows × (own ≡ None)
   written own h =
       let a = neither (beneath_file path rows) _ h in
       let b = neither (nothing_at (row_at path rows)) _ a.1 in
       let c = neither (directory_there (row_at path rows)) _ b.1 in
       let d = neither (of_file (refused_write caller) (row_at path rows)) _ c.1 in
-      let e = neither (of_file (refused_last last) (row_at path rows)) _ d.1 in
+      let e = neither (of_file (refused_unless_last last) (row_at path rows)) _ d.1 in
       let at = file_there_is path rows namespace b.0 c.0 in
       let quiet = not_recovered caller at.its.state (of_file_at path rows at (refused_write caller) d.0) in
       (record { at = at; named = last_named path last rows at e.0; quiet = quiet }, (neither own None e.1).0)
@@ -215,7 +215,7 @@ module _ (facts : Facts) (caller : List ℕ) (path : List (List ℕ)) (rows : Li
       let c = neither (directory_there (row_at path rows)) _ b.1 in
       let d = neither (of_file (refused_append facts caller) (row_at path rows)) None c.1 in
       let at = file_there_is path rows namespace b.0 c.0 in
-      (at, not_taken (unfinished at.its.blocks) at.its.state (of_file_at path rows at (refused_append facts caller) d.0))
+      (at, not_taken (unfinished_block at.its.blocks) at.its.state (of_file_at path rows at (refused_append facts caller) d.0))
     where
       not_taken : (block : Option ℕ) (state : FileState) → refused_state facts caller block state ≡ None → is_recovery state ≡ false
       not_taken block Closed h = refl
@@ -223,14 +223,14 @@ module _ (facts : Facts) (caller : List ℕ) (path : List (List ℕ)) (rows : Li
       not_taken block (Recovering own stamp begun) h = cc
 
 -- a recovery of the block runs, under this stamp
-pub record IsRunning (own : Known) (block stamp : ℕ) : Type 0 where
+pub record IsRunning (own : KnownBlocks) (block stamp : ℕ) : Type 0 where
   pub known : BlockRecord
   pub since : ℕ
   pub there : block_of own block ≡ Some known
   pub stamped : stamp ≡ known.stamp
   pub begun : known.recovering ≡ Some since
 
-running_by : (own : Known) (block stamp : ℕ) → refused_recovered_by (block_of own block) stamp ≡ None → IsRunning own block stamp
+running_by : (own : KnownBlocks) (block stamp : ℕ) → refused_recovered_by (block_of own block) stamp ≡ None → IsRunning own block stamp
 running_by own block stamp h = by (block_of own block) refl h
   where
     by_since : (known : BlockRecord) → block_of own block ≡ Some known → stamp ≡ known.stamp → (since : Option ℕ) → known.recovering ≡ since → cond (is_some since) None (Some NotOpen) ≡ None → IsRunning own block stamp

@@ -13,11 +13,11 @@ use Rattle.hdfs_types.specs.declared.reply.Reply.{Reply}
 use Rattle.hdfs_types.specs.declared.reply.Reply.TheVariants as reply
 use Rattle.block_records.specs.Numbers.{has_number}
 use Rattle.block_records.specs.declared.block_record.BlockRecord.{BlockRecord}
-use Rattle.block_map.specs.BlockFacts.{BlockFacts, block_of, newest_stamp, committed_length, due_recoveries}
+use Rattle.block_map.specs.BlockFacts.{Blocks, known_block, newest_stamp, committed_length, due_recoveries}
 use Rattle.namespace_rows.specs.declared.file_row.FileBlock.{FileBlock}
 use Rattle.namespace_rows.specs.declared.file_row.FileRow.{FileRow}
 use Rattle.namespace_rows.specs.declared.row.Row.{Row}
-use Rattle.namespace_rows.specs.Files.{blocks_in, unfinished, state_recovers}
+use Rattle.namespace_rows.specs.Files.{blocks_in, unfinished_block, state_recovers}
 use Rattle.namespace_rows.specs.Rows.{row_at}
 use Rattle.namespace_rows.specs.Namespace.{IsNamespace}
 use Rattle.flat_rows.specs.BlockOutcome as file
@@ -37,15 +37,15 @@ abbrev pub blocks_told : Reply → List AddedBlock
 blocks_told (reply.Added added) = added ∷ []
 blocks_told _ = []
 
-abbrev pub blocks_by : Verdict → List AddedBlock
-blocks_by (Done told) = blocks_told told
-blocks_by (Denied denial) = []
-blocks_by (Refused refusal) = []
+abbrev pub blocks_given_by : Verdict → List AddedBlock
+blocks_given_by (Done told) = blocks_told told
+blocks_given_by (Denied denial) = []
+blocks_given_by (Refused refusal) = []
 
 -- all of them, the oldest first
 abbrev pub new_blocks : List HistoryEntry → List AddedBlock
 new_blocks [] = []
-new_blocks (entry ∷ earlier) = new_blocks earlier ++ blocks_by entry.verdict
+new_blocks (entry ∷ earlier) = new_blocks earlier ++ blocks_given_by entry.verdict
 
 abbrev pub ids_given : List HistoryEntry → List ℕ
 ids_given entries = map (λ (new : AddedBlock). new.block) (new_blocks entries)
@@ -63,12 +63,12 @@ StampsAscend = (opening : Opening) (entries : List HistoryEntry) → IsLegal ope
 
 -- ---- what is known of a block
 
-abbrev pub is_known : BlockFacts → ℕ → Bool
-is_known facts block = is_some (block_of facts block)
+abbrev pub is_block_known : Blocks → ℕ → Bool
+is_block_known facts block = is_some (known_block facts block)
 
 -- no block is known that no writer was told of
 abbrev pub KnownBlocksWereGiven : Type 0
-KnownBlocksWereGiven = (opening : Opening) (entries : List HistoryEntry) (block : ℕ) → IsLegal opening entries → is_known (blocks_of opening entries) block ≡ true
+KnownBlocksWereGiven = (opening : Opening) (entries : List HistoryEntry) (block : ℕ) → IsLegal opening entries → is_block_known (blocks_of opening entries) block ≡ true
     → has_number block (ids_given entries) ≡ true
 
 -- the newest stamp of a block is that of no other
@@ -89,7 +89,7 @@ StampsNeverFall = (opening : Opening) (entry : HistoryEntry) (earlier : List His
 -- and a length that was committed is still, while the block is known
 abbrev pub LengthsStay : Type 0
 LengthsStay = (opening : Opening) (entry : HistoryEntry) (earlier : List HistoryEntry) (block length : ℕ) → IsLegal opening (entry ∷ earlier)
-    → committed_length (blocks_of opening earlier) block ≡ Some length → is_known (blocks_of opening (entry ∷ earlier)) block ≡ true
+    → committed_length (blocks_of opening earlier) block ≡ Some length → is_block_known (blocks_of opening (entry ∷ earlier)) block ≡ true
     → committed_length (blocks_of opening (entry ∷ earlier)) block ≡ Some length
 
 -- ---- where blocks stand
@@ -101,16 +101,16 @@ times number numbers = length (filter (λ other. other == number) numbers)
 -- a block that is known stands in one file, and there in one place; no other stands in any
 abbrev pub BlocksStandOnce : Type 0
 BlocksStandOnce = (opening : Opening) (entries : List HistoryEntry) (block : ℕ) → IsLegal opening entries
-    → times block (blocks_in (rows_of opening entries)) ≡ (if is_known (blocks_of opening entries) block then 1 else 0)
+    → times block (blocks_in (rows_of opening entries)) ≡ (if is_block_known (blocks_of opening entries) block then 1 else 0)
 
 -- its number is below the one that is given next
 abbrev pub BlocksAreBelow : Type 0
-BlocksAreBelow = (opening : Opening) (entries : List HistoryEntry) (block : ℕ) → IsLegal opening entries → is_known (blocks_of opening entries) block ≡ true
+BlocksAreBelow = (opening : Opening) (entries : List HistoryEntry) (block : ℕ) → IsLegal opening entries → is_block_known (blocks_of opening entries) block ≡ true
     → block < (blocks_of opening entries).known.next_block
 
 -- each file has of each of its blocks the length that is committed, or none
-abbrev pub LengthsAre : BlockFacts → List Row → Type 0
-LengthsAre facts rows = AllByRecursion (λ (row : Row). AllByRecursion (λ (block : FileBlock). committed_length facts block.id ≡ block.committed) (file.blocks_of row.file)) rows
+abbrev pub LengthsAre : Blocks → List Row → Type 0
+LengthsAre facts rows = AllByRecursion (λ (row : Row). AllByRecursion (λ (block : FileBlock). committed_length facts block.id ≡ block.committed) (file.blocks_of_file row.file)) rows
 
 abbrev pub FilesTellLengths : Type 0
 FilesTellLengths = (opening : Opening) (entries : List HistoryEntry) → IsLegal opening entries → LengthsAre (blocks_of opening entries) (rows_of opening entries)
@@ -125,8 +125,8 @@ RowsAreNamespace = (opening : Opening) (entries : List HistoryEntry) → IsLegal
 abbrev pub running_since : ℕ → ℕ → Option ℕ → Option FileState
 running_since block stamp since = option_map (Recovering block stamp) since
 
-abbrev pub running : BlockFacts → ℕ → Option FileState
-running facts block = option_and_then (λ (own : BlockRecord). running_since block own.stamp own.recovering) (block_of facts block)
+abbrev pub running_recovery : Blocks → ℕ → Option FileState
+running_recovery facts block = option_and_then (λ (own : BlockRecord). running_since block own.stamp own.recovering) (known_block facts block)
 
 -- the states of files in which the block is recovered
 abbrev pub recovery_in : ℕ → Option FileRow → List FileState
@@ -139,7 +139,7 @@ recoveries_in block rows = flat_map (λ row. recovery_in block row.file) rows
 -- a block is in recovery where one file recovers it, and this since the same moment under the block's stamp; no other file recovers it
 abbrev pub RecoveriesAreThoseOfFiles : Type 0
 RecoveriesAreThoseOfFiles = (opening : Opening) (entries : List HistoryEntry) (block : ℕ) → IsLegal opening entries
-    → recoveries_in block (rows_of opening entries) ≡ option_to_list (running (blocks_of opening entries) block)
+    → recoveries_in block (rows_of opening entries) ≡ option_to_list (running_recovery (blocks_of opening entries) block)
 
 abbrev pub OneFileRecovers : Type 0
 OneFileRecovers = (opening : Opening) (entries : List HistoryEntry) (path : List (List ℕ)) (row : Row) (block : ℕ) → IsLegal opening entries
@@ -153,15 +153,15 @@ RecoversLast block (Recovering own stamp begun) = block ≡ Some own
 
 abbrev pub FileRecoversLast : Option FileRow → Type 0
 FileRecoversLast None = ⊤
-FileRecoversLast (Some file) = RecoversLast (unfinished file.blocks) file.state
+FileRecoversLast (Some file) = RecoversLast (unfinished_block file.blocks) file.state
 
 abbrev pub FilesRecoverLast : Type 0
 FilesRecoverLast = (opening : Opening) (entries : List HistoryEntry) → IsLegal opening entries → AllByRecursion (λ (row : Row). FileRecoversLast row.file) (rows_of opening entries)
 
 -- as many files as blocks are in a recovery that began longer ago than the retry limit
-abbrev pub is_overdue : ℕ → ℕ → Row → Bool
-is_overdue retry now row = is_some (sought_of (λ client. false) (λ begun. nat_lt retry (now - begun)) row.file)
+abbrev pub is_row_overdue : ℕ → ℕ → Row → Bool
+is_row_overdue retry now row = is_some (sought_of (λ client. false) (λ begun. nat_lt retry (now - begun)) row.file)
 
 abbrev pub OverdueFilesAreDue : Type 0
 OverdueFilesAreDue = (opening : Opening) (entries : List HistoryEntry) (now : ℕ) → IsLegal opening entries
-    → length (filter (is_overdue (blocks_of opening entries).retry now) (rows_of opening entries)) ≡ length (due_recoveries (blocks_of opening entries) now)
+    → length (filter (is_row_overdue (blocks_of opening entries).retry now) (rows_of opening entries)) ≡ length (due_recoveries (blocks_of opening entries) now)

@@ -2,7 +2,7 @@ ghost use Rattle.std.specs.Prelude.{◌≡◌, [], None, Some, option_copied, On
 ghost use Rattle.std.specs.Option.{option_map};
 ghost use Rattle.heartbeats.specs.Live.{is_live, live_nodes};
 ghost use Rattle.new_blocks.specs.Behind.{IsFaultOf};
-ghost use Rattle.block_map.specs.BlockFacts.{newest_stamp, committed_length, recovering_since, expected_nodes, transfers_for, due_recoveries, refused_commit, refused_recovery, refused_recovered, block_of};
+ghost use Rattle.block_map.specs.BlockFacts.{newest_stamp, committed_length, recovering_since, expected_nodes, transfers_for, due_recoveries, refused_commit, refused_recovery, refused_recovered, known_block};
 ghost use Rattle.block_map.specs.BlockEffects as effect;
 ghost use Rattle.block_records.specs.Marks.{marks_for};
 ghost use Rattle.block_records.specs.Verdicts.{verdict_by};
@@ -63,9 +63,9 @@ impl Drop for Blocks {
 }
 
 impl Model for Blocks {
-    ghost use Rattle.block_map.specs.BlockFacts.{BlockFacts};
+    ghost use Rattle.block_map.specs.BlockFacts.{Blocks};
 
-    ghost Value = { BlockFacts };
+    ghost Value = { Blocks };
 
     ghost view = { λ blocks. record { retry = blocks.retry; known = blocks.known; nodes = blocks.nodes; marks = blocks.marks; queued = blocks.queue } };
 }
@@ -120,7 +120,7 @@ impl Blocks {
 
     /// What is known of a block. Costs a look-up, and takes no memory.
     pub fn get(&self, block: BlockId) -> Option<&BlockRecord>
-        ensures { option_copied result ≡ block_of self.now block }
+        ensures { option_copied result ≡ known_block self.now block }
     {
         self.known.get(block)
     }
@@ -138,7 +138,7 @@ impl Blocks {
     /// The nodes that reported a block at its newest stamp, with the lengths that they reported; `None` where the block isn't
     /// known. Costs a look-up, and takes no memory.
     pub fn reporting(&self, block: BlockId) -> Option<&Reports>
-        ensures { option_copied result ≡ option_map (λ (own : BlockRecord). own.reports) (block_of self.now block) }
+        ensures { option_copied result ≡ option_map (λ (own : BlockRecord). own.reports) (known_block self.now block) }
     {
         match self.known.get(block) {
             Some(own) => Some(&own.reports),
@@ -231,7 +231,7 @@ impl Blocks {
 
     /// Gives a block another replication; nothing changes where the block isn't known. Costs a look-up, and takes no memory.
     pub fn set_replication(&mut self, block: BlockId, replication: Repl)
-        ensures { self.new ≡ effect.replicated self.old block replication }
+        ensures { self.new ≡ effect.with_block_replication self.old block replication }
     {
         self.known.set_replication(block, replication);
     }
@@ -242,7 +242,7 @@ impl Blocks {
     /// # Errors
     /// Out of memory. Nothing has changed then.
     pub fn remove(&mut self, block: BlockId) -> Result<(), AllocError>
-        ensures ok { OnOk result (self.new ≡ effect.removed self.old block) }
+        ensures ok { OnOk result (self.new ≡ effect.with_block_removed self.old block) }
         ensures err { OnErr result (self.new ≡ self.old) }
     {
         removals::remove(
@@ -259,7 +259,7 @@ impl Blocks {
     /// # Errors
     /// Out of memory. Nothing has changed then.
     pub fn remove_all(&mut self, blocks: &[BlockId]) -> Result<(), AllocError>
-        ensures ok { OnOk result (self.new ≡ effect.all_removed self.old blocks.now) }
+        ensures ok { OnOk result (self.new ≡ effect.with_blocks_removed self.old blocks.now) }
         ensures err { OnErr result (self.new ≡ self.old) }
     {
         removals::remove_all(
@@ -280,7 +280,7 @@ impl Blocks {
     /// `NotYetReplicated` where no node reported that length, or out of memory. Nothing has changed then.
     pub fn commit(&mut self, block: BlockId, length: u64) -> Result<(), BlockFault>
         ensures reported { OnOk result (refused_commit self.old block length ≡ None) }
-        ensures ok { OnOk result (self.new ≡ effect.committed self.old block length) }
+        ensures ok { OnOk result (self.new ≡ effect.with_length_committed self.old block length) }
         ensures fault { IfErr result (IsFaultOf (refused_commit self.old block length)) }
         ensures err { OnErr result (self.new ≡ self.old) }
     {
@@ -300,7 +300,7 @@ impl Blocks {
     pub fn begin_recovery(&mut self, block: BlockId, now: Moment) -> Result<Stamp, BlockFault>
         ensures allowed { OnOk result (refused_recovery self.old block now ≡ None) }
         ensures given { IfOk result (λ stamp. stamp ≡ self.old.known.next_stamp) }
-        ensures begun { OnOk result (self.new ≡ effect.begun self.old block now) }
+        ensures begun { OnOk result (self.new ≡ effect.with_recovery_begun self.old block now) }
         ensures fault { IfErr result (IsFaultOf (refused_recovery self.old block now)) }
         ensures err { OnErr result (self.new ≡ self.old) }
     {
@@ -336,7 +336,7 @@ impl Blocks {
         now: Moment,
     ) -> Result<(), AllocError>
         requires { planned.now ≡ effect.recoveries_begun self.old blocks.now now }
-        ensures begun { OnOk result (self.new ≡ effect.all_begun self.old blocks.now now) }
+        ensures begun { OnOk result (self.new ≡ effect.with_recoveries_begun self.old blocks.now now) }
         ensures err { OnErr result (self.new ≡ self.old) }
     {
         // they were planned of these
@@ -377,7 +377,7 @@ impl Blocks {
         nodes: NodeSet,
     ) -> Result<(), BlockFault>
         ensures allowed { OnOk result (refused_recovered self.old block stamp ≡ None) }
-        ensures ok { OnOk result (self.new ≡ effect.recovered self.old block length nodes) }
+        ensures ok { OnOk result (self.new ≡ effect.with_recovery_ended self.old block length nodes) }
         ensures fault { IfErr result (IsFaultOf (refused_recovered self.old block stamp)) }
         ensures err { OnErr result (self.new ≡ self.old) }
     {
@@ -396,7 +396,7 @@ impl Blocks {
 
     // What a report amounts to.
     fn verdict(&self, block: BlockId, stamp: Stamp, length: u64) -> ReportVerdict
-        ensures { result ≡ verdict_by (block_of self.now block) stamp length }
+        ensures { result ≡ verdict_by (known_block self.now block) stamp length }
     {
         match self.known.get(block) {
             Some(own) => own.verdict(stamp, length),
@@ -406,7 +406,7 @@ impl Blocks {
 
     // Has a node told to remove its replica, and ends its report where that has the newest stamp.
     fn invalidate(&mut self, node: NodeId, block: BlockId, stamp: Stamp) -> Result<(), AllocError>
-        ensures ok { OnOk result (self.new ≡ effect.invalidated self.old node block stamp) }
+        ensures ok { OnOk result (self.new ≡ effect.with_replica_invalid self.old node block stamp) }
         ensures err { OnErr result (self.new ≡ self.old) }
     {
         let newest = self.newest(block);
@@ -430,7 +430,7 @@ impl Blocks {
         stamp: Stamp,
         length: u64,
     ) -> Result<(), AllocError>
-        ensures ok { OnOk result (self.new ≡ effect.reported self.old node block stamp length) }
+        ensures ok { OnOk result (self.new ≡ effect.with_replica_reported self.old node block stamp length) }
         ensures err { OnErr result (self.new ≡ self.old) }
     {
         match self.verdict(block, stamp, length) {
@@ -477,7 +477,7 @@ impl Blocks {
     /// # Errors
     /// Out of memory, which only a node's first heartbeat can meet. Nothing has changed then.
     pub fn heartbeat(&mut self, node: NodeId, now: Moment) -> Result<(), AllocError>
-        ensures ok { OnOk result (self.new ≡ effect.beaten self.old node now) }
+        ensures ok { OnOk result (self.new ≡ effect.with_node_heard self.old node now) }
         ensures err { OnErr result (self.new ≡ self.old) }
     {
         self.nodes.beat(node, now)
@@ -517,7 +517,7 @@ impl Blocks {
         told: &Instructions,
     ) -> Result<(), AllocError>
         requires { told.now ≡ effect.instructions_for self.old now node }
-        ensures ok { OnOk result (self.new ≡ effect.handed_out self.old node now) }
+        ensures ok { OnOk result (self.new ≡ effect.with_heartbeat_answered self.old node now) }
         ensures err { OnErr result (self.new ≡ self.old) }
     {
         self.nodes.beat(node, now)?;

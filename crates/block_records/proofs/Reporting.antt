@@ -14,7 +14,7 @@ use Rattle.std.specs.Ordering.{is_eq, nat_cmp, eq_by_cmp}
 use Rattle.std.specs.declared.cmp.Ordering.{Ordering}
 use Rattle.std.specs.declared.cmp.Ordering.TheVariants.{Less, Equal, Greater}
 use Rattle.block_records.specs.Numbers.{is_number, has_number, entry_at}
-use Rattle.block_records.specs.Reports.{agreeing, others_of}
+use Rattle.block_records.specs.Reports.{agreeing_reports, others_of}
 use Rattle.block_records.specs.Verdicts.{holds_by}
 use Rattle.block_records.specs.declared.block_record.BlockRecord.{BlockRecord}
 
@@ -36,7 +36,7 @@ has_key n (report ∷ reports) = ap (λ x. x || has_number n (keys_of reports)) 
     by false rest = rest
 
 pub kept_reports : (length n : ℕ) (reports : List (ℕ × ℕ)) → IsStrictlySortedBy nat_cmp (keys_of reports)
-    → is_some (entry_at n (agreeing length reports)) ≡ (is_some (entry_at n reports) && not (has_number n (others_of length reports)))
+    → is_some (entry_at n (agreeing_reports length reports)) ≡ (is_some (entry_at n reports) && not (has_number n (others_of length reports)))
 kept_reports length n reports sorted =
     ap is_some (lookup-filter-values (eq_by_cmp_equiv nat_cmp_total) (λ own. own == length) n reports distinct)
     ∙ (by (entry_at n reports)

@@ -9,8 +9,8 @@ use Rattle.std.specs.Ordering.{nat_cmp}
 abbrev pub is_reported : List (ℕ × ℕ) → ℕ → Bool
 is_reported reports length = list_any (λ report. report.1 == length) reports
 
-abbrev pub agreeing : ℕ → List (ℕ × ℕ) → List (ℕ × ℕ)
-agreeing length reports = filter (λ report. report.1 == length) reports
+abbrev pub agreeing_reports : ℕ → List (ℕ × ℕ) → List (ℕ × ℕ)
+agreeing_reports length reports = filter (λ report. report.1 == length) reports
 
 -- the nodes that reported another length
 abbrev pub others_of : ℕ → List (ℕ × ℕ) → List ℕ

@@ -4,7 +4,7 @@ ghost use Rattle.std.specs.List.Sorted.{IsStrictlySortedBy};
 ghost use Rattle.std.specs.Map.{remove_entry, keys_of};
 ghost use Rattle.std.specs.Ordering.{nat_cmp};
 ghost use Rattle.block_records.specs.Numbers.{is_number, has_number, entry_at};
-ghost use Rattle.block_records.specs.Reports.{is_reported, agreeing, others_of, with_reports_of};
+ghost use Rattle.block_records.specs.Reports.{is_reported, agreeing_reports, others_of, with_reports_of};
 
 use hdfs_values::node_id::NodeId;
 use std::alloc::{AllocError, Global};
@@ -105,7 +105,7 @@ impl Reports {
 
     /// Ends the reports of all other lengths than this. Costs the reports, and takes no memory.
     pub fn keep(&mut self, bytes: u64)
-        ensures reports { self.new ≡ agreeing bytes self.old }
+        ensures reports { self.new ≡ agreeing_reports bytes self.old }
         ensures left { (node : ℕ) → is_some (entry_at node self.new) ≡ (is_some (entry_at node self.old) && not (has_number node (others_of bytes self.old))) }
     {
         self.lengths.retain(|_, own| *own == bytes);
@@ -135,7 +135,7 @@ impl Reports {
     /// # Errors
     /// Out of memory.
     pub fn recovered(&self, nodes: &[NodeId], bytes: u64) -> Result<Reports, AllocError>
-        ensures reports { IfOk result (λ reports. reports ≡ with_reports_of nodes.now bytes (agreeing bytes self.now)) }
+        ensures reports { IfOk result (λ reports. reports ≡ with_reports_of nodes.now bytes (agreeing_reports bytes self.now)) }
         ensures reporting { IfOk result (λ reports. (q : ℕ) → is_some (entry_at q reports) ≡ (has_number q nodes.now || (is_some (entry_at q self.now) && not (has_number q (others_of bytes self.now))))) }
     {
         let mut reports = self.clone()?;

@@ -12,7 +12,7 @@ use Rattle.block_records.specs.Numbers.{is_number, has_number, entry_at}
 use Rattle.block_records.proofs.Ascending.{lacks_lower}
 use Rattle.block_records.proofs.Numbers.{number_is}
 use Rattle.block_records.proofs.Reporting.{number_eq}
-use Rattle.block_recovery.specs.Decision.{least_of, finalized_of, suits, suiting, decision_by}
+use Rattle.block_recovery.specs.Decision.{least_of, finalized_of, suits, suiting_nodes, decision_by}
 use Rattle.block_recovery.specs.Laws.{AreByNode}
 use Rattle.block_recovery.specs.declared.answer.Answer.{Answer}
 use Rattle.block_recovery.specs.declared.decision.Decision.{Decision}
@@ -116,7 +116,7 @@ has_node {X} n (entry ∷ table) = ap (λ x. x || has_number n (keys_of table)) 
     by true rest = refl
     by false rest = rest
 
-takes_part_where : (length node : ℕ) (answers : List (ℕ × Answer)) → AreByNode answers → has_number node (suiting length answers) ≡ is_some (option_filter (suits length) (entry_at node answers))
+takes_part_where : (length node : ℕ) (answers : List (ℕ × Answer)) → AreByNode answers → has_number node (suiting_nodes length answers) ≡ is_some (option_filter (suits length) (entry_at node answers))
 takes_part_where length node answers up =
     has_node node (filter (λ own. suits length own.1) answers)
     ∙ ap is_some (lookup-filter-values (eq_by_cmp_equiv nat_cmp_total) (suits length) node answers (IsDistinct-from_sorted nat_cmp (keys_of answers) up))

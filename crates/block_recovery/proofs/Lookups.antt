@@ -15,7 +15,7 @@ use Rattle.std.specs.declared.cmp.Ordering.TheVariants.{Less, Equal, Greater}
 use Rattle.block_records.specs.Numbers.{is_number, entry_at}
 use Rattle.block_records.proofs.Ascending.{AreAbove, above_lower}
 use Rattle.block_records.proofs.Numbers.{number_is}
-use Rattle.block_recovery.specs.Plans.{altered, altered_by}
+use Rattle.block_recovery.specs.Plans.{with_entry_changed, altered_by}
 use Rattle.block_recovery.proofs.Tables.{itself}
 
 greater_equal : {A : Type 0} → Greater ≡ Equal → A
@@ -49,7 +49,7 @@ set_there : {X : Type 0} (k q : ℕ) (v w : X) (es : List (ℕ × X)) → entry_
 set_there k q v w es found =
     lookup-set_value (eq_by_cmp_equiv nat_cmp_total) (is_number k) (λ x y at. ap (λ n. is_number n y) (number_is k x at)) q w es (ap is_some found)
 
-pub lookup_altered : {X : Type 0} (change : X → X) (k q : ℕ) (table : List (ℕ × X)) → entry_at q (altered change k table) ≡ cond (is_number k q) (option_map change (entry_at q table)) (entry_at q table)
+pub lookup_altered : {X : Type 0} (change : X → X) (k q : ℕ) (table : List (ℕ × X)) → entry_at q (with_entry_changed change k table) ≡ cond (is_number k q) (option_map change (entry_at q table)) (entry_at q table)
 lookup_altered {X} change k q table = by (entry_at k table) refl
   where
     here : (found : Option X) → entry_at k table ≡ found → is_number k q ≡ true → entry_at q table ≡ found

@@ -8,8 +8,8 @@ use Rattle.std.specs.Option.{is_some, option_map}
 use Rattle.std.specs.Ordering.{nat_cmp}
 use Rattle.block_records.specs.Numbers.{is_number, has_number, entry_at}
 use Rattle.block_records.proofs.Numbers.{number_is}
-use Rattle.block_recovery.specs.Laws.{AreRight, IsRight, Extends, Call, Begin, Reply, Decide, Updated, refusal, after}
-use Rattle.block_recovery.specs.Plans.{plans_of, plan_at, newest, altered, changed, begun, new_plan, refused_after, refused_begin, refused_reply, refused_decide, refused_updated, with_answer, with_decision, with_updated, takes_part, refused_without}
+use Rattle.block_recovery.specs.Laws.{AreRight, IsRight, Extends, Call, Begin, Reply, Decide, Updated, refusal, plans_left_by}
+use Rattle.block_recovery.specs.Plans.{plans_of, plan_at, newest, with_entry_changed, with_plan_changed, with_plan_begun, new_plan, refused_after, refused_begin, refused_reply, refused_decide, refused_updated, with_answer, with_decision, with_updated, takes_part, refused_without}
 use Rattle.block_recovery.specs.declared.answer.Answer.{Answer}
 use Rattle.block_recovery.specs.declared.decision.Decision.{Decision}
 use Rattle.block_recovery.specs.declared.fault.PlanRefusal.{PlanRefusal}
@@ -29,16 +29,16 @@ some_none x e = cc
 
 -- the plan that is changed, and each other as before
 pub plan_changed : (change : Plan → Plan) (block stamp b s : ℕ) (plans : List (ℕ × List (ℕ × Plan)))
-    → plan_at b s (changed change block stamp plans) ≡ cond (is_number block b && is_number stamp s) (option_map change (plan_at b s plans)) (plan_at b s plans)
+    → plan_at b s (with_plan_changed change block stamp plans) ≡ cond (is_number block b && is_number stamp s) (option_map change (plan_at b s plans)) (plan_at b s plans)
 plan_changed change block stamp b s plans =
-    ap (λ o. entry_at s (unwrap_or o [])) (lookup_altered (altered change stamp) block b plans) ∙ by (is_number block b) (entry_at b plans)
+    ap (λ o. entry_at s (unwrap_or o [])) (lookup_altered (with_entry_changed change stamp) block b plans) ∙ by (is_number block b) (entry_at b plans)
   where
     nowhere : (d : Bool) → None ≡ cond d (option_map change None) None
     nowhere true = refl
     nowhere false = refl
 
     by : (d : Bool) (found : Option (List (ℕ × Plan)))
-        → entry_at s (unwrap_or (cond d (option_map (altered change stamp) found) found) []) ≡ cond (d && is_number stamp s) (option_map change (entry_at s (unwrap_or found []))) (entry_at s (unwrap_or found []))
+        → entry_at s (unwrap_or (cond d (option_map (with_entry_changed change stamp) found) found) []) ≡ cond (d && is_number stamp s) (option_map change (entry_at s (unwrap_or found []))) (entry_at s (unwrap_or found []))
     by true None = nowhere (is_number stamp s)
     by true (Some own) = lookup_altered change stamp s own
     by false None = refl
@@ -46,7 +46,7 @@ plan_changed change block stamp b s plans =
 
 -- the plan that is begun, and each other as before
 pub plan_begun : (recover : Recover) (b s : ℕ) (plans : List (ℕ × List (ℕ × Plan)))
-    → plan_at b s (begun recover plans) ≡ cond (is_number b recover.block && is_number s recover.stamp) (Some (new_plan recover)) (plan_at b s plans)
+    → plan_at b s (with_plan_begun recover plans) ≡ cond (is_number b recover.block && is_number s recover.stamp) (Some (new_plan recover)) (plan_at b s plans)
 plan_begun recover b s plans =
     ap (λ o. entry_at s (unwrap_or o [])) (lookup_inserted recover.block b (insert_entry nat_cmp (plans_of recover.block plans) recover.stamp (new_plan recover)) plans) ∙ by (is_number b recover.block) refl
   where
@@ -240,16 +240,16 @@ there : (block stamp b s : ℕ) (plans : List (ℕ × List (ℕ × Plan))) (plan
 there block stamp b s plans plan at to found = ap (λ n. plan_at n stamp plans) (number_is block b at) ∙ (ap (λ n. plan_at b n plans) (number_is stamp s to) ∙ found)
 
 module _ (change : Plan → Plan) (block stamp : ℕ) (plans : List (ℕ × List (ℕ × Plan))) where
-  changed_stay : ((plan : Plan) → plan_at block stamp plans ≡ Some plan → Extends plan (change plan)) → (b s : ℕ) (plan : Plan) → plan_at b s plans ≡ Some plan → Stays b s plan (changed change block stamp plans)
+  changed_stay : ((plan : Plan) → plan_at block stamp plans ≡ Some plan → Extends plan (change plan)) → (b s : ℕ) (plan : Plan) → plan_at b s plans ≡ Some plan → Stays b s plan (with_plan_changed change block stamp plans)
   changed_stay extends b s plan found = by (is_number block b) refl (is_number stamp s) refl (plan_changed change block stamp b s plans)
     where
-      by : (x : Bool) → is_number block b ≡ x → (y : Bool) → is_number stamp s ≡ y → plan_at b s (changed change block stamp plans) ≡ cond (x && y) (option_map change (plan_at b s plans)) (plan_at b s plans)
-          → Stays b s plan (changed change block stamp plans)
+      by : (x : Bool) → is_number block b ≡ x → (y : Bool) → is_number stamp s ≡ y → plan_at b s (with_plan_changed change block stamp plans) ≡ cond (x && y) (option_map change (plan_at b s plans)) (plan_at b s plans)
+          → Stays b s plan (with_plan_changed change block stamp plans)
       by true at true to is = (change plan, is ∙ ap (option_map change) found, extends plan (there block stamp b s plans plan at to found))
       by true at false to is = (plan, is ∙ found, extends_itself plan)
       by false at y to is = (plan, is ∙ found, extends_itself plan)
 
-  changed_right : ((plan : Plan) → plan_at block stamp plans ≡ Some plan → IsRight plan → IsRight (change plan)) → AreRight plans → AreRight (changed change block stamp plans)
+  changed_right : ((plan : Plan) → plan_at block stamp plans ≡ Some plan → IsRight plan → IsRight (change plan)) → AreRight plans → AreRight (with_plan_changed change block stamp plans)
   changed_right keeps right b s later found = by (is_number block b) refl (is_number stamp s) refl (plan_at b s plans) refl (sym (plan_changed change block stamp b s plans) ∙ found)
     where
       by : (x : Bool) → is_number block b ≡ x → (y : Bool) → is_number stamp s ≡ y → (old : Option Plan) → plan_at b s plans ≡ old → cond (x && y) (option_map change old) old ≡ Some later → IsRight later
@@ -259,31 +259,31 @@ module _ (change : Plan → Plan) (block stamp : ℕ) (plans : List (ℕ × List
       by true at false to old was is = right b s later (was ∙ is)
       by false at y to old was is = right b s later (was ∙ is)
 
-begun_stay : (recover : Recover) (plans : List (ℕ × List (ℕ × Plan))) → refused_begin recover plans ≡ None → (b s : ℕ) (plan : Plan) → plan_at b s plans ≡ Some plan → Stays b s plan (begun recover plans)
+begun_stay : (recover : Recover) (plans : List (ℕ × List (ℕ × Plan))) → refused_begin recover plans ≡ None → (b s : ℕ) (plan : Plan) → plan_at b s plans ≡ Some plan → Stays b s plan (with_plan_begun recover plans)
 begun_stay recover plans h b s plan found = by (is_number b recover.block) refl (is_number s recover.stamp) refl (plan_begun recover b s plans)
   where
-    by : (x : Bool) → is_number b recover.block ≡ x → (y : Bool) → is_number s recover.stamp ≡ y → plan_at b s (begun recover plans) ≡ cond (x && y) (Some (new_plan recover)) (plan_at b s plans)
-        → Stays b s plan (begun recover plans)
+    by : (x : Bool) → is_number b recover.block ≡ x → (y : Bool) → is_number s recover.stamp ≡ y → plan_at b s (with_plan_begun recover plans) ≡ cond (x && y) (Some (new_plan recover)) (plan_at b s plans)
+        → Stays b s plan (with_plan_begun recover plans)
     by true at true to is =
         none_there recover plans plan h (ap (λ n. plan_at n recover.stamp plans) (sym (number_is b recover.block at)) ∙ (ap (λ n. plan_at b n plans) (sym (number_is s recover.stamp to)) ∙ found))
     by true at false to is = (plan, is ∙ found, extends_itself plan)
     by false at y to is = (plan, is ∙ found, extends_itself plan)
 
-begun_are_right : (recover : Recover) (plans : List (ℕ × List (ℕ × Plan))) → AreRight plans → AreRight (begun recover plans)
+begun_are_right : (recover : Recover) (plans : List (ℕ × List (ℕ × Plan))) → AreRight plans → AreRight (with_plan_begun recover plans)
 begun_are_right recover plans right b s later found = by (is_number b recover.block && is_number s recover.stamp) (sym (plan_begun recover b s plans) ∙ found)
   where
     by : (x : Bool) → cond x (Some (new_plan recover)) (plan_at b s plans) ≡ Some later → IsRight later
     by true is = subst IsRight (ap (λ o. unwrap_or o later) is) (begun_right recover)
     by false is = right b s later is
 
-pub stay : (call : Call) (plans : List (ℕ × List (ℕ × Plan))) (b s : ℕ) (plan : Plan) → refusal call plans ≡ None → plan_at b s plans ≡ Some plan → Stays b s plan (after call plans)
+pub stay : (call : Call) (plans : List (ℕ × List (ℕ × Plan))) (b s : ℕ) (plan : Plan) → refusal call plans ≡ None → plan_at b s plans ≡ Some plan → Stays b s plan (plans_left_by call plans)
 stay (Begin recover) plans b s plan h found = begun_stay recover plans h b s plan found
 stay (Reply block stamp node answer) plans b s plan h found =
     changed_stay (with_answer node answer) block stamp plans (λ own is. answer_extends node answer own (sym (ap (refused_reply node) is) ∙ h)) b s plan found
 stay (Decide block stamp) plans b s plan h found = changed_stay with_decision block stamp plans (λ own is. decision_extends own (sym (ap refused_decide is) ∙ h)) b s plan found
 stay (Updated block stamp node) plans b s plan h found = changed_stay (with_updated node) block stamp plans (λ own is. updated_extends node own) b s plan found
 
-pub stay_right : (call : Call) (plans : List (ℕ × List (ℕ × Plan))) → refusal call plans ≡ None → AreRight plans → AreRight (after call plans)
+pub stay_right : (call : Call) (plans : List (ℕ × List (ℕ × Plan))) → refusal call plans ≡ None → AreRight plans → AreRight (plans_left_by call plans)
 stay_right (Begin recover) plans h right = begun_are_right recover plans right
 stay_right (Reply block stamp node answer) plans h right =
     changed_right (with_answer node answer) block stamp plans (λ own is. answer_right node answer own (sym (ap (refused_reply node) is) ∙ h)) right

@@ -23,13 +23,13 @@ all_nodes answers = keys_of answers
 abbrev pub suits : ℕ → Answer → Bool
 suits length own = own.finalized || nat_le length own.length
 
-abbrev pub suiting : ℕ → List (ℕ × Answer) → List ℕ
-suiting length answers = keys_of (filter (λ own. suits length own.1) answers)
+abbrev pub suiting_nodes : ℕ → List (ℕ × Answer) → List ℕ
+suiting_nodes length answers = keys_of (filter (λ own. suits length own.1) answers)
 
 -- Where there is a least finalized length, it is the length, and the nodes take part whose replica suits it. Else the length is the least
 -- of all, and all take part that have answered.
 abbrev pub decision_by : List (ℕ × Answer) → Option ℕ → Option ℕ → Option Decision
-decision_by answers (Some length) least = Some (record { length = length; nodes = suiting length answers })
+decision_by answers (Some length) least = Some (record { length = length; nodes = suiting_nodes length answers })
 decision_by answers None (Some length) = Some (record { length = length; nodes = all_nodes answers })
 decision_by answers None None = None
 

@@ -6,7 +6,7 @@ use Rattle.std.specs.Map.{keys_of}
 use Rattle.std.specs.Ordering.{nat_cmp}
 use Rattle.block_records.specs.Numbers.{is_number, has_number, entry_at}
 use Rattle.block_recovery.specs.Decision.{decision_of}
-use Rattle.block_recovery.specs.Plans.{PlanTable, plan_at, changed, refused_begin, begun, refused_reply, with_answer, refused_decide, with_decision, refused_updated, with_updated, takes_part}
+use Rattle.block_recovery.specs.Plans.{PlanTable, plan_at, with_plan_changed, refused_begin, with_plan_begun, refused_reply, with_answer, refused_decide, with_decision, refused_updated, with_updated, takes_part}
 use Rattle.block_recovery.specs.declared.answer.Answer.{Answer}
 use Rattle.block_recovery.specs.declared.decision.Decision.{Decision}
 use Rattle.block_recovery.specs.declared.fault.PlanRefusal.{PlanRefusal}
@@ -55,11 +55,11 @@ refusal (Decide block stamp) plans = refused_decide (plan_at block stamp plans)
 refusal (Updated block stamp node) plans = refused_updated node (plan_at block stamp plans)
 
 -- what the call leaves where nothing refuses it
-abbrev pub after : Call → PlanTable → PlanTable
-after (Begin recover) plans = begun recover plans
-after (Reply block stamp node answer) plans = changed (with_answer node answer) block stamp plans
-after (Decide block stamp) plans = changed with_decision block stamp plans
-after (Updated block stamp node) plans = changed (with_updated node) block stamp plans
+abbrev pub plans_left_by : Call → PlanTable → PlanTable
+plans_left_by (Begin recover) plans = with_plan_begun recover plans
+plans_left_by (Reply block stamp node answer) plans = with_plan_changed (with_answer node answer) block stamp plans
+plans_left_by (Decide block stamp) plans = with_plan_changed with_decision block stamp plans
+plans_left_by (Updated block stamp node) plans = with_plan_changed (with_updated node) block stamp plans
 
 -- ---- plans stay
 
@@ -72,9 +72,9 @@ pub record Extends (plan later : Plan) : Type 0 where
   pub decision : (decision : Decision) → plan.decision ≡ Some decision → later.decision ≡ Some decision
   pub updated : (node : ℕ) → list_any (is_number node) plan.updated ≡ true → list_any (is_number node) later.updated ≡ true
 
-abbrev pub PlansStay : Type 0
-PlansStay = (call : Call) (plans : PlanTable) (block stamp : ℕ) (plan : Plan) → refusal call plans ≡ None → plan_at block stamp plans ≡ Some plan
-    → (later : Plan) × (plan_at block stamp (after call plans) ≡ Some later) × Extends plan later
+abbrev pub CallsKeepPlans : Type 0
+CallsKeepPlans = (call : Call) (plans : PlanTable) (block stamp : ℕ) (plan : Plan) → refusal call plans ≡ None → plan_at block stamp plans ≡ Some plan
+    → (later : Plan) × (plan_at block stamp (plans_left_by call plans) ≡ Some later) × Extends plan later
 
 -- where a plan of the block with that stamp was begun, no other is: it is refused, and told a stamp that isn't lower
 abbrev pub PlansBeginOnce : Type 0
@@ -94,5 +94,5 @@ abbrev pub AreRight : PlanTable → Type 0
 AreRight plans = (block stamp : ℕ) (plan : Plan) → plan_at block stamp plans ≡ Some plan → IsRight plan
 
 -- no plan is there at first, and each call leaves plans that are right
-abbrev pub PlansAreRight : Type 0
-PlansAreRight = AreRight [] × ((call : Call) (plans : PlanTable) → refusal call plans ≡ None → AreRight plans → AreRight (after call plans))
+abbrev pub CallsLeavePlansRight : Type 0
+CallsLeavePlansRight = AreRight [] × ((call : Call) (plans : PlanTable) → refusal call plans ≡ None → AreRight plans → AreRight (plans_left_by call plans))

@@ -20,9 +20,9 @@ use Rattle.block_recovery.specs.declared.plan.Plan.{Plan}
 use Rattle.hdfs_types.specs.declared.commands.Recover.{Recover}
 
 -- a call that is refused says why; out of memory may come in the place of any other answer
-abbrev pub IsFaultOf : Option PlanRefusal → PlanFault → Type 0
-IsFaultOf refusal (Refused own) = refusal ≡ Some own
-IsFaultOf refusal OutOfMemory = Unit {0}
+abbrev pub IsPlanFaultOf : Option PlanRefusal → PlanFault → Type 0
+IsPlanFaultOf refusal (Refused own) = refusal ≡ Some own
+IsPlanFaultOf refusal OutOfMemory = Unit {0}
 
 -- ---- all plans
 
@@ -48,12 +48,12 @@ abbrev pub altered_by : {X : Type 0} → (X → X) → ℕ → Option X → List
 altered_by change number None table = table
 altered_by change number (Some own) table = set_value (is_number number) table (change own)
 
-abbrev pub altered : {X : Type 0} → (X → X) → ℕ → List (ℕ × X) → List (ℕ × X)
-altered change number table = altered_by change number (entry_at number table) table
+abbrev pub with_entry_changed : {X : Type 0} → (X → X) → ℕ → List (ℕ × X) → List (ℕ × X)
+with_entry_changed change number table = altered_by change number (entry_at number table) table
 
 -- one plan is changed, and no other
-abbrev pub changed : (Plan → Plan) → ℕ → ℕ → PlanTable → PlanTable
-changed change block stamp plans = altered (altered change stamp) block plans
+abbrev pub with_plan_changed : (Plan → Plan) → ℕ → ℕ → PlanTable → PlanTable
+with_plan_changed change block stamp plans = with_entry_changed (with_entry_changed change stamp) block plans
 
 -- ---- begin
 
@@ -69,8 +69,8 @@ refused_begin recover plans = refused_after recover.stamp (newest (plans_of reco
 abbrev pub new_plan : Recover → Plan
 new_plan recover = record { nodes = recover.nodes; token = recover.token; answers = []; decision = None; updated = [] }
 
-abbrev pub begun : Recover → PlanTable → PlanTable
-begun recover plans = with_plan recover.block recover.stamp (new_plan recover) plans
+abbrev pub with_plan_begun : Recover → PlanTable → PlanTable
+with_plan_begun recover plans = with_plan recover.block recover.stamp (new_plan recover) plans
 
 -- ---- reply
 
@@ -119,9 +119,9 @@ with_updated node plan = record plan { updated = insert_key nat_cmp plan.updated
 -- ---- commit
 
 -- a plan is committed once it is decided and some node was noted, as often as is asked
-abbrev pub refused_commit : Option Plan → Option PlanRefusal
-refused_commit None = Some Stranger
-refused_commit (Some plan) = if is_some plan.decision then refused_without plan.updated else Some Stranger
+abbrev pub refused_plan_commit : Option Plan → Option PlanRefusal
+refused_plan_commit None = Some Stranger
+refused_plan_commit (Some plan) = if is_some plan.decision then refused_without plan.updated else Some Stranger
 
 -- the decided length, with the nodes that were noted
 abbrev pub commit_of : Plan → Option Commit

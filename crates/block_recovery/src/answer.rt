@@ -3,7 +3,7 @@ ghost use Rattle.std.specs.Map.{values_of};
 ghost use Rattle.std.specs.BTreeMap.{insert_entry};
 ghost use Rattle.std.specs.Ordering.{nat_cmp};
 ghost use Rattle.block_records.specs.Numbers.{entry_at};
-ghost use Rattle.block_recovery.specs.Decision.{least_of, finalized_of, suits, suiting, all_nodes, decision_of};
+ghost use Rattle.block_recovery.specs.Decision.{least_of, finalized_of, suits, suiting_nodes, all_nodes, decision_of};
 
 use crate::decision::Decision;
 use block_records::node_set::NodeSet;
@@ -97,7 +97,7 @@ impl Answers {
 
     // The nodes whose replica suits the length.
     fn suiting(&self, alloc: Global, length: u64) -> Result<Vec<NodeId>, AllocError>
-        ensures { IfOk result (λ nodes. nodes.items ≡ suiting length self.now) }
+        ensures { IfOk result (λ nodes. nodes.items ≡ suiting_nodes length self.now) }
     {
         self.by_node
             .iter()
@@ -108,7 +108,7 @@ impl Answers {
 
     // The same nodes as a set.
     fn suiting_set(&self, alloc: Global, length: u64) -> Result<NodeSet, AllocError>
-        ensures { IfOk result (λ nodes. nodes ≡ suiting length self.now) }
+        ensures { IfOk result (λ nodes. nodes ≡ suiting_nodes length self.now) }
     {
         // its contract tells that the keys ascend
         let _count = self.by_node.len();

@@ -3,7 +3,7 @@ ghost use Rattle.std.specs.BTreeMap.{insert_entry};
 ghost use Rattle.std.specs.Ordering.{nat_cmp};
 ghost use Rattle.block_records.specs.Numbers.{entry_at};
 ghost use Rattle.block_recovery.specs.Plans as spec;
-ghost use Rattle.block_recovery.specs.Plans.{IsFaultOf, altered};
+ghost use Rattle.block_recovery.specs.Plans.{IsPlanFaultOf, with_entry_changed};
 
 use crate::answer::Answer;
 use crate::decision::{Commit, Decision};
@@ -75,8 +75,8 @@ impl BlockPlans {
         answer: Answer,
     ) -> Result<(), PlanFault>
         ensures allowed { OnOk result (spec.refused_reply node (entry_at stamp self.old) ≡ None) }
-        ensures ok { OnOk result (self.new ≡ altered (spec.with_answer node answer) stamp self.old) }
-        ensures fault { IfErr result (IsFaultOf (spec.refused_reply node (entry_at stamp self.old))) }
+        ensures ok { OnOk result (self.new ≡ with_entry_changed (spec.with_answer node answer) stamp self.old) }
+        ensures fault { IfErr result (IsPlanFaultOf (spec.refused_reply node (entry_at stamp self.old))) }
         ensures err { OnErr result (self.new ≡ self.old) }
     {
         let Some(plan) = self.plans.get_mut(&stamp) else {
@@ -88,8 +88,8 @@ impl BlockPlans {
     pub(crate) fn decide(&mut self, alloc: Global, stamp: Stamp) -> Result<Decision, PlanFault>
         ensures allowed { OnOk result (spec.refused_decide (entry_at stamp self.old) ≡ None) }
         ensures told { IfOk result (λ decision. option_and_then spec.decision_for (entry_at stamp self.old) ≡ Some decision) }
-        ensures ok { OnOk result (self.new ≡ altered spec.with_decision stamp self.old) }
-        ensures fault { IfErr result (IsFaultOf (spec.refused_decide (entry_at stamp self.old))) }
+        ensures ok { OnOk result (self.new ≡ with_entry_changed spec.with_decision stamp self.old) }
+        ensures fault { IfErr result (IsPlanFaultOf (spec.refused_decide (entry_at stamp self.old))) }
         ensures err { OnErr result (self.new ≡ self.old) }
     {
         let Some(plan) = self.plans.get_mut(&stamp) else {
@@ -100,8 +100,8 @@ impl BlockPlans {
 
     pub(crate) fn update(&mut self, stamp: Stamp, node: NodeId) -> Result<(), PlanFault>
         ensures allowed { OnOk result (spec.refused_updated node (entry_at stamp self.old) ≡ None) }
-        ensures ok { OnOk result (self.new ≡ altered (spec.with_updated node) stamp self.old) }
-        ensures fault { IfErr result (IsFaultOf (spec.refused_updated node (entry_at stamp self.old))) }
+        ensures ok { OnOk result (self.new ≡ with_entry_changed (spec.with_updated node) stamp self.old) }
+        ensures fault { IfErr result (IsPlanFaultOf (spec.refused_updated node (entry_at stamp self.old))) }
         ensures err { OnErr result (self.new ≡ self.old) }
     {
         let Some(plan) = self.plans.get_mut(&stamp) else {

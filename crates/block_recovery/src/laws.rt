@@ -18,12 +18,12 @@ pub fn decisions_ignore_the_order()
 /// Whatever call comes, a plan stays: its nodes, its token, its answers, its decision once it is made, and the nodes that were noted.
 /// A second plan of that block with that stamp isn't begun.
 pub fn plans_stay()
-    ensures stay { law.PlansStay }
+    ensures stay { law.CallsKeepPlans }
     ensures once { law.PlansBeginOnce }
 {}
 
 /// Whatever calls came, each plan has answers of nodes that were asked alone, a decision by these answers if any, and has noted none but
 /// nodes that take part.
 pub fn plans_are_right()
-    ensures right { law.PlansAreRight }
+    ensures right { law.CallsLeavePlansRight }
 {}

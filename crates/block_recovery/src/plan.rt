@@ -1,7 +1,7 @@
 ghost use Rattle.std.specs.Prelude.{◌≡◌, IfOk, IfErr, OnOk, OnErr, Some, None};
 ghost use Rattle.block_recovery.specs.Decision.{decision_of};
 ghost use Rattle.block_recovery.specs.Plans as spec;
-ghost use Rattle.block_recovery.specs.Plans.{IsFaultOf};
+ghost use Rattle.block_recovery.specs.Plans.{IsPlanFaultOf};
 
 use crate::answer::{Answer, Answers};
 use crate::decision::{Commit, Decision};
@@ -62,7 +62,7 @@ impl Plan {
     pub(crate) fn reply(&mut self, node: NodeId, answer: Answer) -> Result<(), PlanFault>
         ensures allowed { OnOk result (spec.refused_reply node (Some self.old) ≡ None) }
         ensures ok { OnOk result (self.new ≡ spec.with_answer node answer self.old) }
-        ensures fault { IfErr result (IsFaultOf (spec.refused_reply node (Some self.old))) }
+        ensures fault { IfErr result (IsPlanFaultOf (spec.refused_reply node (Some self.old))) }
         ensures err { OnErr result (self.new ≡ self.old) }
     {
         if self.answers.contains(node) {
@@ -80,7 +80,7 @@ impl Plan {
         ensures allowed { OnOk result (spec.refused_decide (Some self.old) ≡ None) }
         ensures told { IfOk result (λ decision. decision_of self.old.answers ≡ Some decision) }
         ensures ok { OnOk result (self.new ≡ spec.with_decision self.old) }
-        ensures fault { IfErr result (IsFaultOf (spec.refused_decide (Some self.old))) }
+        ensures fault { IfErr result (IsPlanFaultOf (spec.refused_decide (Some self.old))) }
         ensures err { OnErr result (self.new ≡ self.old) }
     {
         if self.decision.is_some() {
@@ -108,7 +108,7 @@ impl Plan {
     pub(crate) fn update(&mut self, node: NodeId) -> Result<(), PlanFault>
         ensures allowed { OnOk result (spec.refused_updated node (Some self.old) ≡ None) }
         ensures ok { OnOk result (self.new ≡ spec.with_updated node self.old) }
-        ensures fault { IfErr result (IsFaultOf (spec.refused_updated node (Some self.old))) }
+        ensures fault { IfErr result (IsPlanFaultOf (spec.refused_updated node (Some self.old))) }
         ensures err { OnErr result (self.new ≡ self.old) }
     {
         if self.updated.contains(node) {
@@ -123,9 +123,9 @@ impl Plan {
 
     // The decided length, with the nodes that hold a replica of it.
     pub(crate) fn commit(&self, alloc: Global) -> Result<Commit, PlanFault>
-        ensures allowed { OnOk result (spec.refused_commit (Some self.now) ≡ None) }
+        ensures allowed { OnOk result (spec.refused_plan_commit (Some self.now) ≡ None) }
         ensures told { IfOk result (λ commit. spec.commit_of self.now ≡ Some commit) }
-        ensures fault { IfErr result (IsFaultOf (spec.refused_commit (Some self.now))) }
+        ensures fault { IfErr result (IsPlanFaultOf (spec.refused_plan_commit (Some self.now))) }
     {
         let Some(decision) = &self.decision else {
             return Err(PlanFault::Refused(PlanRefusal::Stranger));

@@ -1,6 +1,6 @@
 ghost use Rattle.std.specs.Prelude.{◌≡◌, [], IfOk, IfErr, OnOk, OnErr, Some, None, option_copied, option_and_then};
 ghost use Rattle.block_recovery.specs.Plans as spec;
-ghost use Rattle.block_recovery.specs.Plans.{IsFaultOf, changed, plan_at};
+ghost use Rattle.block_recovery.specs.Plans.{IsPlanFaultOf, with_plan_changed, plan_at};
 
 use crate::answer::Answer;
 use crate::block_plans::BlockPlans;
@@ -91,8 +91,8 @@ impl Plans {
     pub fn begin(&mut self, recover: &Recover) -> Result<NodeSet, PlanFault>
         ensures allowed { OnOk result (spec.refused_begin recover.now self.old ≡ None) }
         ensures asked { IfOk result (λ nodes. nodes ≡ recover.now.nodes) }
-        ensures ok { OnOk result (self.new ≡ spec.begun recover.now self.old) }
-        ensures fault { IfErr result (IsFaultOf (spec.refused_begin recover.now self.old)) }
+        ensures ok { OnOk result (self.new ≡ spec.with_plan_begun recover.now self.old) }
+        ensures fault { IfErr result (IsPlanFaultOf (spec.refused_begin recover.now self.old)) }
         ensures err { OnErr result (self.new ≡ self.old) }
     {
         if let Some(begun) = self.newest(recover.block) {
@@ -119,8 +119,8 @@ impl Plans {
         answer: Answer,
     ) -> Result<(), PlanFault>
         ensures allowed { OnOk result (spec.refused_reply node (plan_at block stamp self.old) ≡ None) }
-        ensures ok { OnOk result (self.new ≡ changed (spec.with_answer node answer) block stamp self.old) }
-        ensures fault { IfErr result (IsFaultOf (spec.refused_reply node (plan_at block stamp self.old))) }
+        ensures ok { OnOk result (self.new ≡ with_plan_changed (spec.with_answer node answer) block stamp self.old) }
+        ensures fault { IfErr result (IsPlanFaultOf (spec.refused_reply node (plan_at block stamp self.old))) }
         ensures err { OnErr result (self.new ≡ self.old) }
     {
         let Some(own) = self.by_block.get_mut(&block) else {
@@ -138,8 +138,8 @@ impl Plans {
     pub fn decide(&mut self, block: BlockId, stamp: Stamp) -> Result<Decision, PlanFault>
         ensures allowed { OnOk result (spec.refused_decide (plan_at block stamp self.old) ≡ None) }
         ensures told { IfOk result (λ decision. option_and_then spec.decision_for (plan_at block stamp self.old) ≡ Some decision) }
-        ensures ok { OnOk result (self.new ≡ changed spec.with_decision block stamp self.old) }
-        ensures fault { IfErr result (IsFaultOf (spec.refused_decide (plan_at block stamp self.old))) }
+        ensures ok { OnOk result (self.new ≡ with_plan_changed spec.with_decision block stamp self.old) }
+        ensures fault { IfErr result (IsPlanFaultOf (spec.refused_decide (plan_at block stamp self.old))) }
         ensures err { OnErr result (self.new ≡ self.old) }
     {
         let Some(own) = self.by_block.get_mut(&block) else {
@@ -155,8 +155,8 @@ impl Plans {
     /// memory. Nothing has changed then.
     pub fn updated(&mut self, block: BlockId, stamp: Stamp, node: NodeId) -> Result<(), PlanFault>
         ensures allowed { OnOk result (spec.refused_updated node (plan_at block stamp self.old) ≡ None) }
-        ensures ok { OnOk result (self.new ≡ changed (spec.with_updated node) block stamp self.old) }
-        ensures fault { IfErr result (IsFaultOf (spec.refused_updated node (plan_at block stamp self.old))) }
+        ensures ok { OnOk result (self.new ≡ with_plan_changed (spec.with_updated node) block stamp self.old) }
+        ensures fault { IfErr result (IsPlanFaultOf (spec.refused_updated node (plan_at block stamp self.old))) }
         ensures err { OnErr result (self.new ≡ self.old) }
     {
         let Some(own) = self.by_block.get_mut(&block) else {
@@ -172,9 +172,9 @@ impl Plans {
     /// `Stranger` where there is no such plan or it isn't decided, then `NoReplicaAnswered` where no node has cut its replica; or out of
     /// memory.
     pub fn commit(&self, block: BlockId, stamp: Stamp) -> Result<Commit, PlanFault>
-        ensures allowed { OnOk result (spec.refused_commit (plan_at block stamp self.now) ≡ None) }
+        ensures allowed { OnOk result (spec.refused_plan_commit (plan_at block stamp self.now) ≡ None) }
         ensures told { IfOk result (λ commit. option_and_then spec.commit_of (plan_at block stamp self.now) ≡ Some commit) }
-        ensures fault { IfErr result (IsFaultOf (spec.refused_commit (plan_at block stamp self.now))) }
+        ensures fault { IfErr result (IsPlanFaultOf (spec.refused_plan_commit (plan_at block stamp self.now))) }
     {
         match self.get(block, stamp) {
             Some(plan) => plan.commit(self.alloc),

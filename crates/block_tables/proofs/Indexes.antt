@@ -3,7 +3,7 @@ use Rattle.std.proofs.Common.{◌≡◌, ℕ, Bool, true, false, not, ◌&&◌, 
 use Rattle.std.specs.Option.{is_some}
 use Rattle.block_records.specs.Numbers.{is_number, has_number, entry_at}
 use Rattle.block_index.specs.Relation.{relates}
-use Rattle.block_records.specs.Reports.{agreeing, others_of, with_reports_of}
+use Rattle.block_records.specs.Reports.{agreeing_reports, others_of, with_reports_of}
 use Rattle.block_records.specs.Verdicts.{holds_by}
 use Rattle.block_tables.specs.Changes.{with_recovered}
 use Rattle.block_tables.specs.Kept.{IsIndexed}
@@ -83,6 +83,15 @@ holds_more own new node bytes expected put n =
     more (has_number n own.expected) (is_some (entry_at n own.reports)) (is_number node n) bytes (entry_at n own.reports) refl
     ∙ (ap (λ found. has_number n own.expected || is_some found) (sym (put n)) ∙ ap (λ nodes. has_number n nodes || is_some (entry_at n new.reports)) (sym expected))
 
+-- a node that holds the block has reported it again
+pub holds_again : (own new : BlockRecord) (node bytes : ℕ) → new.expected ≡ own.expected → ((q : ℕ) → entry_at q new.reports ≡ cond (is_number node q) (Some bytes) (entry_at q own.reports))
+    → holds_by node (Some own) ≡ true → (n : ℕ) → holds_by n (Some own) ≡ holds_by n (Some new)
+holds_again own new node bytes expected put held n = by (is_number node n) refl ∙ holds_more own new node bytes expected put n
+  where
+    by : (x : Bool) → is_number node n ≡ x → holds_by n (Some own) ≡ cond x true (holds_by n (Some own))
+    by false at = refl
+    by true at = ap (λ q. holds_by q (Some own)) (sym (number_is node n at)) ∙ held
+
 -- a node's report has ended that isn't to hold the block
 pub holds_less : (own new : BlockRecord) (node : ℕ) → new.expected ≡ own.expected → ((q : ℕ) → entry_at q new.reports ≡ cond (is_number node q) None (entry_at q own.reports))
     → has_number node own.expected ≡ false → (n : ℕ) → cond (is_number node n) false (holds_by n (Some own)) ≡ holds_by n (Some new)
@@ -157,7 +166,7 @@ module _ (own : BlockRecord) (length : ℕ) (nodes fresh gone : List ℕ) (repor
       ∙ ap (λ x. has_number n nodes || x) (sym (told n)))))
 
   pub indexed_recovered : (table after : List (ℕ × BlockRecord)) (index now : List (ℕ × List ℕ)) (block : ℕ)
-      → IsIndexed table index → Some own ≡ entry_at block table → reports ≡ with_reports_of nodes length (agreeing length own.reports)
+      → IsIndexed table index → Some own ≡ entry_at block table → reports ≡ with_reports_of nodes length (agreeing_reports length own.reports)
       → ((n b : ℕ) → relates now n b ≡ cond (is_number block b && has_number n gone) false (cond (is_number block b && has_number n fresh) true (relates index n b)))
       → PutsRecord block (Some (with_recovered length nodes own)) table after → IsIndexed after now
   indexed_recovered table after index now block law found is says put =

@@ -8,12 +8,12 @@ use Rattle.std.specs.Map.{keys_of, values_of, set_value}
 use Rattle.std.specs.Option.{is_some}
 use Rattle.std.specs.Ordering.{nat_cmp}
 use Rattle.block_records.specs.Numbers.{is_number, has_number, entry_at}
-use Rattle.block_records.specs.Reports.{agreeing, others_of}
+use Rattle.block_records.specs.Reports.{agreeing_reports, others_of}
 use Rattle.block_records.specs.Verdicts.{holds_by}
 use Rattle.block_records.specs.declared.block_record.BlockRecord.{BlockRecord}
 use Rattle.block_records.proofs.Reporting.{has_key, has_kept, kept_reports, holds_agreeing}
-use Rattle.block_tables.specs.Changes.{changed, changed_by, with_length}
-use Rattle.block_tables.specs.Kept.{blocks_of, load, load_without}
+use Rattle.block_tables.specs.Changes.{with_record_changed, changed_by, with_length}
+use Rattle.block_tables.specs.Kept.{blocks_on, load, load_without}
 
 abbrev pub weight : ℕ → BlockRecord → ℕ
 weight node own = cond (holds_by node (Some own)) 1 0
@@ -99,11 +99,11 @@ module _ (bytes node : ℕ) (own : BlockRecord) (sorted : IsStrictlySortedBy nat
       by false none = omega (arith, none, sums, load_is node table, load_is node new)
 
 pub less_behind : (bytes node block : ℕ) (own : BlockRecord) (table : List (ℕ × BlockRecord)) (leaving : List ℕ) → IsStrictlySortedBy nat_cmp (keys_of own.reports) → entry_at block table ≡ Some own
-    → leaving ≡ filter (λ other. not (has_number other own.expected)) (others_of bytes own.reports) → load_without table leaving node ≡ load (changed (with_length bytes) block table) node
+    → leaving ≡ filter (λ other. not (has_number other own.expected)) (others_of bytes own.reports) → load_without table leaving node ≡ load (with_record_changed (with_length bytes) block table) node
 less_behind bytes node block own table leaving sorted found is =
     ap (λ nodes. load_without table nodes node) is ∙ (less bytes node own sorted block table found ∙ ap (λ entry. load (changed_by (with_length bytes) block entry table) node) (sym found))
 
 pub none_less : (bytes node block : ℕ) (table : List (ℕ × BlockRecord)) (leaving : List ℕ) → entry_at block table ≡ None → leaving ≡ []
-    → load_without table leaving node ≡ load (changed (with_length bytes) block table) node
+    → load_without table leaving node ≡ load (with_record_changed (with_length bytes) block table) node
 none_less bytes node block table leaving unknown is =
     ap (λ nodes. load_without table nodes node) is ∙ ap (λ entry. load (changed_by (with_length bytes) block entry table) node) (sym unknown)

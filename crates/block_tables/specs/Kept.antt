@@ -14,11 +14,11 @@ abbrev pub IsIndexed : List (ℕ × BlockRecord) → List (ℕ × List ℕ) → 
 IsIndexed table index = (node block : ℕ) → relates index node block ≡ holds table node block
 
 -- the blocks that a node is to hold or reported, by their numbers
-abbrev pub blocks_of : List (ℕ × BlockRecord) → ℕ → List ℕ
-blocks_of table node = keys_of (filter (λ entry. holds_by node (Some entry.1)) table)
+abbrev pub blocks_on : List (ℕ × BlockRecord) → ℕ → List ℕ
+blocks_on table node = keys_of (filter (λ entry. holds_by node (Some entry.1)) table)
 
 abbrev pub load : List (ℕ × BlockRecord) → ℕ → ℕ
-load table node = length (blocks_of table node)
+load table node = length (blocks_on table node)
 
 -- the same, where some nodes have a block less
 abbrev pub load_without : List (ℕ × BlockRecord) → List ℕ → ℕ → ℕ

@@ -6,12 +6,12 @@ ghost use Rattle.std.specs.Map.{remove_entry, keys_of};
 ghost use Rattle.std.specs.Ordering.{nat_cmp};
 ghost use Rattle.block_records.specs.Numbers.{is_number, has_number, entry_at};
 ghost use Rattle.block_placement.specs.Placement.{beside, is_chosen, targets};
-ghost use Rattle.block_tables.specs.Kept.{holds, load, load_without, blocks_of};
+ghost use Rattle.block_tables.specs.Kept.{holds, load, load_without, blocks_on};
 ghost use Rattle.block_index.specs.Relation.{relates};
 ghost use Rattle.block_tables.specs.Recovered.{AreRecovered, AreFresh, AreGone};
-ghost use Rattle.block_tables.specs.Changes.{changed, with_report, without_report, with_replication, with_length, without_blocks, with_recovery, with_recovered, with_hand_out, handed_out};
+ghost use Rattle.block_tables.specs.Changes.{with_record_changed, with_report, without_report, with_replication, with_length, without_blocks, with_recovery, with_recovered, with_hand_out, with_hand_outs};
 ghost use Rattle.block_records.specs.Marks.{with_marks};
-ghost use Rattle.block_records.specs.Reports.{others_of, agreeing, with_reports_of};
+ghost use Rattle.block_records.specs.Reports.{others_of, agreeing_reports, with_reports_of};
 
 use block_index::node_blocks::NodeBlocks;
 use block_placement::candidate::{Candidate, last_chosen};
@@ -54,8 +54,8 @@ fn set_recovered(
     nodes: NodeSet,
     reports: Reports,
 )
-    requires { IfSome (entry_at block records.old.entries) (λ own. reports ≡ with_reports_of nodes bytes (agreeing bytes own.reports)) }
-    ensures changed { records.new.entries ≡ changed (with_recovered bytes nodes) block records.old.entries }
+    requires { IfSome (entry_at block records.old.entries) (λ own. reports ≡ with_reports_of nodes bytes (agreeing_reports bytes own.reports)) }
+    ensures changed { records.new.entries ≡ with_record_changed (with_recovered bytes nodes) block records.old.entries }
     ensures others { IfSome (entry_at block records.old.entries) (λ own. (q : ℕ) → entry_at q records.new.entries ≡ (if is_number block q then Some (with_recovered bytes nodes own) else entry_at q records.old.entries)) }
 {
     let Some(own) = records.get_mut(&block) else {
@@ -84,7 +84,7 @@ fn recovered(
     bytes: u64,
     nodes: &[NodeId],
 ) -> Result<Holders, AllocError>
-    ensures reports { IfOk result (λ left. left.reports ≡ with_reports_of nodes.now bytes (agreeing bytes own.now.reports)) }
+    ensures reports { IfOk result (λ left. left.reports ≡ with_reports_of nodes.now bytes (agreeing_reports bytes own.now.reports)) }
     ensures reporting { IfOk result (λ left. AreRecovered own.now bytes nodes.now left.reports) }
     ensures fresh { IfOk result (λ left. AreFresh own.now nodes.now left.fresh.items) }
     ensures gone { IfOk result (λ left. AreGone own.now left.reports left.gone.items) }
@@ -253,7 +253,7 @@ impl BlockTable {
 
     // The nodes that have a block less once a block's length is committed.
     fn leaving(&self, alloc: Global, block: BlockId, bytes: u64) -> Result<Vec<NodeId>, AllocError>
-        ensures { IfOk result (λ leaving. (node : ℕ) → load_without self.now leaving.items node ≡ load (changed (with_length bytes) block self.now) node) }
+        ensures { IfOk result (λ leaving. (node : ℕ) → load_without self.now leaving.items node ≡ load (with_record_changed (with_length bytes) block self.now) node) }
     {
         let Some(own) = self.records.get(&block) else {
             return Ok(Vec::new(alloc));
@@ -278,7 +278,7 @@ impl BlockTable {
         bytes: u64,
     ) -> Result<NodeSet, AllocError>
         requires { 0 < count }
-        ensures { IfOk result (λ chosen. chosen ≡ targets (load (changed (with_length bytes) block self.now)) count nodes.now) }
+        ensures { IfOk result (λ chosen. chosen ≡ targets (load (with_record_changed (with_length bytes) block self.now)) count nodes.now) }
     {
         let leaving = self.leaving(alloc, block, bytes)?;
         self.targets_without(alloc, nodes, &leaving, count)
@@ -334,26 +334,27 @@ impl BlockTable {
     /// # Errors
     /// Out of memory. Nothing has changed then.
     pub fn hold(&mut self, block: BlockId, node: NodeId, bytes: u64) -> Result<(), AllocError>
-        ensures ok { OnOk result (self.new ≡ changed (with_report node bytes) block self.old) }
+        ensures ok { OnOk result (self.new ≡ with_record_changed (with_report node bytes) block self.old) }
         ensures err { OnErr result (self.new ≡ self.old) }
     {
         let Some(own) = self.records.get_mut(&block) else {
             return Ok(());
         };
-        let holds = own.holds(node);
-        self.held.insert(node, block)?;
-        let Err(fault) = own.reports.insert(node, bytes) else {
+        if own.holds(node) {
+            own.reports.insert(node, bytes)?;
             return Ok(());
-        };
-        if !holds {
-            self.held.remove(node, block);
         }
-        Err(fault)
+        self.held.insert(node, block)?;
+        if let Err(fault) = own.reports.insert(node, bytes) {
+            self.held.remove(node, block);
+            return Err(fault);
+        }
+        Ok(())
     }
 
     /// Ends a node's report of a block. Costs a look-up of the block, and one among its nodes, and takes no memory.
     pub fn end_report(&mut self, block: BlockId, node: NodeId)
-        ensures { self.new ≡ changed (without_report node) block self.old }
+        ensures { self.new ≡ with_record_changed (without_report node) block self.old }
     {
         let Some(own) = self.records.get_mut(&block) else {
             return;
@@ -366,7 +367,7 @@ impl BlockTable {
 
     /// Gives a block another replication; nothing changes where the block isn't known. Costs a look-up, and takes no memory.
     pub fn set_replication(&mut self, block: BlockId, replication: Repl)
-        ensures { self.new ≡ changed (with_replication replication) block self.old }
+        ensures { self.new ≡ with_record_changed (with_replication replication) block self.old }
     {
         let Some(own) = self.records.get_mut(&block) else {
             return;
@@ -378,7 +379,7 @@ impl BlockTable {
     /// Costs a look-up for each of them, and takes no memory.
     pub fn commit(&mut self, block: BlockId, bytes: u64, others: &[NodeId])
         requires { IfSome (entry_at block self.old) (λ own. others.now ≡ others_of bytes own.reports) }
-        ensures { self.new ≡ changed (with_length bytes) block self.old }
+        ensures { self.new ≡ with_record_changed (with_length bytes) block self.old }
     {
         let Some(own) = self.records.get_mut(&block) else {
             return;
@@ -391,7 +392,7 @@ impl BlockTable {
     /// Gives a block a newer stamp, which nobody has reported, and notes that a recovery of it begins. Costs a look-up for each node that
     /// reported it, and takes no memory.
     pub fn begin_recovery(&mut self, block: BlockId, stamp: Stamp, now: Moment)
-        ensures { self.new ≡ changed (with_recovery stamp now) block self.old }
+        ensures { self.new ≡ with_record_changed (with_recovery stamp now) block self.old }
     {
         let Some(own) = self.records.get_mut(&block) else {
             return;
@@ -417,7 +418,7 @@ impl BlockTable {
         marks: &mut Marks,
         more: Vec<Mark>,
     ) -> Result<(), AllocError>
-        ensures ok { OnOk result (self.new ≡ changed (with_recovered bytes nodes) block self.old) }
+        ensures ok { OnOk result (self.new ≡ with_record_changed (with_recovered bytes nodes) block self.old) }
         ensures marked { OnOk result (marks.new ≡ with_marks marks.old more.items) }
         ensures err { OnErr result ((self.new ≡ self.old) × (marks.new ≡ marks.old)) }
     {
@@ -433,7 +434,7 @@ impl BlockTable {
     /// Notes that nodes are told now to copy these blocks; of those that aren't known nothing is noted. Costs a look-up for each, and takes
     /// no memory.
     pub fn hand_out(&mut self, blocks: &[BlockId], now: Moment)
-        ensures { self.new ≡ handed_out now self.old blocks.now }
+        ensures { self.new ≡ with_hand_outs now self.old blocks.now }
     {
         for block in blocks {
             self.hand_out_one(*block, now);
@@ -441,7 +442,7 @@ impl BlockTable {
     }
 
     fn hand_out_one(&mut self, block: BlockId, now: Moment)
-        ensures { self.new ≡ changed (with_hand_out now) block self.old }
+        ensures { self.new ≡ with_record_changed (with_hand_out now) block self.old }
     {
         let Some(own) = self.records.get_mut(&block) else {
             return;
@@ -454,7 +455,7 @@ impl BlockTable {
     /// # Errors
     /// Out of memory.
     pub fn blocks_of(&self, alloc: Global, node: NodeId) -> Result<Vec<BlockId>, AllocError>
-        ensures blocks { IfOk result (λ blocks. blocks.items ≡ blocks_of self.now node) }
+        ensures blocks { IfOk result (λ blocks. blocks.items ≡ blocks_on self.now node) }
         ensures ascending { IsStrictlySortedBy nat_cmp (keys_of self.now) }
     {
         // its contract tells that the keys ascend

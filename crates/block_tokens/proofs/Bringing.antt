@@ -6,15 +6,15 @@ use Rattle.std.specs.Map.{keys_of}
 use Rattle.std.specs.Ordering.{nat_cmp}
 use Rattle.std.specs.declared.cmp.Ordering.TheVariants.{Less}
 use Rattle.block_tokens.specs.KeyList.{KeyList, AreKeys, key_with, usable_keys, unless_expired, merged_keys}
-use Rattle.block_tokens.specs.Laws.{IsHeld}
-use Rattle.block_tokens.specs.Ring.{Ring, IsRing, ring_keys, update_of}
+use Rattle.block_tokens.specs.Laws.{IsKeyHeld}
+use Rattle.block_tokens.specs.Ring.{KeyRing, IsRing, ring_keys, update_of}
 use Rattle.hdfs_types.specs.declared.key_list.HeldKey.{HeldKey}
 use Rattle.block_tokens.proofs.Ascending.{usable_ascend, less_is}
 use Rattle.block_tokens.proofs.Expiries.{brought}
 use Rattle.block_tokens.proofs.Updates.{at_same, at_other, merged_ascend}
 use Rattle.block_tokens.proofs.Usable.{usable_key}
 
-abbrev current : Ring → HeldKey
+abbrev current : KeyRing → HeldKey
 current ring = record { key = ring.key; expiry = None }
 
 last_serial : (P : ℕ → Type 0) (keys : KeyList) (serial : ℕ) (held : HeldKey) → AllByRecursion P (keys_of (keys ++ (serial, held) ∷ [])) → P serial
@@ -29,8 +29,8 @@ last_found (e ∷ keys) serial held h =
     let below : e.0 < serial = less_is e.0 serial (last_serial (λ y. nat_cmp e.0 y ≡ Less) keys serial held h.0) in
     rw (at_other serial e.0 (λ (same : serial ≡ e.0). absurd (omega arith))) (last_found keys serial held h.1)
 
-pub key_brought : (ring : Ring) (keys : KeyList) (sent now : ℕ) → IsRing ring → AreKeys keys → key_with ring.serial keys ≡ None
-    → IsHeld (merged_keys keys (update_of ring sent)) now ring.serial ring.key
+pub key_brought : (ring : KeyRing) (keys : KeyList) (sent now : ℕ) → IsRing ring → AreKeys keys → key_with ring.serial keys ≡ None
+    → IsKeyHeld (merged_keys keys (update_of ring sent)) now ring.serial ring.key
 unfolding update_of
 key_brought ring keys sent now ordered keys_ordered unknown =
     let update : KeyList = update_of ring sent in

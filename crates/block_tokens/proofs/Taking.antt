@@ -12,9 +12,9 @@ use Rattle.permission_specs.specs.declared.modes.Modes.{Modes}
 use Rattle.sha1.specs.Sha1.{sha1, digest_bytes}
 use Rattle.block_tokens.specs.Hmac.{hmac_sha1}
 use Rattle.block_tokens.specs.KeyList.{KeyList, key_with, usable_keys}
-use Rattle.block_tokens.specs.Laws.{IsTaken, IsHeld, IsIssue}
+use Rattle.block_tokens.specs.Laws.{IsTokenTaken, IsKeyHeld, IsIssue}
 use Rattle.block_tokens.specs.Reading.{parts_of}
-use Rattle.block_tokens.specs.Ring.{Ring, parts_with, coded_token, grant_of}
+use Rattle.block_tokens.specs.Ring.{KeyRing, parts_with, coded_token, grant_of}
 use Rattle.block_tokens.specs.TokenTest.{Access, access_test, has_code, code_test, parts_test, token_test}
 use Rattle.block_tokens.specs.TokenText.{Body, TokenText, version_1_fields, coded_bytes, before_code}
 use Rattle.hdfs_types.specs.declared.key_list.HeldKey.{HeldKey}
@@ -79,7 +79,7 @@ code_right : (held : HeldKey) (bytes : List ℕ) (p : Body) → TokenText bytes 
 code_right held bytes p t e =
     ap (λ (x : List ℕ). same (hmac_sha1 held.key x) p.code) (before bytes p t) ∙ ap (λ (x : List ℕ). same x p.code) (sym e) ∙ same_self p.code
 
-pub taken : (keys : KeyList) (access : Access) (bytes : List ℕ) (p : Body) (held : HeldKey) → IsTaken keys access bytes p held → token_test keys access bytes ≡ None
+pub taken : (keys : KeyList) (access : Access) (bytes : List ℕ) (p : Body) (held : HeldKey) → IsTokenTaken keys access bytes p held → token_test keys access bytes ≡ None
 taken keys access bytes p held h =
     test_is keys access bytes p (Some held) h.text h.usable
     ∙ rw (code_right held bytes p h.text h.code) (access_right p access h.in_time h.user h.block h.allowed)
@@ -124,7 +124,7 @@ access_tells p access e =
     }
 
 code_tells : (keys : KeyList) (access : Access) (bytes : List ℕ) (p : Body) (known : Option HeldKey) → TokenText bytes p → key_with p.serial (usable_keys access.now keys) ≡ known
-    → code_test known bytes p access ≡ None → (held : HeldKey) × IsTaken keys access bytes p held
+    → code_test known bytes p access ≡ None → (held : HeldKey) × IsTokenTaken keys access bytes p held
 code_tells keys access bytes p None t k e = absurd (refused_not e)
 code_tells keys access bytes p (Some held) t k e =
     let a = chosen_on (has_code held.key bytes p.code) (access_test p access) CodeMismatch e in
@@ -133,14 +133,14 @@ code_tells keys access bytes p (Some held) t k e =
     (held, record { text = t; usable = k; code = code; in_time = right.in_time; user = right.user; block = right.block; allowed = right.allowed })
 
 parts_tell : (keys : KeyList) (access : Access) (bytes : List ℕ) (read : Option Body) → IsBytes bytes → parts_of bytes ≡ read → parts_test keys bytes read access ≡ None
-    → (p : Body) × (held : HeldKey) × IsTaken keys access bytes p held
+    → (p : Body) × (held : HeldKey) × IsTokenTaken keys access bytes p held
 parts_tell keys access bytes None fits r e = absurd (refused_not e)
 parts_tell keys access bytes (Some p) fits r e =
     let t : TokenText bytes p = read_is_text bytes p fits r in
     let found = code_tells keys access bytes p (key_with p.serial (usable_keys access.now keys)) t refl e in
     (p, found.0, found.1)
 
-pub test_tells : (keys : KeyList) (access : Access) (bytes : List ℕ) → IsBytes bytes → token_test keys access bytes ≡ None → (p : Body) × (held : HeldKey) × IsTaken keys access bytes p held
+pub test_tells : (keys : KeyList) (access : Access) (bytes : List ℕ) → IsBytes bytes → token_test keys access bytes ≡ None → (p : Body) × (held : HeldKey) × IsTokenTaken keys access bytes p held
 unfolding token_test
 test_tells keys access bytes fits e = parts_tell keys access bytes (parts_of bytes) fits refl e
 
@@ -159,8 +159,8 @@ code_length : (key text : List ℕ) → length (hmac_sha1 key text) ≡ 20
 unfolding hmac_sha1
 code_length key text = sha1_length _
 
-pub issued_taken : (ring : Ring) (issued now : ℕ) (user : List ℕ) (block mode : ℕ) (modes : Modes) (keys : KeyList)
-    → IsIssue ring issued user block modes → IsHeld keys now ring.serial ring.key → covers modes.0 mode ≡ true → now < issued + ring.lifetime
+pub issued_taken : (ring : KeyRing) (issued now : ℕ) (user : List ℕ) (block mode : ℕ) (modes : Modes) (keys : KeyList)
+    → IsIssue ring issued user block modes → IsKeyHeld keys now ring.serial ring.key → covers modes.0 mode ≡ true → now < issued + ring.lifetime
     → token_test keys (record { now = now; caller = user; block = block; mode = mode }) (grant_of ring issued user block modes).token ≡ None
 unfolding coded_token
 issued_taken ring issued now user block mode modes keys fits held covered lt =

@@ -6,7 +6,7 @@ use Rattle.hdfs_values.specs.Who.{IsWho}
 use Rattle.permission_specs.specs.declared.modes.Modes.{Modes}
 use Rattle.block_tokens.specs.Hmac.{hmac_sha1}
 use Rattle.block_tokens.specs.KeyList.{KeyList, AreKeys, key_with, usable_keys, merged_keys}
-use Rattle.block_tokens.specs.Ring.{Ring, IsRing, update_of, grant_of}
+use Rattle.block_tokens.specs.Ring.{KeyRing, IsRing, update_of, grant_of}
 use Rattle.block_tokens.specs.TokenTest.{Access, token_test}
 use Rattle.block_tokens.specs.TokenText.{Body, AreParts, TokenText, coded_bytes}
 use Rattle.hdfs_types.specs.declared.key_list.HeldKey.{HeldKey}
@@ -50,11 +50,11 @@ TokensEndWithTheirKey = (keys : KeyList) (updates : List KeyList) (expiry : ℕ)
 -- ---- tokens
 
 -- this key is held under the serial, and no known expiry of it has come
-abbrev pub IsHeld : KeyList → ℕ → ℕ → List ℕ → Type 0
-IsHeld keys now serial key = (held : HeldKey) × (key_with serial (usable_keys now keys) ≡ Some held) × (held.key ≡ key)
+abbrev pub IsKeyHeld : KeyList → ℕ → ℕ → List ℕ → Type 0
+IsKeyHeld keys now serial key = (held : HeldKey) × (key_with serial (usable_keys now keys) ≡ Some held) × (held.key ≡ key)
 
 -- the values that a ring, a moment, a block, modes and a user have by their types
-pub record IsIssue (ring : Ring) (then_now : ℕ) (user : List ℕ) (block : ℕ) (modes : Modes) : Type 0 where
+pub record IsIssue (ring : KeyRing) (then_now : ℕ) (user : List ℕ) (block : ℕ) (modes : Modes) : Type 0 where
   pub serial : ring.serial < 2 ^ 32
   pub lifetime : ring.lifetime < 2 ^ 32
   pub moment : then_now ≤ 2 ^ 62
@@ -65,17 +65,17 @@ pub record IsIssue (ring : Ring) (then_now : ℕ) (user : List ℕ) (block : ℕ
 -- a token that a ring issued is taken where its key is held: from its user, for its block, in each of its modes, at each moment
 -- below its expiry
 abbrev pub IssuedTokensAreTaken : Type 0
-IssuedTokensAreTaken = (ring : Ring) (issued now : ℕ) (user : List ℕ) (block mode : ℕ) (modes : Modes) (keys : KeyList)
-    → IsIssue ring issued user block modes → IsHeld keys now ring.serial ring.key → covers modes.0 mode ≡ true → now < issued + ring.lifetime
+IssuedTokensAreTaken = (ring : KeyRing) (issued now : ℕ) (user : List ℕ) (block mode : ℕ) (modes : Modes) (keys : KeyList)
+    → IsIssue ring issued user block modes → IsKeyHeld keys now ring.serial ring.key → covers modes.0 mode ≡ true → now < issued + ring.lifetime
     → token_test keys (record { now = now; caller = user; block = block; mode = mode }) (grant_of ring issued user block modes).token ≡ None
 
 -- a cache that knew no key with the ring's serial holds the ring's key once it merged the ring's update
 abbrev pub UpdatesBringTheKey : Type 0
-UpdatesBringTheKey = (ring : Ring) (keys : KeyList) (sent now : ℕ) → IsRing ring → AreKeys keys → key_with ring.serial keys ≡ None
-    → IsHeld (merged_keys keys (update_of ring sent)) now ring.serial ring.key
+UpdatesBringTheKey = (ring : KeyRing) (keys : KeyList) (sent now : ℕ) → IsRing ring → AreKeys keys → key_with ring.serial keys ≡ None
+    → IsKeyHeld (merged_keys keys (update_of ring sent)) now ring.serial ring.key
 
 -- everything that a token is taken for
-pub record IsTaken (keys : KeyList) (access : Access) (bytes : List ℕ) (parts : Body) (held : HeldKey) : Type 0 where
+pub record IsTokenTaken (keys : KeyList) (access : Access) (bytes : List ℕ) (parts : Body) (held : HeldKey) : Type 0 where
   pub text : TokenText bytes parts
   pub usable : key_with parts.serial (usable_keys access.now keys) ≡ Some held
   pub code : parts.code ≡ hmac_sha1 held.key (coded_bytes parts)
@@ -86,8 +86,8 @@ pub record IsTaken (keys : KeyList) (access : Access) (bytes : List ℕ) (parts 
 
 -- the test names no refusal exactly where all of that holds
 abbrev pub TakenWhereAllHolds : Type 0
-TakenWhereAllHolds = (keys : KeyList) (access : Access) (bytes : List ℕ) (parts : Body) (held : HeldKey) → IsTaken keys access bytes parts held → token_test keys access bytes ≡ None
+TakenWhereAllHolds = (keys : KeyList) (access : Access) (bytes : List ℕ) (parts : Body) (held : HeldKey) → IsTokenTaken keys access bytes parts held → token_test keys access bytes ≡ None
 
 abbrev pub AllHoldsWhereTaken : Type 0
 AllHoldsWhereTaken = (keys : KeyList) (access : Access) (bytes : List ℕ) → ((i : ℕ) → slice_index bytes i < 256) → token_test keys access bytes ≡ None
-    → (parts : Body) × (held : HeldKey) × IsTaken keys access bytes parts held
+    → (parts : Body) × (held : HeldKey) × IsTokenTaken keys access bytes parts held

@@ -43,15 +43,15 @@ pub struct KeyRing {
 }
 
 impl Model for KeyRing {
-    ghost use Rattle.block_tokens.specs.Ring.{Ring, IsRing};
+    ghost use Rattle.block_tokens.specs.Ring.{KeyRing, IsRing};
 
-    ghost Value = { Ring };
+    ghost Value = { KeyRing };
 
-    ghost use Rattle.block_tokens.specs.Shown.{ring_of};
+    ghost use Rattle.block_tokens.specs.Shown.{shown_ring};
 
-    ghost view = { ring_of };
+    ghost view = { shown_ring };
 
-    ghost invariant = { λ ring. IsRing (ring_of ring) };
+    ghost invariant = { λ ring. IsRing (shown_ring ring) };
 }
 
 // The bytes with their code behind them.

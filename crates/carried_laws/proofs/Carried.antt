@@ -25,12 +25,12 @@ use Rattle.node_calls.specs.declared.refusal.ReplicaRefusal.TheVariants.{NoRepli
 use Rattle.node_replies.specs.Asking.{asked_by}
 use Rattle.node_replies.specs.Sending.{call_reply}
 use Rattle.replicas.specs.ReplicaStep as step
-use Rattle.replicas.specs.ReplicaStep.{held_at, replica_refusal, blocks_after}
+use Rattle.replicas.specs.ReplicaStep.{held_at, replica_refusal, replicas_after}
 use Rattle.replicas.specs.declared.held.Held.{Held}
 use Rattle.replicas.specs.declared.replica.Replica.{Replica}
-use Rattle.datanode.specs.NodeStep.{Node, node_after, node_answer, clock_with, call_refusal, access_of}
+use Rattle.datanode.specs.NodeStep.{DataNode, node_after, node_answer, clock_with, call_refusal, access_of}
 use Rattle.cluster_trace.specs.Provenance.{call_of}
-use Rattle.cluster_trace.specs.Trace.{Opening, Happened, happened, after}
+use Rattle.cluster_trace.specs.Trace.{ClusterOpening, Happened, event_happened, after}
 use Rattle.cluster_trace.specs.declared.event.Event.{Event}
 use Rattle.cluster_trace.proofs.Each.{each_append, each_more}
 use Rattle.cluster_trace.proofs.Sound.{message_brings}
@@ -53,20 +53,20 @@ begins limit stamp promised (Some replica) e = (replica, refl)
 -- ---- messages
 
 -- what a leading node is told was held, and updated to some length
-abbrev pub PlanCarries : Opening → List Event → PlanCall → Type 0
+abbrev pub PlanCarries : ClusterOpening → List Event → PlanCall → Type 0
 PlanCarries opening events (plan.Recover block stamp nodes token) = ⊤
 PlanCarries opening events (plan.Reply node block stamp state count) = HasAnswered opening events node block stamp state count
 PlanCarries opening events (plan.Decide block stamp) = ⊤
 PlanCarries opening events (plan.Updated node block stamp) = (count : ℕ) × HasUpdated opening events node block stamp count
 PlanCarries opening events (plan.Commit block stamp) = ⊤
 
-abbrev pub CarriesHeld : Opening → List Event → Message → Type 0
+abbrev pub CarriesHeld : ClusterOpening → List Event → Message → Type 0
 CarriesHeld opening events (message.Node to asked) = ⊤
 CarriesHeld opening events (message.Plan to asked) = PlanCarries opening events asked
 CarriesHeld opening events (message.Reported node block stamp count) = ⊤
 CarriesHeld opening events (message.CommitRecovery leader block stamp count nodes) = ⊤
 
-module _ (opening : Opening) (event : Event) (earlier : List Event) where
+module _ (opening : ClusterOpening) (event : Event) (earlier : List Event) where
   -- ---- what was held before
 
   answered_later : (node block stamp : ℕ) (state : ReplicaState) (count : ℕ) → HasAnswered opening earlier node block stamp state count → HasAnswered opening (event ∷ earlier) node block stamp state count
@@ -117,7 +117,7 @@ module _ (opening : Opening) (event : Event) (earlier : List Event) where
 
   -- ---- what is held now
 
-  module _ (own : Calls (after opening earlier) (call_of (after opening earlier) event) (happened (after opening earlier) event)) (presented : Presented) (asked : TokenCall) (is : own.called ≡ Presenting presented asked)
+  module _ (own : Calls (after opening earlier) (call_of (after opening earlier) event) (event_happened (after opening earlier) event)) (presented : Presented) (asked : TokenCall) (is : own.called ≡ Presenting presented asked)
       (allowed : call_refusal own.node (clock_with own.node own.now) (asked_by own.node.id presented asked) asked ≡ None) where
     abbrev with_token : Presented
     with_token = asked_by own.node.id presented asked
@@ -142,9 +142,9 @@ module _ (opening : Opening) (event : Event) (earlier : List Event) where
     }
 
     -- the node's replica
-    in_node : (found : Option Node) (one : Node) (replica : Replica) → found ≡ Some one → (held_at with_token.block one.blocks).replica ≡ Some replica
-        → option_and_then (λ (kept : Held). kept.replica) (option_map (λ (it : Node). held_at with_token.block it.blocks) found) ≡ Some replica
-    in_node found one replica e there = ap (λ (at : Option Node). option_and_then (λ (kept : Held). kept.replica) (option_map (λ (it : Node). held_at with_token.block it.blocks) at)) e ∙ there
+    in_node : (found : Option DataNode) (one : DataNode) (replica : Replica) → found ≡ Some one → (held_at with_token.block one.blocks).replica ≡ Some replica
+        → option_and_then (λ (kept : Held). kept.replica) (option_map (λ (it : DataNode). held_at with_token.block it.blocks) found) ≡ Some replica
+    in_node found one replica e there = ap (λ (at : Option DataNode). option_and_then (λ (kept : Held). kept.replica) (option_map (λ (it : DataNode). held_at with_token.block it.blocks) at)) e ∙ there
 
     answers : asked ≡ call.InitRecovery → HasAnswered opening (event ∷ earlier) own.node.id with_token.block with_token.stamp (step.own held).state (length (step.own held).bytes)
     answers e =
@@ -164,7 +164,7 @@ module _ (opening : Opening) (event : Event) (earlier : List Event) where
           long = ap (λ (kept : Option Replica). length (unwrap_or kept (record { stamp = 0; state = Writing; bytes = [] })).bytes) (sym found.1);
         }
 
-    left : (node_after own.node own.now own.called).blocks ≡ blocks_after asked with_token.stamp with_token.block own.node.blocks
+    left : (node_after own.node own.now own.called).blocks ≡ replicas_after asked with_token.stamp with_token.block own.node.blocks
     left = ap (λ (c : NodeCall). (node_after own.node own.now c).blocks) is ∙ blocks_left own.node own.now presented asked allowed
 
     node_left : entry_at own.node.id (after opening (event ∷ earlier)).nodes ≡ Some (node_after own.node own.now own.called)
@@ -178,7 +178,7 @@ module _ (opening : Opening) (event : Event) (earlier : List Event) where
     updates count e =
         let final : IsFinal with_token.stamp count (held_at with_token.block (node_after own.node own.now own.called).blocks) =
         subst (λ blocks. IsFinal with_token.stamp count (held_at with_token.block blocks))
-        (sym (left ∙ ap (λ (c : TokenCall). blocks_after c with_token.stamp with_token.block own.node.blocks) e))
+        (sym (left ∙ ap (λ (c : TokenCall). replicas_after c with_token.stamp with_token.block own.node.blocks) e))
         (update_leaves own.node.limit with_token.stamp with_token.block count own.node.blocks (passes (call.UpdateReplica count) e)) in
         record {
           later = [];
@@ -196,7 +196,7 @@ module _ (opening : Opening) (event : Event) (earlier : List Event) where
           long = final.long;
         }
 
-  sent : AllByRecursion (CarriesHeld opening (event ∷ earlier)) (happened (after opening earlier) event).sent
+  sent : AllByRecursion (CarriesHeld opening (event ∷ earlier)) (event_happened (after opening earlier) event).sent
   sent =
       event_sends (CarriesHeld opening (event ∷ earlier)) (after opening earlier) event
       (λ own presented asked is allowed. record {
@@ -210,10 +210,10 @@ module _ (opening : Opening) (event : Event) (earlier : List Event) where
       (λ own allowed. record { asks = λ to next. tt; commit = λ b stamp at. tt })
       (λ own. entry_sends (CarriesHeld opening (event ∷ earlier)) (after opening earlier) own.request (λ to next. tt) (λ to (order : Recover). tt))
 
-pub all_carried : (opening : Opening) (events : List Event) → AllByRecursion (CarriesHeld opening events) (after opening events).messages
+pub all_carried : (opening : ClusterOpening) (events : List Event) → AllByRecursion (CarriesHeld opening events) (after opening events).messages
 all_carried opening [] = tt
 all_carried opening (event ∷ earlier) =
-    each_append (CarriesHeld opening (event ∷ earlier)) (after opening earlier).messages (happened (after opening earlier) event).sent
+    each_append (CarriesHeld opening (event ∷ earlier)) (after opening earlier).messages (event_happened (after opening earlier) event).sent
     (each_more (CarriesHeld opening earlier) (CarriesHeld opening (event ∷ earlier)) (message_later opening event earlier) (after opening earlier).messages (all_carried opening earlier)) (sent opening event earlier)
 
 -- ---- the law

@@ -11,7 +11,7 @@ use Rattle.node_calls.specs.declared.message.Message.{Message}
 use Rattle.node_calls.specs.declared.message.Message.TheVariants as message
 use Rattle.plan_steps.specs.PlanStep.{plans_after}
 use Rattle.cluster_trace.specs.Provenance.{IsIn, call_of}
-use Rattle.cluster_trace.specs.Trace.{State, Opening, Happened, happened, after}
+use Rattle.cluster_trace.specs.Trace.{Cluster, ClusterOpening, Happened, event_happened, after}
 use Rattle.cluster_trace.specs.declared.event.Event.{Event}
 use Rattle.cluster_trace.proofs.Each.{some_is, each_in, in_append}
 use Rattle.cluster_trace.proofs.Sound.{message_brings}
@@ -37,11 +37,11 @@ table_at leader plans = unwrap_or (entry_at leader plans) []
 abbrev HaveTold : List (ℕ × PlanTable) → List Message → Type 0
 HaveTold plans messages = (leader block stamp node : ℕ) (own : Plan) → plan_at block stamp (table_at leader plans) ≡ Some own → HasNoted node own → IsIn (message.Plan leader (plan.Updated node block stamp)) messages
 
-plans_tell : (state : State) (event : Event) → HaveTold state.plans state.messages → HaveTold (happened state event).plans state.messages
+plans_tell : (state : Cluster) (event : Event) → HaveTold state.plans state.messages → HaveTold (event_happened state event).plans state.messages
 plans_tell state event before = by (does state event)
   where
     what : Happened
-    what = happened state event
+    what = event_happened state event
 
     one : (own : Leads state what) (leader block stamp node : ℕ) → own.id ≡ leader → HadOrNow own.asked own.plans block stamp node → IsIn (message.Plan leader (plan.Updated node block stamp)) state.messages
     one own leader block stamp node same (inl had) =
@@ -65,16 +65,16 @@ plans_tell state event before = by (does state event)
         ∙ ap (λ (o : Option PlanTable). plan_at block stamp (unwrap_or o [])) (set_there own.id leader own.plans (plans_after own.asked own.plans) state.plans own.there)) ∙ there) noted
     by (inr (inr (inr own))) = subst (λ (w : Happened). HaveTold w.plans state.messages) (sym own.is) before
 
-all_have_told : (opening : Opening) (events : List Event) → HaveTold (after opening events).plans (after opening events).messages
+all_have_told : (opening : ClusterOpening) (events : List Event) → HaveTold (after opening events).plans (after opening events).messages
 all_have_told opening [] = λ leader block stamp node own there noted. absurd (all_ordered opening [] leader block stamp own there).is
 all_have_told opening (event ∷ earlier) = λ leader block stamp node own there noted.
-    in_append (message.Plan leader (plan.Updated node block stamp)) (after opening earlier).messages (happened (after opening earlier) event).sent
+    in_append (message.Plan leader (plan.Updated node block stamp)) (after opening earlier).messages (event_happened (after opening earlier) event).sent
     (plans_tell (after opening earlier) event (all_have_told opening earlier) leader block stamp node own there noted)
 
 -- ---- the law
 
 -- so many bytes as the commit tells
-commit_tells : (opening : Opening) (events : List Event) (leader block stamp count node bytes : ℕ) (noted : Plan) → plan_in (after opening events) leader block stamp ≡ Some noted → HasUpdated opening events node block stamp bytes
+commit_tells : (opening : ClusterOpening) (events : List Event) (leader block stamp count node bytes : ℕ) (noted : Plan) → plan_in (after opening events) leader block stamp ≡ Some noted → HasUpdated opening events node block stamp bytes
     → CommitDecided (after opening events) leader block stamp count → bytes ≡ count
 commit_tells opening events leader block stamp count node bytes noted there own carried =
     let follows = updates_follow opening own.later own.earlier own.event node bytes leader own.presented noted own.serves

@@ -11,14 +11,14 @@ use Rattle.node_calls.specs.declared.call.TokenCall.TheVariants as call
 use Rattle.node_calls.specs.declared.message.Message.TheVariants as message
 use Rattle.node_calls.specs.declared.presented.Presented.{Presented}
 use Rattle.replicas.specs.declared.replica.Replica.{Replica}
-use Rattle.cluster_trace.specs.Trace.{Opening, message_at, after}
+use Rattle.cluster_trace.specs.Trace.{ClusterOpening, message_at, after}
 use Rattle.cluster_trace.specs.declared.event.Event.{Event}
 use Rattle.fencing_laws.specs.Fencing.{Serves}
 use Rattle.kept_bytes_laws.specs.KeptBytes.{replica_in}
 
 -- at one of these events the DataNode let a recovery of the block begin at this stamp, and before it the node had a replica in this state,
 -- of so many bytes
-pub record HasAnswered (opening : Opening) (events : List Event) (node block stamp : ℕ) (state : ReplicaState) (count : ℕ) : Type 0 where
+pub record HasAnswered (opening : ClusterOpening) (events : List Event) (node block stamp : ℕ) (state : ReplicaState) (count : ℕ) : Type 0 where
   pub later : List Event
   pub earlier : List Event
   pub event : Event
@@ -34,13 +34,13 @@ pub record HasAnswered (opening : Opening) (events : List Event) (node block sta
 
 -- what a leading node is told of a replica was held
 abbrev pub AnswersAreHeld : Type 0
-AnswersAreHeld = (opening : Opening) (events : List Event) (number primary node block stamp count : ℕ) (state : ReplicaState)
+AnswersAreHeld = (opening : ClusterOpening) (events : List Event) (number primary node block stamp count : ℕ) (state : ReplicaState)
     → message_at number (after opening events).messages ≡ Some (message.Plan primary (plan_call.Reply node block stamp state count))
     → HasAnswered opening events node block stamp state count
 
 -- at one of these events the DataNode updated its replica of the block to so many bytes at this stamp, and behind it the node had such a
 -- replica, finalized
-pub record HasUpdated (opening : Opening) (events : List Event) (node block stamp count : ℕ) : Type 0 where
+pub record HasUpdated (opening : ClusterOpening) (events : List Event) (node block stamp count : ℕ) : Type 0 where
   pub later : List Event
   pub earlier : List Event
   pub event : Event
@@ -57,6 +57,6 @@ pub record HasUpdated (opening : Opening) (events : List Event) (node block stam
 
 -- each DataNode that the end of a recovery names has updated its replica to the length that is told
 abbrev pub CommitsNameTheUpdated : Type 0
-CommitsNameTheUpdated = (opening : Opening) (events : List Event) (number leader block stamp count node : ℕ) (nodes : List ℕ)
+CommitsNameTheUpdated = (opening : ClusterOpening) (events : List Event) (number leader block stamp count node : ℕ) (nodes : List ℕ)
     → message_at number (after opening events).messages ≡ Some (message.CommitRecovery leader block stamp count nodes) → has_number node nodes ≡ true
     → HasUpdated opening events node block stamp count

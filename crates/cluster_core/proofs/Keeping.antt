@@ -8,53 +8,53 @@ use Rattle.cluster_trace.specs.declared.event.Event.{Event}
 use Rattle.cluster_trace.specs.declared.event.Event.TheVariants.{Name}
 use Rattle.cluster_trace.proofs.Each.{each_append, each_more}
 use Rattle.cluster_parts.proofs.Gets.{get_left, get_last}
-use Rattle.cluster_core.specs.Kept.{IsWithin, asked_by, event_of, IsKept}
+use Rattle.cluster_core.specs.Kept.{IsEventWithin, event_of_entry, event_of_kept, IsKeptFor}
 use Rattle.cluster_core.specs.declared.kept.KeptEvent.{KeptEvent}
 use Rattle.cluster_core.specs.declared.kept.KeptEvent.TheVariants.{Asked, Refused, Delivered, Called}
 
 -- ---- a history that grows
 
 module _ (history more : List HistoryEntry) where
-  event_stays : (kept : KeptEvent) → IsWithin history kept → event_of (history ++ more) kept ≡ event_of history kept
-  event_stays (Asked index) within = ap asked_by (get_left history more index within)
+  event_stays : (kept : KeptEvent) → IsEventWithin history kept → event_of_kept (history ++ more) kept ≡ event_of_kept history kept
+  event_stays (Asked index) within = ap event_of_entry (get_left history more index within)
   event_stays (Refused request) within = refl
   event_stays (Delivered number now) within = refl
   event_stays (Called node now call) within = refl
 
-  within_stays : (kept : KeptEvent) → IsWithin history kept → IsWithin (history ++ more) kept
+  within_stays : (kept : KeptEvent) → IsEventWithin history kept → IsEventWithin (history ++ more) kept
   within_stays (Asked index) within = omega (arith, length-append history more, within)
   within_stays (Refused request) within = tt
   within_stays (Delivered number now) within = tt
   within_stays (Called node now call) within = tt
 
-  events_stay : (kept : List KeptEvent) → AllByRecursion (IsWithin history) kept → map (event_of (history ++ more)) kept ≡ map (event_of history) kept
+  events_stay : (kept : List KeptEvent) → AllByRecursion (IsEventWithin history) kept → map (event_of_kept (history ++ more)) kept ≡ map (event_of_kept history) kept
   events_stay [] within = refl
   events_stay (own ∷ kept) within =
-      ap (λ (event : Event). event ∷ map (event_of (history ++ more)) kept) (event_stays own within.0)
-      ∙ ap (λ (events : List Event). event_of history own ∷ events) (events_stay kept within.1)
+      ap (λ (event : Event). event ∷ map (event_of_kept (history ++ more)) kept) (event_stays own within.0)
+      ∙ ap (λ (events : List Event). event_of_kept history own ∷ events) (events_stay kept within.1)
 
   -- and one event more
-  pub within_more : (kept : List KeptEvent) (own : KeptEvent) → AllByRecursion (IsWithin history) kept → IsWithin (history ++ more) own
-      → AllByRecursion (IsWithin (history ++ more)) (kept ++ own ∷ [])
+  pub within_more : (kept : List KeptEvent) (own : KeptEvent) → AllByRecursion (IsEventWithin history) kept → IsEventWithin (history ++ more) own
+      → AllByRecursion (IsEventWithin (history ++ more)) (kept ++ own ∷ [])
   within_more kept own within new =
-      each_append (IsWithin (history ++ more)) kept (own ∷ []) (each_more (IsWithin history) (IsWithin (history ++ more)) within_stays kept within) (new, tt)
+      each_append (IsEventWithin (history ++ more)) kept (own ∷ []) (each_more (IsEventWithin history) (IsEventWithin (history ++ more)) within_stays kept within) (new, tt)
 
-  pub events_more : (kept : List KeptEvent) (own : KeptEvent) (event : Event) → AllByRecursion (IsWithin history) kept → event_of (history ++ more) own ≡ event
-      → reverse (map (event_of (history ++ more)) (kept ++ own ∷ [])) ≡ event ∷ reverse (map (event_of history) kept)
+  pub events_more : (kept : List KeptEvent) (own : KeptEvent) (event : Event) → AllByRecursion (IsEventWithin history) kept → event_of_kept (history ++ more) own ≡ event
+      → reverse (map (event_of_kept (history ++ more)) (kept ++ own ∷ [])) ≡ event ∷ reverse (map (event_of_kept history) kept)
   events_more kept own event within is =
       ap reverse
-      (map-append (event_of (history ++ more)) kept (own ∷ [])
-      ∙ ap (λ (events : List Event). events ++ event_of (history ++ more) own ∷ []) (events_stay kept within)
-      ∙ ap (λ (new : Event). map (event_of history) kept ++ new ∷ []) is)
-      ∙ reverse-append (map (event_of history) kept) (event ∷ [])
+      (map-append (event_of_kept (history ++ more)) kept (own ∷ [])
+      ∙ ap (λ (events : List Event). events ++ event_of_kept (history ++ more) own ∷ []) (events_stay kept within)
+      ∙ ap (λ (new : Event). map (event_of_kept history) kept ++ new ∷ []) is)
+      ∙ reverse-append (map (event_of_kept history) kept) (event ∷ [])
 
 -- ---- how an event is kept
 
 -- by the newest entry, where that has its request
-pub asked_kept : (entries : List HistoryEntry) (entry : HistoryEntry) (index : ℕ) → index ≡ length entries → IsKept (reverse (entry ∷ entries)) (Asked index) (Name entry.request)
+pub asked_kept : (entries : List HistoryEntry) (entry : HistoryEntry) (index : ℕ) → index ≡ length entries → IsKeptFor (reverse (entry ∷ entries)) (Asked index) (Name entry.request)
 asked_kept entries entry index at =
     let grown : reverse (entry ∷ entries) ≡ reverse entries ++ entry ∷ [] = reverse-append (entry ∷ []) entries in
     let last : index ≡ length (reverse entries) = at ∙ sym (length-reverse entries) in
     let found : slice_get (reverse entries ++ entry ∷ []) index ≡ Some entry = ap (slice_get (reverse entries ++ entry ∷ [])) last ∙ get_last (reverse entries) entry in
-    subst (λ (history : List HistoryEntry). IsKept history (Asked index) (Name entry.request)) (sym grown)
-    (record { within = omega (arith, length-append (reverse entries) (entry ∷ []), last); is = ap asked_by found })
+    subst (λ (history : List HistoryEntry). IsKeptFor history (Asked index) (Name entry.request)) (sym grown)
+    (record { within = omega (arith, length-append (reverse entries) (entry ∷ []), last); is = ap event_of_entry found })

@@ -7,12 +7,12 @@ use Rattle.history.specs.declared.entry.HistoryEntry.{HistoryEntry}
 use Rattle.node_calls.specs.declared.call.NodeCall.{NodeCall}
 use Rattle.node_calls.specs.declared.message.Message.{Message}
 use Rattle.node_calls.specs.declared.message.Message.TheVariants as message
-use Rattle.datanode.specs.NodeStep.{Node}
+use Rattle.datanode.specs.NodeStep.{DataNode}
 use Rattle.hdfs_types.specs.declared.op.Request.{Request}
 use Rattle.node_calls.specs.declared.call.PlanCall.{PlanCall}
 use Rattle.block_recovery.specs.Plans.{PlanTable}
 use Rattle.cluster_trace.specs.DataCall.{DataCall, as_message, BeginWrite, Packet, Finalize, Read, Decide, Commit}
-use Rattle.cluster_trace.specs.Trace.{State, lost, entry_of, named, reporting, committing, called, called_at, led, led_at, message_at, delivered, is_from_outside, left_by, happens, outcome}
+use Rattle.cluster_trace.specs.Trace.{Cluster, event_lost, entry_of, request_named, report_request, commit_request, node_called, called_at, leader_called, led_at, message_at, message_delivered, is_from_outside, left_by, happens, event_outcome}
 use Rattle.cluster_trace.specs.Provenance.{AllRight, call_of}
 use Rattle.cluster_trace.specs.Typed.{GrantsFit, CallFits, AreTyped}
 use Rattle.cluster_trace.specs.declared.event.Event.{Event}
@@ -22,9 +22,9 @@ use Rattle.cluster_trace.specs.declared.outcome.Outcome.{Outcome}
 use Rattle.cluster_trace.proofs.Right.{all_right}
 use Rattle.cluster_laws.specs.Laws.{RecordsOf}
 use Rattle.cluster_laws.proofs.Logs.{records_rest}
-use Rattle.cluster_core.specs.Kept.{IsWithin, event_of, IsKept}
-use Rattle.cluster_core.specs.Past.{Past}
-use Rattle.cluster_core.specs.World.{state_after, stepped, history_of, past_of, IsReached}
+use Rattle.cluster_core.specs.Kept.{IsEventWithin, event_of_kept, IsKeptFor}
+use Rattle.cluster_core.specs.Past.{World}
+use Rattle.cluster_core.specs.World.{state_after, with_event, history_of, past_of, IsReached}
 use Rattle.cluster_core.specs.declared.kept.KeptEvent.{KeptEvent}
 use Rattle.cluster_core.specs.declared.kept.KeptEvent.TheVariants.{Asked}
 use Rattle.cluster_core.specs.declared.world.World.TheInside.{Inside}
@@ -40,29 +40,29 @@ pub record Grows (old new : List HistoryEntry) : Type 0 where
 stays : (entries : List HistoryEntry) → Grows entries entries
 stays entries = record { more = []; is = refl }
 
-grows_named : (state : State) (request : Request) → Grows state.entries (named state request).entries
+grows_named : (state : Cluster) (request : Request) → Grows state.entries (request_named state request).entries
 grows_named state request = record { more = entry_of state request ∷ []; is = refl }
 
-grows_called : (state : State) (id now : ℕ) (asked : NodeCall) (found : Option Node) → Grows state.entries (called_at state id now asked found).entries
+grows_called : (state : Cluster) (id now : ℕ) (asked : NodeCall) (found : Option DataNode) → Grows state.entries (called_at state id now asked found).entries
 grows_called state id now asked None = stays state.entries
 grows_called state id now asked (Some node) = stays state.entries
 
-grows_led : (state : State) (id : ℕ) (asked : PlanCall) (found : Option PlanTable) → Grows state.entries (led_at state id asked found).entries
+grows_led : (state : Cluster) (id : ℕ) (asked : PlanCall) (found : Option PlanTable) → Grows state.entries (led_at state id asked found).entries
 grows_led state id asked None = stays state.entries
 grows_led state id asked (Some plans) = stays state.entries
 
-grows_delivered : (state : State) (now : ℕ) (found : Option Message) → Grows state.entries (delivered state now found).entries
+grows_delivered : (state : Cluster) (now : ℕ) (found : Option Message) → Grows state.entries (message_delivered state now found).entries
 grows_delivered state now None = stays state.entries
 grows_delivered state now (Some (message.Node node asked)) = grows_called state node now asked (entry_at node state.nodes)
 grows_delivered state now (Some (message.Plan node asked)) = grows_led state node asked (entry_at node state.plans)
-grows_delivered state now (Some (message.Reported node block stamp bytes)) = record { more = entry_of state (reporting node now block stamp bytes) ∷ []; is = refl }
-grows_delivered state now (Some (message.CommitRecovery node block stamp bytes nodes)) = record { more = entry_of state (committing node now block stamp bytes nodes) ∷ []; is = refl }
+grows_delivered state now (Some (message.Reported node block stamp bytes)) = record { more = entry_of state (report_request node now block stamp bytes) ∷ []; is = refl }
+grows_delivered state now (Some (message.CommitRecovery node block stamp bytes nodes)) = record { more = entry_of state (commit_request node now block stamp bytes nodes) ∷ []; is = refl }
 
-grows_asked : (state : State) (request : Request) (outside : Bool) → Grows state.entries (cond outside (named state request) (lost state NotFromOutside)).entries
+grows_asked : (state : Cluster) (request : Request) (outside : Bool) → Grows state.entries (cond outside (request_named state request) (event_lost state NotFromOutside)).entries
 grows_asked state request true = grows_named state request
 grows_asked state request false = stays state.entries
 
-grows : (state : State) (event : Event) → Grows state.entries (happens state event).entries
+grows : (state : Cluster) (event : Event) → Grows state.entries (happens state event).entries
 grows state (Name request) = grows_asked state request (is_from_outside request.op)
 grows state (Deliver number now) = grows_delivered state now (message_at number state.messages)
 grows state (Data node now asked) = grows_delivered state now (Some (as_message node asked))
@@ -74,43 +74,43 @@ pub record Steps (old : Inside) (event : Event) (new : Inside) : Type 0 where
   pub cluster : new.cluster ≡ happens old.cluster event
   pub kept : KeptEvent
   pub events : new.events.items ≡ old.events.items ++ kept ∷ []
-  pub is_kept : IsKept (history_of new) kept event
+  pub is_kept : IsKeptFor (history_of new) kept event
   pub fits : GrantsFit old.cluster → GrantsFit new.cluster
   pub call : CallFits (call_of old.cluster event)
 
 -- the event is kept beside the history
-pub kept_steps : (old new : Inside) (event : Event) (kept : KeptEvent) → IsKept (history_of new) kept event → new.ids.items ≡ old.ids.items → new.cluster ≡ happens old.cluster event
+pub kept_steps : (old new : Inside) (event : Event) (kept : KeptEvent) → IsKeptFor (history_of new) kept event → new.ids.items ≡ old.ids.items → new.cluster ≡ happens old.cluster event
     → new.events.items ≡ old.events.items ++ kept ∷ [] → (GrantsFit old.cluster → GrantsFit new.cluster) → CallFits (call_of old.cluster event) → Steps old event new
 kept_steps old new event kept is_kept ids cluster events fits call =
     record { ids = ids; cluster = cluster; kept = kept; events = events; is_kept = is_kept; fits = fits; call = call }
 
 -- the history keeps the request
 pub asked_steps : (old new : Inside) (request : Request) (index : ℕ) → is_from_outside request.op ≡ true → index ≡ length old.cluster.entries → new.ids.items ≡ old.ids.items
-    → new.cluster ≡ left_by old.cluster (named old.cluster request) → new.events.items ≡ old.events.items ++ Asked index ∷ [] → (GrantsFit old.cluster → GrantsFit new.cluster) → Steps old (Name request) new
+    → new.cluster ≡ left_by old.cluster (request_named old.cluster request) → new.events.items ≡ old.events.items ++ Asked index ∷ [] → (GrantsFit old.cluster → GrantsFit new.cluster) → Steps old (Name request) new
 asked_steps old new request index outside at ids cluster events fits = record {
   ids = ids;
   cluster = cluster ∙ ap (left_by old.cluster) (sym (taken old.cluster request outside));
   kept = Asked index;
   events = events;
-  is_kept = subst (λ (state : State). IsKept (reverse state.entries) (Asked index) (Name request)) (sym cluster) (asked_kept old.cluster.entries (entry_of old.cluster request) index at);
+  is_kept = subst (λ (state : Cluster). IsKeptFor (reverse state.entries) (Asked index) (Name request)) (sym cluster) (asked_kept old.cluster.entries (entry_of old.cluster request) index at);
   fits = fits;
   call = tt;
 }
 
 -- ---- what grants nothing
 
-pub lost_fits : (old new : State) (request : Request) → is_from_outside request.op ≡ false → new ≡ happens old (Name request) → GrantsFit old → GrantsFit new
+pub lost_fits : (old new : Cluster) (request : Request) → is_from_outside request.op ≡ false → new ≡ happens old (Name request) → GrantsFit old → GrantsFit new
 lost_fits old new request outside is fits = subst GrantsFit (sym (is ∙ ap (left_by old) (not_taken old request outside))) fits
 
-fits_called : (state : State) (id now : ℕ) (asked : NodeCall) (found : Option Node) → GrantsFit state → GrantsFit (left_by state (called_at state id now asked found))
+fits_called : (state : Cluster) (id now : ℕ) (asked : NodeCall) (found : Option DataNode) → GrantsFit state → GrantsFit (left_by state (called_at state id now asked found))
 fits_called state id now asked None fits = fits
 fits_called state id now asked (Some node) fits = fits
 
-fits_led : (state : State) (id : ℕ) (asked : PlanCall) (found : Option PlanTable) → GrantsFit state → GrantsFit (left_by state (led_at state id asked found))
+fits_led : (state : Cluster) (id : ℕ) (asked : PlanCall) (found : Option PlanTable) → GrantsFit state → GrantsFit (left_by state (led_at state id asked found))
 fits_led state id asked None fits = fits
 fits_led state id asked (Some plans) fits = fits
 
-fits_data : (state : State) (node now : ℕ) (asked : DataCall) → GrantsFit state → GrantsFit (happens state (Data node now asked))
+fits_data : (state : Cluster) (node now : ℕ) (asked : DataCall) → GrantsFit state → GrantsFit (happens state (Data node now asked))
 fits_data state node now (BeginWrite presented next) fits = fits_called state node now _ (entry_at node state.nodes) fits
 fits_data state node now (Packet presented offset bytes next) fits = fits_called state node now _ (entry_at node state.nodes) fits
 fits_data state node now (Finalize presented count next) fits = fits_called state node now _ (entry_at node state.nodes) fits
@@ -118,7 +118,7 @@ fits_data state node now (Read presented offset count) fits = fits_called state 
 fits_data state node now (Decide block stamp) fits = fits_led state node _ (entry_at node state.plans) fits
 fits_data state node now (Commit block stamp) fits = fits_led state node _ (entry_at node state.plans) fits
 
-pub data_fits : (old new : State) (node now : ℕ) (asked : DataCall) → new ≡ happens old (Data node now asked) → GrantsFit old → GrantsFit new
+pub data_fits : (old new : Cluster) (node now : ℕ) (asked : DataCall) → new ≡ happens old (Data node now asked) → GrantsFit old → GrantsFit new
 data_fits old new node now asked is fits = subst GrantsFit (sym is) (fits_data old node now asked fits)
 
 -- ---- what it leaves
@@ -130,35 +130,35 @@ more_of old event = reverse (grows old.cluster event).more
 history_more : (old : Inside) (event : Event) (new : Inside) → Steps old event new → history_of new ≡ history_of old ++ more_of old event
 history_more old event new steps =
     let grown = grows old.cluster event in
-    ap reverse (ap (λ (state : State). state.entries) steps.cluster ∙ grown.is) ∙ reverse-append grown.more old.cluster.entries
+    ap reverse (ap (λ (state : Cluster). state.entries) steps.cluster ∙ grown.is) ∙ reverse-append grown.more old.cluster.entries
 
 events_stepped : (old : Inside) (event : Event) (new : Inside) → IsReached old → Steps old event new → (past_of new).events ≡ event ∷ (past_of old).events
 events_stepped old event new reached steps =
     let history : history_of new ≡ history_of old ++ more_of old event = history_more old event new steps in
-    ap (λ (own : List HistoryEntry). reverse (map (event_of own) new.events.items)) history
-    ∙ ap (λ (own : List KeptEvent). reverse (map (event_of (history_of old ++ more_of old event)) own)) steps.events
-    ∙ events_more (history_of old) (more_of old event) old.events.items steps.kept event reached.within (ap (λ (own : List HistoryEntry). event_of own steps.kept) (sym history) ∙ steps.is_kept.is)
+    ap (λ (own : List HistoryEntry). reverse (map (event_of_kept own) new.events.items)) history
+    ∙ ap (λ (own : List KeptEvent). reverse (map (event_of_kept (history_of old ++ more_of old event)) own)) steps.events
+    ∙ events_more (history_of old) (more_of old event) old.events.items steps.kept event reached.within (ap (λ (own : List HistoryEntry). event_of_kept own steps.kept) (sym history) ∙ steps.is_kept.is)
 
-past_more : (old : Inside) (event : Event) (new : Inside) → IsReached old → Steps old event new → past_of new ≡ stepped (past_of old) event
+past_more : (old : Inside) (event : Event) (new : Inside) → IsReached old → Steps old event new → past_of new ≡ with_event (past_of old) event
 past_more old event new reached steps =
-    let name = ap (λ (state : State). state.opening) steps.cluster in
+    let name = ap (λ (state : Cluster). state.opening) steps.cluster in
     ap (λ own. record { opening = record { name = own; nodes = new.ids.items }; events = (past_of new).events }) name
     ∙ ap (λ (nodes : List ℕ). record { opening = record { name = old.cluster.opening; nodes = nodes }; events = (past_of new).events }) steps.ids
     ∙ ap (λ (own : List Event). record { opening = record { name = old.cluster.opening; nodes = old.ids.items }; events = own }) (events_stepped old event new reached steps)
 
 reached_more : (old : Inside) (event : Event) (new : Inside) → IsReached old → Steps old event new → IsReached new
 reached_more old event new reached steps =
-    let past : past_of new ≡ stepped (past_of old) event = past_more old event new reached steps in
+    let past : past_of new ≡ with_event (past_of old) event = past_more old event new reached steps in
     let history : history_of new ≡ history_of old ++ more_of old event = history_more old event new steps in
     let fits : GrantsFit (state_after (past_of old)) = subst GrantsFit reached.state reached.fits in
-    let call : CallFits (call_of (state_after (past_of old)) event) = subst (λ (state : State). CallFits (call_of state event)) reached.state steps.call in
-    let kept : IsWithin (history_of old ++ more_of old event) steps.kept = subst (λ (own : List HistoryEntry). IsWithin own steps.kept) history steps.is_kept.within in
+    let call : CallFits (call_of (state_after (past_of old)) event) = subst (λ (state : Cluster). CallFits (call_of state event)) reached.state steps.call in
+    let kept : IsEventWithin (history_of old ++ more_of old event) steps.kept = subst (λ (own : List HistoryEntry). IsEventWithin own steps.kept) history steps.is_kept.within in
     record {
-      within = subst (λ (own : List KeptEvent). AllByRecursion (IsWithin (history_of new)) own) (sym steps.events)
-          (subst (λ (own : List HistoryEntry). AllByRecursion (IsWithin own) (old.events.items ++ steps.kept ∷ [])) (sym history)
+      within = subst (λ (own : List KeptEvent). AllByRecursion (IsEventWithin (history_of new)) own) (sym steps.events)
+          (subst (λ (own : List HistoryEntry). AllByRecursion (IsEventWithin own) (old.events.items ++ steps.kept ∷ [])) (sym history)
           (within_more (history_of old) (more_of old event) old.events.items steps.kept reached.within kept));
-      state = steps.cluster ∙ ap (λ (state : State). happens state event) reached.state ∙ ap state_after (sym past);
-      typed = subst (λ (own : Past). AreTyped own.opening own.events) (sym past) (record { grants = fits; call = call }, reached.typed);
+      state = steps.cluster ∙ ap (λ (state : Cluster). happens state event) reached.state ∙ ap state_after (sym past);
+      typed = subst (λ (own : World). AreTyped own.opening own.events) (sym past) (record { grants = fits; call = call }, reached.typed);
       fits = steps.fits reached.fits;
     }
 
@@ -167,12 +167,12 @@ reached_more old event new reached steps =
 pub step_reached : (old : Inside) (event : Event) (new : Inside) → IsReached old → Steps old event new → IsReached new
 step_reached = reached_more
 
-pub step_past : (old : Inside) (past : Past) (event : Event) (new : Inside) → IsReached old → past_of old ≡ past → Steps old event new → past_of new ≡ stepped past event
-step_past old past event new reached is steps = past_more old event new reached steps ∙ ap (λ (own : Past). stepped own event) is
+pub step_past : (old : Inside) (past : World) (event : Event) (new : Inside) → IsReached old → past_of old ≡ past → Steps old event new → past_of new ≡ with_event past event
+step_past old past event new reached is steps = past_more old event new reached steps ∙ ap (λ (own : World). with_event own event) is
 
 -- what comes of an event of the cluster comes of it behind the past
-pub step_outcome : (old : Inside) (past : Past) (event : Event) (told : Outcome) → IsReached old → past_of old ≡ past → told ≡ outcome old.cluster event → told ≡ outcome (state_after past) event
-step_outcome old past event told reached is at = at ∙ ap (λ (state : State). outcome state event) (reached.state ∙ ap state_after is)
+pub step_outcome : (old : Inside) (past : World) (event : Event) (told : Outcome) → IsReached old → past_of old ≡ past → told ≡ event_outcome old.cluster event → told ≡ event_outcome (state_after past) event
+step_outcome old past event told reached is at = at ∙ ap (λ (state : Cluster). event_outcome state event) (reached.state ∙ ap state_after is)
 
 pub reached_right : (world : Inside) → IsReached world → AllRight (past_of world).opening (past_of world).events
 reached_right world reached = all_right (past_of world).opening (past_of world).events reached.typed
@@ -184,20 +184,20 @@ reached_rest world reached = records_rest (past_of world).opening (past_of world
 
 past_same : (old new : Inside) → new.ids.items ≡ old.ids.items → new.cluster ≡ old.cluster → new.events.items ≡ old.events.items → past_of new ≡ past_of old
 past_same old new ids cluster events =
-    ap (λ (own : State). record { opening = record { name = own.opening; nodes = new.ids.items }; events = reverse (map (event_of (reverse own.entries)) new.events.items) }) cluster
-    ∙ ap (λ (own : List ℕ). record { opening = record { name = old.cluster.opening; nodes = own }; events = reverse (map (event_of (history_of old)) new.events.items) }) ids
-    ∙ ap (λ (own : List KeptEvent). record { opening = (past_of old).opening; events = reverse (map (event_of (history_of old)) own) }) events
+    ap (λ (own : Cluster). record { opening = record { name = own.opening; nodes = new.ids.items }; events = reverse (map (event_of_kept (reverse own.entries)) new.events.items) }) cluster
+    ∙ ap (λ (own : List ℕ). record { opening = record { name = old.cluster.opening; nodes = own }; events = reverse (map (event_of_kept (history_of old)) new.events.items) }) ids
+    ∙ ap (λ (own : List KeptEvent). record { opening = (past_of old).opening; events = reverse (map (event_of_kept (history_of old)) own) }) events
 
 pub still_reached : (old new : Inside) → new.ids.items ≡ old.ids.items → new.cluster ≡ old.cluster → new.events.items ≡ old.events.items → IsReached old → IsReached new
 still_reached old new ids cluster events reached =
     let past : past_of new ≡ past_of old = past_same old new ids cluster events in
     record {
-      within = subst (λ (own : List KeptEvent). AllByRecursion (IsWithin (history_of new)) own) (sym events)
-          (subst (λ (own : State). AllByRecursion (IsWithin (reverse own.entries)) old.events.items) (sym cluster) reached.within);
+      within = subst (λ (own : List KeptEvent). AllByRecursion (IsEventWithin (history_of new)) own) (sym events)
+          (subst (λ (own : Cluster). AllByRecursion (IsEventWithin (reverse own.entries)) old.events.items) (sym cluster) reached.within);
       state = cluster ∙ reached.state ∙ ap state_after (sym past);
-      typed = subst (λ (own : Past). AreTyped own.opening own.events) (sym past) reached.typed;
+      typed = subst (λ (own : World). AreTyped own.opening own.events) (sym past) reached.typed;
       fits = subst GrantsFit (sym cluster) reached.fits;
     }
 
-pub still_past : (old new : Inside) (past : Past) → new.ids.items ≡ old.ids.items → new.cluster ≡ old.cluster → new.events.items ≡ old.events.items → past_of old ≡ past → past_of new ≡ past
+pub still_past : (old new : Inside) (past : World) → new.ids.items ≡ old.ids.items → new.cluster ≡ old.cluster → new.events.items ≡ old.events.items → past_of old ≡ past → past_of new ≡ past
 still_past old new past ids cluster events is = past_same old new ids cluster events ∙ is

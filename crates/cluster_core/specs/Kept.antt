@@ -8,24 +8,24 @@ use Rattle.cluster_core.specs.declared.kept.KeptEvent.{KeptEvent}
 use Rattle.cluster_core.specs.declared.kept.KeptEvent.TheVariants.{Asked, Refused, Delivered, Called}
 
 -- the entry that it names stands in the history
-abbrev pub IsWithin : List HistoryEntry → KeptEvent → Type 0
-IsWithin history (Asked index) = index < length history
-IsWithin history (Refused request) = ⊤
-IsWithin history (Delivered number now) = ⊤
-IsWithin history (Called node now call) = ⊤
+abbrev pub IsEventWithin : List HistoryEntry → KeptEvent → Type 0
+IsEventWithin history (Asked index) = index < length history
+IsEventWithin history (Refused request) = ⊤
+IsEventWithin history (Delivered number now) = ⊤
+IsEventWithin history (Called node now call) = ⊤
 
 -- what asked for an entry; that there is none is never seen
-abbrev pub asked_by : Option HistoryEntry → Event
-asked_by None = Deliver 0 0
-asked_by (Some entry) = Name entry.request
+abbrev pub event_of_entry : Option HistoryEntry → Event
+event_of_entry None = Deliver 0 0
+event_of_entry (Some entry) = Name entry.request
 
-abbrev pub event_of : List HistoryEntry → KeptEvent → Event
-event_of history (Asked index) = asked_by (slice_get history index)
-event_of history (Refused request) = Name request.value
-event_of history (Delivered number now) = Deliver number now
-event_of history (Called node now call) = Data node now call.value
+abbrev pub event_of_kept : List HistoryEntry → KeptEvent → Event
+event_of_kept history (Asked index) = event_of_entry (slice_get history index)
+event_of_kept history (Refused request) = Name request.value
+event_of_kept history (Delivered number now) = Deliver number now
+event_of_kept history (Called node now call) = Data node now call.value
 
 -- beside this history, it is kept for this event
-pub record IsKept (history : List HistoryEntry) (kept : KeptEvent) (event : Event) : Type 0 where
-  pub within : IsWithin history kept
-  pub is : event_of history kept ≡ event
+pub record IsKeptFor (history : List HistoryEntry) (kept : KeptEvent) (event : Event) : Type 0 where
+  pub within : IsEventWithin history kept
+  pub is : event_of_kept history kept ≡ event

@@ -1,8 +1,8 @@
 -- A world by how it began and by the events that it stepped, the newest first.
 use Rattle.std.specs.Prelude.{List}
-use Rattle.cluster_trace.specs.Trace.{Opening}
+use Rattle.cluster_trace.specs.Trace.{ClusterOpening}
 use Rattle.cluster_trace.specs.declared.event.Event.{Event}
 
-pub record Past : Type 0 where
-  pub opening : Opening
+pub record World : Type 0 where
+  pub opening : ClusterOpening
   pub events : List Event

@@ -2,29 +2,29 @@
 use Rattle.std.specs.Prelude.{◌≡◌, List, [], ◌∷◌, map, reverse}
 use Rattle.std.specs.List.{AllByRecursion}
 use Rattle.history.specs.declared.entry.HistoryEntry.{HistoryEntry}
-use Rattle.cluster_trace.specs.Trace.{State, after, outcome}
+use Rattle.cluster_trace.specs.Trace.{Cluster, after, event_outcome}
 use Rattle.cluster_trace.specs.Typed.{GrantsFit, AreTyped}
 use Rattle.cluster_trace.specs.declared.event.Event.{Event}
 use Rattle.cluster_trace.specs.declared.outcome.Outcome.{Outcome}
-use Rattle.cluster_core.specs.Kept.{IsWithin, event_of}
-use Rattle.cluster_core.specs.Past.{Past}
+use Rattle.cluster_core.specs.Kept.{IsEventWithin, event_of_kept}
+use Rattle.cluster_core.specs.Past.{World}
 use Rattle.cluster_core.specs.declared.world.World.TheInside.{Inside}
 
-abbrev pub state_after : Past → State
+abbrev pub state_after : World → Cluster
 state_after past = after past.opening past.events
 
-abbrev pub stepped : Past → Event → Past
-stepped past event = record { opening = past.opening; events = event ∷ past.events }
+abbrev pub with_event : World → Event → World
+with_event past event = record { opening = past.opening; events = event ∷ past.events }
 
 -- ---- several events, the oldest first
 
-abbrev pub run_past : Past → List Event → Past
+abbrev pub run_past : World → List Event → World
 run_past past [] = past
-run_past past (event ∷ events) = run_past (stepped past event) events
+run_past past (event ∷ events) = run_past (with_event past event) events
 
-abbrev pub run_outcomes : Past → List Event → List Outcome
+abbrev pub run_outcomes : World → List Event → List Outcome
 run_outcomes past [] = []
-run_outcomes past (event ∷ events) = outcome (state_after past) event ∷ run_outcomes (stepped past event) events
+run_outcomes past (event ∷ events) = event_outcome (state_after past) event ∷ run_outcomes (with_event past event) events
 
 -- ---- how a world is kept
 
@@ -32,15 +32,15 @@ run_outcomes past (event ∷ events) = outcome (state_after past) event ∷ run_
 abbrev pub history_of : Inside → List HistoryEntry
 history_of world = reverse world.cluster.entries
 
-abbrev pub past_of : Inside → Past
+abbrev pub past_of : Inside → World
 past_of world = record {
   opening = record { name = world.cluster.opening; nodes = world.ids.items };
-  events = reverse (map (event_of (history_of world)) world.events.items);
+  events = reverse (map (event_of_kept (history_of world)) world.events.items);
 }
 
 -- its events lead from its opening to its state, those that asked the NameNode stand in its history, and all values fit their types
 pub record IsReached (world : Inside) : Type 0 where
-  pub within : AllByRecursion (IsWithin (history_of world)) world.events.items
+  pub within : AllByRecursion (IsEventWithin (history_of world)) world.events.items
   pub state : world.cluster ≡ state_after (past_of world)
   pub typed : AreTyped (past_of world).opening (past_of world).events
   pub fits : GrantsFit world.cluster

@@ -6,7 +6,7 @@ ghost use Rattle.cluster_trace.specs.Typed.{AreTyped};
 ghost use Rattle.cluster_trace.specs.declared.event.Event.{Event};
 ghost use Rattle.cluster_trace.specs.declared.event.Event.TheVariants as event;
 ghost use Rattle.cluster_laws.specs.Laws.{RecordsOf};
-ghost use Rattle.cluster_core.specs.World.{state_after, stepped, run_past, run_outcomes};
+ghost use Rattle.cluster_core.specs.World.{state_after, with_event, run_past, run_outcomes};
 
 use crate::kept::KeptEvent;
 use cluster_steps::cluster::{Cluster, is_from_outside};
@@ -35,9 +35,9 @@ pub struct World {
 }
 
 impl Model for World {
-    ghost use Rattle.cluster_core.specs.Past.{Past};
+    ghost use Rattle.cluster_core.specs.Past.{World};
 
-    ghost Value = { Past };
+    ghost Value = { World };
 
     ghost use Rattle.cluster_core.specs.World.{past_of, IsReached};
 
@@ -113,8 +113,8 @@ impl World {
     // A request that only a message brings.
     fn refuse(&mut self, request: Request) -> Result<Outcome, AllocError>
         requires { trace.is_from_outside request.op ≡ false }
-        ensures world { OnOk result (self.new ≡ stepped self.old (event.Name request)) }
-        ensures outcome { IfOk result (λ outcome. outcome ≡ trace.outcome (state_after self.old) (event.Name request)) }
+        ensures world { OnOk result (self.new ≡ with_event self.old (event.Name request)) }
+        ensures outcome { IfOk result (λ outcome. outcome ≡ trace.event_outcome (state_after self.old) (event.Name request)) }
         ensures err { OnErr result (self.new ≡ self.old) }
     {
         if self.events.reserve(1).is_err() {
@@ -133,8 +133,8 @@ impl World {
     // A request from outside, which the history keeps.
     fn ask(&mut self, request: Request) -> Result<Outcome, AllocError>
         requires { trace.is_from_outside request.op ≡ true }
-        ensures world { OnOk result (self.new ≡ stepped self.old (event.Name request)) }
-        ensures outcome { IfOk result (λ outcome. outcome ≡ trace.outcome (state_after self.old) (event.Name request)) }
+        ensures world { OnOk result (self.new ≡ with_event self.old (event.Name request)) }
+        ensures outcome { IfOk result (λ outcome. outcome ≡ trace.event_outcome (state_after self.old) (event.Name request)) }
         ensures err { OnErr result (self.new ≡ self.old) }
     {
         if self.events.reserve(1).is_err() {
@@ -148,8 +148,8 @@ impl World {
     }
 
     fn deliver(&mut self, number: u64, now: Moment) -> Result<Outcome, AllocError>
-        ensures world { OnOk result (self.new ≡ stepped self.old (event.Deliver number now)) }
-        ensures outcome { IfOk result (λ outcome. outcome ≡ trace.outcome (state_after self.old) (event.Deliver number now)) }
+        ensures world { OnOk result (self.new ≡ with_event self.old (event.Deliver number now)) }
+        ensures outcome { IfOk result (λ outcome. outcome ≡ trace.event_outcome (state_after self.old) (event.Deliver number now)) }
         ensures err { OnErr result (self.new ≡ self.old) }
     {
         self.events.reserve(1)?;
@@ -159,8 +159,8 @@ impl World {
     }
 
     fn call(&mut self, node: NodeId, now: Moment, call: DataCall) -> Result<Outcome, AllocError>
-        ensures world { OnOk result (self.new ≡ stepped self.old (event.Data node now call)) }
-        ensures outcome { IfOk result (λ outcome. outcome ≡ trace.outcome (state_after self.old) (event.Data node now call)) }
+        ensures world { OnOk result (self.new ≡ with_event self.old (event.Data node now call)) }
+        ensures outcome { IfOk result (λ outcome. outcome ≡ trace.event_outcome (state_after self.old) (event.Data node now call)) }
         ensures err { OnErr result (self.new ≡ self.old) }
     {
         if self.events.reserve(1).is_err() {
@@ -178,8 +178,8 @@ impl World {
     }
 
     fn happen(&mut self, event: Event) -> Result<Outcome, AllocError>
-        ensures world { OnOk result (self.new ≡ stepped self.old event) }
-        ensures outcome { IfOk result (λ outcome. outcome ≡ trace.outcome (state_after self.old) event) }
+        ensures world { OnOk result (self.new ≡ with_event self.old event) }
+        ensures outcome { IfOk result (λ outcome. outcome ≡ trace.event_outcome (state_after self.old) event) }
         ensures err { OnErr result (self.new ≡ self.old) }
     {
         match event {
@@ -203,8 +203,8 @@ impl World {
     /// # Errors
     /// Out of memory. Nothing has changed then, and the event isn't kept.
     pub fn step(&mut self, event: Event) -> Result<Outcome, AllocError>
-        ensures world { OnOk result (self.new ≡ stepped self.old event) }
-        ensures outcome { IfOk result (λ outcome. outcome ≡ trace.outcome (state_after self.old) event) }
+        ensures world { OnOk result (self.new ≡ with_event self.old event) }
+        ensures outcome { IfOk result (λ outcome. outcome ≡ trace.event_outcome (state_after self.old) event) }
         ensures right { OnOk result (AllRight self.new.opening self.new.events) }
         ensures rest { OnOk result (RecordsOf self.new.opening self.new.events) }
         ensures typed { OnOk result (AreTyped self.new.opening self.new.events) }

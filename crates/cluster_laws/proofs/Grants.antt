@@ -16,11 +16,11 @@ use Rattle.node_calls.specs.declared.reply.NodeReply.{NodeReply}
 use Rattle.node_replies.specs.Asking.{asked_by, sends_copy}
 use Rattle.hdfs_values.specs.NodeId.{node_principal}
 use Rattle.hdfs_types.specs.declared.op.Request.{Request}
-use Rattle.datanode.specs.NodeStep.{Node, clock_with}
+use Rattle.datanode.specs.NodeStep.{DataNode, clock_with}
 use Rattle.block_recovery.specs.Plans.{PlanTable}
 use Rattle.cluster_trace.specs.DataCall.{DataCall, as_message, BeginWrite, Packet, Finalize, Read, Decide, Commit}
-use Rattle.cluster_trace.specs.Provenance.{IsIn, granted, IsForged, IsGranted, IsCovered, IsCoveredWhere, CallAt, call_of, IsServedRightly}
-use Rattle.cluster_trace.specs.Trace.{State, Opening, lost, named, called, called_at, led, led_at, delivered, is_from_outside, happened, after}
+use Rattle.cluster_trace.specs.Provenance.{IsIn, ledger_in, IsForged, IsGranted, IsCovered, IsCoveredWhere, CallAt, call_of, IsServedRightly}
+use Rattle.cluster_trace.specs.Trace.{Cluster, ClusterOpening, event_lost, request_named, node_called, called_at, leader_called, led_at, message_delivered, is_from_outside, event_happened, after}
 use Rattle.cluster_trace.specs.Typed.{GrantFits, AreTyped}
 use Rattle.cluster_trace.specs.declared.event.Event.{Event}
 use Rattle.cluster_trace.specs.declared.event.Event.TheVariants.{Name, Deliver, Data}
@@ -34,43 +34,43 @@ use Rattle.cluster_laws.specs.Laws.{AreRequests}
 
 -- ---- rights that are gone
 
-request_leaves : (state : State) (b : Bool) (request : Request) → (cond b (named state request) (lost state NotFromOutside)).nodes ≡ state.nodes
+request_leaves : (state : Cluster) (b : Bool) (request : Request) → (cond b (request_named state request) (event_lost state NotFromOutside)).nodes ≡ state.nodes
 request_leaves state true request = refl
 request_leaves state false request = refl
 
-same_nodes : (opening : Opening) (requests earlier : List Event) → AreRequests requests → (after opening (requests ++ earlier)).nodes ≡ (after opening earlier).nodes
+same_nodes : (opening : ClusterOpening) (requests earlier : List Event) → AreRequests requests → (after opening (requests ++ earlier)).nodes ≡ (after opening earlier).nodes
 same_nodes opening [] earlier all = refl
 same_nodes opening (Name request ∷ requests) earlier all = request_leaves (after opening (requests ++ earlier)) (is_from_outside request.op) request ∙ same_nodes opening requests earlier all
 same_nodes opening (Deliver number now ∷ requests) earlier all = absurd all
 same_nodes opening (Data node now asked ∷ requests) earlier all = absurd all
 
-request_keeps : (state : State) (b : Bool) (request : Request) → (cond b (named state request) (lost state NotFromOutside)).plans ≡ state.plans
+request_keeps : (state : Cluster) (b : Bool) (request : Request) → (cond b (request_named state request) (event_lost state NotFromOutside)).plans ≡ state.plans
 request_keeps state true request = refl
 request_keeps state false request = refl
 
-same_plans : (opening : Opening) (requests earlier : List Event) → AreRequests requests → (after opening (requests ++ earlier)).plans ≡ (after opening earlier).plans
+same_plans : (opening : ClusterOpening) (requests earlier : List Event) → AreRequests requests → (after opening (requests ++ earlier)).plans ≡ (after opening earlier).plans
 same_plans opening [] earlier all = refl
 same_plans opening (Name request ∷ requests) earlier all = request_keeps (after opening (requests ++ earlier)) (is_from_outside request.op) request ∙ same_plans opening requests earlier all
 same_plans opening (Deliver number now ∷ requests) earlier all = absurd all
 same_plans opening (Data node now asked ∷ requests) earlier all = absurd all
 
-answer_by : (state other : State) (id now : ℕ) (asked : NodeCall) (found : Option Node) → (called_at state id now asked found).answer ≡ (called_at other id now asked found).answer
+answer_by : (state other : Cluster) (id now : ℕ) (asked : NodeCall) (found : Option DataNode) → (called_at state id now asked found).answer ≡ (called_at other id now asked found).answer
 answer_by state other id now asked None = refl
 answer_by state other id now asked (Some node) = refl
 
-led_by : (state other : State) (id : ℕ) (asked : PlanCall) (found : Option PlanTable) → (led_at state id asked found).answer ≡ (led_at other id asked found).answer
+led_by : (state other : Cluster) (id : ℕ) (asked : PlanCall) (found : Option PlanTable) → (led_at state id asked found).answer ≡ (led_at other id asked found).answer
 led_by state other id asked None = refl
 led_by state other id asked (Some plans) = refl
 
 -- two clusters with the same DataNodes, which lead the same recoveries
-module _ (state other : State) (nodes : state.nodes ≡ other.nodes) (plans : state.plans ≡ other.plans) where
-  called_same : (id now : ℕ) (asked : NodeCall) → (called state id now asked).answer ≡ (called other id now asked).answer
+module _ (state other : Cluster) (nodes : state.nodes ≡ other.nodes) (plans : state.plans ≡ other.plans) where
+  called_same : (id now : ℕ) (asked : NodeCall) → (node_called state id now asked).answer ≡ (node_called other id now asked).answer
   called_same id now asked = ap (λ own. (called_at state id now asked (entry_at id own)).answer) nodes ∙ answer_by state other id now asked (entry_at id other.nodes)
 
-  led_same : (id : ℕ) (asked : PlanCall) → (led state id asked).answer ≡ (led other id asked).answer
+  led_same : (id : ℕ) (asked : PlanCall) → (leader_called state id asked).answer ≡ (leader_called other id asked).answer
   led_same id asked = ap (λ own. (led_at state id asked (entry_at id own)).answer) plans ∙ led_by state other id asked (entry_at id other.plans)
 
-  answer_same : (node now : ℕ) (asked : DataCall) → (delivered state now (Some (as_message node asked))).answer ≡ (delivered other now (Some (as_message node asked))).answer
+  answer_same : (node now : ℕ) (asked : DataCall) → (message_delivered state now (Some (as_message node asked))).answer ≡ (message_delivered other now (Some (as_message node asked))).answer
   answer_same node now (BeginWrite presented next) = called_same node now (Presenting presented (asks.Begin next))
   answer_same node now (Packet presented offset bytes next) = called_same node now (Presenting presented (asks.Packet offset bytes next))
   answer_same node now (Finalize presented count next) = called_same node now (Presenting presented (asks.Finalize count next))
@@ -78,8 +78,8 @@ module _ (state other : State) (nodes : state.nodes ≡ other.nodes) (plans : st
   answer_same node now (Decide block stamp) = led_same node (plan.Decide block stamp)
   answer_same node now (Commit block stamp) = led_same node (plan.Commit block stamp)
 
-pub outlive : (opening : Opening) (requests earlier : List Event) (node now : ℕ) (asked : DataCall) → AreRequests requests
-    → (happened (after opening (requests ++ earlier)) (Data node now asked)).answer ≡ (happened (after opening earlier) (Data node now asked)).answer
+pub outlive : (opening : ClusterOpening) (requests earlier : List Event) (node now : ℕ) (asked : DataCall) → AreRequests requests
+    → (event_happened (after opening (requests ++ earlier)) (Data node now asked)).answer ≡ (event_happened (after opening earlier) (Data node now asked)).answer
 outlive opening requests earlier node now asked all =
     answer_same (after opening (requests ++ earlier)) (after opening earlier) (same_nodes opening requests earlier all) (same_plans opening requests earlier all) node now asked
 
@@ -94,7 +94,7 @@ same_expiry row other tells others is =
     ap (λ (parts : Body). parts.expiry)
     (parts_told other.grant.token (parts_of row.grant tells.0) (parts_of other.grant others.0) (subst (λ token. TokenText token (parts_of row.grant tells.0)) is tells.1) others.1)
 
-served_in : (state : State) (asked : CallAt) (presented : Presented) (call : TokenCall) (node : Node) (answer : EventAnswer) (told : NodeReply) → IsServedRightly state (Some asked) answer → answer ≡ Called (Ok told)
+served_in : (state : Cluster) (asked : CallAt) (presented : Presented) (call : TokenCall) (node : DataNode) (answer : EventAnswer) (told : NodeReply) → IsServedRightly state (Some asked) answer → answer ≡ Called (Ok told)
     → asked.call ≡ Presenting presented call → entry_at asked.node state.nodes ≡ Some node → IsGranted state (clock_with node asked.now) (asked_by node.id presented call) call ⊎ IsForged state presented.token
 served_in state asked presented call node answer told served is calls at =
     let a : IsCovered state asked.now (entry_at asked.node state.nodes) asked.call = subst (λ own. IsCoveredWhere state asked.now (entry_at asked.node state.nodes) asked.call own) is served in
@@ -105,19 +105,19 @@ own_token : (b : Bool) (given : Presented) (principal : List ℕ) → (cond b (r
 own_token true given principal = refl
 own_token false given principal = refl
 
-same_token : (node : Node) (presented : Presented) (call : TokenCall) → (asked_by node.id presented call).token ≡ presented.token
+same_token : (node : DataNode) (presented : Presented) (call : TokenCall) → (asked_by node.id presented call).token ≡ presented.token
 same_token node presented call = own_token (sends_copy call) presented (node_principal node.id)
 
-pub end : (opening : Opening) (events : List Event) (event : Event) (row : LedgerRow) (asked : CallAt) (presented : Presented) (call : TokenCall) (node : Node) (told : NodeReply)
+pub end : (opening : ClusterOpening) (events : List Event) (event : Event) (row : LedgerRow) (asked : CallAt) (presented : Presented) (call : TokenCall) (node : DataNode) (told : NodeReply)
     → AreTyped opening (event ∷ events) → call_of (after opening events) event ≡ Some asked → asked.call ≡ Presenting presented call → entry_at asked.node (after opening events).nodes ≡ Some node
-    → IsIn row (granted (after opening events)) → row.grant.token ≡ presented.token → row.grant.expiry ≤ clock_with node asked.now
-    → (happened (after opening events) event).answer ≡ Called (Ok told) → ⊥
+    → IsIn row (ledger_in (after opening events)) → row.grant.token ≡ presented.token → row.grant.expiry ≤ clock_with node asked.now
+    → (event_happened (after opening events) event).answer ≡ Called (Ok told) → ⊥
 end opening events event row asked presented call node told typed called calls at stands token expired served =
-    by (served_in (after opening events) asked presented call node (happened (after opening events) event).answer told
-    (subst (λ found. IsServedRightly (after opening events) found (happened (after opening events) event).answer) called (all_right opening (event ∷ events) typed).0.served) served calls at)
+    by (served_in (after opening events) asked presented call node (event_happened (after opening events) event).answer told
+    (subst (λ found. IsServedRightly (after opening events) found (event_happened (after opening events) event).answer) called (all_right opening (event ∷ events) typed).0.served) served calls at)
   where
-    tells : (own : LedgerRow) → IsIn own (granted (after opening events)) → TellsItself own.grant
-    tells own i = tells_in (granted (after opening events)) own (all_issued (after opening events).opening (after opening events).entries) typed.0.grants i
+    tells : (own : LedgerRow) → IsIn own (ledger_in (after opening events)) → TellsItself own.grant
+    tells own i = tells_in (ledger_in (after opening events)) own (all_issued (after opening events).opening (after opening events).entries) typed.0.grants i
 
     by : IsGranted (after opening events) (clock_with node asked.now) (asked_by node.id presented call) call ⊎ IsForged (after opening events) presented.token → ⊥
     by (inl grant) =

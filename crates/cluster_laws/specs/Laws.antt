@@ -14,10 +14,10 @@ use Rattle.node_calls.specs.declared.presented.Presented.{Presented}
 use Rattle.node_calls.specs.declared.reply.NodeReply.{NodeReply}
 use Rattle.node_replies.specs.Asking.{asked_by, record_of}
 use Rattle.replicas.specs.ReplicaStep.{held_at}
-use Rattle.datanode.specs.NodeStep.{Node, node_after, node_answer, clock_with}
+use Rattle.datanode.specs.NodeStep.{DataNode, node_after, node_answer, clock_with}
 use Rattle.cluster_trace.specs.DataCall.{DataCall}
-use Rattle.cluster_trace.specs.Trace.{State, Opening, happened, after}
-use Rattle.cluster_trace.specs.Provenance.{IsIn, granted, IsForged, CallAt, call_of}
+use Rattle.cluster_trace.specs.Trace.{Cluster, ClusterOpening, event_happened, after}
+use Rattle.cluster_trace.specs.Provenance.{IsIn, ledger_in, IsForged, CallAt, call_of}
 use Rattle.cluster_trace.specs.Typed.{AreTyped}
 use Rattle.cluster_trace.specs.declared.event.Event.{Event}
 use Rattle.cluster_trace.specs.declared.event.Event.TheVariants.{Name, Deliver, Data}
@@ -25,17 +25,17 @@ use Rattle.cluster_trace.specs.declared.outcome.EventAnswer.TheVariants.{Called}
 
 -- ---- forged tokens
 
-abbrev pub PresentsForged : State → NodeCall → Type 0
+abbrev pub PresentsForged : Cluster → NodeCall → Type 0
 PresentsForged state (Presenting presented asked) = IsForged state presented.token
 PresentsForged state (Invalidate block stamp) = ⊥
 PresentsForged state (Keys update) = ⊥
 
-abbrev pub IsForgery : State → Option CallAt → Type 0
+abbrev pub IsForgery : Cluster → Option CallAt → Type 0
 IsForgery state None = ⊥
 IsForgery state (Some asked) = PresentsForged state asked.call
 
 -- no event presents a forged token
-abbrev pub NothingIsForged : Opening → List Event → Type 0
+abbrev pub NothingIsForged : ClusterOpening → List Event → Type 0
 NothingIsForged opening [] = ⊤
 NothingIsForged opening (event ∷ earlier) = (IsForgery (after opening earlier) (call_of (after opening earlier) event) → ⊥) × NothingIsForged opening earlier
 
@@ -43,7 +43,7 @@ NothingIsForged opening (event ∷ earlier) = (IsForgery (after opening earlier)
 
 -- a call that presents a token and is served is noted down, once
 abbrev pub ServedCallsAreNoted : Type 0
-ServedCallsAreNoted = (node : Node) (now : ℕ) (presented : Presented) (asked : TokenCall) (told : NodeReply) → (node_answer node now (Presenting presented asked)).result ≡ Ok told
+ServedCallsAreNoted = (node : DataNode) (now : ℕ) (presented : Presented) (asked : TokenCall) (told : NodeReply) → (node_answer node now (Presenting presented asked)).result ≡ Ok told
     → (node_after node now (Presenting presented asked)).log
     ≡ node.log ++ record_of node.id (clock_with node now) (asked_by node.id presented asked) asked (held_at (asked_by node.id presented asked).block node.blocks) ∷ []
 
@@ -59,23 +59,23 @@ abbrev pub Rests : List LedgerRow → AccessRecord → Type 0
 Rests rows entry = (row : LedgerRow) × IsIn row rows × RestsOn row entry
 
 -- each record in the log of each DataNode
-abbrev pub AllRest : List LedgerRow → List (ℕ × Node) → Type 0
-AllRest rows nodes = AllByRecursion (λ (own : ℕ × Node). AllByRecursion (Rests rows) own.1.log) nodes
+abbrev pub AllRest : List LedgerRow → List (ℕ × DataNode) → Type 0
+AllRest rows nodes = AllByRecursion (λ (own : ℕ × DataNode). AllByRecursion (Rests rows) own.1.log) nodes
 
 -- where nothing is forged, each record in each log behind these events rests on a grant
-abbrev pub RecordsOf : Opening → List Event → Type 0
-RecordsOf opening events = NothingIsForged opening events → AllRest (granted (after opening events)) (after opening events).nodes
+abbrev pub RecordsOf : ClusterOpening → List Event → Type 0
+RecordsOf opening events = NothingIsForged opening events → AllRest (ledger_in (after opening events)) (after opening events).nodes
 
 abbrev pub RecordsRest : Type 0
-RecordsRest = (opening : Opening) (events : List Event) → AreTyped opening events → RecordsOf opening events
+RecordsRest = (opening : ClusterOpening) (events : List Event) → AreTyped opening events → RecordsOf opening events
 
 -- a user was granted something of a block
-abbrev pub WasGranted : State → List ℕ → ℕ → Type 0
-WasGranted state user block = (row : LedgerRow) × IsIn row (granted state) × (row.grant.user ≡ user) × (row.grant.block ≡ block)
+abbrev pub WasGranted : Cluster → List ℕ → ℕ → Type 0
+WasGranted state user block = (row : LedgerRow) × IsIn row (ledger_in state) × (row.grant.user ≡ user) × (row.grant.block ≡ block)
 
 -- whoever was never granted a block has read and written nothing of it anywhere
 abbrev pub StrangersReachNothing : Type 0
-StrangersReachNothing = (opening : Opening) (events : List Event) (user : List ℕ) (block id : ℕ) (node : Node) (entry : AccessRecord) → AreTyped opening events → NothingIsForged opening events
+StrangersReachNothing = (opening : ClusterOpening) (events : List Event) (user : List ℕ) (block id : ℕ) (node : DataNode) (entry : AccessRecord) → AreTyped opening events → NothingIsForged opening events
     → (WasGranted (after opening events) user block → ⊥) → entry_at id (after opening events).nodes ≡ Some node → IsIn entry node.log → entry.caller ≡ user → entry.block ≡ block → ⊥
 
 -- ---- how long
@@ -89,12 +89,12 @@ AreRequests (Data node now asked ∷ events) = ⊥
 
 -- whatever they change at the NameNode, a client's call is answered by a DataNode as before
 abbrev pub GrantsOutliveRights : Type 0
-GrantsOutliveRights = (opening : Opening) (requests earlier : List Event) (node now : ℕ) (asked : DataCall) → AreRequests requests
-    → (happened (after opening (requests ++ earlier)) (Data node now asked)).answer ≡ (happened (after opening earlier) (Data node now asked)).answer
+GrantsOutliveRights = (opening : ClusterOpening) (requests earlier : List Event) (node now : ℕ) (asked : DataCall) → AreRequests requests
+    → (event_happened (after opening (requests ++ earlier)) (Data node now asked)).answer ≡ (event_happened (after opening earlier) (Data node now asked)).answer
 
 -- no call is served by a grant whose expiry has come at the DataNode
 abbrev pub GrantsEnd : Type 0
-GrantsEnd = (opening : Opening) (events : List Event) (event : Event) (row : LedgerRow) (asked : CallAt) (presented : Presented) (call : TokenCall) (node : Node) (told : NodeReply)
+GrantsEnd = (opening : ClusterOpening) (events : List Event) (event : Event) (row : LedgerRow) (asked : CallAt) (presented : Presented) (call : TokenCall) (node : DataNode) (told : NodeReply)
     → AreTyped opening (event ∷ events) → call_of (after opening events) event ≡ Some asked → asked.call ≡ Presenting presented call → entry_at asked.node (after opening events).nodes ≡ Some node
-    → IsIn row (granted (after opening events)) → row.grant.token ≡ presented.token → row.grant.expiry ≤ clock_with node asked.now
-    → (happened (after opening events) event).answer ≡ Called (Ok told) → ⊥
+    → IsIn row (ledger_in (after opening events)) → row.grant.token ≡ presented.token → row.grant.expiry ≤ clock_with node asked.now
+    → (event_happened (after opening events) event).answer ≡ Called (Ok told) → ⊥

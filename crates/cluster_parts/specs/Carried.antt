@@ -11,9 +11,9 @@ use Rattle.history.specs.declared.entry.HistoryEntry.{HistoryEntry}
 use Rattle.node_calls.specs.declared.call.NodeCall.TheVariants.{Keys}
 use Rattle.node_calls.specs.declared.message.Message.{Message}
 use Rattle.node_calls.specs.declared.message.Message.TheVariants as message
-use Rattle.datanode.specs.NodeStep.{Node}
+use Rattle.datanode.specs.NodeStep.{DataNode}
 use Rattle.block_recovery.specs.Plans.{PlanTable}
-use Rattle.cluster_trace.specs.Trace.{recover_message, removal_message, copy_message, reporting, committing}
+use Rattle.cluster_trace.specs.Trace.{recover_message, removal_message, copy_message, report_request, commit_request}
 use Rattle.cluster_parts.specs.Leaders.{plans_led, answer_led}
 use Rattle.cluster_parts.specs.Nodes.{nodes_after, answer_at}
 use Rattle.cluster_parts.specs.declared.found.Found.{Found}
@@ -22,15 +22,15 @@ use Rattle.cluster_parts.specs.declared.carried.Carried.{Carried}
 use Rattle.cluster_parts.specs.declared.carried.Carried.TheVariants as carried
 
 -- the message that was found
-abbrev pub seen : Found → Message
-seen (found.Kept own) = own.now
-seen (found.Keys node keys) = message.Node node (Keys keys.now)
-seen (found.Recovery node own) = recover_message node own.now
-seen (found.Removal node own) = removal_message node own
-seen (found.Copy node own) = copy_message node own.now
+abbrev pub message_of_found : Found → Message
+message_of_found (found.Kept own) = own.now
+message_of_found (found.Keys node keys) = message.Node node (Keys keys.now)
+message_of_found (found.Recovery node own) = recover_message node own.now
+message_of_found (found.Removal node own) = removal_message node own
+message_of_found (found.Copy node own) = copy_message node own.now
 
 abbrev pub found_message : Option (Bor Found) → Option Message
-found_message found = option_map (λ (own : Bor Found). seen own.now) found
+found_message found = option_map (λ (own : Bor Found). message_of_found own.now) found
 
 -- the commands in an entry, and the DataNode that they are for
 abbrev pub told_for : Option ℕ → Reply → Option (ℕ × Commands)
@@ -49,14 +49,14 @@ abbrev pub commands_seen : Option (ℕ × Bor Commands) → Option (ℕ × Comma
 commands_seen found = option_map (λ (own : ℕ × Bor Commands). (own.0, own.1.now)) found
 
 -- what comes of it: a DataNode is called, also about the recoveries that it leads, or the NameNode is told something, by a request in the node's name
-abbrev pub carried_out : List (ℕ × Node) → List (ℕ × PlanTable) → ℕ → Option Message → Carried
+abbrev pub carried_out : List (ℕ × DataNode) → List (ℕ × PlanTable) → ℕ → Option Message → Carried
 carried_out nodes plans now None = carried.Nowhere
 carried_out nodes plans now (Some (message.Node node asked)) = carried.Called (answer_at node now asked nodes)
 carried_out nodes plans now (Some (message.Plan node asked)) = carried.Led (answer_led node asked plans)
-carried_out nodes plans now (Some (message.Reported node block stamp bytes)) = carried.Told (reporting node now block stamp bytes)
-carried_out nodes plans now (Some (message.CommitRecovery node block stamp bytes others)) = carried.Told (committing node now block stamp bytes others)
+carried_out nodes plans now (Some (message.Reported node block stamp bytes)) = carried.Told (report_request node now block stamp bytes)
+carried_out nodes plans now (Some (message.CommitRecovery node block stamp bytes others)) = carried.Told (commit_request node now block stamp bytes others)
 
-abbrev pub nodes_carried : List (ℕ × Node) → ℕ → Option Message → List (ℕ × Node)
+abbrev pub nodes_carried : List (ℕ × DataNode) → ℕ → Option Message → List (ℕ × DataNode)
 nodes_carried nodes now None = nodes
 nodes_carried nodes now (Some (message.Node node asked)) = nodes_after node now asked nodes
 nodes_carried nodes now (Some (message.Plan node asked)) = nodes

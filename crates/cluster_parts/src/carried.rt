@@ -1,11 +1,11 @@
 ghost use Rattle.std.specs.Prelude.{◌≡◌, IfOk, OnOk, OnErr, Some};
 ghost use Rattle.node_calls.specs.declared.call.NodeCall.TheVariants as asked;
 ghost use Rattle.node_calls.specs.declared.call.PlanCall.TheVariants as plan;
-ghost use Rattle.datanode.specs.NodeStep.{copying};
-ghost use Rattle.cluster_trace.specs.Trace.{reporting, committing};
+ghost use Rattle.datanode.specs.NodeStep.{copy_call};
+ghost use Rattle.cluster_trace.specs.Trace.{report_request, commit_request};
 ghost use Rattle.cluster_trace.specs.Typed.{PresentsBytes, CallFits};
 ghost use Rattle.cluster_trace.specs.Provenance.{call_brought};
-ghost use Rattle.cluster_parts.specs.Carried.{seen, found_message, carried_out, nodes_carried, plans_carried};
+ghost use Rattle.cluster_parts.specs.Carried.{message_of_found, found_message, carried_out, nodes_carried, plans_carried};
 ghost use Rattle.cluster_parts.specs.Leaders.{plans_led, answer_led};
 ghost use Rattle.cluster_parts.specs.Nodes.{nodes_after, answer_at};
 
@@ -51,7 +51,7 @@ fn report(
     stamp: Stamp,
     length: u64,
 ) -> Result<Request, AllocError>
-    ensures { IfOk result (λ request. request ≡ reporting node now block stamp length) }
+    ensures { IfOk result (λ request. request ≡ report_request node now block stamp length) }
 {
     Ok(Request {
         caller: principal_of(alloc, node)?,
@@ -74,7 +74,7 @@ fn commit(
     length: u64,
     nodes: &NodeSet,
 ) -> Result<Request, AllocError>
-    ensures { IfOk result (λ request. request ≡ committing node now block stamp length nodes.now) }
+    ensures { IfOk result (λ request. request ≡ commit_request node now block stamp length nodes.now) }
 {
     let nodes = nodes.clone()?;
     Ok(Request {
@@ -91,7 +91,7 @@ fn commit(
 
 // The call by which a node is told to send a copy.
 fn copy_call(alloc: Global, node: NodeId, copy: &CopyOrder) -> Result<NodeCall, AllocError>
-    ensures { IfOk result (λ call. call ≡ copying node copy.now.block copy.now.stamp copy.now.token copy.now.target) }
+    ensures { IfOk result (λ call. call ≡ copy_call node copy.now.block copy.now.stamp copy.now.token copy.now.target) }
 {
     let presented = Presented {
         caller: principal_of(alloc, node)?,
@@ -188,9 +188,9 @@ fn carry_copy(
     now: Moment,
     copy: &CopyOrder,
 ) -> Result<Carried, AllocError>
-    ensures ok { OnOk result (nodes.new ≡ nodes_after node now (copying node copy.now.block copy.now.stamp copy.now.token copy.now.target) nodes.old) }
-    ensures carried { IfOk result (λ carried. carried ≡ Carried.Called (answer_at node now (copying node copy.now.block copy.now.stamp copy.now.token copy.now.target) nodes.old)) }
-    ensures bytes { OnOk result (PresentsBytes (copying node copy.now.block copy.now.stamp copy.now.token copy.now.target)) }
+    ensures ok { OnOk result (nodes.new ≡ nodes_after node now (copy_call node copy.now.block copy.now.stamp copy.now.token copy.now.target) nodes.old) }
+    ensures carried { IfOk result (λ carried. carried ≡ Carried.Called (answer_at node now (copy_call node copy.now.block copy.now.stamp copy.now.token copy.now.target) nodes.old)) }
+    ensures bytes { OnOk result (PresentsBytes (copy_call node copy.now.block copy.now.stamp copy.now.token copy.now.target)) }
     ensures err { OnErr result (nodes.new ≡ nodes.old) }
 {
     let made = copy_call(alloc, node, copy)?;
@@ -215,10 +215,10 @@ fn carry_found(
     now: Moment,
     found: &Found<'_>,
 ) -> Result<Carried, AllocError>
-    ensures nodes { OnOk result (nodes.new ≡ nodes_carried nodes.old now (Some (seen found.now))) }
-    ensures leaders { OnOk result (leaders.new ≡ plans_carried leaders.old (Some (seen found.now))) }
-    ensures carried { IfOk result (λ carried. carried ≡ carried_out nodes.old leaders.old now (Some (seen found.now))) }
-    ensures bytes { OnOk result (CallFits (call_brought now (Some (seen found.now)))) }
+    ensures nodes { OnOk result (nodes.new ≡ nodes_carried nodes.old now (Some (message_of_found found.now))) }
+    ensures leaders { OnOk result (leaders.new ≡ plans_carried leaders.old (Some (message_of_found found.now))) }
+    ensures carried { IfOk result (λ carried. carried ≡ carried_out nodes.old leaders.old now (Some (message_of_found found.now))) }
+    ensures bytes { OnOk result (CallFits (call_brought now (Some (message_of_found found.now)))) }
     ensures err { OnErr result ((nodes.new ≡ nodes.old) × (leaders.new ≡ leaders.old)) }
 {
     match found {

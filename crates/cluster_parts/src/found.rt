@@ -1,7 +1,7 @@
 ghost use Rattle.std.specs.Prelude.{◌≡◌, ℕ, ◌<◌, ◌^◌, length, option_map, slice_get};
 ghost use Rattle.cluster_trace.specs.Trace.{command_messages, entry_messages, message_at};
 ghost use Rattle.cluster_parts.specs.Sent.{messages_at, messages_of, AreLaid};
-ghost use Rattle.cluster_parts.specs.Carried.{seen, commands_seen, commands_for};
+ghost use Rattle.cluster_parts.specs.Carried.{message_of_found, commands_seen, commands_for};
 
 use crate::sent::{Sent, Source, begun_by};
 use flat_rows::verdict::Verdict;
@@ -24,7 +24,7 @@ pub enum Found<'a> {
 
 // The command at an index.
 fn command_at(node: NodeId, commands: &Commands, index: usize) -> Option<Found<'_>>
-    ensures { option_map seen result ≡ slice_get (command_messages node commands.now) index }
+    ensures { option_map message_of_found result ≡ slice_get (command_messages node commands.now) index }
 {
     if index == 0 {
         return Some(Found::Keys(node, commands.keys()));
@@ -62,7 +62,7 @@ fn commands_in(entry: &HistoryEntry) -> Option<(NodeId, &Commands)>
 
 // The message at an index of those of an entry.
 fn entry_message(entry: &HistoryEntry, index: usize) -> Option<Found<'_>>
-    ensures { option_map seen result ≡ slice_get (entry_messages entry.now) index }
+    ensures { option_map message_of_found result ≡ slice_get (entry_messages entry.now) index }
 {
     match commands_in(entry) {
         Some((node, commands)) => command_at(node, commands, index),
@@ -94,7 +94,7 @@ pub fn entry_count(entry: &HistoryEntry) -> u64
 
 // The message at an index of those of the entry at another.
 fn history_message(history: &[HistoryEntry], entry: usize, index: usize) -> Option<Found<'_>>
-    ensures { option_map seen result ≡ slice_get (messages_at (slice_get history.now entry)) index }
+    ensures { option_map message_of_found result ≡ slice_get (messages_at (slice_get history.now entry)) index }
 {
     match history.get(entry) {
         Some(entry) => entry_message(entry, index),
@@ -104,7 +104,7 @@ fn history_message(history: &[HistoryEntry], entry: usize, index: usize) -> Opti
 
 // The message at an index of a list.
 fn own_message(messages: &Messages, index: usize) -> Option<Found<'_>>
-    ensures { option_map seen result ≡ slice_get messages.now index }
+    ensures { option_map message_of_found result ≡ slice_get messages.now index }
 {
     match messages.as_slice().get(index) {
         Some(message) => Some(Found::Kept(message)),
@@ -115,7 +115,7 @@ fn own_message(messages: &Messages, index: usize) -> Option<Found<'_>>
 /// The message with a number. Costs a step for each time that the number of batches can be halved, and takes no memory.
 pub fn find<'a>(sent: &'a Sent, history: &'a [HistoryEntry], number: u64) -> Option<Found<'a>>
     requires { AreLaid history.now 0 sent.now.batches.items sent.now.count }
-    ensures { option_map seen result ≡ message_at number (messages_of history.now sent.now.batches.items) }
+    ensures { option_map message_of_found result ≡ message_at number (messages_of history.now sent.now.batches.items) }
 {
     let begun = begun_by(&sent.batches, number);
     if begun == 0 {

@@ -27,9 +27,9 @@ impl Drop for Nodes {
 
 impl Model for Nodes {
     ghost use Rattle.std.specs.Prelude.{List, ℕ};
-    ghost use Rattle.datanode.specs.NodeStep.{Node};
+    ghost use Rattle.datanode.specs.NodeStep.{DataNode};
 
-    ghost Value = { List (ℕ × Node) };
+    ghost Value = { List (ℕ × DataNode) };
 
     ghost view = { λ nodes. nodes.by_id.entries };
 }

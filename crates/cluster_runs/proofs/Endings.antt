@@ -8,7 +8,7 @@ use Rattle.script_words.specs.Words.{lines_of, is_skipped, without_return}
 use Rattle.script_runs.specs.Channel.{AppendsFront}
 use Rattle.script_runs.proofs.Endings.{Front, appends_none, front_written}
 use Rattle.cluster_text.specs.ToldText.{answer_line}
-use Rattle.cluster_runs.specs.Output.{State, Numbered, no_lines, answered, event_in, after_answer, after_line, answers_of_first, text_of, output_of}
+use Rattle.cluster_runs.specs.Output.{State, Numbered, no_lines, line_answered, event_in, after_answer, after_line, answers_of_first, text_of, output_of}
 use Rattle.cluster_runs.specs.declared.session.Session.{Session}
 use Rattle.cluster_runs.specs.Ended.{IsAnswersOfFirst, AppendsAnswersOfFirst}
 use Rattle.cluster_runs.specs.Shown.{Shows}
@@ -42,9 +42,9 @@ goes_on a b c p q = record { more = p.more ++ q.more; is = q.is ∙ ap (λ l. l 
 goes_line : (state : State) (line : List ℕ) → Goes state (after_line state line)
 goes_line state line = by_test (is_skipped (without_return line))
   where
-    by_test : (b : Bool) → Goes state (if b then record state { number = state.number + 1 } else after_answer state (answered state.past (event_in state.past (without_return line))))
+    by_test : (b : Bool) → Goes state (if b then record state { number = state.number + 1 } else after_answer state (line_answered state.past (event_in state.past (without_return line))))
     by_test true = record { more = []; is = sym (append-nil state.answers) }
-    by_test false = record { more = record { number = state.number + 1; answer = (answered state.past (event_in state.past (without_return line))).answer } ∷ []; is = refl }
+    by_test false = record { more = record { number = state.number + 1; answer = (line_answered state.past (event_in state.past (without_return line))).answer } ∷ []; is = refl }
 
 goes_lines : (state : State) (lines : List (List ℕ)) → Goes state (fold after_line state lines)
 goes_lines state [] = goes_self state

@@ -9,10 +9,10 @@ use Rattle.grant_ledger.specs.declared.ledger.LedgerRow.{LedgerRow}
 use Rattle.history.specs.declared.entry.HistoryEntry.{HistoryEntry}
 use Rattle.history.specs.Config.{standard}
 use Rattle.history.specs.Grants.{ledger_of}
-use Rattle.cluster_trace.specs.Trace.{Opening, outcome}
+use Rattle.cluster_trace.specs.Trace.{ClusterOpening, event_outcome}
 use Rattle.cluster_trace.specs.declared.event.Event.{Event}
-use Rattle.cluster_core.specs.Past.{Past}
-use Rattle.cluster_core.specs.World.{state_after, stepped}
+use Rattle.cluster_core.specs.Past.{World}
+use Rattle.cluster_core.specs.World.{state_after, with_event}
 use Rattle.script_words.specs.Words.{lines_of, without_return, is_skipped, words_of}
 use Rattle.script_runs.specs.Status.{status_by}
 use Rattle.script_runs.specs.declared.script.Status.{Status}
@@ -21,10 +21,10 @@ use Rattle.cluster_text.specs.ToldText.{Told, answer_line, is_bad}
 
 -- what the cluster of a script opens with: a NameNode with the limits that HDFS has by default and a key of twenty bytes 11, and the
 -- DataNodes 1 to 8
-abbrev pub script_opening : Opening
+abbrev pub script_opening : ClusterOpening
 script_opening = record { name = record { config = standard; key = replicate 20 11 }; nodes = 1 ∷ 2 ∷ 3 ∷ 4 ∷ 5 ∷ 6 ∷ 7 ∷ 8 ∷ [] }
 
-abbrev pub no_events : Past
+abbrev pub no_events : World
 no_events = record { opening = script_opening; events = [] }
 
 -- an answer behind the number of its line
@@ -35,35 +35,35 @@ pub record Numbered : Type 0 where
 -- the lines so far: how many, the events that they make, and their answers
 pub record State : Type 0 where
   pub number : ℕ
-  pub past : Past
+  pub past : World
   pub answers : List Numbered
 
 -- ---- one line
 
 -- the tokens that were granted, the oldest first
-abbrev pub ledger_after : Past → List LedgerRow
+abbrev pub ledger_after : World → List LedgerRow
 ledger_after past = ledger_of past.opening.name (state_after past).entries
 
 -- the verdict of the newest entry of the NameNode's history
-abbrev pub newest_verdict : Past → Option Verdict
+abbrev pub newest_verdict : World → Option Verdict
 newest_verdict past = option_map (λ (entry : HistoryEntry). entry.verdict) (slice_get (state_after past).entries 0)
 
 -- what comes of an event, with what its text needs beside
-abbrev pub told_behind : Past → Event → Told
-told_behind past event = record { outcome = outcome (state_after past) event; rows = length (ledger_after past); newest = newest_verdict (stepped past event) }
+abbrev pub told_behind : World → Event → Told
+told_behind past event = record { outcome = event_outcome (state_after past) event; rows = length (ledger_after past); newest = newest_verdict (with_event past event) }
 
 -- the answer to a line, and the events after it
 pub record Answered : Type 0 where
   pub answer : Result Told IllFormed
-  pub past : Past
+  pub past : World
 
 -- an ill-formed line makes none
-abbrev pub answered : Past → Result Event IllFormed → Answered
-answered past (Err fault) = record { answer = Err fault; past = past }
-answered past (Ok event) = record { answer = Ok (told_behind past event); past = stepped past event }
+abbrev pub line_answered : World → Result Event IllFormed → Answered
+line_answered past (Err fault) = record { answer = Err fault; past = past }
+line_answered past (Ok event) = record { answer = Ok (told_behind past event); past = with_event past event }
 
 -- the event is formed from the line and from what the lines before leave
-abbrev pub event_in : Past → List ℕ → Result Event IllFormed
+abbrev pub event_in : World → List ℕ → Result Event IllFormed
 event_in past line = event_of (ledger_after past) (words_of line)
 
 abbrev pub after_answer : State → Answered → State
@@ -76,7 +76,7 @@ after_answer state a = record {
 abbrev pub after_trimmed : State → List ℕ → State
 after_trimmed state line =
     if is_skipped line then record state { number = state.number + 1 }
-    else after_answer state (answered state.past (event_in state.past line))
+    else after_answer state (line_answered state.past (event_in state.past line))
 
 abbrev pub after_line : State → List ℕ → State
 after_line state line = after_trimmed state (without_return line)
@@ -104,8 +104,8 @@ abbrev pub text_of : List Numbered → List ℕ
 text_of answers = flat_map (λ numbered. answer_line numbered.number numbered.answer) answers
 
 -- how a script ends: with an ill-formed line, or with none
-abbrev pub status_of : List Numbered → Status
-status_of answers = status_by (list_any (λ numbered. is_bad numbered.answer) answers)
+abbrev pub script_status : List Numbered → Status
+script_status answers = status_by (list_any (λ numbered. is_bad numbered.answer) answers)
 
 -- what a script prints
 abbrev pub output_of : List ℕ → List ℕ

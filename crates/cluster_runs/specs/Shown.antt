@@ -18,7 +18,7 @@ pub record KeepsLines (old new : Session) : Type 0 where
   pub text : string_bytes new.out ≡ string_bytes old.out
 
 -- of more lines, memory ran out in one: those before it were run, and what they print is held
-pub record HoldsFirst (state : State) (lines : List (List ℕ)) (session : Session) : Type 0 where
+pub record ShowsFirst (state : State) (lines : List (List ℕ)) (session : Session) : Type 0 where
   pub count : ℕ
   pub within : count < length lines
   pub number : session.number ≡ state.number + count

@@ -6,7 +6,7 @@ ghost use Rattle.script_runs.specs.Channel.{AppendsFront};
 ghost use Rattle.script_words.specs.Words as words;
 ghost use Rattle.cluster_runs.specs.Output as spec;
 ghost use Rattle.cluster_runs.specs.Laws.{IsAnsweredRightly};
-ghost use Rattle.cluster_runs.specs.Shown.{Shows, HoldsFirst};
+ghost use Rattle.cluster_runs.specs.Shown.{Shows, ShowsFirst};
 ghost use Rattle.cluster_runs.specs.Ended.{IsAnswersOfFirst, AppendsAnswersOfFirst};
 
 use crate::laws::scripts_are_runs;
@@ -26,7 +26,7 @@ use std::io::{Read, Write};
 pub fn run_lines(session: &mut Session, lines: &[&str]) -> Result<(), AllocError>
     requires { Shows spec.no_lines session.old }
     ensures ok { OnOk result (Shows (spec.after_lines (map (λ line. line.now) lines.now)) session.new) }
-    ensures err { OnErr result (HoldsFirst spec.no_lines (map (λ line. line.now) lines.now) session.new) }
+    ensures err { OnErr result (ShowsFirst spec.no_lines (map (λ line. line.now) lines.now) session.new) }
 {
     session.serve_all(lines)
 }
@@ -38,7 +38,7 @@ pub fn run_lines(session: &mut Session, lines: &[&str]) -> Result<(), AllocError
 /// Out of memory, or more lines than numbers of 64 bits.
 pub fn run_more(alloc: Global, session: &mut Session, text: &str) -> Result<(), AllocError>
     ensures ok { (state : spec.State) → Shows state session.old → OnOk result (Shows (spec.behind_lines state (words.lines_of text.now)) session.new) }
-    ensures err { (state : spec.State) → Shows state session.old → OnErr result (HoldsFirst state (words.lines_of text.now) session.new) }
+    ensures err { (state : spec.State) → Shows state session.old → OnErr result (ShowsFirst state (words.lines_of text.now) session.new) }
 {
     let lines = pieces_between(alloc, text, '\n')?;
     if lines.len() > usize::MAX - session.number() {
@@ -52,7 +52,7 @@ pub fn run_more(alloc: Global, session: &mut Session, text: &str) -> Result<(), 
 fn run_text(alloc: Global, session: &mut Session, script: &str) -> Result<Status, AllocError>
     requires { Shows spec.no_lines session.old }
     ensures ok { OnOk result (string_bytes session.new.out ≡ spec.output_of script.now) }
-    ensures status { IfOk result (λ status. status ≡ spec.status_of (spec.answers_of script.now)) }
+    ensures status { IfOk result (λ status. status ≡ spec.script_status (spec.answers_of script.now)) }
     ensures right { OnOk result (IsAnsweredRightly script.now) }
     ensures err { OnErr result (IsAnswersOfFirst session.new.number script.now (string_bytes session.new.out)) }
 {
@@ -75,7 +75,7 @@ struct ScriptRun {
 /// Runs a script on a cluster of its own.
 fn run_alone(alloc: Global, script: &str) -> Result<ScriptRun, AllocError>
     ensures ok { IfOk result (λ ran. OnOk ran.ended (string_bytes ran.text ≡ spec.output_of script.now)) }
-    ensures status { IfOk result (λ ran. IfOk ran.ended (λ status. status ≡ spec.status_of (spec.answers_of script.now))) }
+    ensures status { IfOk result (λ ran. IfOk ran.ended (λ status. status ≡ spec.script_status (spec.answers_of script.now))) }
     ensures right { IfOk result (λ ran. OnOk ran.ended (IsAnsweredRightly script.now)) }
     ensures err { IfOk result (λ ran. OnErr ran.ended (IsAnswersOfFirst ran.served script.now (string_bytes ran.text))) }
 {
@@ -100,7 +100,7 @@ pub fn run_script<R: Read, W: Write>(
     reader: &mut R,
     writer: &mut W,
 ) -> Result<Status, ScriptFault>
-    ensures ok { IfOk result (λ status. IfSome (R.remaining reader.old) (λ script. IsUtf8 script × Appends (W.contents writer.old) (W.contents writer.new) (spec.output_of script) × (status ≡ spec.status_of (spec.answers_of script)))) }
+    ensures ok { IfOk result (λ status. IfSome (R.remaining reader.old) (λ script. IsUtf8 script × Appends (W.contents writer.old) (W.contents writer.new) (spec.output_of script) × (status ≡ spec.script_status (spec.answers_of script)))) }
     ensures right { IfOk result (λ status. IfSome (R.remaining reader.old) (λ script. IsAnsweredRightly script)) }
     ensures unread { result ≡ Err ScriptFault.CannotRead → Keeps (W.contents writer.old) (W.contents writer.new) }
     ensures not_text { result ≡ Err ScriptFault.NotUtf8 → Keeps (W.contents writer.old) (W.contents writer.new) × IfSome (R.remaining reader.old) (λ script. ¬ (IsUtf8 script)) }

@@ -7,7 +7,7 @@ ghost use Rattle.cluster_trace.specs.Typed.{AreTyped};
 ghost use Rattle.script_runs.specs.Status.{status_by};
 ghost use Rattle.cluster_text.specs.ToldText.{answer_line};
 ghost use Rattle.cluster_runs.specs.Output as spec;
-ghost use Rattle.cluster_runs.specs.Shown.{Shows, KeepsLines, HoldsFirst};
+ghost use Rattle.cluster_runs.specs.Shown.{Shows, KeepsLines, ShowsFirst};
 
 use cluster_core::world::World;
 use cluster_text::event_line::read_event;
@@ -139,7 +139,7 @@ impl Session {
 
     /// Whether one of the lines so far was ill-formed.
     pub fn has_bad(&self) -> bool
-        ensures { (state : spec.State) → Shows state self.now → status_by result ≡ spec.status_of state.answers }
+        ensures { (state : spec.State) → Shows state self.now → status_by result ≡ spec.script_status state.answers }
     {
         self.has_bad
     }
@@ -167,7 +167,7 @@ impl Session {
     fn answer_event(&mut self, event: Event) -> Result<(), AllocError>
         requires { self.old.number + 1 < 2 ^ 64 }
         ensures number { OnOk result (self.new.number ≡ self.old.number + 1) }
-        ensures ok { (state : spec.State) → Shows state self.old → OnOk result (Shows (spec.after_answer state (spec.answered state.past (Ok event))) self.new) }
+        ensures ok { (state : spec.State) → Shows state self.old → OnOk result (Shows (spec.after_answer state (spec.line_answered state.past (Ok event))) self.new) }
         ensures err { OnErr result (KeepsLines self.old self.new) }
     {
         let rows = granted(&self.world);
@@ -192,7 +192,7 @@ impl Session {
     fn answer_bad(&mut self, fault: IllFormed) -> Result<(), AllocError>
         requires { self.old.number + 1 < 2 ^ 64 }
         ensures number { OnOk result (self.new.number ≡ self.old.number + 1) }
-        ensures ok { (state : spec.State) → Shows state self.old → OnOk result (Shows (spec.after_answer state (spec.answered state.past (Err fault))) self.new) }
+        ensures ok { (state : spec.State) → Shows state self.old → OnOk result (Shows (spec.after_answer state (spec.line_answered state.past (Err fault))) self.new) }
         ensures err { OnErr result (KeepsLines self.old self.new) }
     {
         print_bad(self.number + 1, fault, &mut self.line, &mut self.out)?;
@@ -205,7 +205,7 @@ impl Session {
     fn answer(&mut self, said: Result<Event, IllFormed>) -> Result<(), AllocError>
         requires { self.old.number + 1 < 2 ^ 64 }
         ensures number { OnOk result (self.new.number ≡ self.old.number + 1) }
-        ensures ok { (state : spec.State) → Shows state self.old → OnOk result (Shows (spec.after_answer state (spec.answered state.past said)) self.new) }
+        ensures ok { (state : spec.State) → Shows state self.old → OnOk result (Shows (spec.after_answer state (spec.line_answered state.past said)) self.new) }
         ensures err { OnErr result (KeepsLines self.old self.new) }
     {
         match said {
@@ -245,7 +245,7 @@ impl Session {
     pub fn serve_all(&mut self, lines: &[&str]) -> Result<(), AllocError>
         requires { self.old.number + length lines.now < 2 ^ 64 }
         ensures ok { (state : spec.State) → Shows state self.old → OnOk result (Shows (spec.behind_lines state (map (λ line. line.now) lines.now)) self.new) }
-        ensures err { (state : spec.State) → Shows state self.old → OnErr result (HoldsFirst state (map (λ line. line.now) lines.now) self.new) }
+        ensures err { (state : spec.State) → Shows state self.old → OnErr result (ShowsFirst state (map (λ line. line.now) lines.now) self.new) }
     {
         for line in lines {
             self.serve(line)?;

@@ -12,9 +12,9 @@ use Rattle.history.specs.Keys.{ring_of}
 use Rattle.history.specs.declared.entry.HistoryEntry.{HistoryEntry}
 use Rattle.name_core.specs.NameCore as core
 use Rattle.node_calls.specs.declared.message.Message.{Message}
-use Rattle.datanode.specs.NodeStep.{Node}
+use Rattle.datanode.specs.NodeStep.{DataNode}
 use Rattle.block_recovery.specs.Plans.{PlanTable}
-use Rattle.cluster_trace.specs.Trace.{State, entry_messages, named, left_by, outcome_of}
+use Rattle.cluster_trace.specs.Trace.{Cluster, entry_messages, request_named, left_by, outcome_of}
 use Rattle.cluster_trace.specs.Typed.{GrantFits}
 use Rattle.cluster_trace.specs.declared.outcome.EventAnswer.TheVariants.{Named}
 use Rattle.cluster_trace.proofs.Each.{each_append}
@@ -23,7 +23,7 @@ use Rattle.cluster_parts.specs.declared.sent.Batch.{Batch}
 use Rattle.cluster_parts.specs.declared.sent.Source.TheVariants.{Entry}
 use Rattle.cluster_parts.proofs.Laying.{laid_more, messages_more, newest, count_is}
 
-abbrev pub state_with : core.NameCore → List (ℕ × Node) → List (ℕ × PlanTable) → List Batch → State
+abbrev pub state_with : core.NameCore → List (ℕ × DataNode) → List (ℕ × PlanTable) → List Batch → Cluster
 state_with own nodes plans batches = record { opening = own.opening; entries = own.entries; nodes = nodes; plans = plans; messages = messages_of (reverse own.entries) batches }
 
 -- a batch of the messages of an entry was noted behind the others
@@ -60,18 +60,18 @@ sent_count own batches count laid = omega (arith, count_is (reverse own.entries)
 
 -- ---- a request
 
-pub record IsNamed (own new : core.NameCore) (nodes : List (ℕ × Node)) (plans : List (ℕ × PlanTable)) (batches added : List Batch) (before after count : ℕ) (request : Request) : Type 0 where
+pub record IsNamed (own new : core.NameCore) (nodes : List (ℕ × DataNode)) (plans : List (ℕ × PlanTable)) (batches added : List Batch) (before after count : ℕ) (request : Request) : Type 0 where
   pub laid : AreLaid (reverse new.entries) 0 added after
-  pub state : state_with new nodes plans added ≡ left_by (state_with own nodes plans batches) (named (state_with own nodes plans batches) request)
+  pub state : state_with new nodes plans added ≡ left_by (state_with own nodes plans batches) (request_named (state_with own nodes plans batches) request)
   pub outcome : (place first : ℕ) → place ≡ length new.entries → first ≡ before + 1
-      → record { answer = Named place; first = first; count = count } ≡ outcome_of (state_with own nodes plans batches) (named (state_with own nodes plans batches) request)
+      → record { answer = Named place; first = first; count = count } ≡ outcome_of (state_with own nodes plans batches) (request_named (state_with own nodes plans batches) request)
 
 abbrev next : core.NameCore → Request → HistoryEntry
-next own request = core.entry_of own 0 (length own.entries) request
+next own request = core.entry_for own 0 (length own.entries) request
 
-named_done : (own : core.NameCore) (nodes : List (ℕ × Node)) (plans : List (ℕ × PlanTable)) (batches added : List Batch) (before after count index : ℕ) (request : Request)
+named_done : (own : core.NameCore) (nodes : List (ℕ × DataNode)) (plans : List (ℕ × PlanTable)) (batches added : List Batch) (before after count index : ℕ) (request : Request)
     → AreLaid (reverse own.entries) 0 batches before → index ≡ length own.entries → count ≡ length (entry_messages (next own request)) → IsNoted index count batches added before after
-    → IsNamed own (core.stepped own 0 (length own.entries) request) nodes plans batches added before after count request
+    → IsNamed own (core.with_next_entry own 0 (length own.entries) request) nodes plans batches added before after count request
 named_done own nodes plans batches added before after count index request laid at many noted = record {
   laid = named_laid own.entries (next own request) batches added before after count index laid at many noted;
   state = ap (λ (messages : List Message). record { opening = own.opening; entries = next own request ∷ own.entries; nodes = nodes; plans = plans; messages = messages })
@@ -85,13 +85,13 @@ named_done own nodes plans batches added before after count index request laid a
     suc_is : (entries : List HistoryEntry) → length (next own request ∷ entries) ≡ length entries + 1
     suc_is entries = omega arith
 
-pub is_named : (own new : core.NameCore) (nodes : List (ℕ × Node)) (plans : List (ℕ × PlanTable)) (batches added : List Batch) (before after count index : ℕ) (request : Request)
-    → new ≡ core.stepped own 0 index request → AreLaid (reverse own.entries) 0 batches before → index ≡ length own.entries
+pub is_named : (own new : core.NameCore) (nodes : List (ℕ × DataNode)) (plans : List (ℕ × PlanTable)) (batches added : List Batch) (before after count index : ℕ) (request : Request)
+    → new ≡ core.with_next_entry own 0 index request → AreLaid (reverse own.entries) 0 batches before → index ≡ length own.entries
     → IfSome (slice_get new.entries 0) (λ entry. count ≡ length (entry_messages entry)) → IsNoted index count batches added before after
     → IsNamed own new nodes plans batches added before after count request
 is_named own new nodes plans batches added before after count index request is laid at many noted =
-    let stepped : new ≡ core.stepped own 0 (length own.entries) request = is ∙ ap (λ (n : ℕ). core.stepped own 0 n request) at in
-    let last : IfSome (slice_get (core.stepped own 0 (length own.entries) request).entries 0) (λ entry. count ≡ length (entry_messages entry)) =
+    let stepped : new ≡ core.with_next_entry own 0 (length own.entries) request = is ∙ ap (λ (n : ℕ). core.with_next_entry own 0 n request) at in
+    let last : IfSome (slice_get (core.with_next_entry own 0 (length own.entries) request).entries 0) (λ entry. count ≡ length (entry_messages entry)) =
     subst (λ (own : core.NameCore). IfSome (slice_get own.entries 0) (λ entry. count ≡ length (entry_messages entry))) stepped many in
     subst (λ (left : core.NameCore). IsNamed own left nodes plans batches added before after count request) (sym stepped) (named_done own nodes plans batches added before after count index request laid at last noted)
 
@@ -104,11 +104,11 @@ abbrev more_granted : core.NameCore → HistoryEntry → List LedgerRow
 more_granted own entry = rows_granted entry.place (ring_of own.opening own.entries) (clock_of (entry ∷ own.entries)) entry.request.caller entry.request.op entry.verdict
 
 -- the rows that came with the entry fit, and so do those before
-pub grants_fit : (own new : core.NameCore) (rows : List LedgerRow) (index granted : ℕ) (request : Request) → new ≡ core.stepped own 0 index request → granted ≡ length (ledger_of own.opening own.entries)
+pub grants_fit : (own new : core.NameCore) (rows : List LedgerRow) (index granted : ℕ) (request : Request) → new ≡ core.with_next_entry own 0 index request → granted ≡ length (ledger_of own.opening own.entries)
     → rows ≡ ledger_of new.opening new.entries → AllByRecursion (λ (row : LedgerRow). GrantFits row.grant) (drop granted rows)
     → AllByRecursion (λ (row : LedgerRow). GrantFits row.grant) (ledger_of own.opening own.entries) → AllByRecursion (λ (row : LedgerRow). GrantFits row.grant) (ledger_of new.opening new.entries)
 grants_fit own new rows index granted request is at all fit old =
-    let entry : HistoryEntry = core.entry_of own 0 index request in
+    let entry : HistoryEntry = core.entry_for own 0 index request in
     let behind : drop granted rows ≡ more_granted own entry =
     ap (λ (n : ℕ). drop n rows) at
     ∙ ap (drop (length (ledger_of own.opening own.entries))) (all ∙ ap (λ (left : core.NameCore). ledger_of left.opening left.entries) is)

@@ -3,15 +3,15 @@ use Rattle.std.specs.Prelude.{ℕ, ◌+◌, List, [], length, reverse, Option, S
 use Rattle.node_calls.specs.declared.message.Message.{Message}
 use Rattle.datanode.specs.declared.answered.Answered.{Answered}
 use Rattle.plan_steps.specs.declared.answered.PlanAnswered.{PlanAnswered}
-use Rattle.cluster_trace.specs.Trace.{State}
+use Rattle.cluster_trace.specs.Trace.{Cluster}
 use Rattle.cluster_trace.specs.declared.outcome.ClusterRefusal.TheVariants.{NoNode}
 use Rattle.cluster_trace.specs.declared.outcome.EventAnswer.TheVariants.{Called, Led, Lost}
 use Rattle.cluster_trace.specs.declared.outcome.Outcome.{Outcome}
 use Rattle.cluster_parts.specs.Sent.{messages_of, AreLaid}
 use Rattle.cluster_steps.specs.declared.cluster.Cluster.TheInside.{Inside}
 
-abbrev pub state_of : Inside → State
-state_of own = record {
+abbrev pub cluster_of : Inside → Cluster
+cluster_of own = record {
   opening = own.core.opening;
   entries = own.core.entries;
   nodes = own.nodes;

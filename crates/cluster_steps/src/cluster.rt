@@ -2,7 +2,7 @@ ghost use Rattle.std.specs.Prelude.{◌≡◌, ◌+◌, ◌<◌, ◌≤◌, ◌^
 ghost use Rattle.history.specs.declared.entry.HistoryEntry.{HistoryEntry};
 ghost use Rattle.block_records.specs.Numbers.{entry_at};
 ghost use Rattle.cluster_trace.specs.Trace as spec;
-ghost use Rattle.cluster_trace.specs.Trace.{start, named, called, led, delivered, message_at, left_by, happens, outcome_of};
+ghost use Rattle.cluster_trace.specs.Trace.{start, request_named, node_called, leader_called, message_delivered, message_at, left_by, happens, outcome_of};
 ghost use Rattle.cluster_trace.specs.declared.event.Event.TheVariants as event;
 ghost use Rattle.cluster_trace.specs.Provenance.{call_brought, call_of};
 ghost use Rattle.cluster_trace.specs.Typed.{GrantsFit, PresentsBytes, CallFits};
@@ -134,13 +134,13 @@ impl Drop for Cluster {
 }
 
 impl Model for Cluster {
-    ghost use Rattle.cluster_trace.specs.Trace.{State};
+    ghost use Rattle.cluster_trace.specs.Trace.{Cluster};
 
-    ghost Value = { State };
+    ghost Value = { Cluster };
 
-    ghost use Rattle.cluster_steps.specs.Cluster.{state_of, IsLaid};
+    ghost use Rattle.cluster_steps.specs.Cluster.{cluster_of, IsLaid};
 
-    ghost view = { state_of };
+    ghost view = { cluster_of };
 
     ghost invariant = { IsLaid };
 }
@@ -190,8 +190,8 @@ impl Cluster {
     /// # Errors
     /// Out of memory. Nothing has changed then, and there is no entry.
     pub fn name(&mut self, request: Request) -> Result<Outcome, AllocError>
-        ensures ok { OnOk result (self.new ≡ left_by self.old (named self.old request)) }
-        ensures outcome { IfOk result (λ outcome. outcome ≡ outcome_of self.old (named self.old request)) }
+        ensures ok { OnOk result (self.new ≡ left_by self.old (request_named self.old request)) }
+        ensures outcome { IfOk result (λ outcome. outcome ≡ outcome_of self.old (request_named self.old request)) }
         ensures fits { OnOk result (GrantsFit self.old → GrantsFit self.new) }
         ensures err { OnErr result (self.new ≡ self.old) }
     {
@@ -217,8 +217,8 @@ impl Cluster {
     /// # Errors
     /// Out of memory. Nothing has changed then.
     fn call(&mut self, node: NodeId, now: Moment, call: &NodeCall) -> Result<Outcome, AllocError>
-        ensures ok { OnOk result (self.new ≡ left_by self.old (called self.old node now call.now)) }
-        ensures outcome { IfOk result (λ outcome. outcome ≡ outcome_of self.old (called self.old node now call.now)) }
+        ensures ok { OnOk result (self.new ≡ left_by self.old (node_called self.old node now call.now)) }
+        ensures outcome { IfOk result (λ outcome. outcome ≡ outcome_of self.old (node_called self.old node now call.now)) }
         ensures bytes { OnOk result (PresentsBytes call.now) }
         ensures err { OnErr result (self.new ≡ self.old) }
     {
@@ -233,8 +233,8 @@ impl Cluster {
     /// # Errors
     /// Out of memory. Nothing has changed then.
     fn lead(&mut self, node: NodeId, call: &PlanCall) -> Result<Outcome, AllocError>
-        ensures ok { OnOk result (self.new ≡ left_by self.old (led self.old node call.now)) }
-        ensures outcome { IfOk result (λ outcome. outcome ≡ outcome_of self.old (led self.old node call.now)) }
+        ensures ok { OnOk result (self.new ≡ left_by self.old (leader_called self.old node call.now)) }
+        ensures outcome { IfOk result (λ outcome. outcome ≡ outcome_of self.old (leader_called self.old node call.now)) }
         ensures err { OnErr result (self.new ≡ self.old) }
     {
         self.sent.make_room()?;
@@ -254,7 +254,7 @@ impl Cluster {
         call: &DataCall,
     ) -> Result<Outcome, AllocError>
         ensures ok { OnOk result (self.new ≡ happens self.old (event.Data node now call.now)) }
-        ensures outcome { IfOk result (λ outcome. outcome ≡ spec.outcome self.old (event.Data node now call.now)) }
+        ensures outcome { IfOk result (λ outcome. outcome ≡ spec.event_outcome self.old (event.Data node now call.now)) }
         ensures bytes { OnOk result (CallFits (call_of self.old (event.Data node now call.now))) }
         ensures err { OnErr result (self.new ≡ self.old) }
     {
@@ -271,8 +271,8 @@ impl Cluster {
     /// # Errors
     /// Out of memory. Nothing has changed then.
     pub fn deliver(&mut self, number: u64, now: Moment) -> Result<Outcome, AllocError>
-        ensures ok { OnOk result (self.new ≡ left_by self.old (delivered self.old now (message_at number self.old.messages))) }
-        ensures outcome { IfOk result (λ outcome. outcome ≡ outcome_of self.old (delivered self.old now (message_at number self.old.messages))) }
+        ensures ok { OnOk result (self.new ≡ left_by self.old (message_delivered self.old now (message_at number self.old.messages))) }
+        ensures outcome { IfOk result (λ outcome. outcome ≡ outcome_of self.old (message_delivered self.old now (message_at number self.old.messages))) }
         ensures fits { OnOk result (GrantsFit self.old → GrantsFit self.new) }
         ensures bytes { OnOk result (CallFits (call_brought now (message_at number self.old.messages))) }
         ensures err { OnErr result (self.new ≡ self.old) }
@@ -302,7 +302,7 @@ impl Cluster {
     pub fn refuse(&mut self, request: &Request) -> Result<Outcome, AllocError>
         requires { spec.is_from_outside request.now.op ≡ false }
         ensures ok { OnOk result (self.new ≡ happens self.old (event.Name request.now)) }
-        ensures outcome { IfOk result (λ outcome. outcome ≡ spec.outcome self.old (event.Name request.now)) }
+        ensures outcome { IfOk result (λ outcome. outcome ≡ spec.event_outcome self.old (event.Name request.now)) }
         ensures err { OnErr result (self.new ≡ self.old) }
     {
         self.sent.make_room()?;

@@ -24,16 +24,16 @@ use Rattle.cluster_text.specs.declared.event_line.Place.{Place}
 -- ---- calls of a DataNode
 
 -- who asks which DataNode, and when
-abbrev pub asker_of : List ℕ → List ℕ → List ℕ → Result NodeAsker IllFormed
-asker_of moment caller node = do
+abbrev pub node_asker_of : List ℕ → List ℕ → List ℕ → Result NodeAsker IllFormed
+node_asker_of moment caller node = do
   m ← moment_word moment
   c ← who_word caller
   n ← node_word node
   Ok (record { moment = m; caller = c; node = n })
 
 -- a block at a generation stamp
-abbrev pub place_of : List ℕ → List ℕ → Result Place IllFormed
-place_of block stamp = do
+abbrev pub place_words : List ℕ → List ℕ → Result Place IllFormed
+place_words block stamp = do
   b ← number_word block
   s ← number_word stamp
   Ok (record { block = b; stamp = s })
@@ -46,14 +46,14 @@ presented_of ledger caller at token = do
 
 abbrev pub begin_of : List LedgerRow → List ℕ → List ℕ → List ℕ → List ℕ → List ℕ → Result DataCall IllFormed
 begin_of ledger caller block stamp next token = do
-  a ← place_of block stamp
+  a ← place_words block stamp
   n ← next_word next
   p ← presented_of ledger caller a token
   Ok (BeginWrite p n)
 
 abbrev pub packet_of : List LedgerRow → List ℕ → List ℕ → List ℕ → List ℕ → List ℕ → List ℕ → List ℕ → Result DataCall IllFormed
 packet_of ledger caller block stamp offset bytes next token = do
-  a ← place_of block stamp
+  a ← place_words block stamp
   o ← number_word offset
   b ← bytes_word bytes
   n ← next_word next
@@ -62,7 +62,7 @@ packet_of ledger caller block stamp offset bytes next token = do
 
 abbrev pub finalize_of : List LedgerRow → List ℕ → List ℕ → List ℕ → List ℕ → List ℕ → List ℕ → Result DataCall IllFormed
 finalize_of ledger caller block stamp count next token = do
-  a ← place_of block stamp
+  a ← place_words block stamp
   c ← number_word count
   n ← next_word next
   p ← presented_of ledger caller a token
@@ -70,7 +70,7 @@ finalize_of ledger caller block stamp count next token = do
 
 abbrev pub read_of : List LedgerRow → List ℕ → List ℕ → List ℕ → List ℕ → List ℕ → List ℕ → Result DataCall IllFormed
 read_of ledger caller block stamp offset count token = do
-  a ← place_of block stamp
+  a ← place_words block stamp
   o ← number_word offset
   c ← number_word count
   p ← presented_of ledger caller a token
@@ -78,7 +78,7 @@ read_of ledger caller block stamp offset count token = do
 
 abbrev pub going_on : List ℕ → List ℕ → List ℕ → Result DataCall IllFormed
 going_on verb block stamp = do
-  a ← place_of block stamp
+  a ← place_words block stamp
   Ok (if same verb (codes "decide") then Decide a.block a.stamp else Commit a.block a.stamp)
 
 abbrev pub is_that : ℕ → Option ℕ → Bool
@@ -103,22 +103,22 @@ abbrev pub five_of : List LedgerRow → List ℕ → List ℕ → List ℕ → L
 five_of ledger caller verb block stamp number next token =
     if same verb (codes "finalize") then finalize_of ledger caller block stamp number next token else read_of ledger caller block stamp number next token
 
-abbrev pub call_of : List LedgerRow → NodeAsker → List ℕ → List (List ℕ) → Result DataCall IllFormed
-call_of ledger asker verb (block ∷ stamp ∷ []) = led_of asker verb block stamp
-call_of ledger asker verb (block ∷ stamp ∷ next ∷ token ∷ []) = begin_of ledger asker.caller block stamp next token
-call_of ledger asker verb (block ∷ stamp ∷ number ∷ next ∷ token ∷ []) = five_of ledger asker.caller verb block stamp number next token
-call_of ledger asker verb (block ∷ stamp ∷ offset ∷ bytes ∷ next ∷ token ∷ []) = packet_of ledger asker.caller block stamp offset bytes next token
-call_of ledger asker verb _ = Err BadLine
+abbrev pub data_call_of : List LedgerRow → NodeAsker → List ℕ → List (List ℕ) → Result DataCall IllFormed
+data_call_of ledger asker verb (block ∷ stamp ∷ []) = led_of asker verb block stamp
+data_call_of ledger asker verb (block ∷ stamp ∷ next ∷ token ∷ []) = begin_of ledger asker.caller block stamp next token
+data_call_of ledger asker verb (block ∷ stamp ∷ number ∷ next ∷ token ∷ []) = five_of ledger asker.caller verb block stamp number next token
+data_call_of ledger asker verb (block ∷ stamp ∷ offset ∷ bytes ∷ next ∷ token ∷ []) = packet_of ledger asker.caller block stamp offset bytes next token
+data_call_of ledger asker verb _ = Err BadLine
 
-abbrev pub asked_by : List LedgerRow → NodeAsker → List ℕ → List (List ℕ) → Result Event IllFormed
-asked_by ledger asker verb words = do
-  c ← call_of ledger asker verb words
+abbrev pub call_event : List LedgerRow → NodeAsker → List ℕ → List (List ℕ) → Result Event IllFormed
+call_event ledger asker verb words = do
+  c ← data_call_of ledger asker verb words
   Ok (Data asker.node asker.moment c)
 
 abbrev pub data_event : List LedgerRow → List ℕ → List ℕ → List ℕ → List ℕ → List (List ℕ) → Result Event IllFormed
 data_event ledger moment caller node verb words = do
-  a ← asker_of moment caller node
-  asked_by ledger a verb words
+  a ← node_asker_of moment caller node
+  call_event ledger a verb words
 
 abbrev pub node_event : List LedgerRow → List ℕ → List ℕ → List ℕ → List (List ℕ) → Result Event IllFormed
 node_event ledger moment caller node [] = Err BadLine

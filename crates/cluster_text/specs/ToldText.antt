@@ -29,16 +29,16 @@ abbrev pub word_behind : List ℕ → List ℕ
 word_behind [] = []
 word_behind (byte ∷ word) = 32 ∷ byte ∷ word
 
-abbrev pub state_text : ReplicaState → List ℕ
-state_text Writing = codes "writing"
-state_text Finalized = codes "finalized"
+abbrev pub replica_state_text : ReplicaState → List ℕ
+replica_state_text Writing = codes "writing"
+replica_state_text Finalized = codes "finalized"
 
 abbrev pub node_reply_text : NodeReply → List ℕ
 node_reply_text reply.Begun = codes "ok begun"
 node_reply_text (reply.Taken bytes) = codes "ok taken " ++ decimal bytes
 node_reply_text (reply.Finalized bytes) = codes "ok finalized " ++ decimal bytes
 node_reply_text (reply.Read bytes) = codes "ok read" ++ word_behind (encode_lower bytes)
-node_reply_text (reply.Replica stamp bytes state) = codes "ok replica " ++ (decimal stamp ++ (32 ∷ (decimal bytes ++ (32 ∷ state_text state))))
+node_reply_text (reply.Replica stamp bytes state) = codes "ok replica " ++ (decimal stamp ++ (32 ∷ (decimal bytes ++ (32 ∷ replica_state_text state))))
 node_reply_text (reply.Updated bytes) = codes "ok updated " ++ decimal bytes
 node_reply_text reply.Removed = codes "ok removed"
 node_reply_text (reply.Copied bytes) = codes "ok copied " ++ decimal bytes

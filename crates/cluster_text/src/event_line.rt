@@ -30,7 +30,7 @@ struct NodeAsker {
 }
 
 fn asker_of(alloc: Global, moment: &str, caller: &str, node: &str) -> Result<NodeAsker, ParseFault>
-    ensures { Forms result (spec.asker_of moment.now caller.now node.now) }
+    ensures { Forms result (spec.node_asker_of moment.now caller.now node.now) }
 {
     let moment = moment_word(moment)?;
     let caller = who_word(alloc, caller)?;
@@ -50,7 +50,7 @@ struct Place {
 }
 
 fn place_of(block: &str, stamp: &str) -> Result<Place, ParseFault>
-    ensures { Forms result (spec.place_of block.now stamp.now) }
+    ensures { Forms result (spec.place_words block.now stamp.now) }
 {
     let block = BlockId::new(number_word(block)?);
     let stamp = Stamp::new(number_word(stamp)?);
@@ -225,7 +225,7 @@ fn call_of_six(
     requires two { length words.now ≢ 2 }
     requires four { length words.now ≢ 4 }
     requires five { length words.now ≢ 5 }
-    ensures { (verb : List ℕ) → Forms result (spec.call_of ledger.now asker.now verb (map (λ word. word.now) words.now)) }
+    ensures { (verb : List ℕ) → Forms result (spec.data_call_of ledger.now asker.now verb (map (λ word. word.now) words.now)) }
 {
     if words.len() != 6 {
         return Err(ParseFault::IllFormed(IllFormed::BadLine));
@@ -244,7 +244,7 @@ fn call_of(
     verb: &str,
     words: &[&str],
 ) -> Result<DataCall, ParseFault>
-    ensures { Forms result (spec.call_of ledger.now asker.now verb.now (map (λ word. word.now) words.now)) }
+    ensures { Forms result (spec.data_call_of ledger.now asker.now verb.now (map (λ word. word.now) words.now)) }
 {
     let caller = &asker.caller;
     if words.len() == 2 {
@@ -270,7 +270,7 @@ fn asked_by(
     verb: &str,
     words: &[&str],
 ) -> Result<Event, ParseFault>
-    ensures { Forms result (spec.asked_by ledger.now asker verb.now (map (λ word. word.now) words.now)) }
+    ensures { Forms result (spec.call_event ledger.now asker verb.now (map (λ word. word.now) words.now)) }
 {
     let call = call_of(alloc, ledger, &asker, verb, words)?;
     Ok(Event::Data(asker.node, asker.moment, call))

@@ -102,7 +102,7 @@ fn print_read(chunks: &Chunks, line: &mut String) -> Result<(), AllocError>
 }
 
 fn state_word(state: ReplicaState) -> &'static str
-    ensures { result.now ≡ spec.state_text state }
+    ensures { result.now ≡ spec.replica_state_text state }
 {
     match state {
         ReplicaState::Writing => "writing",

@@ -3,7 +3,7 @@ use Rattle.std.proofs.Common.{ℕ, ◌+◌, inl, inr, List, [], ◌∷◌, ◌++
 use Rattle.std.specs.Bool.{⊤}
 use Rattle.std.specs.List.{AllByRecursion}
 use Rattle.block_tokens.specs.KeyList.{KeyList}
-use Rattle.block_tokens.specs.Ring.{Ring, ring_keys, update_of}
+use Rattle.block_tokens.specs.Ring.{KeyRing, ring_keys, update_of}
 use Rattle.hdfs_values.specs.NodeId.{node_of}
 use Rattle.hdfs_types.specs.Commands.{Commands}
 use Rattle.hdfs_types.specs.declared.commands.CopyOrder.{CopyOrder}
@@ -46,7 +46,7 @@ use Rattle.cluster_trace.proofs.Keys.{Made, usable_made, MessageBrings}
 abbrev pub key_in : ℕ × HeldKey → ℕ × List ℕ
 key_in own = (own.0, own.1.key)
 
-abbrev pub IsMade : Ring → ℕ × List ℕ → Type 0
+abbrev pub IsMade : KeyRing → ℕ × List ℕ → Type 0
 IsMade ring own = IsIn own (map key_in (ring_keys ring))
 
 all_made : (keys : KeyList) → AllByRecursion (λ (own : ℕ × HeldKey). IsIn (key_in own) (map key_in keys)) keys
@@ -55,7 +55,7 @@ all_made (own ∷ keys) =
     (inl refl, each_more (λ (one : ℕ × HeldKey). IsIn (key_in one) (map key_in keys)) (λ (one : ℕ × HeldKey). IsIn (key_in one) (map key_in (own ∷ keys))) (λ one i. inr i) keys (all_made keys))
 
 -- an update is of keys that were made
-pub update_made : (ring : Ring) (now : ℕ) → Made (IsMade ring) (update_of ring now)
+pub update_made : (ring : KeyRing) (now : ℕ) → Made (IsMade ring) (update_of ring now)
 unfolding update_of
 update_made ring now = usable_made (IsMade ring) now (ring_keys ring) (all_made (ring_keys ring))
 
@@ -68,12 +68,12 @@ rolled [] more serial key expiry own (inr i) = absurd i
 rolled (first ∷ older) more serial key expiry own (inl e) = inl e
 rolled (first ∷ older) more serial key expiry own (inr i) = inr (rolled older more serial key expiry own i)
 
-made_after : (what : Op) (now : ℕ) (ring : Ring) (own : ℕ × List ℕ) → IsMade ring own → IsMade (ring_after what now ring) own
+made_after : (what : Op) (now : ℕ) (ring : KeyRing) (own : ℕ × List ℕ) → IsMade ring own → IsMade (ring_after what now ring) own
 made_after (op.RollKey key) now ring own i =
     rolled ring.older ((ring.serial + 1, record { key = key; expiry = None }) ∷ []) ring.serial ring.key (Some (now + ring.lifetime)) own i
 made_after _ now ring own i = i
 
-made_by : (what : Op) (verdict : Verdict) (now : ℕ) (ring : Ring) (own : ℕ × List ℕ) → IsMade ring own → IsMade (ring_by what verdict now ring) own
+made_by : (what : Op) (verdict : Verdict) (now : ℕ) (ring : KeyRing) (own : ℕ × List ℕ) → IsMade ring own → IsMade (ring_by what verdict now ring) own
 made_by what (Done told) now ring own i = made_after what now ring own i
 made_by what (Denied denial) now ring own i = i
 made_by what (Refused refusal) now ring own i = i

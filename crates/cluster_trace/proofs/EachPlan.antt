@@ -5,12 +5,12 @@ use Rattle.std.specs.Map.{set_value}
 use Rattle.std.specs.BTreeMap.{insert_entry}
 use Rattle.std.specs.Ordering.{nat_cmp}
 use Rattle.block_records.specs.Numbers.{is_number, entry_at}
-use Rattle.block_recovery.specs.Plans.{PlanTable, plans_of, plan_at, with_plan, altered_by, altered, changed}
+use Rattle.block_recovery.specs.Plans.{PlanTable, plans_of, plan_at, with_plan, altered_by, with_entry_changed, with_plan_changed}
 use Rattle.block_recovery.specs.declared.plan.Plan.{Plan}
 use Rattle.cluster_trace.proofs.Each.{AllValues, values_at, values_set, values_inserted}
 
 module _ {X : Type 0} (P : X → Type 0) (change : X → X) (keeps : (own : X) → P own → P (change own)) where
-  altered_have : (number : ℕ) (table : List (ℕ × X)) → AllValues P table → AllValues P (altered change number table)
+  altered_have : (number : ℕ) (table : List (ℕ × X)) → AllValues P table → AllValues P (with_entry_changed change number table)
   altered_have number table all = by (entry_at number table) (λ own e. values_at P table number own all e)
     where
       by : (found : Option X) → ((own : X) → found ≡ Some own → P own) → AllValues P (altered_by change number found table)
@@ -39,6 +39,6 @@ module _ (P : Plan → Type 0) where
       (values_inserted P (plans_of block plans) stamp own (of_block block plans all) new)
 
   -- one that is changed
-  pub changed_has : (change : Plan → Plan) (block stamp : ℕ) (plans : PlanTable) → EachPlan plans → ((own : Plan) → P own → P (change own)) → EachPlan (changed change block stamp plans)
+  pub changed_has : (change : Plan → Plan) (block stamp : ℕ) (plans : PlanTable) → EachPlan plans → ((own : Plan) → P own → P (change own)) → EachPlan (with_plan_changed change block stamp plans)
   changed_has change block stamp plans all keeps =
-      altered_have (λ (own : List (ℕ × Plan)). AllValues P own) (altered change stamp) (λ table each. altered_have P change keeps stamp table each) block plans all
+      altered_have (λ (own : List (ℕ × Plan)). AllValues P own) (with_entry_changed change stamp) (λ table each. altered_have P change keeps stamp table each) block plans all

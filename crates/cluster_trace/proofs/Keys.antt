@@ -20,7 +20,7 @@ use Rattle.node_calls.specs.declared.refusal.NodeRefusal.{NodeRefusal}
 use Rattle.node_calls.specs.declared.refusal.ReplicaRefusal.{ReplicaRefusal}
 use Rattle.node_replies.specs.Asking.{asked_by}
 use Rattle.replicas.specs.ReplicaStep.{held_at, removal_refusal}
-use Rattle.datanode.specs.NodeStep.{Node, node_after, presented_after, presented_by, removed_by, clock_with, call_refusal}
+use Rattle.datanode.specs.NodeStep.{DataNode, node_after, presented_after, presented_by, removed_by, clock_with, call_refusal}
 
 module _ (P : ℕ × List ℕ → Type 0) where
   -- of each key, with its serial
@@ -67,7 +67,7 @@ module _ (P : ℕ × List ℕ → Type 0) where
   Brings (Presenting presented asked) = ⊤
   Brings (Invalidate block stamp) = ⊤
 
-  presented_made : (node : Node) (clock : ℕ) (own : Presented) (asked : TokenCall) → Made node.keys → Made (presented_after node clock own asked).keys
+  presented_made : (node : DataNode) (clock : ℕ) (own : Presented) (asked : TokenCall) → Made node.keys → Made (presented_after node clock own asked).keys
   unfolding presented_after
   presented_made node clock own asked each = by (call_refusal node clock own asked)
     where
@@ -75,7 +75,7 @@ module _ (P : ℕ × List ℕ → Type 0) where
       by (Some refusal) = usable_made clock node.keys each
       by None = usable_made clock node.keys each
 
-  pub after_made : (node : Node) (now : ℕ) (asked : NodeCall) → Made node.keys → Brings asked → Made (node_after node now asked).keys
+  pub after_made : (node : DataNode) (now : ℕ) (asked : NodeCall) → Made node.keys → Brings asked → Made (node_after node now asked).keys
   unfolding node_after
   after_made node now (Presenting own asked) each brought = presented_made node (clock_with node now) (asked_by node.id own asked) asked each
   after_made node now (Keys update) each brought = usable_made (clock_with node now) (merged_keys node.keys update) (merged_made node.keys update each brought)

@@ -13,7 +13,7 @@ use Rattle.permission_specs.specs.Rights.{covers}
 use Rattle.hdfs_types.specs.declared.key_list.HeldKey.{HeldKey}
 use Rattle.hdfs_types.specs.declared.op.Request.{Request}
 use Rattle.block_tokens.specs.KeyList.{KeyList, key_with, usable_keys}
-use Rattle.block_tokens.specs.Laws.{IsTaken}
+use Rattle.block_tokens.specs.Laws.{IsTokenTaken}
 use Rattle.block_tokens.specs.TokenTest.{token_test}
 use Rattle.block_tokens.specs.TokenText.{Body, TokenText}
 use Rattle.block_tokens.specs.declared.refusal.TokenRefusal.{TokenRefusal}
@@ -28,12 +28,12 @@ use Rattle.node_calls.specs.declared.presented.Presented.{Presented}
 use Rattle.node_calls.specs.declared.refusal.NodeRefusal.{NodeRefusal}
 use Rattle.node_calls.specs.declared.refusal.ReplicaRefusal.{ReplicaRefusal}
 use Rattle.node_calls.specs.declared.reply.NodeReply.{NodeReply}
-use Rattle.node_replies.specs.Asking.{asked_by, mode_of, sends_copy}
+use Rattle.node_replies.specs.Asking.{asked_by, modes_of_call, sends_copy}
 use Rattle.replicas.specs.ReplicaStep.{held_at, replica_refusal}
-use Rattle.datanode.specs.NodeStep.{Node, node_answer, presented_answer, told_by, clock_with, call_refusal, token_or_replica, access_of}
+use Rattle.datanode.specs.NodeStep.{DataNode, node_answer, presented_answer, told_by, clock_with, call_refusal, token_or_replica, access_of}
 use Rattle.cluster_trace.specs.DataCall.{as_message}
-use Rattle.cluster_trace.specs.Provenance.{IsIn, granted, IsGranted, IsForged, call_brought, call_of, request_brought, IsRuled, IsCovered, IsCoveredWhere, IsServedRightly, IsRight, AllRight}
-use Rattle.cluster_trace.specs.Trace.{State, Opening, lost, named, called_at, delivered, message_at, is_from_outside, after}
+use Rattle.cluster_trace.specs.Provenance.{IsIn, ledger_in, IsGranted, IsForged, call_brought, call_of, request_brought, IsRuled, IsCovered, IsCoveredWhere, IsServedRightly, IsRightEvent, AllRight}
+use Rattle.cluster_trace.specs.Trace.{Cluster, ClusterOpening, event_lost, request_named, called_at, message_delivered, message_at, is_from_outside, after}
 use Rattle.cluster_trace.specs.Typed.{GrantFits, GrantsFit, PresentsBytes, CallFits, AreTyped}
 use Rattle.cluster_trace.specs.declared.event.Event.{Event}
 use Rattle.cluster_trace.specs.declared.event.Event.TheVariants.{Name, Deliver, Data}
@@ -86,16 +86,16 @@ module _ (P : ℕ × List ℕ → Type 0) where
 stands_in : (rows : List LedgerRow) (row : LedgerRow) → AllByRecursion RowIssued rows → AllByRecursion (λ (own : LedgerRow). GrantFits own.grant) rows → IsIn row rows → TellsItself row.grant
 stands_in rows row issued fits i = issued_tells row.grant (each_in RowIssued rows row issued i) (each_in (λ (own : LedgerRow). GrantFits own.grant) rows row fits i)
 
-covered : (state : State) (keys : KeyList) (clock : ℕ) (own : Presented) (asked : TokenCall) → Made (MadeIn state) keys → GrantsFit state → ((i : ℕ) → slice_index own.token i < 256)
+covered : (state : Cluster) (keys : KeyList) (clock : ℕ) (own : Presented) (asked : TokenCall) → Made (MadeIn state) keys → GrantsFit state → ((i : ℕ) → slice_index own.token i < 256)
     → token_test keys (access_of clock own asked) own.token ≡ None → IsGranted state clock own asked ⊎ IsForged state own.token
 covered state keys clock own asked made fits bytes h =
     let all = test_tells keys (access_of clock own asked) own.token bytes h in
-    by all.0 all.1 all.2 (issued_or_not own.token (granted state))
+    by all.0 all.1 all.2 (issued_or_not own.token (ledger_in state))
   where
-    by : (parts : Body) (held : HeldKey) → IsTaken keys (access_of clock own asked) own.token parts held → Issued own.token (granted state) ⊎ NotIssued own.token (granted state)
+    by : (parts : Body) (held : HeldKey) → IsTokenTaken keys (access_of clock own asked) own.token parts held → Issued own.token (ledger_in state) ⊎ NotIssued own.token (ledger_in state)
         → IsGranted state clock own asked ⊎ IsForged state own.token
     by parts held all (inl one) =
-        let text = stands_in (granted state) one.row (all_issued state.opening state.entries) fits one.stands in
+        let text = stands_in (ledger_in state) one.row (all_issued state.opening state.entries) fits one.stands in
         let same_parts : parts ≡ parts_of one.row.grant text.0 = parts_told own.token parts (parts_of one.row.grant text.0) all.text (subst (λ t. TokenText t (parts_of one.row.grant text.0)) one.token text.1) in
         inl (
           one.row,
@@ -104,7 +104,7 @@ covered state keys clock own asked made fits bytes h =
             token = one.token;
             user = sym (ap (λ (p : Body). p.user) same_parts) ∙ all.user;
             block = sym (ap (λ (p : Body). p.block) same_parts) ∙ all.block;
-            mode = sym (ap (λ (p : Body). covers p.modes (mode_of asked).0) same_parts) ∙ all.allowed;
+            mode = sym (ap (λ (p : Body). covers p.modes (modes_of_call asked).0) same_parts) ∙ all.allowed;
             in_time = subst (λ (p : Body). clock < p.expiry) same_parts all.in_time;
           },
         )
@@ -129,7 +129,7 @@ own_token : (b : Bool) (given : Presented) (principal : List ℕ) → (cond b (r
 own_token true given principal = refl
 own_token false given principal = refl
 
-presented_covered : (state : State) (node : Node) (clock : ℕ) (own : Presented) (asked : TokenCall) (told : NodeReply) → Made (MadeIn state) node.keys → GrantsFit state → ((i : ℕ) → slice_index own.token i < 256)
+presented_covered : (state : Cluster) (node : DataNode) (clock : ℕ) (own : Presented) (asked : TokenCall) (told : NodeReply) → Made (MadeIn state) node.keys → GrantsFit state → ((i : ℕ) → slice_index own.token i < 256)
     → (presented_answer node clock own asked).result ≡ Ok told → IsGranted state clock own asked ⊎ IsForged state own.token
 unfolding presented_answer
 presented_covered state node clock own asked told made fits bytes e = by (call_refusal node clock own asked) refl e
@@ -139,7 +139,7 @@ presented_covered state node clock own asked told made fits bytes e = by (call_r
     by None is h = covered state node.keys clock own asked made fits bytes
         (test_passes (token_test node.keys (access_of clock own asked) own.token) (replica_refusal node.limit asked own.stamp (held_at own.block node.blocks)) is)
 
-answer_covered : (state : State) (node : Node) (now : ℕ) (asked : NodeCall) (told : NodeReply) → Made (MadeIn state) node.keys → GrantsFit state → PresentsBytes asked
+answer_covered : (state : Cluster) (node : DataNode) (now : ℕ) (asked : NodeCall) (told : NodeReply) → Made (MadeIn state) node.keys → GrantsFit state → PresentsBytes asked
     → (node_answer node now asked).result ≡ Ok told → IsCovered state now (Some node) asked
 unfolding node_answer
 answer_covered state node now (Presenting given asked) told made fits bytes e =
@@ -152,41 +152,41 @@ answer_covered state node now (Keys update) told made fits bytes e = tt
 
 -- ---- an event
 
-called_rightly : (state : State) (id now : ℕ) (asked : NodeCall) → IsSound state → GrantsFit state → PresentsBytes asked → (found : Option Node) → entry_at id state.nodes ≡ found
+called_rightly : (state : Cluster) (id now : ℕ) (asked : NodeCall) → IsSound state → GrantsFit state → PresentsBytes asked → (found : Option DataNode) → entry_at id state.nodes ≡ found
     → IsCoveredWhere state now found asked (called_at state id now asked found).answer
 called_rightly state id now asked sound fits bytes None e = tt
 called_rightly state id now asked sound fits bytes (Some node) e = by (node_answer node now asked).result refl
   where
     by : (result : Result NodeReply NodeRefusal) → (node_answer node now asked).result ≡ result → IsCoveredWhere state now (Some node) asked (Called result)
-    by (Ok told) is = answer_covered state node now asked told (values_at (λ (own : Node). Made (MadeIn state) own.keys) state.nodes id node sound.nodes e) fits bytes is
+    by (Ok told) is = answer_covered state node now asked told (values_at (λ (own : DataNode). Made (MadeIn state) own.keys) state.nodes id node sound.nodes e) fits bytes is
     by (Err refusal) is = tt
 
-delivered_rightly : (state : State) (now : ℕ) (found : Option Message) → IsSound state → GrantsFit state → CallFits (call_brought now found)
-    → IsServedRightly state (call_brought now found) (delivered state now found).answer
+delivered_rightly : (state : Cluster) (now : ℕ) (found : Option Message) → IsSound state → GrantsFit state → CallFits (call_brought now found)
+    → IsServedRightly state (call_brought now found) (message_delivered state now found).answer
 delivered_rightly state now None sound fits bytes = tt
 delivered_rightly state now (Some (message.Node node asked)) sound fits bytes = called_rightly state node now asked sound fits bytes (entry_at node state.nodes) refl
 delivered_rightly state now (Some (message.Plan node asked)) sound fits bytes = tt
 delivered_rightly state now (Some (message.Reported node block stamp count)) sound fits bytes = tt
 delivered_rightly state now (Some (message.CommitRecovery node block stamp count nodes)) sound fits bytes = tt
 
-delivered_ruled : (state : State) (now : ℕ) (found : Option Message) → IsRuled state (request_brought now found) (delivered state now found)
+delivered_ruled : (state : Cluster) (now : ℕ) (found : Option Message) → IsRuled state (request_brought now found) (message_delivered state now found)
 delivered_ruled state now None = tt
 delivered_ruled state now (Some (message.Node node asked)) = tt
 delivered_ruled state now (Some (message.Plan node asked)) = tt
 delivered_ruled state now (Some (message.Reported node block stamp count)) = (refl, refl)
 delivered_ruled state now (Some (message.CommitRecovery node block stamp count nodes)) = (refl, refl)
 
-request_ruled : (state : State) (request : Request) (b : Bool) → IsRuled state (cond b (Some request) None) (cond b (named state request) (lost state NotFromOutside))
+request_ruled : (state : Cluster) (request : Request) (b : Bool) → IsRuled state (cond b (Some request) None) (cond b (request_named state request) (event_lost state NotFromOutside))
 request_ruled state request true = (refl, refl)
 request_ruled state request false = tt
 
-pub event_right : (state : State) (event : Event) → IsSound state → GrantsFit state → CallFits (call_of state event) → IsRight state event
+pub event_right : (state : Cluster) (event : Event) → IsSound state → GrantsFit state → CallFits (call_of state event) → IsRightEvent state event
 event_right state (Name request) sound fits bytes = record { ruled = request_ruled state request (is_from_outside request.op); served = tt }
 event_right state (Deliver number now) sound fits bytes =
     record { ruled = delivered_ruled state now (message_at number state.messages); served = delivered_rightly state now (message_at number state.messages) sound fits bytes }
 event_right state (Data node now asked) sound fits bytes =
     record { ruled = tt; served = delivered_rightly state now (Some (as_message node asked)) sound fits bytes }
 
-pub all_right : (opening : Opening) (events : List Event) → AreTyped opening events → AllRight opening events
+pub all_right : (opening : ClusterOpening) (events : List Event) → AreTyped opening events → AllRight opening events
 all_right opening [] typed = tt
 all_right opening (event ∷ earlier) typed = (event_right (after opening earlier) event (sound opening earlier) typed.0.grants typed.0.call, all_right opening earlier typed.1)

@@ -15,7 +15,7 @@ use Rattle.hdfs_types.specs.declared.reply.Reply.{Reply}
 use Rattle.hdfs_types.specs.declared.reply.Reply.TheVariants as reply
 use Rattle.sha1.specs.Sha1.{sha1, digest_bytes}
 use Rattle.block_tokens.specs.Hmac.{hmac_sha1}
-use Rattle.block_tokens.specs.Ring.{Ring, parts_with, coded_token, grant_of}
+use Rattle.block_tokens.specs.Ring.{KeyRing, parts_with, coded_token, grant_of}
 use Rattle.block_tokens.specs.TokenText.{Body, TokenText, version_1_fields, coded_bytes}
 use Rattle.block_tokens.specs.declared.grant.Grant.{Grant}
 use Rattle.grant_ledger.specs.declared.ledger.LedgerRow.{LedgerRow}
@@ -23,7 +23,7 @@ use Rattle.flat_rows.specs.declared.verdict.Verdict.{Verdict}
 use Rattle.flat_rows.specs.declared.verdict.Verdict.TheVariants.{Done, Denied, Refused}
 use Rattle.history.specs.Config as name
 use Rattle.history.specs.ClockAndLease.{clock_of}
-use Rattle.history.specs.Grants.{Access, granted_to_node, granted_to_writer, granted_to_reader, granted_by, row_of, rows_granted, ledger_of}
+use Rattle.history.specs.Grants.{BlockModes, granted_to_node, granted_to_writer, granted_to_reader, granted_by, ledger_row, rows_granted, ledger_of}
 use Rattle.history.specs.Keys.{ring_of}
 use Rattle.history.specs.declared.entry.HistoryEntry.{HistoryEntry}
 use Rattle.cluster_trace.specs.Typed.{GrantFits}
@@ -57,7 +57,7 @@ same_fields : (parts : Body) (code : List ℕ) → coded_bytes parts ≡ coded_b
 unfolding version_1_fields
 same_fields parts code = refl
 
-granted_tells : (ring : Ring) (now : ℕ) (user : List ℕ) (block : ℕ) (own : Modes) → IsTrue (is_modes own.0) → GrantFits (grant_of ring now user block own) → TellsItself (grant_of ring now user block own)
+granted_tells : (ring : KeyRing) (now : ℕ) (user : List ℕ) (block : ℕ) (own : Modes) → IsTrue (is_modes own.0) → GrantFits (grant_of ring now user block own) → TellsItself (grant_of ring now user block own)
 unfolding coded_token
 granted_tells ring now user block own allow fits =
     let plain : Body = parts_with ring now user block own.0 [] in
@@ -73,7 +73,7 @@ granted_tells ring now user block own allow fits =
 
 -- a ring issued it
 pub record IsIssued (grant : Grant) : Type 0 where
-  pub ring : Ring
+  pub ring : KeyRing
   pub now : ℕ
   pub user : List ℕ
   pub block : ℕ
@@ -85,7 +85,7 @@ pub issued_tells : (grant : Grant) → IsIssued grant → GrantFits grant → Te
 issued_tells grant issued fits =
     subst TellsItself (sym issued.is) (granted_tells issued.ring issued.now issued.user issued.block issued.own issued.allow (subst GrantFits issued.is fits))
 
-abbrev Allows : Access → Type 0
+abbrev Allows : BlockModes → Type 0
 Allows own = IsTrue (is_modes own.modes.0)
 
 to_node_allow : (told : Reply) → AllByRecursion Allows (granted_to_node told)
@@ -113,12 +113,12 @@ granted_allow _ told = tt
 abbrev pub RowIssued : LedgerRow → Type 0
 RowIssued row = IsIssued row.grant
 
-rows_issued : (place : ℕ) (ring : Ring) (now : ℕ) (caller : List ℕ) (all : List Access) → AllByRecursion Allows all → AllByRecursion RowIssued (map (row_of place ring now caller) all)
+rows_issued : (place : ℕ) (ring : KeyRing) (now : ℕ) (caller : List ℕ) (all : List BlockModes) → AllByRecursion Allows all → AllByRecursion RowIssued (map (ledger_row place ring now caller) all)
 rows_issued place ring now caller [] allow = tt
 rows_issued place ring now caller (own ∷ all) allow =
     (record { ring = ring; now = now; user = caller; block = own.block; own = own.modes; is = refl; allow = allow.0 }, rows_issued place ring now caller all allow.1)
 
-verdict_issued : (place : ℕ) (ring : Ring) (now : ℕ) (caller : List ℕ) (what : Op) (verdict : Verdict) → AllByRecursion RowIssued (rows_granted place ring now caller what verdict)
+verdict_issued : (place : ℕ) (ring : KeyRing) (now : ℕ) (caller : List ℕ) (what : Op) (verdict : Verdict) → AllByRecursion RowIssued (rows_granted place ring now caller what verdict)
 verdict_issued place ring now caller what (Done told) = rows_issued place ring now caller (granted_by what told) (granted_allow what told)
 verdict_issued place ring now caller what (Denied denial) = tt
 verdict_issued place ring now caller what (Refused refusal) = tt

@@ -41,29 +41,29 @@ is_asked (Replica own) = is_asked_of_replica own
 is_asked (Plan own) = is_asked_of_plan own
 
 -- never seen, since nothing else is kept
-abbrev pub nothing : outside.DataCall
-nothing = outside.Decide 0 0
+abbrev pub unseen_call : outside.DataCall
+unseen_call = outside.Decide 0 0
 
 abbrev pub presented_as : Presented → TokenCall → outside.DataCall
 presented_as presented (call.Begin next) = outside.BeginWrite presented next
 presented_as presented (call.Packet offset bytes next) = outside.Packet presented offset bytes next
 presented_as presented (call.Finalize count next) = outside.Finalize presented count next
 presented_as presented (call.Read offset count) = outside.Read presented offset count
-presented_as presented call.InitRecovery = nothing
-presented_as presented (call.UpdateReplica count) = nothing
-presented_as presented (call.SendCopy to) = nothing
-presented_as presented (call.TakeCopy bytes) = nothing
+presented_as presented call.InitRecovery = unseen_call
+presented_as presented (call.UpdateReplica count) = unseen_call
+presented_as presented (call.SendCopy to) = unseen_call
+presented_as presented (call.TakeCopy bytes) = unseen_call
 
 abbrev pub asked_of_replica : NodeCall → outside.DataCall
 asked_of_replica (Presenting presented asked) = presented_as presented asked
-asked_of_replica (Invalidate block stamp) = nothing
-asked_of_replica (Keys update) = nothing
+asked_of_replica (Invalidate block stamp) = unseen_call
+asked_of_replica (Keys update) = unseen_call
 
 abbrev pub asked_of_plan : PlanCall → outside.DataCall
-asked_of_plan (plan.Recover block stamp nodes token) = nothing
-asked_of_plan (plan.Reply node block stamp state bytes) = nothing
+asked_of_plan (plan.Recover block stamp nodes token) = unseen_call
+asked_of_plan (plan.Reply node block stamp state bytes) = unseen_call
 asked_of_plan (plan.Decide block stamp) = outside.Decide block stamp
-asked_of_plan (plan.Updated node block stamp) = nothing
+asked_of_plan (plan.Updated node block stamp) = unseen_call
 asked_of_plan (plan.Commit block stamp) = outside.Commit block stamp
 
 abbrev pub asked_in : Asked → outside.DataCall

@@ -28,7 +28,7 @@ use Rattle.node_calls.specs.declared.call.PlanCall.{PlanCall}
 use Rattle.node_calls.specs.declared.call.PlanCall.TheVariants as plan
 use Rattle.node_calls.specs.declared.message.Message.{Message}
 use Rattle.node_calls.specs.declared.message.Message.TheVariants as message
-use Rattle.datanode.specs.NodeStep.{Node, node_after, node_answer, copying}
+use Rattle.datanode.specs.NodeStep.{DataNode, node_after, node_answer, copy_call}
 use Rattle.datanode.specs.declared.answered.Answered.{Answered}
 use Rattle.block_recovery.specs.Plans.{PlanTable}
 use Rattle.plan_steps.specs.PlanStep.{plans_after, plan_answer}
@@ -42,12 +42,12 @@ use Rattle.cluster_trace.specs.declared.outcome.EventAnswer.{EventAnswer}
 use Rattle.cluster_trace.specs.declared.outcome.EventAnswer.TheVariants.{Named, Called, Led, Lost}
 use Rattle.cluster_trace.specs.declared.outcome.Outcome.{Outcome}
 
-pub record State : Type 0 where
+pub record Cluster : Type 0 where
   -- of the NameNode: what it opened with, and its history
   pub opening : name.Opening
   pub entries : List HistoryEntry
   -- the DataNodes by their ids
-  pub nodes : List (ℕ × Node)
+  pub nodes : List (ℕ × DataNode)
   -- of each DataNode the recoveries that it leads
   pub plans : List (ℕ × PlanTable)
   -- in the order in which they were sent
@@ -55,23 +55,23 @@ pub record State : Type 0 where
 
 -- ---- how a cluster begins
 
-pub record Opening : Type 0 where
+pub record ClusterOpening : Type 0 where
   pub name : name.Opening
   -- the ids of the DataNodes
   pub nodes : List ℕ
 
 -- without a replica and without a key
-abbrev pub new_node : ℕ → ℕ → Node
+abbrev pub new_node : ℕ → ℕ → DataNode
 new_node limit id = record { id = id; limit = limit; clock = 0; keys = []; blocks = []; log = [] }
 
-abbrev pub with_new_node : ℕ → List (ℕ × Node) → ℕ → List (ℕ × Node)
+abbrev pub with_new_node : ℕ → List (ℕ × DataNode) → ℕ → List (ℕ × DataNode)
 with_new_node limit nodes id = insert_entry nat_cmp nodes id (new_node limit id)
 
 -- it leads none
 abbrev pub with_no_plan : List (ℕ × PlanTable) → ℕ → List (ℕ × PlanTable)
 with_no_plan plans id = insert_entry nat_cmp plans id []
 
-abbrev pub start : Opening → State
+abbrev pub start : ClusterOpening → Cluster
 start opening = record {
   opening = opening.name;
   entries = [];
@@ -87,16 +87,16 @@ pub record Happened : Type 0 where
   pub answer : EventAnswer
   pub sent : List Message
   pub entries : List HistoryEntry
-  pub nodes : List (ℕ × Node)
+  pub nodes : List (ℕ × DataNode)
   pub plans : List (ℕ × PlanTable)
 
-abbrev pub lost : State → ClusterRefusal → Happened
-lost state refusal = record { answer = Lost refusal; sent = []; entries = state.entries; nodes = state.nodes; plans = state.plans }
+abbrev pub event_lost : Cluster → ClusterRefusal → Happened
+event_lost state refusal = record { answer = Lost refusal; sent = []; entries = state.entries; nodes = state.nodes; plans = state.plans }
 
 -- ---- requests to the NameNode
 
 -- the next entry, with the verdict that those before it give
-abbrev pub entry_of : State → Request → HistoryEntry
+abbrev pub entry_of : Cluster → Request → HistoryEntry
 entry_of state request =
     record { place = length state.entries + 1; pass = 0; index = length state.entries; request = request; verdict = verdict_of state.opening state.entries request }
 
@@ -108,7 +108,7 @@ abbrev pub removal_message : ℕ → Removal → Message
 removal_message node own = message.Node node (Invalidate own.block own.stamp)
 
 abbrev pub copy_message : ℕ → CopyOrder → Message
-copy_message node own = message.Node node (copying node own.block own.stamp own.token own.target)
+copy_message node own = message.Node node (copy_call node own.block own.stamp own.token own.target)
 
 abbrev pub command_messages : ℕ → Commands → List Message
 command_messages node commands =
@@ -129,8 +129,8 @@ abbrev pub entry_messages : HistoryEntry → List Message
 entry_messages entry = sent_by (node_of entry.request.caller) entry.verdict
 
 -- a request makes the next entry, whatever the verdict, and is answered by it
-abbrev pub named : State → Request → Happened
-named state request = record {
+abbrev pub request_named : Cluster → Request → Happened
+request_named state request = record {
   answer = Named (entry_of state request).place;
   sent = entry_messages (entry_of state request);
   entries = entry_of state request ∷ state.entries;
@@ -146,8 +146,8 @@ is_from_outside _ = true
 
 -- ---- calls of a DataNode
 
-abbrev pub answered : State → ℕ → Node → Answered → Happened
-answered state id left own = record {
+abbrev pub node_answered : Cluster → ℕ → DataNode → Answered → Happened
+node_answered state id left own = record {
   answer = Called own.result;
   sent = own.messages;
   entries = state.entries;
@@ -155,16 +155,16 @@ answered state id left own = record {
   plans = state.plans;
 }
 
-abbrev pub called_at : State → ℕ → ℕ → NodeCall → Option Node → Happened
-called_at state id now asked None = lost state NoNode
-called_at state id now asked (Some node) = answered state id (node_after node now asked) (node_answer node now asked)
+abbrev pub called_at : Cluster → ℕ → ℕ → NodeCall → Option DataNode → Happened
+called_at state id now asked None = event_lost state NoNode
+called_at state id now asked (Some node) = node_answered state id (node_after node now asked) (node_answer node now asked)
 
-abbrev pub called : State → ℕ → ℕ → NodeCall → Happened
-called state id now asked = called_at state id now asked (entry_at id state.nodes)
+abbrev pub node_called : Cluster → ℕ → ℕ → NodeCall → Happened
+node_called state id now asked = called_at state id now asked (entry_at id state.nodes)
 
 -- ---- calls of a DataNode about the recoveries that it leads: no clock moves on
 
-abbrev pub led_on : State → ℕ → PlanTable → PlanAnswered → Happened
+abbrev pub led_on : Cluster → ℕ → PlanTable → PlanAnswered → Happened
 led_on state id left own = record {
   answer = Led own.result;
   sent = own.messages;
@@ -173,12 +173,12 @@ led_on state id left own = record {
   plans = set_value (is_number id) state.plans left;
 }
 
-abbrev pub led_at : State → ℕ → PlanCall → Option PlanTable → Happened
-led_at state id asked None = lost state NoNode
+abbrev pub led_at : Cluster → ℕ → PlanCall → Option PlanTable → Happened
+led_at state id asked None = event_lost state NoNode
 led_at state id asked (Some plans) = led_on state id (plans_after asked plans) (plan_answer id asked plans)
 
-abbrev pub led : State → ℕ → PlanCall → Happened
-led state id asked = led_at state id asked (entry_at id state.plans)
+abbrev pub leader_called : Cluster → ℕ → PlanCall → Happened
+leader_called state id asked = led_at state id asked (entry_at id state.plans)
 
 -- ---- messages
 
@@ -188,49 +188,49 @@ message_at zero messages = None
 message_at (suc before) messages = slice_get messages before
 
 -- a node's report is a request in its own name
-abbrev pub reporting : ℕ → ℕ → ℕ → ℕ → ℕ → Request
-reporting node now block stamp bytes =
+abbrev pub report_request : ℕ → ℕ → ℕ → ℕ → ℕ → Request
+report_request node now block stamp bytes =
     record { caller = node_principal node; moment = now; op = op.Reported (record { block = block; stamp = stamp; length = bytes }) }
 
 -- and so is the end of a recovery that it led
-abbrev pub committing : ℕ → ℕ → ℕ → ℕ → ℕ → List ℕ → Request
-committing node now block stamp bytes nodes =
+abbrev pub commit_request : ℕ → ℕ → ℕ → ℕ → ℕ → List ℕ → Request
+commit_request node now block stamp bytes nodes =
     record { caller = node_principal node; moment = now; op = op.CommitRecovery (record { block = block; stamp = stamp; length = bytes; nodes = nodes }) }
 
-abbrev pub delivered : State → ℕ → Option Message → Happened
-delivered state now None = lost state NoMessage
-delivered state now (Some (message.Node node asked)) = called state node now asked
-delivered state now (Some (message.Plan node asked)) = led state node asked
-delivered state now (Some (message.Reported node block stamp bytes)) = named state (reporting node now block stamp bytes)
-delivered state now (Some (message.CommitRecovery node block stamp bytes nodes)) = named state (committing node now block stamp bytes nodes)
+abbrev pub message_delivered : Cluster → ℕ → Option Message → Happened
+message_delivered state now None = event_lost state NoMessage
+message_delivered state now (Some (message.Node node asked)) = node_called state node now asked
+message_delivered state now (Some (message.Plan node asked)) = leader_called state node asked
+message_delivered state now (Some (message.Reported node block stamp bytes)) = request_named state (report_request node now block stamp bytes)
+message_delivered state now (Some (message.CommitRecovery node block stamp bytes nodes)) = request_named state (commit_request node now block stamp bytes nodes)
 
 -- ---- events
 
-abbrev pub happened : State → Event → Happened
-happened state (Name request) = if is_from_outside request.op then named state request else lost state NotFromOutside
-happened state (Deliver number now) = delivered state now (message_at number state.messages)
-happened state (Data node now asked) = delivered state now (Some (as_message node asked))
+abbrev pub event_happened : Cluster → Event → Happened
+event_happened state (Name request) = if is_from_outside request.op then request_named state request else event_lost state NotFromOutside
+event_happened state (Deliver number now) = message_delivered state now (message_at number state.messages)
+event_happened state (Data node now asked) = message_delivered state now (Some (as_message node asked))
 
 -- the numbers of what it sends go on from those before
-abbrev pub outcome_of : State → Happened → Outcome
+abbrev pub outcome_of : Cluster → Happened → Outcome
 outcome_of state what = record { answer = what.answer; first = length state.messages + 1; count = length what.sent }
 
-abbrev pub outcome : State → Event → Outcome
-outcome state event = outcome_of state (happened state event)
+abbrev pub event_outcome : Cluster → Event → Outcome
+event_outcome state event = outcome_of state (event_happened state event)
 
-abbrev pub left_by : State → Happened → State
+abbrev pub left_by : Cluster → Happened → Cluster
 left_by state what = record { opening = state.opening; entries = what.entries; nodes = what.nodes; plans = what.plans; messages = state.messages ++ what.sent }
 
-abbrev pub happens : State → Event → State
-happens state event = left_by state (happened state event)
+abbrev pub happens : Cluster → Event → Cluster
+happens state event = left_by state (event_happened state event)
 
 -- ---- traces
 
-abbrev pub after : Opening → List Event → State
+abbrev pub after : ClusterOpening → List Event → Cluster
 after opening [] = start opening
 after opening (event ∷ earlier) = happens (after opening earlier) event
 
 -- what comes of the events, the oldest first
-abbrev pub outcomes : Opening → List Event → List Outcome
+abbrev pub outcomes : ClusterOpening → List Event → List Outcome
 outcomes opening [] = []
-outcomes opening (event ∷ earlier) = outcomes opening earlier ++ outcome (after opening earlier) event ∷ []
+outcomes opening (event ∷ earlier) = outcomes opening earlier ++ event_outcome (after opening earlier) event ∷ []

@@ -7,8 +7,8 @@ use Rattle.block_tokens.specs.declared.grant.Grant.{Grant}
 use Rattle.grant_ledger.specs.declared.ledger.LedgerRow.{LedgerRow}
 use Rattle.node_calls.specs.declared.call.NodeCall.{NodeCall}
 use Rattle.node_calls.specs.declared.call.NodeCall.TheVariants.{Presenting, Invalidate, Keys}
-use Rattle.cluster_trace.specs.Trace.{State, Opening, after}
-use Rattle.cluster_trace.specs.Provenance.{granted, CallAt, call_of}
+use Rattle.cluster_trace.specs.Trace.{Cluster, ClusterOpening, after}
+use Rattle.cluster_trace.specs.Provenance.{ledger_in, CallAt, call_of}
 use Rattle.cluster_trace.specs.declared.event.Event.{Event}
 
 -- the numbers of a grant fit its token, and its user is named
@@ -18,8 +18,8 @@ pub record GrantFits (grant : Grant) : Type 0 where
   pub block : grant.block < 2 ^ 64
   pub user : IsWho grant.user
 
-abbrev pub GrantsFit : State → Type 0
-GrantsFit state = AllByRecursion (λ (row : LedgerRow). GrantFits row.grant) (granted state)
+abbrev pub GrantsFit : Cluster → Type 0
+GrantsFit state = AllByRecursion (λ (row : LedgerRow). GrantFits row.grant) (ledger_in state)
 
 -- what is presented as a token
 abbrev pub PresentsBytes : NodeCall → Type 0
@@ -32,10 +32,10 @@ CallFits None = ⊤
 CallFits (Some asked) = PresentsBytes asked.call
 
 -- at each event
-pub record EventFits (state : State) (event : Event) : Type 0 where
+pub record EventFits (state : Cluster) (event : Event) : Type 0 where
   pub grants : GrantsFit state
   pub call : CallFits (call_of state event)
 
-abbrev pub AreTyped : Opening → List Event → Type 0
+abbrev pub AreTyped : ClusterOpening → List Event → Type 0
 AreTyped opening [] = ⊤
 AreTyped opening (event ∷ earlier) = EventFits (after opening earlier) event × AreTyped opening earlier

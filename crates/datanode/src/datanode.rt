@@ -67,9 +67,9 @@ impl Drop for DataNode {
 impl Model for DataNode {
     ghost use Rattle.std.specs.Prelude.{◌≡◌};
     ghost use Rattle.hdfs_values.specs.NodeId.{node_principal};
-    ghost use Rattle.datanode.specs.NodeStep.{Node};
+    ghost use Rattle.datanode.specs.NodeStep.{DataNode};
 
-    ghost Value = { Node };
+    ghost Value = { DataNode };
 
     ghost view = { λ node. record {
       id = node.id;
@@ -154,7 +154,7 @@ impl DataNode {
     // A refusal: the clock moves on all the same.
     fn refuse(&mut self, moment: Moment, refusal: NodeRefusal) -> Answered
         ensures after { self.new ≡ spec.moved_on moment self.old }
-        ensures answer { result ≡ spec.refused refusal }
+        ensures answer { result ≡ spec.call_refused refusal }
     {
         self.move_on(moment);
         Answered {
@@ -217,7 +217,7 @@ impl DataNode {
         presented: &Presented,
         call: &TokenCall,
     ) -> Result<(), AllocError>
-        ensures ok { OnOk result (self.new ≡ spec.served self.old clock presented.now call.now) }
+        ensures ok { OnOk result (self.new ≡ spec.call_served self.old clock presented.now call.now) }
         ensures err { OnErr result (self.new ≡ self.old) }
     {
         let entry = self.record(clock, presented, call)?;
@@ -231,7 +231,7 @@ impl DataNode {
 
     // What is answered to a call that isn't refused.
     fn answer(&self, presented: &Presented, call: &TokenCall) -> Result<Answered, AllocError>
-        ensures { IfOk result (λ answered. answered ≡ spec.told self.now presented.now call.now) }
+        ensures { IfOk result (λ answered. answered ≡ spec.call_told self.now presented.now call.now) }
     {
         let messages = sending::sends(self.alloc, self.id, presented, call, &self.replicas)?;
         let told = sending::reply_to(call, &self.replicas, presented.block)?;
@@ -442,8 +442,8 @@ impl DataNode {
         token: &PresentedToken,
         to: NodeId,
     ) -> Result<Answered, AllocError>
-        ensures ok { OnOk result (self.new ≡ spec.node_after self.old now (spec.copying self.old.id block stamp token.now to)) }
-        ensures answer { IfOk result (λ answered. answered ≡ spec.node_answer self.old now (spec.copying self.old.id block stamp token.now to)) }
+        ensures ok { OnOk result (self.new ≡ spec.node_after self.old now (spec.copy_call self.old.id block stamp token.now to)) }
+        ensures answer { IfOk result (λ answered. answered ≡ spec.node_answer self.old now (spec.copy_call self.old.id block stamp token.now to)) }
         ensures err { OnErr result (self.new ≡ self.old) }
     {
         let clock = self.clock.later(now);

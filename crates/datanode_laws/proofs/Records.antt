@@ -21,10 +21,10 @@ use Rattle.hdfs_values.specs.NodeId.{node_principal}
 use Rattle.node_replies.specs.Asking.{asked_by, sends_copy, record_of}
 use Rattle.node_replies.specs.Sending.{call_reply}
 use Rattle.replicas.specs.ReplicaState.{is_writing}
-use Rattle.replicas.specs.ReplicaStep.{held_at, refused_where, replica_refusal, removal_refusal, packet_limit}
+use Rattle.replicas.specs.ReplicaStep.{held_at, refused_or_later, replica_refusal, removal_refusal, packet_limit}
 use Rattle.replicas.specs.declared.replica.Replica.{Replica}
-use Rattle.datanode.specs.NodeStep.{Node, node_after, node_answer, presented_after, presented_answer, presented_by, told_by, removed_by, removal_told, clock_with, call_refusal, token_or_replica, access_of}
-use Rattle.datanode_laws.specs.Laws.{IsCovered, IsPresented}
+use Rattle.datanode.specs.NodeStep.{DataNode, node_after, node_answer, presented_after, presented_answer, presented_by, told_by, removed_by, removal_told, clock_with, call_refusal, token_or_replica, access_of}
+use Rattle.datanode_laws.specs.Laws.{HasFittingToken, IsPresented}
 use Rattle.datanode_laws.proofs.Steps.{passed, not_so, never}
 use Rattle.datanode_laws.proofs.Nodes.{replica_passes}
 
@@ -41,11 +41,11 @@ at_promise : (limit offset stamp promised : ℕ) (bytes next : List ℕ) (replic
 at_promise limit offset stamp promised bytes next None e = absurd (never NoReplica e)
 at_promise limit offset stamp promised bytes next (Some replica) e =
     eqb-true stamp promised (not_so (stamp == promised) (passed (not (stamp == promised)) (StampDiffers promised)
-    (refused_where (not (is_writing replica.state) || nat_lt replica.stamp promised) NotWritable
-    (refused_where (not (offset == length replica.bytes)) (OffsetGap (length replica.bytes))
-    (refused_where (nat_lt packet_limit (length bytes) || nat_lt limit (length replica.bytes + length bytes)) OutOfRange None))) e).0)
+    (refused_or_later (not (is_writing replica.state) || nat_lt replica.stamp promised) NotWritable
+    (refused_or_later (not (offset == length replica.bytes)) (OffsetGap (length replica.bytes))
+    (refused_or_later (nat_lt packet_limit (length bytes) || nat_lt limit (length replica.bytes + length bytes)) OutOfRange None))) e).0)
 
-pub fenced : (node : Node) (now offset : ℕ) (own : Presented) (bytes next : List ℕ) (told : NodeReply)
+pub fenced : (node : DataNode) (now offset : ℕ) (own : Presented) (bytes next : List ℕ) (told : NodeReply)
     → (node_answer node now (Presenting own (call.Packet offset bytes next))).result ≡ Ok told → own.stamp ≡ (held_at own.block node.blocks).promised
 unfolding node_answer presented_answer
 fenced node now offset own bytes next told e = by (call_refusal node (clock_with node now) own (call.Packet offset bytes next)) refl e
@@ -60,7 +60,7 @@ fenced node now offset own bytes next told e = by (call_refusal node (clock_with
 
 -- ---- refusals
 
-presented_unchanged : (node : Node) (clock : ℕ) (own : Presented) (asked : TokenCall) (refusal : NodeRefusal) → (presented_answer node clock own asked).result ≡ Err refusal
+presented_unchanged : (node : DataNode) (clock : ℕ) (own : Presented) (asked : TokenCall) (refusal : NodeRefusal) → (presented_answer node clock own asked).result ≡ Err refusal
     → ((presented_after node clock own asked).blocks ≡ node.blocks) × ((presented_after node clock own asked).log ≡ node.log) × ((presented_answer node clock own asked).messages ≡ [])
 unfolding presented_answer presented_after
 presented_unchanged node clock own asked refusal e = by (call_refusal node clock own asked) e
@@ -70,7 +70,7 @@ presented_unchanged node clock own asked refusal e = by (call_refusal node clock
     by (Some other) h = (refl, refl, refl)
     by None h = absurd (differ (call_reply asked (held_at own.block node.blocks)) refusal h)
 
-pub unchanged : (node : Node) (now : ℕ) (asked : NodeCall) (refusal : NodeRefusal) → (node_answer node now asked).result ≡ Err refusal
+pub unchanged : (node : DataNode) (now : ℕ) (asked : NodeCall) (refusal : NodeRefusal) → (node_answer node now asked).result ≡ Err refusal
     → ((node_after node now asked).blocks ≡ node.blocks) × ((node_after node now asked).log ≡ node.log) × ((node_answer node now asked).messages ≡ [])
 unfolding node_answer node_after
 unchanged node now (Presenting given asked) refusal e = presented_unchanged node (clock_with node now) (asked_by node.id given asked) asked refusal e
@@ -88,15 +88,15 @@ token_passes : (token : Option TokenRefusal) (replica : Option ReplicaRefusal) �
 token_passes (Some refusal) replica e = cc
 token_passes None replica e = refl
 
-all_more : (log : List AccessRecord) (entry : AccessRecord) → AllByRecursion IsCovered log → IsCovered entry → AllByRecursion IsCovered (log ++ entry ∷ [])
+all_more : (log : List AccessRecord) (entry : AccessRecord) → AllByRecursion HasFittingToken log → HasFittingToken entry → AllByRecursion HasFittingToken (log ++ entry ∷ [])
 all_more [] entry all one = (one, tt)
 all_more (first ∷ log) entry all one = (all.0, all_more log entry all.1 one)
 
-presented_covered : (node : Node) (clock : ℕ) (own : Presented) (asked : TokenCall) → ((i : ℕ) → slice_index own.token i < 256) → AllByRecursion IsCovered node.log → AllByRecursion IsCovered (presented_after node clock own asked).log
+presented_covered : (node : DataNode) (clock : ℕ) (own : Presented) (asked : TokenCall) → ((i : ℕ) → slice_index own.token i < 256) → AllByRecursion HasFittingToken node.log → AllByRecursion HasFittingToken (presented_after node clock own asked).log
 unfolding presented_after
 presented_covered node clock own asked bytes all = by (call_refusal node clock own asked) refl
   where
-    by : (refused : Option NodeRefusal) → call_refusal node clock own asked ≡ refused → AllByRecursion IsCovered (presented_by node clock own asked refused).log
+    by : (refused : Option NodeRefusal) → call_refusal node clock own asked ≡ refused → AllByRecursion HasFittingToken (presented_by node clock own asked refused).log
     by (Some refusal) e = all
     by None e =
         let taken = test_tells node.keys (access_of clock own asked) own.token bytes
@@ -108,12 +108,12 @@ own_bytes : (b : Bool) (given : Presented) (principal : List ℕ) → ((i : ℕ)
 own_bytes true given principal h = h
 own_bytes false given principal h = h
 
-pub covered : (node : Node) (now : ℕ) (asked : NodeCall) → IsPresented asked → AllByRecursion IsCovered node.log → AllByRecursion IsCovered (node_after node now asked).log
+pub covered : (node : DataNode) (now : ℕ) (asked : NodeCall) → IsPresented asked → AllByRecursion HasFittingToken node.log → AllByRecursion HasFittingToken (node_after node now asked).log
 unfolding node_after
 covered node now (Presenting given asked) bytes all = presented_covered node (clock_with node now) (asked_by node.id given asked) asked (own_bytes (sends_copy asked) given (node_principal node.id) bytes) all
 covered node now (Keys update) bytes all = all
 covered node now (Invalidate block stamp) bytes all = by (removal_refusal stamp (held_at block node.blocks).replica)
   where
-    by : (refused : Option ReplicaRefusal) → AllByRecursion IsCovered (removed_by node block refused).log
+    by : (refused : Option ReplicaRefusal) → AllByRecursion HasFittingToken (removed_by node block refused).log
     by (Some refusal) = all
     by None = all

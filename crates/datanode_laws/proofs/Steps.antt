@@ -15,10 +15,10 @@ use Rattle.node_calls.specs.declared.call.TokenCall.{TokenCall}
 use Rattle.node_calls.specs.declared.call.TokenCall.TheVariants as call
 use Rattle.node_calls.specs.declared.refusal.ReplicaRefusal.{ReplicaRefusal}
 use Rattle.node_calls.specs.declared.refusal.ReplicaRefusal.TheVariants.{NoReplica, StampDiffers, OutOfRange, NotWritable, ReplicaExists}
-use Rattle.replicas.specs.ReplicaStep.{Blocks, nothing, held_at, refused_where, replica_refusal, placed, appended, finalized, promising, updated, removed, changed, changed_by, blocks_after}
+use Rattle.replicas.specs.ReplicaStep.{Replicas, nothing, held_at, refused_or_later, replica_refusal, newly_held, with_bytes_appended, with_replica_finalized, with_promise, with_replica_recovered, with_no_replica, with_held_changed, held_changed_by, replicas_after}
 use Rattle.replicas.specs.declared.held.Held.{Held}
 use Rattle.replicas.specs.declared.replica.Replica.{Replica}
-use Rattle.datanode_laws.specs.Laws.{IsBelow, KeepsBytes, AreKept, length_of}
+use Rattle.datanode_laws.specs.Laws.{IsBelow, KeepsBytes, AreKept, given_length}
 
 -- ---- what is left of one block follows from what was held of it
 
@@ -43,7 +43,7 @@ same recovered held = record { promise = omega arith; below = λ h. h; kept = λ
 pub never : (refusal : ReplicaRefusal) → Some refusal ≡ None → ⊥
 never refusal e = cc
 
-pub passed : (test : Bool) (refusal : ReplicaRefusal) (later : Option ReplicaRefusal) → refused_where test refusal later ≡ None → (test ≡ false) × (later ≡ None)
+pub passed : (test : Bool) (refusal : ReplicaRefusal) (later : Option ReplicaRefusal) → refused_or_later test refusal later ≡ None → (test ≡ false) × (later ≡ None)
 passed true refusal later e = absurd (never refusal e)
 passed false refusal later e = (refl, e)
 
@@ -61,20 +61,20 @@ kept_none recovered None = tt
 kept_none recovered (Some replica) = tt
 
 begins : (limit stamp promised : ℕ) (next : List ℕ) (state : ReplicaState) (replica : Option Replica)
-    → replica_refusal limit (call.Begin next) stamp (record { replica = replica; promised = promised }) ≡ None → Follows None (record { replica = replica; promised = promised }) (placed stamp state [])
+    → replica_refusal limit (call.Begin next) stamp (record { replica = replica; promised = promised }) ≡ None → Follows None (record { replica = replica; promised = promised }) (newly_held stamp state [])
 begins limit stamp promised next state (Some replica) e = absurd (never ReplicaExists e)
 begins limit stamp promised next state None e = record { promise = above stamp promised (passed (nat_le stamp promised) (StampDiffers promised) None e).0; below = λ h. omega arith; kept = λ h. tt }
 
 takes : (limit stamp promised : ℕ) (bytes : List ℕ) (replica : Option Replica)
-    → replica_refusal limit (call.TakeCopy bytes) stamp (record { replica = replica; promised = promised }) ≡ None → Follows None (record { replica = replica; promised = promised }) (placed stamp Finalized bytes)
+    → replica_refusal limit (call.TakeCopy bytes) stamp (record { replica = replica; promised = promised }) ≡ None → Follows None (record { replica = replica; promised = promised }) (newly_held stamp Finalized bytes)
 takes limit stamp promised bytes (Some replica) e = absurd (never ReplicaExists e)
-takes limit stamp promised bytes None e = record { promise = ltb-false stamp promised (passed (nat_lt stamp promised) (StampDiffers promised) (refused_where (nat_lt limit (length bytes)) OutOfRange None) e).0; below = λ h. omega arith; kept = λ h. tt }
+takes limit stamp promised bytes None e = record { promise = ltb-false stamp promised (passed (nat_lt stamp promised) (StampDiffers promised) (refused_or_later (nat_lt limit (length bytes)) OutOfRange None) e).0; below = λ h. omega arith; kept = λ h. tt }
 
-appends : (bytes : List ℕ) (promised : ℕ) (replica : Option Replica) → Follows None (record { replica = replica; promised = promised }) (appended bytes (record { replica = replica; promised = promised }))
+appends : (bytes : List ℕ) (promised : ℕ) (replica : Option Replica) → Follows None (record { replica = replica; promised = promised }) (with_bytes_appended bytes (record { replica = replica; promised = promised }))
 appends bytes promised None = same None (record { replica = None; promised = promised })
 appends bytes promised (Some replica) = record { promise = omega arith; below = λ h. h; kept = λ h. (omega arith, (bytes, refl)) }
 
-finalizes : (promised : ℕ) (replica : Option Replica) → Follows None (record { replica = replica; promised = promised }) (finalized (record { replica = replica; promised = promised }))
+finalizes : (promised : ℕ) (replica : Option Replica) → Follows None (record { replica = replica; promised = promised }) (with_replica_finalized (record { replica = replica; promised = promised }))
 finalizes promised None = same None (record { replica = None; promised = promised })
 finalizes promised (Some replica) = record { promise = omega arith; below = λ h. h; kept = λ h. (omega arith, same_bytes None replica.bytes) }
 
@@ -84,7 +84,7 @@ lower stamp promised (Some replica) up h =
     let g : replica.stamp ≤ promised = h in omega (arith, up, g)
 
 promises : (limit stamp promised : ℕ) (replica : Option Replica)
-    → replica_refusal limit call.InitRecovery stamp (record { replica = replica; promised = promised }) ≡ None → Follows None (record { replica = replica; promised = promised }) (promising stamp (record { replica = replica; promised = promised }))
+    → replica_refusal limit call.InitRecovery stamp (record { replica = replica; promised = promised }) ≡ None → Follows None (record { replica = replica; promised = promised }) (with_promise stamp (record { replica = replica; promised = promised }))
 promises limit stamp promised None e = absurd (never NoReplica e)
 promises limit stamp promised (Some replica) e =
     let up : promised ≤ stamp = above stamp promised (passed (nat_le stamp promised) (StampDiffers promised) None e).0 in
@@ -92,14 +92,14 @@ promises limit stamp promised (Some replica) e =
 
 updates : (limit stamp promised count : ℕ) (replica : Option Replica)
     → replica_refusal limit (call.UpdateReplica count) stamp (record { replica = replica; promised = promised }) ≡ None
-    → Follows (Some count) (record { replica = replica; promised = promised }) (updated stamp count (record { replica = replica; promised = promised }))
+    → Follows (Some count) (record { replica = replica; promised = promised }) (with_replica_recovered stamp count (record { replica = replica; promised = promised }))
 updates limit stamp promised count None e = absurd (never NoReplica e)
 updates limit stamp promised count (Some replica) e =
     let at : stamp ≡ promised = eqb-true stamp promised (not_so (stamp == promised) (passed (not (stamp == promised)) (StampDiffers promised)
-    (refused_where (replica.stamp == stamp) NotWritable (refused_where (nat_lt (length replica.bytes) count) OutOfRange None)) e).0) in
+    (refused_or_later (replica.stamp == stamp) NotWritable (refused_or_later (nat_lt (length replica.bytes) count) OutOfRange None)) e).0) in
     record { promise = omega arith; below = λ h. omega (arith, at); kept = λ (h : replica.stamp ≤ promised). (omega (arith, at, h), inr refl) }
 
-pub removes : (promised : ℕ) (replica : Option Replica) → Follows None (record { replica = replica; promised = promised }) (removed (record { replica = replica; promised = promised }))
+pub removes : (promised : ℕ) (replica : Option Replica) → Follows None (record { replica = replica; promised = promised }) (with_no_replica (record { replica = replica; promised = promised }))
 removes promised replica = record { promise = omega arith; below = λ h. tt; kept = λ h. kept_none None replica }
 
 -- ---- all blocks
@@ -111,7 +111,7 @@ none_there : (held : Held) → None ≡ Some held → ⊥
 none_there held e = cc
 
 module _ (recovered : Option ℕ) where
-  put : (q block : ℕ) (new : Held) (blocks : Blocks) → Follows recovered (held_at block blocks) new → Follows recovered (held_at q blocks) (held_at q (insert_entry nat_cmp blocks block new))
+  put : (q block : ℕ) (new : Held) (blocks : Replicas) → Follows recovered (held_at block blocks) new → Follows recovered (held_at q blocks) (held_at q (insert_entry nat_cmp blocks block new))
   put q block new [] follows = by (is_number q block)
     where
       by : (b : Bool) → Follows recovered nothing (unwrap_or (cond b (Some new) None) nothing)
@@ -139,7 +139,7 @@ module _ (recovered : Option ℕ) where
           first true = same recovered entry.1
           first false = rest h
 
-  set : (q block : ℕ) (old new : Held) (blocks : Blocks) → entry_at block blocks ≡ Some old → Follows recovered old new → Follows recovered (held_at q blocks) (held_at q (set_value (is_number block) blocks new))
+  set : (q block : ℕ) (old new : Held) (blocks : Replicas) → entry_at block blocks ≡ Some old → Follows recovered old new → Follows recovered (held_at q blocks) (held_at q (set_value (is_number block) blocks new))
   set q block old new [] e follows = absurd (none_there old e)
   set q block old new (entry ∷ blocks) e follows = by (is_number block entry.0) e (set q block old new blocks)
     where
@@ -160,21 +160,21 @@ module _ (recovered : Option ℕ) where
           first true = same recovered entry.1
           first false = rest own follows
 
-  pub change : (q block : ℕ) (f : Held → Held) (blocks : Blocks) → Follows recovered (held_at block blocks) (f (held_at block blocks)) → Follows recovered (held_at q blocks) (held_at q (changed f block blocks))
+  pub change : (q block : ℕ) (f : Held → Held) (blocks : Replicas) → Follows recovered (held_at block blocks) (f (held_at block blocks)) → Follows recovered (held_at q blocks) (held_at q (with_held_changed f block blocks))
   change q block f blocks follows = by (entry_at block blocks) refl follows
     where
-      by : (found : Option Held) → entry_at block blocks ≡ found → Follows recovered (unwrap_or found nothing) (f (unwrap_or found nothing)) → Follows recovered (held_at q blocks) (held_at q (changed_by f block found blocks))
+      by : (found : Option Held) → entry_at block blocks ≡ found → Follows recovered (unwrap_or found nothing) (f (unwrap_or found nothing)) → Follows recovered (held_at q blocks) (held_at q (held_changed_by f block found blocks))
       by None e h = same recovered (held_at q blocks)
       by (Some old) e h = set q block old (f old) blocks e h
 
 -- a call that isn't refused
-pub called : (limit stamp block q : ℕ) (asked : TokenCall) (blocks : Blocks) → replica_refusal limit asked stamp (held_at block blocks) ≡ None
-    → Follows (length_of asked) (held_at q blocks) (held_at q (blocks_after asked stamp block blocks))
-called limit stamp block q (call.Begin next) blocks e = put None q block (placed stamp Writing []) blocks (begins limit stamp (held_at block blocks).promised next Writing (held_at block blocks).replica e)
-called limit stamp block q (call.Packet offset bytes next) blocks e = change None q block (appended bytes) blocks (appends bytes (held_at block blocks).promised (held_at block blocks).replica)
-called limit stamp block q (call.Finalize count next) blocks e = change None q block finalized blocks (finalizes (held_at block blocks).promised (held_at block blocks).replica)
+pub called : (limit stamp block q : ℕ) (asked : TokenCall) (blocks : Replicas) → replica_refusal limit asked stamp (held_at block blocks) ≡ None
+    → Follows (given_length asked) (held_at q blocks) (held_at q (replicas_after asked stamp block blocks))
+called limit stamp block q (call.Begin next) blocks e = put None q block (newly_held stamp Writing []) blocks (begins limit stamp (held_at block blocks).promised next Writing (held_at block blocks).replica e)
+called limit stamp block q (call.Packet offset bytes next) blocks e = change None q block (with_bytes_appended bytes) blocks (appends bytes (held_at block blocks).promised (held_at block blocks).replica)
+called limit stamp block q (call.Finalize count next) blocks e = change None q block with_replica_finalized blocks (finalizes (held_at block blocks).promised (held_at block blocks).replica)
 called limit stamp block q (call.Read offset count) blocks e = same None (held_at q blocks)
-called limit stamp block q call.InitRecovery blocks e = change None q block (promising stamp) blocks (promises limit stamp (held_at block blocks).promised (held_at block blocks).replica e)
-called limit stamp block q (call.UpdateReplica count) blocks e = change (Some count) q block (updated stamp count) blocks (updates limit stamp (held_at block blocks).promised count (held_at block blocks).replica e)
+called limit stamp block q call.InitRecovery blocks e = change None q block (with_promise stamp) blocks (promises limit stamp (held_at block blocks).promised (held_at block blocks).replica e)
+called limit stamp block q (call.UpdateReplica count) blocks e = change (Some count) q block (with_replica_recovered stamp count) blocks (updates limit stamp (held_at block blocks).promised count (held_at block blocks).replica e)
 called limit stamp block q (call.SendCopy to) blocks e = same None (held_at q blocks)
-called limit stamp block q (call.TakeCopy bytes) blocks e = put None q block (placed stamp Finalized bytes) blocks (takes limit stamp (held_at block blocks).promised bytes (held_at block blocks).replica e)
+called limit stamp block q (call.TakeCopy bytes) blocks e = put None q block (newly_held stamp Finalized bytes) blocks (takes limit stamp (held_at block blocks).promised bytes (held_at block blocks).replica e)

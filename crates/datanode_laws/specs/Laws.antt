@@ -15,36 +15,36 @@ use Rattle.node_calls.specs.declared.refusal.NodeRefusal.{NodeRefusal}
 use Rattle.node_calls.specs.declared.reply.NodeReply.{NodeReply}
 use Rattle.replicas.specs.ReplicaStep.{held_at}
 use Rattle.replicas.specs.declared.replica.Replica.{Replica}
-use Rattle.datanode.specs.NodeStep.{Node, node_after, node_answer}
+use Rattle.datanode.specs.NodeStep.{DataNode, node_after, node_answer}
 
 -- a promised stamp never falls, also where the replica is removed
-abbrev pub PromisesStay : Type 0
-PromisesStay = (node : Node) (now : ℕ) (asked : NodeCall) (block : ℕ) → (held_at block node.blocks).promised ≤ (held_at block (node_after node now asked).blocks).promised
+abbrev pub NodeKeepsPromises : Type 0
+NodeKeepsPromises = (node : DataNode) (now : ℕ) (asked : NodeCall) (block : ℕ) → (held_at block node.blocks).promised ≤ (held_at block (node_after node now asked).blocks).promised
 
 abbrev pub IsBelow : ℕ → Option Replica → Type 0
 IsBelow promised None = ⊤
 IsBelow promised (Some replica) = replica.stamp ≤ promised
 
 -- no replica stands above the stamp that is promised
-abbrev pub StandBelow : Node → Type 0
+abbrev pub StandBelow : DataNode → Type 0
 StandBelow node = (block : ℕ) → IsBelow (held_at block node.blocks).promised (held_at block node.blocks).replica
 
 abbrev pub ReplicasStandBelow : Type 0
-ReplicasStandBelow = (node : Node) (now : ℕ) (asked : NodeCall) → StandBelow node → StandBelow (node_after node now asked)
+ReplicasStandBelow = (node : DataNode) (now : ℕ) (asked : NodeCall) → StandBelow node → StandBelow (node_after node now asked)
 
 -- the length that a recovery gives
-abbrev pub length_of : TokenCall → Option ℕ
-length_of (call.Begin next) = None
-length_of (call.Packet offset bytes next) = None
-length_of (call.Finalize count next) = None
-length_of (call.Read offset count) = None
-length_of call.InitRecovery = None
-length_of (call.UpdateReplica count) = Some count
-length_of (call.SendCopy to) = None
-length_of (call.TakeCopy bytes) = None
+abbrev pub given_length : TokenCall → Option ℕ
+given_length (call.Begin next) = None
+given_length (call.Packet offset bytes next) = None
+given_length (call.Finalize count next) = None
+given_length (call.Read offset count) = None
+given_length call.InitRecovery = None
+given_length (call.UpdateReplica count) = Some count
+given_length (call.SendCopy to) = None
+given_length (call.TakeCopy bytes) = None
 
 abbrev pub recovered_length : NodeCall → Option ℕ
-recovered_length (Presenting presented asked) = length_of asked
+recovered_length (Presenting presented asked) = given_length asked
 recovered_length (Invalidate block stamp) = None
 recovered_length (Keys update) = None
 
@@ -59,24 +59,24 @@ AreKept recovered None new = ⊤
 AreKept recovered (Some old) None = ⊤
 AreKept recovered (Some old) (Some new) = (old.stamp ≤ new.stamp) × KeepsBytes recovered old.bytes new.bytes
 
-abbrev pub ReplicasKeepBytes : Type 0
-ReplicasKeepBytes = (node : Node) (now : ℕ) (asked : NodeCall) (block : ℕ) → StandBelow node
+abbrev pub NodeKeepsBytes : Type 0
+NodeKeepsBytes = (node : DataNode) (now : ℕ) (asked : NodeCall) (block : ℕ) → StandBelow node
     → AreKept (recovered_length asked) (held_at block node.blocks).replica (held_at block (node_after node now asked).blocks).replica
 
 -- a packet is taken at the promised stamp alone: so once a recovery has promised a newer one, none of an older stamp is
-abbrev pub OldWritersAreFenced : Type 0
-OldWritersAreFenced = (node : Node) (now offset : ℕ) (presented : Presented) (bytes next : List ℕ) (told : NodeReply)
+abbrev pub NodeFencesOldWriters : Type 0
+NodeFencesOldWriters = (node : DataNode) (now offset : ℕ) (presented : Presented) (bytes next : List ℕ) (told : NodeReply)
     → (node_answer node now (Presenting presented (call.Packet offset bytes next))).result ≡ Ok told → presented.stamp ≡ (held_at presented.block node.blocks).promised
 
 -- a refusal changes no replica, no promised stamp and no record, and sends nothing
 abbrev pub RefusalsChangeNothing : Type 0
-RefusalsChangeNothing = (node : Node) (now : ℕ) (asked : NodeCall) (refusal : NodeRefusal) → (node_answer node now asked).result ≡ Err refusal
+RefusalsChangeNothing = (node : DataNode) (now : ℕ) (asked : NodeCall) (refusal : NodeRefusal) → (node_answer node now asked).result ≡ Err refusal
     → ((node_after node now asked).blocks ≡ node.blocks) × ((node_after node now asked).log ≡ node.log) × ((node_answer node now asked).messages ≡ [])
 
 -- ---- the log
 
 -- what is noted down presented a token of its caller, for its block and its access, before the token's expiry
-pub record IsCovered (entry : AccessRecord) : Type 0 where
+pub record HasFittingToken (entry : AccessRecord) : Type 0 where
   pub parts : Body
   pub text : TokenText entry.token parts
   pub user : parts.user ≡ entry.caller
@@ -90,4 +90,4 @@ IsPresented (Invalidate block stamp) = ⊤
 IsPresented (Keys update) = ⊤
 
 abbrev pub RecordsAreCovered : Type 0
-RecordsAreCovered = (node : Node) (now : ℕ) (asked : NodeCall) → IsPresented asked → AllByRecursion IsCovered node.log → AllByRecursion IsCovered (node_after node now asked).log
+RecordsAreCovered = (node : DataNode) (now : ℕ) (asked : NodeCall) → IsPresented asked → AllByRecursion HasFittingToken node.log → AllByRecursion HasFittingToken (node_after node now asked).log

@@ -5,15 +5,15 @@ ghost use Rattle.datanode_laws.specs.Laws as law;
 /// Whatever a DataNode is asked, a stamp that it promised never falls, no replica stands above it, and of a replica that stays the stamp
 /// doesn't fall and the bytes are appended to, or cut to the length of a recovery (HDFS-265: generation stamps fence old writers).
 pub fn promises_and_bytes_stay()
-    ensures promises { law.PromisesStay }
+    ensures promises { law.NodeKeepsPromises }
     ensures below { law.ReplicasStandBelow }
-    ensures bytes { law.ReplicasKeepBytes }
+    ensures bytes { law.NodeKeepsBytes }
 {}
 
 /// A packet is taken at the promised stamp alone, and what is refused changes no replica, no promised stamp and no record, and sends
 /// nothing (HDFS-265: generation stamps fence old writers).
 pub fn old_writers_are_fenced()
-    ensures fenced { law.OldWritersAreFenced }
+    ensures fenced { law.NodeFencesOldWriters }
     ensures refused { law.RefusalsChangeNothing }
 {}
 

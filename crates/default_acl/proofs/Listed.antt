@@ -13,7 +13,7 @@ use Rattle.permission_specs.specs.declared.entry.EntryKind.TheVariants.{User, Gr
 use Rattle.permission_specs.specs.declared.entry.Scope.{Scope}
 use Rattle.acl_entries.specs.declared.entry_list.NamedEntry.{NamedEntry}
 use Rattle.acl_entries.specs.Acl.{EntryList, are_rights, base_entry, entries_in, grant_rights, mask_entries, named_entry}
-use Rattle.partial_acl.specs.AclChange.{base_rights, granted_by, has_base, is_base_of, is_for, named_in, touches, with_name}
+use Rattle.partial_acl.specs.AclChange.{base_rights, rights_granted, has_base, is_base_of, is_entry_for, named_in, touches, with_name}
 use Rattle.partial_acl.proofs.Tests.{both, and, and_false}
 use Rattle.partial_acl.proofs.Completing.{Good}
 use Rattle.default_acl.proofs.Repeating.{scope_self, kind_self}
@@ -43,13 +43,13 @@ module _ (scope : Scope) (kind : EntryKind) where
 
   given_here : (granted : Rights) (others : List Entry) → are_rights granted ≡ true → base_rights scope kind (base_entry scope kind granted ∷ others) ≡ Some granted
   given_here granted others h =
-      ap (λ b. option_map granted_by (cond b (Some (base_entry scope kind granted)) (find (is_base_of scope kind) others)))
+      ap (λ b. option_map rights_granted (cond b (Some (base_entry scope kind granted)) (find (is_base_of scope kind) others)))
       (and (same_scope scope scope) (same_kind kind kind && true) (scope_self scope) (and (same_kind kind kind) true (kind_self kind) refl))
       ∙ ap (λ own. Some own) (granted_is granted h)
 
   given_past : (s : Scope) (k : EntryKind) (granted : Rights) (others : List Entry) → is_own s k ≡ false → base_rights scope kind (base_entry s k granted ∷ others) ≡ base_rights scope kind others
   given_past s k granted others h =
-      ap (λ b. option_map granted_by (cond b (Some (base_entry s k granted)) (find (is_base_of scope kind) others))) (apart (same_scope s scope) (same_kind k kind) h)
+      ap (λ b. option_map rights_granted (cond b (Some (base_entry s k granted)) (find (is_base_of scope kind) others))) (apart (same_scope s scope) (same_kind k kind) h)
     where
       apart : (a b : Bool) → (a && b) ≡ false → (a && (b && true)) ≡ false
       apart true true h = cc
@@ -59,7 +59,7 @@ module _ (scope : Scope) (kind : EntryKind) where
   given_past_named : (s : Scope) (k : EntryKind) (named : List NamedEntry) (others : List Entry) → base_rights scope kind (map (named_entry s k) named ++ others) ≡ base_rights scope kind others
   given_past_named s k [] others = refl
   given_past_named s k (n ∷ ns) others =
-      ap (λ b. option_map granted_by (cond b (Some (named_entry s k n)) (find (is_base_of scope kind) (map (named_entry s k) ns ++ others))))
+      ap (λ b. option_map rights_granted (cond b (Some (named_entry s k n)) (find (is_base_of scope kind) (map (named_entry s k) ns ++ others))))
       (and_false (same_scope s scope) (same_kind k kind && false) (and_false (same_kind k kind) false refl))
       ∙ given_past_named s k ns others
 
@@ -70,7 +70,7 @@ module _ (scope : Scope) (kind : EntryKind) where
   named_past_base : (s : Scope) (k : EntryKind) (granted : Rights) (others : List Entry) → named_in scope kind (base_entry s k granted ∷ others) ≡ named_in scope kind others
   named_past_base s k granted others = by (is_own s k)
     where
-      by : (b : Bool) → filter_map with_name (cond b (base_entry s k granted ∷ filter (is_for scope kind) others) (filter (is_for scope kind) others)) ≡ named_in scope kind others
+      by : (b : Bool) → filter_map with_name (cond b (base_entry s k granted ∷ filter (is_entry_for scope kind) others) (filter (is_entry_for scope kind) others)) ≡ named_in scope kind others
       by true = refl
       by false = refl
 
@@ -81,14 +81,14 @@ module _ (scope : Scope) (kind : EntryKind) where
   named_past : (s : Scope) (k : EntryKind) (named : List NamedEntry) (others : List Entry) → is_own s k ≡ false → named_in scope kind (map (named_entry s k) named ++ others) ≡ named_in scope kind others
   named_past s k [] others h = refl
   named_past s k (n ∷ ns) others h =
-      ap (λ b. filter_map with_name (cond b (named_entry s k n ∷ filter (is_for scope kind) (map (named_entry s k) ns ++ others)) (filter (is_for scope kind) (map (named_entry s k) ns ++ others)))) h
+      ap (λ b. filter_map with_name (cond b (named_entry s k n ∷ filter (is_entry_for scope kind) (map (named_entry s k) ns ++ others)) (filter (is_entry_for scope kind) (map (named_entry s k) ns ++ others)))) h
       ∙ named_past s k ns others h
 
   named_here : (named : List NamedEntry) (others : List Entry) → grant_rights named ≡ true → named_in scope kind (map (named_entry scope kind) named ++ others) ≡ named ++ named_in scope kind others
   named_here [] others h = refl
   named_here (n ∷ ns) others h =
       let parts = both (are_rights n.rights) (grant_rights ns) h in
-      ap (λ b. filter_map with_name (cond b (named_entry scope kind n ∷ filter (is_for scope kind) (map (named_entry scope kind) ns ++ others)) (filter (is_for scope kind) (map (named_entry scope kind) ns ++ others))))
+      ap (λ b. filter_map with_name (cond b (named_entry scope kind n ∷ filter (is_entry_for scope kind) (map (named_entry scope kind) ns ++ others)) (filter (is_entry_for scope kind) (map (named_entry scope kind) ns ++ others))))
       (and (same_scope scope scope) (same_kind kind kind) (scope_self scope) (kind_self kind))
       ∙ ap (λ own. record { name = n.name; rights = own } ∷ named_in scope kind (map (named_entry scope kind) ns ++ others)) (granted_is n.rights parts.0)
       ∙ ap (λ list. n ∷ list) (named_here ns others parts.1)
@@ -239,6 +239,6 @@ any_found p (e ∷ es) = by (p e) (any_found p es)
 pub has_given : (scope : Scope) (kind : EntryKind) (spec : List Entry) (granted : Rights) → base_rights scope kind spec ≡ Some granted → has_base scope kind spec ≡ true
 has_given scope kind spec granted h = any_found (is_base_of scope kind) spec ∙ stays (find (is_base_of scope kind) spec) ∙ ap is_some h
   where
-    stays : (entry : Option Entry) → is_some entry ≡ is_some (option_map granted_by entry)
+    stays : (entry : Option Entry) → is_some entry ≡ is_some (option_map rights_granted entry)
     stays None = refl
     stays (Some entry) = refl

@@ -12,33 +12,33 @@ use Rattle.permission_specs.specs.declared.entry.EntryKind.{EntryKind}
 use Rattle.permission_specs.specs.declared.entry.EntryKind.TheVariants.{User, Group, Other}
 use Rattle.acl_entries.specs.declared.entry_list.NamedEntry.{NamedEntry}
 use Rattle.acl_entries.specs.Acl.{EntryList, IsEntryList, grant_rights, are_rights}
-use Rattle.partial_acl.specs.AclChange.{PartialList, all_of, after_addition, after_removal, base_rights, granted_by, has_base, is_base_of, is_for, named_in, unless, with_name}
+use Rattle.partial_acl.specs.AclChange.{PartialList, all_of, after_addition, after_removal, base_rights, rights_granted, has_base, is_base_of, is_entry_for, named_in, unless, with_name}
 use Rattle.partial_acl.specs.Answers.{IsPartialList}
 use Rattle.partial_acl.proofs.Tests.{and, all_filter}
 use Rattle.partial_acl.proofs.NamedLists.{with_each_ascends, with_each_grants, filter_ascends}
 use Rattle.partial_acl.proofs.Completing.{Good, good, GoodParts, good_parts, are_good_parts}
 
-granted_good : (entry : Entry) → are_rights (granted_by entry) ≡ true
+granted_good : (entry : Entry) → are_rights (rights_granted entry) ≡ true
 granted_good entry = let below : entry.rights.0 % 8 < 8 = omega arith in grind (arith, nat_tests)
 
 pub given_good : (scope : Scope) (kind : EntryKind) (spec : List Entry) → option_map_or are_rights (base_rights scope kind spec) true ≡ true
 given_good scope kind spec = by (find (is_base_of scope kind) spec)
   where
-    by : (entry : Option Entry) → option_map_or are_rights (option_map granted_by entry) true ≡ true
+    by : (entry : Option Entry) → option_map_or are_rights (option_map rights_granted entry) true ≡ true
     by None = refl
     by (Some entry) = granted_good entry
 
 named_good : (scope : Scope) (kind : EntryKind) (spec : List Entry) → grant_rights (named_in scope kind spec) ≡ true
 named_good scope kind [] = refl
-named_good scope kind (e ∷ es) = by (is_for scope kind e) (named_good scope kind es)
+named_good scope kind (e ∷ es) = by (is_entry_for scope kind e) (named_good scope kind es)
   where
     named : (name : Option (List ℕ)) → grant_rights (named_in scope kind es) ≡ true
-        → grant_rights (cons_option (option_map (λ own. record { name = own; rights = granted_by e }) name) (named_in scope kind es)) ≡ true
+        → grant_rights (cons_option (option_map (λ own. record { name = own; rights = rights_granted e }) name) (named_in scope kind es)) ≡ true
     named None others = others
     named (Some name) others = and _ _ (granted_good e) others
 
     by : (b : Bool) → grant_rights (named_in scope kind es) ≡ true
-        → grant_rights (filter_map with_name (cond b (e ∷ filter (is_for scope kind) es) (filter (is_for scope kind) es))) ≡ true
+        → grant_rights (filter_map with_name (cond b (e ∷ filter (is_entry_for scope kind) es) (filter (is_entry_for scope kind) es))) ≡ true
     by true others = named e.name others
     by false others = others
 

@@ -25,7 +25,7 @@ use Rattle.permission_specs.specs.declared.acl_change.AclChange.TheVariants.{Mod
 use Rattle.hdfs_types.specs.declared.reply.Refusal.TheVariants.{TooManyEntries}
 use Rattle.acl_entries.specs.declared.entry_list.NamedEntry.{NamedEntry}
 use Rattle.acl_entries.specs.Acl.{Acl, EntryList, base_entries, intersection, fits_in_scope}
-use Rattle.partial_acl.specs.AclChange.{PartialList, access_after, access_where, acl_after, after_addition, all_of, as_kept, completed_list, default_after, default_where, first_acl_fault, base_rights, granted_by, is_for, mask_after, named_in, no_entries, with_entry, touches, unless_fault, with_each, with_name}
+use Rattle.partial_acl.specs.AclChange.{PartialList, access_after, access_where, acl_after, after_addition, all_of, as_kept, completed_list, default_after, default_where, first_acl_fault, base_rights, rights_granted, is_entry_for, mask_after, named_in, no_entries, with_entry, touches, unless_fault, with_each, with_name}
 use Rattle.partial_acl.specs.Answers.{named_count}
 use Rattle.default_acl.specs.Laws.{ModifyingAgainChangesNothing}
 use Rattle.partial_acl.proofs.Tests.{both}
@@ -145,7 +145,7 @@ or_false true b h = cc
 or_false false b h = (refl, h)
 
 -- two entries for one scope and kind, with these names
-name_apart : (scope : Scope) (kind : EntryKind) (e f : Entry) (name own : List ℕ) → is_for scope kind e ≡ true → is_for scope kind f ≡ true → e.name ≡ Some name → f.name ≡ Some own
+name_apart : (scope : Scope) (kind : EntryKind) (e f : Entry) (name own : List ℕ) → is_entry_for scope kind e ≡ true → is_entry_for scope kind f ≡ true → e.name ≡ Some name → f.name ≡ Some own
     → same_key e f ≡ false → same own name ≡ false
 name_apart scope kind e f name own h k n m apart =
     let a = both (same_scope e.scope scope) (same_kind e.kind kind) h in
@@ -155,33 +155,33 @@ name_apart scope kind e f name own h k n m apart =
     same_symm own name ∙ ap (λ o. option_eq same (Some name) o) (sym m) ∙ ap (λ o. option_eq same o f.name) (sym n)
     ∙ ap (λ b. b && option_eq same e.name f.name) (sym kinds) ∙ ap (λ b. b && (same_kind e.kind f.kind && option_eq same e.name f.name)) (sym scopes) ∙ apart
 
-names_apart : (scope : Scope) (kind : EntryKind) (e : Entry) (name : List ℕ) (es : List Entry) → is_for scope kind e ≡ true → e.name ≡ Some name → list_any (same_key e) es ≡ false
+names_apart : (scope : Scope) (kind : EntryKind) (e : Entry) (name : List ℕ) (es : List Entry) → is_entry_for scope kind e ≡ true → e.name ≡ Some name → list_any (same_key e) es ≡ false
     → list_any (λ other. same other.name name) (named_in scope kind es) ≡ false
 names_apart scope kind e name [] h n apart = refl
 names_apart scope kind e name (f ∷ fs) h n apart =
-    let parts = or_false (same_key e f) (list_any (same_key e) fs) apart in by (is_for scope kind f) refl parts.0 (names_apart scope kind e name fs h n parts.1)
+    let parts = or_false (same_key e f) (list_any (same_key e) fs) apart in by (is_entry_for scope kind f) refl parts.0 (names_apart scope kind e name fs h n parts.1)
   where
-    named : (own : Option (List ℕ)) → f.name ≡ own → is_for scope kind f ≡ true → same_key e f ≡ false → list_any (λ other. same other.name name) (named_in scope kind fs) ≡ false
-        → list_any (λ other. same other.name name) (cons_option (option_map (λ own. record { name = own; rights = granted_by f }) own) (named_in scope kind fs)) ≡ false
+    named : (own : Option (List ℕ)) → f.name ≡ own → is_entry_for scope kind f ≡ true → same_key e f ≡ false → list_any (λ other. same other.name name) (named_in scope kind fs) ≡ false
+        → list_any (λ other. same other.name name) (cons_option (option_map (λ own. record { name = own; rights = rights_granted f }) own) (named_in scope kind fs)) ≡ false
     named None m k there others = others
     named (Some own) m k there others = ap (λ b. b || list_any (λ other. same other.name name) (named_in scope kind fs)) (name_apart scope kind e f name own h k n m there) ∙ others
 
-    by : (b : Bool) → is_for scope kind f ≡ b → same_key e f ≡ false → list_any (λ other. same other.name name) (named_in scope kind fs) ≡ false
-        → list_any (λ other. same other.name name) (filter_map with_name (cond b (f ∷ filter (is_for scope kind) fs) (filter (is_for scope kind) fs))) ≡ false
+    by : (b : Bool) → is_entry_for scope kind f ≡ b → same_key e f ≡ false → list_any (λ other. same other.name name) (named_in scope kind fs) ≡ false
+        → list_any (λ other. same other.name name) (filter_map with_name (cond b (f ∷ filter (is_entry_for scope kind) fs) (filter (is_entry_for scope kind) fs))) ≡ false
     by true k there others = named f.name refl k there others
     by false k there others = others
 
 entries_apart : (scope : Scope) (kind : EntryKind) (spec : List Entry) → has_duplicate spec ≡ false → AreApart (named_in scope kind spec)
 entries_apart scope kind [] h = tt
-entries_apart scope kind (e ∷ es) h = let parts = or_false (list_any (same_key e) es) (has_duplicate es) h in by (is_for scope kind e) refl parts.0 (entries_apart scope kind es parts.1)
+entries_apart scope kind (e ∷ es) h = let parts = or_false (list_any (same_key e) es) (has_duplicate es) h in by (is_entry_for scope kind e) refl parts.0 (entries_apart scope kind es parts.1)
   where
-    named : (own : Option (List ℕ)) → e.name ≡ own → is_for scope kind e ≡ true → list_any (same_key e) es ≡ false → AreApart (named_in scope kind es)
-        → AreApart (cons_option (option_map (λ own. record { name = own; rights = granted_by e }) own) (named_in scope kind es))
+    named : (own : Option (List ℕ)) → e.name ≡ own → is_entry_for scope kind e ≡ true → list_any (same_key e) es ≡ false → AreApart (named_in scope kind es)
+        → AreApart (cons_option (option_map (λ own. record { name = own; rights = rights_granted e }) own) (named_in scope kind es))
     named None n k there others = others
     named (Some name) n k there others = (names_apart scope kind e name es k n there, others)
 
-    by : (b : Bool) → is_for scope kind e ≡ b → list_any (same_key e) es ≡ false → AreApart (named_in scope kind es)
-        → AreApart (filter_map with_name (cond b (e ∷ filter (is_for scope kind) es) (filter (is_for scope kind) es)))
+    by : (b : Bool) → is_entry_for scope kind e ≡ b → list_any (same_key e) es ≡ false → AreApart (named_in scope kind es)
+        → AreApart (filter_map with_name (cond b (e ∷ filter (is_entry_for scope kind) es) (filter (is_entry_for scope kind) es)))
     by true k there others = named e.name refl k there others
     by false k there others = others
 

@@ -5,7 +5,7 @@ use Rattle.hdfs_types.specs.declared.op.Request.{Request}
 use Rattle.namespace_rows.specs.declared.row.Row.{Row}
 use Rattle.flat_rows.specs.Changes.{rows_under}
 use Rattle.explanations.specs.declared.explain.Explained.TheVariants.{Trail}
-use Rattle.cluster_runs.specs.Output.{after_lines, status_of}
+use Rattle.cluster_runs.specs.Output.{after_lines, script_status}
 use Rattle.explanations.specs.Explanation.{request_in_first, explanation_by, explanation_behind, found_by, found_behind, trail_of, trail_text}
 
 abbrev now : Bor (List ℕ) → List ℕ
@@ -26,9 +26,9 @@ module _ (lines front back : List (Bor (List ℕ))) (n m : ℕ) (count : m ≡ m
   explains =
       ap (λ l. trail_text (trail_of (after_lines l) request)) (first_lines lines front n m count first) ∙ ap (explanation_by (after_lines (take n (map now lines)))) (sym told)
 
-  pub finds : Trail (status_of (after_lines (map now front)).answers) ≡ found_behind n (map now lines)
+  pub finds : Trail (script_status (after_lines (map now front)).answers) ≡ found_behind n (map now lines)
   finds =
-      ap (λ l. Trail (status_of (after_lines l).answers)) (first_lines lines front n m count first) ∙ ap (found_by (after_lines (take n (map now lines)))) (sym told)
+      ap (λ l. Trail (script_status (after_lines l).answers)) (first_lines lines front n m count first) ∙ ap (found_by (after_lines (take n (map now lines)))) (sym told)
 
 -- all rows stand at and beneath the root
 pub all_under : (rows : List Row) → rows_under [] rows ≡ rows

@@ -15,7 +15,7 @@ use Rattle.explanations.specs.declared.explain.Explained.TheVariants.{Trail, NoR
 use Rattle.script_words.specs.Words.{lines_of, without_return, is_skipped, words_of}
 use Rattle.request_lines.specs.Script.{request_of}
 use Rattle.cluster_core.specs.World.{state_after}
-use Rattle.cluster_runs.specs.Output.{State, after_lines, status_of}
+use Rattle.cluster_runs.specs.Output.{State, after_lines, script_status}
 
 abbrev pub well_formed : Result Request IllFormed → Option Request
 well_formed (Ok request) = Some request
@@ -55,7 +55,7 @@ explanation_behind before lines = explanation_by (after_lines (take before lines
 
 abbrev pub found_by : State → Option Request → Explained
 found_by state None = NoRequest
-found_by state (Some request) = Trail (status_of state.answers)
+found_by state (Some request) = Trail (script_status state.answers)
 
 -- whether that line makes a request, and how the lines before it ended
 abbrev pub found_behind : ℕ → List (List ℕ) → Explained
@@ -66,6 +66,6 @@ abbrev pub explanation : ℕ → List ℕ → List ℕ
 explanation zero script = []
 explanation (suc before) script = explanation_behind before (lines_of script)
 
-abbrev pub found : ℕ → List ℕ → Explained
-found zero script = NoRequest
-found (suc before) script = found_behind before (lines_of script)
+abbrev pub found_at_line : ℕ → List ℕ → Explained
+found_at_line zero script = NoRequest
+found_at_line (suc before) script = found_behind before (lines_of script)

@@ -125,7 +125,7 @@ fn explain_request(
 ) -> Result<Explanation, AllocError>
     requires { Shows output.no_lines session.old }
     ensures text { IfOk result (λ explanation. string_bytes explanation.text ≡ spec.explanation_by (output.after_lines (map (λ line. line.now) before.now)) (Some request.now)) }
-    ensures found { IfOk result (λ explanation. explanation.found ≡ Explained.Trail (output.status_of (output.after_lines (map (λ line. line.now) before.now)).answers)) }
+    ensures found { IfOk result (λ explanation. explanation.found ≡ Explained.Trail (output.script_status (output.after_lines (map (λ line. line.now) before.now)).answers)) }
 {
     run_lines(session, before)?;
     Ok(Explanation {
@@ -141,7 +141,7 @@ fn explain_alone(
     request: &Request,
 ) -> Result<Explanation, AllocError>
     ensures text { IfOk result (λ explanation. string_bytes explanation.text ≡ spec.explanation_by (output.after_lines (map (λ line. line.now) before.now)) (Some request.now)) }
-    ensures found { IfOk result (λ explanation. explanation.found ≡ Explained.Trail (output.status_of (output.after_lines (map (λ line. line.now) before.now)).answers)) }
+    ensures found { IfOk result (λ explanation. explanation.found ≡ Explained.Trail (output.script_status (output.after_lines (map (λ line. line.now) before.now)).answers)) }
 {
     let mut session = Session::open(alloc)?;
     let explained = explain_request(alloc, &mut session, before, request);
@@ -181,7 +181,7 @@ fn explain_behind(alloc: Global, lines: &[&str], before: usize) -> Result<Explan
 /// Explains a line; the first has the number 1.
 fn explain_line(alloc: Global, script: &str, number: u32) -> Result<Explanation, AllocError>
     ensures text { IfOk result (λ explanation. string_bytes explanation.text ≡ spec.explanation number script.now) }
-    ensures found { IfOk result (λ explanation. explanation.found ≡ spec.found number script.now) }
+    ensures found { IfOk result (λ explanation. explanation.found ≡ spec.found_at_line number script.now) }
 {
     if number == 0 {
         return Ok(Explanation {
@@ -206,7 +206,7 @@ pub fn explain<R: Read, W: Write>(
     number: u32,
     writer: &mut W,
 ) -> Result<Explained, ScriptFault>
-    ensures ok { IfOk result (λ found. IfSome (R.remaining reader.old) (λ script. IsUtf8 script × Appends (W.contents writer.old) (W.contents writer.new) (spec.explanation number script) × (found ≡ spec.found number script))) }
+    ensures ok { IfOk result (λ found. IfSome (R.remaining reader.old) (λ script. IsUtf8 script × Appends (W.contents writer.old) (W.contents writer.new) (spec.explanation number script) × (found ≡ spec.found_at_line number script))) }
     ensures unread { result ≡ Err ScriptFault.CannotRead → Keeps (W.contents writer.old) (W.contents writer.new) }
     ensures not_text { result ≡ Err ScriptFault.NotUtf8 → Keeps (W.contents writer.old) (W.contents writer.new) × IfSome (R.remaining reader.old) (λ script. ¬ (IsUtf8 script)) }
     ensures no_memory { (served : ℕ) → result ≡ Err (ScriptFault.OutOfMemory served) → Keeps (W.contents writer.old) (W.contents writer.new) × (served ≡ 0) }

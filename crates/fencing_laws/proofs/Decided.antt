@@ -5,7 +5,7 @@ use Rattle.std.specs.Bool.{⊤}
 use Rattle.std.specs.List.{AllByRecursion}
 use Rattle.std.specs.Option.{is_some, option_map}
 use Rattle.block_records.specs.Numbers.{is_number, has_number, entry_at}
-use Rattle.block_recovery.specs.Plans.{PlanTable, plan_at, changed, refused_without, refused_commit, decision_for, with_decision}
+use Rattle.block_recovery.specs.Plans.{PlanTable, plan_at, with_plan_changed, refused_without, refused_plan_commit, decision_for, with_decision}
 use Rattle.block_recovery.specs.declared.decision.Commit.{Commit}
 use Rattle.block_recovery.specs.declared.decision.Decision.{Decision}
 use Rattle.block_recovery.specs.declared.fault.PlanRefusal.{PlanRefusal}
@@ -39,12 +39,12 @@ use Rattle.node_replies.specs.Asking.{asked_by}
 use Rattle.node_replies.specs.Sending.{call_sends, forward, report, to_primary}
 use Rattle.replicas.specs.ReplicaStep.{held_at, removal_refusal}
 use Rattle.replicas.specs.declared.held.Held.{Held}
-use Rattle.datanode.specs.NodeStep.{Node, node_answer, presented_answer, told_by, removal_told, clock_with, call_refusal}
-use Rattle.plan_steps.specs.PlanStep.{plan_refusal, plans_with, left_unless, plans_after, no_plan, no_decision, no_commit, decided, committed, presenting, to_each, plan_sends, told_unless, plan_answer}
+use Rattle.datanode.specs.NodeStep.{DataNode, node_answer, presented_answer, told_by, removal_told, clock_with, call_refusal}
+use Rattle.plan_steps.specs.PlanStep.{plan_refusal, plans_with, left_unless, plans_after, no_plan, no_decision, no_commit, decision_there, commit_there, presented_by_leader, to_each, plan_sends, told_unless, plan_answer}
 use Rattle.cluster_trace.specs.DataCall.{DataCall, as_message}
 use Rattle.cluster_trace.specs.DataCall as outside
 use Rattle.cluster_trace.specs.Provenance.{CallAt, call_brought, call_of}
-use Rattle.cluster_trace.specs.Trace.{State, Opening, Happened, lost, named, called_at, led_at, delivered, message_at, is_from_outside, reporting, committing, recover_message, removal_message, copy_message, command_messages, told_messages, sent_by, happened, left_by, happens, after}
+use Rattle.cluster_trace.specs.Trace.{Cluster, ClusterOpening, Happened, event_lost, request_named, called_at, led_at, message_delivered, message_at, is_from_outside, report_request, commit_request, recover_message, removal_message, copy_message, command_messages, told_messages, sent_by, event_happened, left_by, happens, after}
 use Rattle.cluster_trace.specs.declared.event.Event.{Event}
 use Rattle.cluster_trace.specs.declared.event.Event.TheVariants.{Name, Deliver, Data}
 use Rattle.cluster_trace.specs.declared.outcome.ClusterRefusal.TheVariants.{NotFromOutside}
@@ -56,14 +56,14 @@ use Rattle.fencing_laws.proofs.Plans.{event_stays}
 
 -- ---- what a message carries was decided
 
-abbrev pub UpdateDecided : State → ℕ → ℕ → ℕ → ℕ → Type 0
+abbrev pub UpdateDecided : Cluster → ℕ → ℕ → ℕ → ℕ → Type 0
 UpdateDecided state node block stamp count =
     (leader : ℕ) × (decision : Decision) × HasDecided state leader block stamp decision × (decision.length ≡ count) × (has_number node decision.nodes ≡ true)
 
-abbrev pub CommitDecided : State → ℕ → ℕ → ℕ → ℕ → Type 0
+abbrev pub CommitDecided : Cluster → ℕ → ℕ → ℕ → ℕ → Type 0
 CommitDecided state leader block stamp count = (decision : Decision) × HasDecided state leader block stamp decision × (decision.length ≡ count)
 
-abbrev pub AskCarries : State → ℕ → Presented → TokenCall → Type 0
+abbrev pub AskCarries : Cluster → ℕ → Presented → TokenCall → Type 0
 AskCarries state node presented (call.Begin next) = ⊤
 AskCarries state node presented (call.Packet offset bytes next) = ⊤
 AskCarries state node presented (call.Finalize count next) = ⊤
@@ -73,12 +73,12 @@ AskCarries state node presented (call.UpdateReplica count) = UpdateDecided state
 AskCarries state node presented (call.SendCopy to) = ⊤
 AskCarries state node presented (call.TakeCopy bytes) = ⊤
 
-abbrev pub CallCarries : State → ℕ → NodeCall → Type 0
+abbrev pub CallCarries : Cluster → ℕ → NodeCall → Type 0
 CallCarries state node (Presenting presented asked) = AskCarries state node presented asked
 CallCarries state node (Invalidate block stamp) = ⊤
 CallCarries state node (Keys update) = ⊤
 
-abbrev pub Carries : State → Message → Type 0
+abbrev pub Carries : Cluster → Message → Type 0
 Carries state (message.Node node asked) = CallCarries state node asked
 Carries state (message.Plan node asked) = ⊤
 Carries state (message.Reported node block stamp count) = ⊤
@@ -86,12 +86,12 @@ Carries state (message.CommitRecovery leader block stamp count nodes) = CommitDe
 
 -- ---- what was decided stays so
 
-pub decided_stays : (state : State) (event : Event) (leader block stamp : ℕ) (decision : Decision) → HasDecided state leader block stamp decision → HasDecided (happens state event) leader block stamp decision
+pub decided_stays : (state : Cluster) (event : Event) (leader block stamp : ℕ) (decision : Decision) → HasDecided state leader block stamp decision → HasDecided (happens state event) leader block stamp decision
 decided_stays state event leader block stamp decision h =
     let stays = event_stays state event leader block stamp h.0 h.1 in
     (stays.now, stays.there, stays.extends.decision decision h.2)
 
-module _ (state : State) (event : Event) where
+module _ (state : Cluster) (event : Event) where
   ask_stays : (node : ℕ) (presented : Presented) (asked : TokenCall) → AskCarries state node presented asked → AskCarries (happens state event) node presented asked
   ask_stays node presented (call.Begin next) h = tt
   ask_stays node presented (call.Packet offset bytes next) h = tt
@@ -112,7 +112,7 @@ module _ (state : State) (event : Event) where
 
 -- ---- what the NameNode and replicas send carries no decision
 
-module _ (state : State) where
+module _ (state : Cluster) where
   commands_carry : (node : ℕ) (commands : Commands) → AllByRecursion (Carries state) (command_messages node commands)
   commands_carry node commands = (
     tt,
@@ -152,7 +152,7 @@ module _ (state : State) where
   sends_carry node presented (call.SendCopy to) held = (tt, tt)
   sends_carry node presented (call.TakeCopy bytes) held = (tt, tt)
 
-  presented_carries : (node : Node) (clock : ℕ) (own : Presented) (asked : TokenCall) → AllByRecursion (Carries state) (presented_answer node clock own asked).messages
+  presented_carries : (node : DataNode) (clock : ℕ) (own : Presented) (asked : TokenCall) → AllByRecursion (Carries state) (presented_answer node clock own asked).messages
   unfolding presented_answer
   presented_carries node clock own asked = by (call_refusal node clock own asked)
     where
@@ -160,7 +160,7 @@ module _ (state : State) where
       by (Some refusal) = tt
       by None = sends_carry node.id own asked (held_at own.block node.blocks)
 
-  answer_carries : (node : Node) (now : ℕ) (asked : NodeCall) → AllByRecursion (Carries state) (node_answer node now asked).messages
+  answer_carries : (node : DataNode) (now : ℕ) (asked : NodeCall) → AllByRecursion (Carries state) (node_answer node now asked).messages
   unfolding node_answer
   answer_carries node now (Presenting own asked) = presented_carries node (clock_with node now) (asked_by node.id own asked) asked
   answer_carries node now (Keys update) = tt
@@ -191,40 +191,40 @@ same_plan : (block stamp : ℕ) → (is_number block block && is_number stamp st
 same_plan block stamp = ap (λ b. b && is_number stamp stamp) (itself block) ∙ itself stamp
 
 -- the node with this id leads by these plans from now on
-record Leads (state : State) (id : ℕ) (plans : PlanTable) : Type 0 where
+record Leads (state : Cluster) (id : ℕ) (plans : PlanTable) : Type 0 where
   is : entry_at id state.plans ≡ Some plans
 
-module _ (state : State) (id : ℕ) (plans : PlanTable) where
+module _ (state : Cluster) (id : ℕ) (plans : PlanTable) where
   plan_led : (own : PlanTable) (block stamp : ℕ) (found : Option Plan) → Leads state id own → plan_at block stamp own ≡ found → plan_in state id block stamp ≡ found
   plan_led own block stamp found leads e = ap (λ (table : Option PlanTable). plan_at block stamp (unwrap_or table [])) leads.is ∙ e
 
-  updates_carry : (block stamp : ℕ) → Leads state id (changed with_decision block stamp plans) → AllByRecursion (Carries state) (plan_sends id (plan.Decide block stamp) plans)
+  updates_carry : (block stamp : ℕ) → Leads state id (with_plan_changed with_decision block stamp plans) → AllByRecursion (Carries state) (plan_sends id (plan.Decide block stamp) plans)
   updates_carry block stamp leads = by (plan_at block stamp plans) refl
     where
       has : (own : Plan) (decision : Decision) → plan_at block stamp plans ≡ Some own → decision_for own ≡ Some decision → HasDecided state id block stamp decision
       has own decision at is = (
         with_decision own,
-        plan_led (changed with_decision block stamp plans) block stamp (Some (with_decision own)) leads
+        plan_led (with_plan_changed with_decision block stamp plans) block stamp (Some (with_decision own)) leads
             (plan_changed with_decision block stamp block stamp plans ∙ (ap (λ b. cond b (option_map with_decision (plan_at block stamp plans)) (plan_at block stamp plans)) (same_plan block stamp) ∙ ap (option_map with_decision) at)),
         is,
       )
 
       sent : (own : Plan) → plan_at block stamp plans ≡ Some own → (found : Option Decision) → decision_for own ≡ found
-          → AllByRecursion (Carries state) (to_each (presenting id block stamp own.token) (call.UpdateReplica (unwrap_or found no_decision).length) (unwrap_or found no_decision).nodes)
+          → AllByRecursion (Carries state) (to_each (presented_by_leader id block stamp own.token) (call.UpdateReplica (unwrap_or found no_decision).length) (unwrap_or found no_decision).nodes)
       sent own at None is = tt
       sent own at (Some decision) is =
-          each_of (λ (node : ℕ). has_number node decision.nodes ≡ true) (Carries state) (λ (node : ℕ). message.Node node (Presenting (presenting id block stamp own.token) (call.UpdateReplica decision.length)))
+          each_of (λ (node : ℕ). has_number node decision.nodes ≡ true) (Carries state) (λ (node : ℕ). message.Node node (Presenting (presented_by_leader id block stamp own.token) (call.UpdateReplica decision.length)))
           (λ (node : ℕ) known. (id, decision, has own decision at is, refl, known)) decision.nodes (all_known decision.nodes)
 
       by : (found : Option Plan) → plan_at block stamp plans ≡ found
-          → AllByRecursion (Carries state) (to_each (presenting id block stamp (unwrap_or found no_plan).token) (call.UpdateReplica (decided (unwrap_or found no_plan)).length) (decided (unwrap_or found no_plan)).nodes)
+          → AllByRecursion (Carries state) (to_each (presented_by_leader id block stamp (unwrap_or found no_plan).token) (call.UpdateReplica (decision_there (unwrap_or found no_plan)).length) (decision_there (unwrap_or found no_plan)).nodes)
       by None at = tt
       by (Some own) at = sent own at (decision_for own) refl
 
   abbrev commit_by : Plan → Option Decision → Option Commit
   commit_by own found = option_map (λ (decision : Decision). record { length = decision.length; nodes = own.updated }) found
 
-  commit_carries : (block stamp : ℕ) → Leads state id plans → refused_commit (plan_at block stamp plans) ≡ None → AllByRecursion (Carries state) (plan_sends id (plan.Commit block stamp) plans)
+  commit_carries : (block stamp : ℕ) → Leads state id plans → refused_plan_commit (plan_at block stamp plans) ≡ None → AllByRecursion (Carries state) (plan_sends id (plan.Commit block stamp) plans)
   commit_carries block stamp leads allowed = by (plan_at block stamp plans) refl allowed
     where
       told : (own : Plan) → plan_at block stamp plans ≡ Some own → (found : Option Decision) → own.decision ≡ found → cond (is_some found) (refused_without own.updated) (Some Stranger) ≡ None
@@ -232,7 +232,7 @@ module _ (state : State) (id : ℕ) (plans : PlanTable) where
       told own at None is refused = cc
       told own at (Some decision) is refused = (decision, (own, plan_led plans block stamp (Some own) leads at, is), refl)
 
-      by : (found : Option Plan) → plan_at block stamp plans ≡ found → refused_commit found ≡ None → CommitDecided state id block stamp (committed (unwrap_or found no_plan)).length × ⊤
+      by : (found : Option Plan) → plan_at block stamp plans ≡ found → refused_plan_commit found ≡ None → CommitDecided state id block stamp (commit_there (unwrap_or found no_plan)).length × ⊤
       by None at refused = cc
       by (Some own) at refused = (told own at own.decision refl refused, tt)
 
@@ -240,7 +240,7 @@ module _ (state : State) (id : ℕ) (plans : PlanTable) where
   inits_carry presented nodes = each_map (Carries state) (λ (node : ℕ). message.Node node (Presenting presented call.InitRecovery)) (λ (node : ℕ). tt) nodes
 
   sends_decided : (asked : PlanCall) → plan_refusal asked plans ≡ None → Leads state id (plans_with asked plans) → AllByRecursion (Carries state) (plan_sends id asked plans)
-  sends_decided (plan.Recover block stamp nodes token) allowed leads = inits_carry (presenting id block stamp token) nodes
+  sends_decided (plan.Recover block stamp nodes token) allowed leads = inits_carry (presented_by_leader id block stamp token) nodes
   sends_decided (plan.Reply node block stamp own count) allowed leads = tt
   sends_decided (plan.Decide block stamp) allowed leads = updates_carry block stamp leads
   sends_decided (plan.Updated node block stamp) allowed leads = tt
@@ -256,48 +256,48 @@ module _ (state : State) (id : ℕ) (plans : PlanTable) where
 
 -- ---- every event
 
-abbrev SentCarries : State → Happened → Type 0
+abbrev SentCarries : Cluster → Happened → Type 0
 SentCarries state what = AllByRecursion (Carries (left_by state what)) what.sent
 
-named_carries : (state : State) (request : Request) → SentCarries state (named state request)
-named_carries state request = verdict_carries (left_by state (named state request)) (node_of request.caller) (verdict_of state.opening state.entries request)
+named_carries : (state : Cluster) (request : Request) → SentCarries state (request_named state request)
+named_carries state request = verdict_carries (left_by state (request_named state request)) (node_of request.caller) (verdict_of state.opening state.entries request)
 
-called_carries : (state : State) (id now : ℕ) (asked : NodeCall) (found : Option Node) → SentCarries state (called_at state id now asked found)
+called_carries : (state : Cluster) (id now : ℕ) (asked : NodeCall) (found : Option DataNode) → SentCarries state (called_at state id now asked found)
 called_carries state id now asked None = tt
 called_carries state id now asked (Some node) = answer_carries (left_by state (called_at state id now asked (Some node))) node now asked
 
-led_carries : (state : State) (id : ℕ) (asked : PlanCall) (found : Option PlanTable) → entry_at id state.plans ≡ found → SentCarries state (led_at state id asked found)
+led_carries : (state : Cluster) (id : ℕ) (asked : PlanCall) (found : Option PlanTable) → entry_at id state.plans ≡ found → SentCarries state (led_at state id asked found)
 led_carries state id asked None e = tt
 led_carries state id asked (Some plans) e =
     plan_answer_carries (left_by state (led_at state id asked (Some plans))) id plans asked
     (record { is = set_there id id plans (plans_after asked plans) state.plans e ∙ ap (λ b. cond b (Some (plans_after asked plans)) (entry_at id state.plans)) (itself id) })
 
-delivered_carries : (state : State) (now : ℕ) (found : Option Message) → SentCarries state (delivered state now found)
+delivered_carries : (state : Cluster) (now : ℕ) (found : Option Message) → SentCarries state (message_delivered state now found)
 delivered_carries state now None = tt
 delivered_carries state now (Some (message.Node node asked)) = called_carries state node now asked (entry_at node state.nodes)
 delivered_carries state now (Some (message.Plan node asked)) = led_carries state node asked (entry_at node state.plans) refl
-delivered_carries state now (Some (message.Reported node block stamp count)) = named_carries state (reporting node now block stamp count)
-delivered_carries state now (Some (message.CommitRecovery node block stamp count nodes)) = named_carries state (committing node now block stamp count nodes)
+delivered_carries state now (Some (message.Reported node block stamp count)) = named_carries state (report_request node now block stamp count)
+delivered_carries state now (Some (message.CommitRecovery node block stamp count nodes)) = named_carries state (commit_request node now block stamp count nodes)
 
-asked_carries : (state : State) (request : Request) (outside : Bool) → SentCarries state (cond outside (named state request) (lost state NotFromOutside))
+asked_carries : (state : Cluster) (request : Request) (outside : Bool) → SentCarries state (cond outside (request_named state request) (event_lost state NotFromOutside))
 asked_carries state request true = named_carries state request
 asked_carries state request false = tt
 
-event_carries : (state : State) (event : Event) → SentCarries state (happened state event)
+event_carries : (state : Cluster) (event : Event) → SentCarries state (event_happened state event)
 event_carries state (Name request) = asked_carries state request (is_from_outside request.op)
 event_carries state (Deliver number now) = delivered_carries state now (message_at number state.messages)
 event_carries state (Data node now asked) = delivered_carries state now (Some (as_message node asked))
 
-pub all_carry : (opening : Opening) (events : List Event) → AllByRecursion (Carries (after opening events)) (after opening events).messages
+pub all_carry : (opening : ClusterOpening) (events : List Event) → AllByRecursion (Carries (after opening events)) (after opening events).messages
 all_carry opening [] = tt
 all_carry opening (event ∷ earlier) =
     let state = after opening earlier in
-    each_append (Carries (happens state event)) state.messages (happened state event).sent
+    each_append (Carries (happens state event)) state.messages (event_happened state event).sent
     (each_more (Carries state) (Carries (happens state event)) (message_stays state event) state.messages (all_carry opening earlier)) (event_carries state event)
 
 -- ---- the laws
 
-brought : (state : State) (now : ℕ) (found : Option Message) (asked : CallAt) → ((own : Message) → found ≡ Some own → Carries state own) → call_brought now found ≡ Some asked → CallCarries state asked.node asked.call
+brought : (state : Cluster) (now : ℕ) (found : Option Message) (asked : CallAt) → ((own : Message) → found ≡ Some own → Carries state own) → call_brought now found ≡ Some asked → CallCarries state asked.node asked.call
 brought state now None asked carries e = absurd (never_some asked e)
 brought state now (Some (message.Node node own)) asked carries e =
     let at : CallAt = record { node = node; now = now; call = own } in
@@ -307,7 +307,7 @@ brought state now (Some (message.Reported node block stamp count)) asked carries
 brought state now (Some (message.CommitRecovery node block stamp count nodes)) asked carries e = absurd (never_some asked e)
 
 -- from outside no replica is recovered
-outside_carries : (state : State) (node : ℕ) (asked : DataCall) → Carries state (as_message node asked)
+outside_carries : (state : Cluster) (node : ℕ) (asked : DataCall) → Carries state (as_message node asked)
 outside_carries state node (outside.BeginWrite presented next) = tt
 outside_carries state node (outside.Packet presented offset bytes next) = tt
 outside_carries state node (outside.Finalize presented count next) = tt
@@ -315,7 +315,7 @@ outside_carries state node (outside.Read presented offset count) = tt
 outside_carries state node (outside.Decide block stamp) = tt
 outside_carries state node (outside.Commit block stamp) = tt
 
-asked_carried : (state : State) (event : Event) (asked : CallAt) → AllByRecursion (Carries state) state.messages → call_of state event ≡ Some asked → CallCarries state asked.node asked.call
+asked_carried : (state : Cluster) (event : Event) (asked : CallAt) → AllByRecursion (Carries state) state.messages → call_of state event ≡ Some asked → CallCarries state asked.node asked.call
 asked_carried state (Name request) asked all e = absurd (never_some asked e)
 asked_carried state (Deliver number now) asked all e =
     brought state now (message_at number state.messages) asked (λ own is. message_brings (Carries state) state.messages number own all is) e

@@ -7,7 +7,7 @@ use Rattle.block_records.specs.Numbers.{is_number, entry_at}
 use Rattle.block_records.specs.declared.block_record.BlockRecord.{BlockRecord}
 use Rattle.block_records.proofs.Numbers.{number_is}
 use Rattle.block_map.specs.BlockFacts.{newest_stamp}
-use Rattle.block_recovery.specs.Plans.{PlanTable, plan_at, changed, new_plan, with_answer, with_decision, with_updated}
+use Rattle.block_recovery.specs.Plans.{PlanTable, plan_at, with_plan_changed, new_plan, with_answer, with_decision, with_updated}
 use Rattle.block_recovery.specs.declared.decision.Decision.{Decision}
 use Rattle.block_recovery.specs.declared.fault.PlanRefusal.{PlanRefusal}
 use Rattle.block_recovery.specs.declared.plan.Plan.{Plan}
@@ -30,12 +30,12 @@ use Rattle.node_calls.specs.declared.call.PlanCall.{PlanCall}
 use Rattle.node_calls.specs.declared.call.PlanCall.TheVariants as plan
 use Rattle.node_calls.specs.declared.message.Message.{Message}
 use Rattle.node_calls.specs.declared.message.Message.TheVariants as message
-use Rattle.datanode.specs.NodeStep.{Node}
+use Rattle.datanode.specs.NodeStep.{DataNode}
 use Rattle.plan_steps.specs.PlanStep.{recover_of, answer_of, plan_refusal, left_unless, plans_after}
 use Rattle.cluster_trace.specs.DataCall.{DataCall, as_message}
 use Rattle.cluster_trace.specs.DataCall as outside
 use Rattle.cluster_trace.specs.Provenance.{IsIn}
-use Rattle.cluster_trace.specs.Trace.{State, Opening, with_no_plan, lost, named, called_at, led_at, delivered, message_at, is_from_outside, happened, happens, after}
+use Rattle.cluster_trace.specs.Trace.{Cluster, ClusterOpening, with_no_plan, event_lost, request_named, called_at, led_at, message_delivered, message_at, is_from_outside, event_happened, happens, after}
 use Rattle.cluster_trace.specs.declared.event.Event.{Event}
 use Rattle.cluster_trace.specs.declared.event.Event.TheVariants.{Name, Deliver, Data}
 use Rattle.cluster_trace.specs.declared.outcome.ClusterRefusal.TheVariants.{NotFromOutside}
@@ -84,7 +84,7 @@ record Began (asked : PlanCall) (block stamp : ℕ) (own : Plan) : Type 0 where
   token : List ℕ
   is : asked ≡ plan.Recover block stamp own.nodes token
 
-led_changed : (change : Plan → Plan) → ((own : Plan) → (change own).nodes ≡ own.nodes) → (block stamp b s : ℕ) (plans : PlanTable) (own : Plan) → plan_at b s (changed change block stamp plans) ≡ Some own → Led plans b s own
+led_changed : (change : Plan → Plan) → ((own : Plan) → (change own).nodes ≡ own.nodes) → (block stamp b s : ℕ) (plans : PlanTable) (own : Plan) → plan_at b s (with_plan_changed change block stamp plans) ≡ Some own → Led plans b s own
 led_changed change keeps block stamp b s plans own e = by (is_number block b && is_number stamp s) (plan_at b s plans) refl (sym (plan_changed change block stamp b s plans) ∙ e)
   where
     by : (x : Bool) (found : Option Plan) → plan_at b s plans ≡ found → cond x (option_map change found) found ≡ Some own → Led plans b s own
@@ -138,10 +138,10 @@ abbrev pub AllOrdered : List Message → List (ℕ × PlanTable) → Type 0
 AllOrdered messages plans = (node block stamp : ℕ) (own : Plan) → plan_at block stamp (tables_at node plans) ≡ Some own → WasOrdered messages node block stamp own.nodes
 
 -- an order comes with a message
-abbrev IsBrought : State → ℕ → PlanCall → Type 0
+abbrev IsBrought : Cluster → ℕ → PlanCall → Type 0
 IsBrought state id asked = (block stamp : ℕ) (nodes token : List ℕ) → asked ≡ plan.Recover block stamp nodes token → IsIn (message.Plan id asked) state.messages
 
-led_ordered : (state : State) (id : ℕ) (asked : PlanCall) (found : Option PlanTable) → entry_at id state.plans ≡ found → IsBrought state id asked → AllOrdered state.messages state.plans
+led_ordered : (state : Cluster) (id : ℕ) (asked : PlanCall) (found : Option PlanTable) → entry_at id state.plans ≡ found → IsBrought state id asked → AllOrdered state.messages state.plans
     → AllOrdered state.messages (led_at state id asked found).plans
 led_ordered state id asked None e brought all = all
 led_ordered state id asked (Some plans) e brought all = λ node block stamp own there.
@@ -159,21 +159,21 @@ led_ordered state id asked (Some plans) e brought all = λ node block stamp own 
     by node block stamp own true at h = one node block stamp own (number_is id node at) (led_or_began asked plans block stamp own h)
     by node block stamp own false at h = all node block stamp own h
 
-called_ordered : (state : State) (id now : ℕ) (asked : NodeCall) (found : Option Node) → AllOrdered state.messages state.plans → AllOrdered state.messages (called_at state id now asked found).plans
+called_ordered : (state : Cluster) (id now : ℕ) (asked : NodeCall) (found : Option DataNode) → AllOrdered state.messages state.plans → AllOrdered state.messages (called_at state id now asked found).plans
 called_ordered state id now asked None all = all
 called_ordered state id now asked (Some own) all = all
 
-abbrev BringsOrder : State → Option Message → Type 0
+abbrev BringsOrder : Cluster → Option Message → Type 0
 BringsOrder state found = (id : ℕ) (asked : PlanCall) → found ≡ Some (message.Plan id asked) → IsBrought state id asked
 
-delivered_ordered : (state : State) (now : ℕ) (found : Option Message) → BringsOrder state found → AllOrdered state.messages state.plans → AllOrdered state.messages (delivered state now found).plans
+delivered_ordered : (state : Cluster) (now : ℕ) (found : Option Message) → BringsOrder state found → AllOrdered state.messages state.plans → AllOrdered state.messages (message_delivered state now found).plans
 delivered_ordered state now None brought all = all
 delivered_ordered state now (Some (message.Node node asked)) brought all = called_ordered state node now asked (entry_at node state.nodes) all
 delivered_ordered state now (Some (message.Plan node asked)) brought all = led_ordered state node asked (entry_at node state.plans) refl (brought node asked refl) all
 delivered_ordered state now (Some (message.Reported node block stamp count)) brought all = all
 delivered_ordered state now (Some (message.CommitRecovery node block stamp count nodes)) brought all = all
 
-request_ordered : (state : State) (request : Request) (from : Bool) → AllOrdered state.messages state.plans → AllOrdered state.messages (cond from (named state request) (lost state NotFromOutside)).plans
+request_ordered : (state : Cluster) (request : Request) (from : Bool) → AllOrdered state.messages state.plans → AllOrdered state.messages (cond from (request_named state request) (event_lost state NotFromOutside)).plans
 request_ordered state request true all = all
 request_ordered state request false all = all
 
@@ -190,7 +190,7 @@ decide_call b s block stamp nodes token e = cc
 commit_call : (b s block stamp : ℕ) (nodes token : List ℕ) → plan.Commit b s ≡ plan.Recover block stamp nodes token → ⊥
 commit_call b s block stamp nodes token e = cc
 
-outside_brings : (state : State) (node : ℕ) (asked : DataCall) → BringsOrder state (Some (as_message node asked))
+outside_brings : (state : Cluster) (node : ℕ) (asked : DataCall) → BringsOrder state (Some (as_message node asked))
 outside_brings state node (outside.BeginWrite presented next) id call e = absurd (node_call _ id _ call e)
 outside_brings state node (outside.Packet presented offset bytes next) id call e = absurd (node_call _ id _ call e)
 outside_brings state node (outside.Finalize presented count next) id call e = absurd (node_call _ id _ call e)
@@ -198,7 +198,7 @@ outside_brings state node (outside.Read presented offset count) id call e = absu
 outside_brings state node (outside.Decide b s) id call e = λ block stamp nodes token is. absurd (decide_call b s block stamp nodes token (plan_call node id (plan.Decide b s) call e ∙ is))
 outside_brings state node (outside.Commit b s) id call e = λ block stamp nodes token is. absurd (commit_call b s block stamp nodes token (plan_call node id (plan.Commit b s) call e ∙ is))
 
-event_ordered : (state : State) (event : Event) → AllOrdered state.messages state.plans → AllOrdered state.messages (happened state event).plans
+event_ordered : (state : Cluster) (event : Event) → AllOrdered state.messages state.plans → AllOrdered state.messages (event_happened state event).plans
 event_ordered state (Name request) all = request_ordered state request (is_from_outside request.op) all
 event_ordered state (Deliver number now) all =
     delivered_ordered state now (message_at number state.messages) (λ id asked e block stamp nodes token is. at_in state.messages number (message.Plan id asked) e) all
@@ -215,7 +215,7 @@ start_empty : (ids : List ℕ) (plans : List (ℕ × PlanTable)) → AllValues I
 start_empty [] plans all = all
 start_empty (id ∷ ids) plans all = start_empty ids (with_no_plan plans id) (values_inserted IsEmpty plans id [] all none_there)
 
-pub all_ordered : (opening : Opening) (events : List Event) → AllOrdered (after opening events).messages (after opening events).plans
+pub all_ordered : (opening : ClusterOpening) (events : List Event) → AllOrdered (after opening events).messages (after opening events).plans
 all_ordered opening [] node block stamp own there = by (entry_at node (after opening []).plans) refl there
   where
     by : (found : Option PlanTable) → entry_at node (after opening []).plans ≡ found → plan_at block stamp (unwrap_or found []) ≡ Some own → WasOrdered [] node block stamp own.nodes
@@ -224,7 +224,7 @@ all_ordered opening [] node block stamp own there = by (entry_at node (after ope
 all_ordered opening (event ∷ earlier) node block stamp own there =
     let state = after opening earlier in
     let was = event_ordered state event (all_ordered opening earlier) node block stamp own there in
-    record { token = was.token; is = in_append (message.Plan node (plan.Recover block stamp own.nodes was.token)) state.messages (happened state event).sent was.is }
+    record { token = was.token; is = in_append (message.Plan node (plan.Recover block stamp own.nodes was.token)) state.messages (event_happened state event).sent was.is }
 
 -- ---- one plan
 
@@ -253,15 +253,15 @@ updates_follow opening later earlier event node count leader presented own serve
 
 -- ---- the end of a recovery
 
-abbrev EndDecided : State → HistoryEntry → Type 0
+abbrev EndDecided : Cluster → HistoryEntry → Type 0
 EndDecided state entry = (own : RecoveredBlock) → entry.request.op ≡ op.CommitRecovery own
     → (leader : ℕ) × (decision : Decision) × HasDecided state leader own.block own.stamp decision × (decision.length ≡ own.length)
 
-abbrev AllEnded : State → List HistoryEntry → Type 0
+abbrev AllEnded : Cluster → List HistoryEntry → Type 0
 AllEnded state entries = AllByRecursion (EndDecided state) entries
 
 -- what a message that ends a recovery tells was decided
-abbrev EndsRightly : State → Option Message → Type 0
+abbrev EndsRightly : Cluster → Option Message → Type 0
 EndsRightly state found = (leader block stamp count : ℕ) (nodes : List ℕ) → found ≡ Some (message.CommitRecovery leader block stamp count nodes)
     → (decision : Decision) × HasDecided state leader block stamp decision × (decision.length ≡ count)
 
@@ -271,15 +271,15 @@ recovered_is own other e = cc
 no_end : (replica : ReportedReplica) (own : RecoveredBlock) → op.Reported replica ≡ op.CommitRecovery own → ⊥
 no_end replica own e = cc
 
-called_ended : (state : State) (id now : ℕ) (asked : NodeCall) (found : Option Node) → AllEnded state state.entries → AllEnded state (called_at state id now asked found).entries
+called_ended : (state : Cluster) (id now : ℕ) (asked : NodeCall) (found : Option DataNode) → AllEnded state state.entries → AllEnded state (called_at state id now asked found).entries
 called_ended state id now asked None all = all
 called_ended state id now asked (Some own) all = all
 
-led_ended : (state : State) (id : ℕ) (asked : PlanCall) (found : Option PlanTable) → AllEnded state state.entries → AllEnded state (led_at state id asked found).entries
+led_ended : (state : Cluster) (id : ℕ) (asked : PlanCall) (found : Option PlanTable) → AllEnded state state.entries → AllEnded state (led_at state id asked found).entries
 led_ended state id asked None all = all
 led_ended state id asked (Some own) all = all
 
-delivered_ended : (state : State) (now : ℕ) (found : Option Message) → EndsRightly state found → AllEnded state state.entries → AllEnded state (delivered state now found).entries
+delivered_ended : (state : Cluster) (now : ℕ) (found : Option Message) → EndsRightly state found → AllEnded state state.entries → AllEnded state (message_delivered state now found).entries
 delivered_ended state now None ends all = all
 delivered_ended state now (Some (message.Node node asked)) ends all = called_ended state node now asked (entry_at node state.nodes) all
 delivered_ended state now (Some (message.Plan node asked)) ends all = led_ended state node asked (entry_at node state.plans) all
@@ -293,14 +293,14 @@ delivered_ended state now (Some (message.CommitRecovery node block stamp count n
   all,
 )
 
-request_ended : (state : State) (request : Request) (from : Bool) → is_from_outside request.op ≡ from → AllEnded state state.entries → AllEnded state (cond from (named state request) (lost state NotFromOutside)).entries
+request_ended : (state : Cluster) (request : Request) (from : Bool) → is_from_outside request.op ≡ from → AllEnded state state.entries → AllEnded state (cond from (request_named state request) (event_lost state NotFromOutside)).entries
 request_ended state request true from all = ((λ own is. let no : is_from_outside request.op ≡ false = ap is_from_outside is in absurd (differ (sym from ∙ no))), all)
   where
     differ : true ≡ false → ⊥
     differ e = cc
 request_ended state request false from all = all
 
-outside_ends : (state : State) (node : ℕ) (asked : DataCall) → EndsRightly state (Some (as_message node asked))
+outside_ends : (state : Cluster) (node : ℕ) (asked : DataCall) → EndsRightly state (Some (as_message node asked))
 outside_ends state node (outside.BeginWrite presented next) leader block stamp count nodes e = cc
 outside_ends state node (outside.Packet presented offset bytes next) leader block stamp count nodes e = cc
 outside_ends state node (outside.Finalize presented length next) leader block stamp count nodes e = cc
@@ -308,16 +308,16 @@ outside_ends state node (outside.Read presented offset length) leader block stam
 outside_ends state node (outside.Decide b s) leader block stamp count nodes e = cc
 outside_ends state node (outside.Commit b s) leader block stamp count nodes e = cc
 
-all_ended : (opening : Opening) (events : List Event) → AllEnded (after opening events) (after opening events).entries
+all_ended : (opening : ClusterOpening) (events : List Event) → AllEnded (after opening events) (after opening events).entries
 all_ended opening [] = tt
 all_ended opening (event ∷ earlier) =
     each_more (EndDecided state) (EndDecided (happens state event))
-    (λ entry h own is. let was = h own is in (was.0, was.1, decided_stays state event was.0 own.block own.stamp was.1 was.2, was.3)) (happened state event).entries (by event (all_ended opening earlier))
+    (λ entry h own is. let was = h own is in (was.0, was.1, decided_stays state event was.0 own.block own.stamp was.1 was.2, was.3)) (event_happened state event).entries (by event (all_ended opening earlier))
   where
-    state : State
+    state : Cluster
     state = after opening earlier
 
-    by : (event : Event) → AllEnded state state.entries → AllEnded state (happened state event).entries
+    by : (event : Event) → AllEnded state state.entries → AllEnded state (event_happened state event).entries
     by (Name request) all = request_ended state request (is_from_outside request.op) refl all
     by (Deliver number now) all =
         delivered_ended state now (message_at number state.messages) (λ leader block stamp count nodes e. commits_are_decided opening earlier number leader block stamp count nodes e) all
@@ -338,7 +338,7 @@ legal_front : (opening : name.Opening) (later earlier : List HistoryEntry) → I
 legal_front opening [] earlier legal = legal
 legal_front opening (entry ∷ later) earlier legal = legal_front opening later earlier legal.2
 
-pub opening_stays : (opening : Opening) (events : List Event) → (after opening events).opening ≡ opening.name
+pub opening_stays : (opening : ClusterOpening) (events : List Event) → (after opening events).opening ≡ opening.name
 opening_stays opening [] = refl
 opening_stays opening (event ∷ earlier) = opening_stays opening earlier
 

@@ -25,8 +25,8 @@ use Rattle.hdfs_types.specs.declared.reply.Reply.TheVariants as reply
 use Rattle.recovery_queue.specs.Queue as queue
 use Rattle.node_orders.specs.Orders.{recovery_by}
 use Rattle.node_orders.specs.declared.recovery.Recovery.{Recovery}
-use Rattle.block_map.specs.BlockFacts.{BlockFacts, block_of, recoveries_for}
-use Rattle.block_map.specs.BlockEffects.{beaten}
+use Rattle.block_map.specs.BlockFacts.{Blocks, known_block, recoveries_for}
+use Rattle.block_map.specs.BlockEffects.{with_node_heard}
 use Rattle.block_effect_laws.proofs.Orders.{AreInOrder}
 use Rattle.principals.specs.Users.{Users}
 use Rattle.namespace_rows.specs.declared.row.Row.{Row}
@@ -56,8 +56,8 @@ use Rattle.node_replies.specs.Asking.{asked_by}
 use Rattle.node_replies.specs.Sending.{call_sends, forward, report, to_primary}
 use Rattle.replicas.specs.ReplicaStep.{held_at, removal_refusal}
 use Rattle.replicas.specs.declared.held.Held.{Held}
-use Rattle.datanode.specs.NodeStep.{Node, node_answer, presented_answer, told_by, removal_told, clock_with, call_refusal}
-use Rattle.plan_steps.specs.PlanStep.{plan_refusal, plan_there, decided, presenting, to_each, plan_sends, told_unless, plan_answer}
+use Rattle.datanode.specs.NodeStep.{DataNode, node_answer, presented_answer, told_by, removal_told, clock_with, call_refusal}
+use Rattle.plan_steps.specs.PlanStep.{plan_refusal, plan_there, decision_there, presented_by_leader, to_each, plan_sends, told_unless, plan_answer}
 use Rattle.cluster_trace.specs.Trace.{recover_message, removal_message, copy_message, command_messages, told_messages, sent_by}
 use Rattle.cluster_trace.proofs.Each.{never_some, each_append, each_more, each_map}
 
@@ -110,7 +110,7 @@ sends_none node presented (call.UpdateReplica count) held =
 sends_none node presented (call.SendCopy to) held = (refl, tt)
 sends_none node presented (call.TakeCopy bytes) held = (refl, tt)
 
-presented_none : (node : Node) (clock : ℕ) (own : Presented) (asked : TokenCall) → AllByRecursion HasNone (presented_answer node clock own asked).messages
+presented_none : (node : DataNode) (clock : ℕ) (own : Presented) (asked : TokenCall) → AllByRecursion HasNone (presented_answer node clock own asked).messages
 unfolding presented_answer
 presented_none node clock own asked = by (call_refusal node clock own asked)
   where
@@ -118,7 +118,7 @@ presented_none node clock own asked = by (call_refusal node clock own asked)
     by (Some refusal) = tt
     by None = sends_none node.id own asked (held_at own.block node.blocks)
 
-pub answer_none : (node : Node) (now : ℕ) (asked : NodeCall) → AllByRecursion HasNone (node_answer node now asked).messages
+pub answer_none : (node : DataNode) (now : ℕ) (asked : NodeCall) → AllByRecursion HasNone (node_answer node now asked).messages
 unfolding node_answer
 answer_none node now (Presenting own asked) = presented_none node (clock_with node now) (asked_by node.id own asked) asked
 answer_none node now (Keys update) = tt
@@ -132,11 +132,11 @@ each_none : (presented : Presented) (asked : TokenCall) (nodes : List ℕ) → A
 each_none presented asked nodes = each_map HasNone (λ (node : ℕ). message.Node node (Presenting presented asked)) (λ (node : ℕ). refl) nodes
 
 plan_sends_none : (leader : ℕ) (asked : PlanCall) (plans : PlanTable) → AllByRecursion HasNone (plan_sends leader asked plans)
-plan_sends_none leader (plan.Recover block stamp nodes token) plans = each_none (presenting leader block stamp token) call.InitRecovery nodes
+plan_sends_none leader (plan.Recover block stamp nodes token) plans = each_none (presented_by_leader leader block stamp token) call.InitRecovery nodes
 plan_sends_none leader (plan.Reply node block stamp state bytes) plans = tt
 plan_sends_none leader (plan.Decide block stamp) plans =
     let own = plan_there block stamp plans in
-    each_none (presenting leader block stamp own.token) (call.UpdateReplica (decided own).length) (decided own).nodes
+    each_none (presented_by_leader leader block stamp own.token) (call.UpdateReplica (decision_there own).length) (decision_there own).nodes
 plan_sends_none leader (plan.Updated node block stamp) plans = tt
 plan_sends_none leader (plan.Commit block stamp) plans = (refl, tt)
 
@@ -168,7 +168,7 @@ module _ (waiting : List (ℕ × ℕ)) (node : ℕ) (up : AreInOrder waiting) wh
   -- a block waits, and does no more once the node was told
   record IsLed (block : ℕ) : Type 0 where
     waited : entry_at block waiting ≡ None → ⊥
-    told : entry_at block (queue.told waiting node) ≡ None
+    told : entry_at block (queue.without_led_by waiting node) ≡ None
 
   keys_there : (table : List (ℕ × ℕ)) → AllByRecursion (λ block. is_some (entry_at block table) ≡ true) (keys_of table)
   keys_there [] = tt
@@ -186,7 +186,7 @@ module _ (waiting : List (ℕ × ℕ)) (node : ℕ) (up : AreInOrder waiting) wh
       by (entry_at block waiting) refl
       (sym (ap is_some (lookup-filter-values (eq_by_cmp_equiv nat_cmp_total) (λ primary. is_number primary node) block waiting (IsDistinct-from_sorted nat_cmp (keys_of waiting) up))) ∙ there)
     where
-      left : (found : Option ℕ) → entry_at block waiting ≡ found → entry_at block (queue.told waiting node) ≡ option_filter (λ primary. not (is_number primary node)) found
+      left : (found : Option ℕ) → entry_at block waiting ≡ found → entry_at block (queue.without_led_by waiting node) ≡ option_filter (λ primary. not (is_number primary node)) found
       left found e =
           lookup-filter-values (eq_by_cmp_equiv nat_cmp_total) (λ primary. not (is_number primary node)) block waiting (IsDistinct-from_sorted nat_cmp (keys_of waiting) up)
           ∙ ap (option_filter (λ primary. not (is_number primary node))) e
@@ -209,27 +209,27 @@ module _ (waiting : List (ℕ × ℕ)) (node : ℕ) (up : AreInOrder waiting) wh
 
 module _ (facts : Facts) (caller : List ℕ) (rows : List Row) (up : AreInOrder facts.blocks.queued) where
   -- the caller is to lead it, and to ask the nodes that are to hold the block; it waited for that, and waits no more
-  pub record IsNew (later : BlockFacts) (order : Order) : Type 0 where
+  pub record IsNew (later : Blocks) (order : Order) : Type 0 where
     pub to_caller : node_of caller ≡ Some order.node
     pub own : BlockRecord
-    pub there : block_of facts.blocks order.block ≡ Some own
+    pub there : known_block facts.blocks order.block ≡ Some own
     pub stamp : own.stamp ≡ order.stamp
     pub nodes : order.nodes ≡ own.expected
     pub waited : entry_at order.block facts.blocks.queued ≡ None → ⊥
     pub told : entry_at order.block later.queued ≡ None
 
-  abbrev Orders : BlockFacts → Option ℕ → Reply → Type 0
+  abbrev Orders : Blocks → Option ℕ → Reply → Type 0
   Orders later found told = AllByRecursion (OfOrder (IsNew later)) (told_messages found told)
 
-  none : (later : BlockFacts) (own : Message) → HasNone own → OfOrder (IsNew later) own
+  none : (later : Blocks) (own : Message) → HasNone own → OfOrder (IsNew later) own
   none later own is order e = absurd (never_some order (sym is ∙ e))
 
-  all_none : (later : BlockFacts) (messages : List Message) → AllByRecursion HasNone messages → AllByRecursion (OfOrder (IsNew later)) messages
+  all_none : (later : Blocks) (messages : List Message) → AllByRecursion HasNone messages → AllByRecursion (OfOrder (IsNew later)) messages
   all_none later messages all = each_more HasNone (OfOrder (IsNew later)) (none later) messages all
 
   -- what a heartbeat orders
   module _ (node : ℕ) (is_caller : node_of caller ≡ Some node) where
-    abbrev later : BlockFacts
+    abbrev later : Blocks
     later = heard_of (Some node) facts.now facts.blocks
 
     abbrev commands : Commands
@@ -237,7 +237,7 @@ module _ (facts : Facts) (caller : List ℕ) (rows : List Row) (up : AreInOrder 
 
     record IsDue (recovery : Recovery) : Type 0 where
       own : BlockRecord
-      there : block_of facts.blocks recovery.block ≡ Some own
+      there : known_block facts.blocks recovery.block ≡ Some own
       stamp : own.stamp ≡ recovery.stamp
       nodes : recovery.nodes ≡ own.expected
       waited : entry_at recovery.block facts.blocks.queued ≡ None → ⊥
@@ -246,18 +246,18 @@ module _ (facts : Facts) (caller : List ℕ) (rows : List Row) (up : AreInOrder 
     recovery_is : (x y : Recovery) → Some x ≡ Some y → x ≡ y
     recovery_is x y e = cc
 
-    due : (block : ℕ) (recovery : Recovery) → IsLed facts.blocks.queued node up block → recovery_by block (block_of facts.blocks block) ≡ Some recovery → IsDue recovery
-    due block recovery is e = by (block_of facts.blocks block) refl e
+    due : (block : ℕ) (recovery : Recovery) → IsLed facts.blocks.queued node up block → recovery_by block (known_block facts.blocks block) ≡ Some recovery → IsDue recovery
+    due block recovery is e = by (known_block facts.blocks block) refl e
       where
-        by : (found : Option BlockRecord) → block_of facts.blocks block ≡ found → recovery_by block found ≡ Some recovery → IsDue recovery
+        by : (found : Option BlockRecord) → known_block facts.blocks block ≡ found → recovery_by block found ≡ Some recovery → IsDue recovery
         by None at h = cc
         by (Some own) at h =
             let made : Recovery = record { block = block; stamp = own.stamp; nodes = own.expected } in
             let first : IsDue made = record { own = own; there = at; stamp = refl; nodes = refl; waited = is.waited; told = is.told } in
             subst IsDue (recovery_is made recovery h) first
 
-    all_due : AllByRecursion IsDue (recoveries_for (beaten facts.blocks node facts.now) node)
-    all_due = each_found (IsLed facts.blocks.queued node up) IsDue (λ block. recovery_by block (block_of facts.blocks block)) due (queue.led_by node facts.blocks.queued) (all_led facts.blocks.queued node up)
+    all_due : AllByRecursion IsDue (recoveries_for (with_node_heard facts.blocks node facts.now) node)
+    all_due = each_found (IsLed facts.blocks.queued node up) IsDue (λ block. recovery_by block (known_block facts.blocks block)) due (queue.led_by node facts.blocks.queued) (all_led facts.blocks.queued node up)
 
     order_is : (x y : Order) → Some x ≡ Some y → x ≡ y
     order_is x y e = cc
@@ -274,7 +274,7 @@ module _ (facts : Facts) (caller : List ℕ) (rows : List Row) (up : AreInOrder 
       each_append (OfOrder (IsNew later)) (map (recover_message node) commands.recoveries) (map (removal_message node) commands.removals ++ map (copy_message node) commands.copies)
           (each_of (λ (own : Recover). IsDue (record { block = own.block; stamp = own.stamp; nodes = own.nodes })) (OfOrder (IsNew later)) (recover_message node) ordered commands.recoveries
           (each_of IsDue (λ (own : Recover). IsDue (record { block = own.block; stamp = own.stamp; nodes = own.nodes })) (recover_command facts.token caller) (λ recovery is. is)
-          (recoveries_for (beaten facts.blocks node facts.now) node) all_due))
+          (recoveries_for (with_node_heard facts.blocks node facts.now) node) all_due))
           (each_append (OfOrder (IsNew later)) (map (removal_message node) commands.removals) (map (copy_message node) commands.copies)
           (all_none later (map (removal_message node) commands.removals) (each_map HasNone (removal_message node) (λ (own : Removal). refl) commands.removals))
           (all_none later (map (copy_message node) commands.copies) (each_map HasNone (copy_message node) (λ (own : CopyOrder). refl) commands.copies))),
@@ -289,7 +289,7 @@ module _ (facts : Facts) (caller : List ℕ) (rows : List Row) (up : AreInOrder 
   has_commands (reply.Commands own) = true
   has_commands _ = false
 
-  quiet : (later : BlockFacts) (found : Option ℕ) (told : Reply) → has_commands told ≡ false → Orders later found told
+  quiet : (later : Blocks) (found : Option ℕ) (told : Reply) → has_commands told ≡ false → Orders later found told
   quiet later (Some node) (reply.Commands commands) h = cc
   quiet later _ told h = tt
 
@@ -314,7 +314,7 @@ module _ (facts : Facts) (caller : List ℕ) (rows : List Row) (up : AreInOrder 
   no_block last None = refl
   no_block last (Some replication) = refl
 
-  abbrev after : Op → BlockFacts
+  abbrev after : Op → Blocks
   after what = blocks_after facts what caller rows facts.blocks
 
   orders_by : (what : Op) → Orders (after what) (node_of caller) (reply_of facts caller what rows)

@@ -15,9 +15,9 @@ use Rattle.block_recovery.proofs.Lookups.{lookup_inserted}
 use Rattle.block_recovery.proofs.Steps.{extends_itself, stay, stay_right, none_right}
 use Rattle.node_calls.specs.declared.call.PlanCall.{PlanCall}
 use Rattle.node_calls.specs.declared.call.PlanCall.TheVariants as plan
-use Rattle.datanode.specs.NodeStep.{Node, node_after}
+use Rattle.datanode.specs.NodeStep.{DataNode, node_after}
 use Rattle.plan_steps.specs.PlanStep.{recover_of, answer_of, plan_refusal, plans_with, left_unless, plans_after}
-use Rattle.cluster_trace.specs.Trace.{State, Opening, new_node, with_new_node, with_no_plan, happened, happens, after}
+use Rattle.cluster_trace.specs.Trace.{Cluster, ClusterOpening, new_node, with_new_node, with_no_plan, event_happened, happens, after}
 use Rattle.cluster_trace.specs.declared.event.Event.{Event}
 use Rattle.cluster_trace.proofs.Each.{AllValues, values_at, values_set, values_inserted}
 use Rattle.fencing_laws.specs.Fencing.{plan_in, NodesLead, PlansStay, PlansAreRight}
@@ -29,12 +29,12 @@ use Rattle.fencing_laws.proofs.Behind.{set_there, NodesBehind, event_nodes, Plan
 record Changes (plans left : PlanTable) : Type 0 where
   own : law.Call
   allowed : law.refusal own plans ≡ None
-  is : left ≡ law.after own plans
+  is : left ≡ law.plans_left_by own plans
 
 abbrev Leaves : PlanTable → PlanTable → Type 0
 Leaves plans left = (left ≡ plans) ⊎ Changes plans left
 
-left_by : (asked : PlanCall) (plans : PlanTable) (own : law.Call) → law.refusal own plans ≡ plan_refusal asked plans → plans_with asked plans ≡ law.after own plans → Leaves plans (plans_after asked plans)
+left_by : (asked : PlanCall) (plans : PlanTable) (own : law.Call) → law.refusal own plans ≡ plan_refusal asked plans → plans_with asked plans ≡ law.plans_left_by own plans → Leaves plans (plans_after asked plans)
 unfolding plans_after
 left_by asked plans own same is = by (plan_refusal asked plans) refl
   where
@@ -103,7 +103,7 @@ abbrev tables_at : ℕ → List (ℕ × PlanTable) → PlanTable
 tables_at node plans = unwrap_or (entry_at node plans) []
 
 -- of the node that is called its plans are left so, and of each other its own
-behind_stays : (state : State) (plans : List (ℕ × PlanTable)) (node block stamp : ℕ) (own : Plan) → PlansBehind state plans → plan_in state node block stamp ≡ Some own
+behind_stays : (state : Cluster) (plans : List (ℕ × PlanTable)) (node block stamp : ℕ) (own : Plan) → PlansBehind state plans → plan_in state node block stamp ≡ Some own
     → Stays block stamp own (tables_at node plans)
 behind_stays state plans node block stamp own (inl same) there =
     record { now = own; there = ap (λ (all : List (ℕ × PlanTable)). plan_at block stamp (tables_at node all)) same ∙ there; extends = extends_itself own }
@@ -116,12 +116,12 @@ behind_stays state plans node block stamp own (inr b) there =
         call_stays b.asked b.own block stamp own (sym (ap (λ (table : Option PlanTable). plan_at block stamp (unwrap_or table [])) found) ∙ there)
     by false at = record { now = own; there = there; extends = extends_itself own }
 
-pub event_stays : (state : State) (event : Event) (node block stamp : ℕ) (own : Plan) → plan_in state node block stamp ≡ Some own → Stays block stamp own (tables_at node (happens state event).plans)
-event_stays state event node block stamp own there = behind_stays state (happened state event).plans node block stamp own (event_plans state event) there
+pub event_stays : (state : Cluster) (event : Event) (node block stamp : ℕ) (own : Plan) → plan_in state node block stamp ≡ Some own → Stays block stamp own (tables_at node (happens state event).plans)
+event_stays state event node block stamp own there = behind_stays state (event_happened state event).plans node block stamp own (event_plans state event) there
 
 -- ---- all events
 
-later_stays : (opening : Opening) (later earlier : List Event) (node block stamp : ℕ) (own : Plan) → plan_in (after opening earlier) node block stamp ≡ Some own
+later_stays : (opening : ClusterOpening) (later earlier : List Event) (node block stamp : ℕ) (own : Plan) → plan_in (after opening earlier) node block stamp ≡ Some own
     → Stays block stamp own (tables_at node (after opening (later ++ earlier)).plans)
 later_stays opening [] earlier node block stamp own there = record { now = own; there = there; extends = extends_itself own }
 later_stays opening (event ∷ later) earlier node block stamp own there =
@@ -139,7 +139,7 @@ plans_stay opening later earlier node block stamp own there =
 abbrev AllRight : List (ℕ × PlanTable) → Type 0
 AllRight plans = AllValues AreRight plans
 
-behind_right : (state : State) (plans : List (ℕ × PlanTable)) → PlansBehind state plans → AllRight state.plans → AllRight plans
+behind_right : (state : Cluster) (plans : List (ℕ × PlanTable)) → PlansBehind state plans → AllRight state.plans → AllRight plans
 behind_right state plans (inl same) all = subst AllRight (sym same) all
 behind_right state plans (inr b) all =
     subst AllRight (sym b.is) (values_set AreRight state.plans b.id (plans_after b.asked b.own) all (call_right b.asked b.own (values_at AreRight state.plans b.id b.own all b.there)))
@@ -148,9 +148,9 @@ start_right : (ids : List ℕ) (plans : List (ℕ × PlanTable)) → AllRight pl
 start_right [] plans all = all
 start_right (id ∷ ids) plans all = start_right ids (with_no_plan plans id) (values_inserted AreRight plans id [] all none_right)
 
-all_right : (opening : Opening) (events : List Event) → AllRight (after opening events).plans
+all_right : (opening : ClusterOpening) (events : List Event) → AllRight (after opening events).plans
 all_right opening [] = start_right opening.nodes [] tt
-all_right opening (event ∷ earlier) = behind_right (after opening earlier) (happened (after opening earlier) event).plans (event_plans (after opening earlier) event) (all_right opening earlier)
+all_right opening (event ∷ earlier) = behind_right (after opening earlier) (event_happened (after opening earlier) event).plans (event_plans (after opening earlier) event) (all_right opening earlier)
 
 pub plans_are_right : PlansAreRight
 plans_are_right opening events node block stamp own there = by (entry_at node (after opening events).plans) refl there
@@ -161,7 +161,7 @@ plans_are_right opening events node block stamp own there = by (entry_at node (a
 
 -- ---- the DataNodes lead
 
-abbrev Lead : ℕ → List (ℕ × Node) → List (ℕ × PlanTable) → Type 0
+abbrev Lead : ℕ → List (ℕ × DataNode) → List (ℕ × PlanTable) → Type 0
 Lead node nodes plans = is_some (entry_at node nodes) ≡ is_some (entry_at node plans)
 
 -- a value in the place of one that was there
@@ -172,15 +172,15 @@ still_there {X} k q v w es found = ap is_some (set_there k q v w es found) ∙ b
     by true at = ap is_some (sym (ap (λ n. entry_at n es) (sym (number_is k q at)) ∙ found))
     by false at = refl
 
-nodes_there : (state : State) (nodes : List (ℕ × Node)) (node : ℕ) → NodesBehind state nodes → is_some (entry_at node nodes) ≡ is_some (entry_at node state.nodes)
-nodes_there state nodes node (inl same) = ap (λ (all : List (ℕ × Node)). is_some (entry_at node all)) same
-nodes_there state nodes node (inr b) = ap (λ (all : List (ℕ × Node)). is_some (entry_at node all)) b.is ∙ still_there b.id node b.own (node_after b.own b.now b.asked) state.nodes b.there
+nodes_there : (state : Cluster) (nodes : List (ℕ × DataNode)) (node : ℕ) → NodesBehind state nodes → is_some (entry_at node nodes) ≡ is_some (entry_at node state.nodes)
+nodes_there state nodes node (inl same) = ap (λ (all : List (ℕ × DataNode)). is_some (entry_at node all)) same
+nodes_there state nodes node (inr b) = ap (λ (all : List (ℕ × DataNode)). is_some (entry_at node all)) b.is ∙ still_there b.id node b.own (node_after b.own b.now b.asked) state.nodes b.there
 
-plans_there : (state : State) (plans : List (ℕ × PlanTable)) (node : ℕ) → PlansBehind state plans → is_some (entry_at node plans) ≡ is_some (entry_at node state.plans)
+plans_there : (state : Cluster) (plans : List (ℕ × PlanTable)) (node : ℕ) → PlansBehind state plans → is_some (entry_at node plans) ≡ is_some (entry_at node state.plans)
 plans_there state plans node (inl same) = ap (λ (all : List (ℕ × PlanTable)). is_some (entry_at node all)) same
 plans_there state plans node (inr b) = ap (λ (all : List (ℕ × PlanTable)). is_some (entry_at node all)) b.is ∙ still_there b.id node b.own (plans_after b.asked b.own) state.plans b.there
 
-start_leads : (limit node : ℕ) (ids : List ℕ) (nodes : List (ℕ × Node)) (plans : List (ℕ × PlanTable)) → Lead node nodes plans → Lead node (fold (with_new_node limit) nodes ids) (fold with_no_plan plans ids)
+start_leads : (limit node : ℕ) (ids : List ℕ) (nodes : List (ℕ × DataNode)) (plans : List (ℕ × PlanTable)) → Lead node nodes plans → Lead node (fold (with_new_node limit) nodes ids) (fold with_no_plan plans ids)
 start_leads limit node [] nodes plans lead = lead
 start_leads limit node (id ∷ ids) nodes plans lead =
     start_leads limit node ids (with_new_node limit nodes id) (with_no_plan plans id)
@@ -194,4 +194,4 @@ pub nodes_lead : NodesLead
 nodes_lead opening [] node = start_leads opening.name.config.replica_limit node opening.nodes [] [] refl
 nodes_lead opening (event ∷ earlier) node =
     let state = after opening earlier in
-    nodes_there state (happened state event).nodes node (event_nodes state event) ∙ (nodes_lead opening earlier node ∙ sym (plans_there state (happened state event).plans node (event_plans state event)))
+    nodes_there state (event_happened state event).nodes node (event_nodes state event) ∙ (nodes_lead opening earlier node ∙ sym (plans_there state (event_happened state event).plans node (event_plans state event)))

@@ -13,11 +13,11 @@ use Rattle.block_records.proofs.Numbers.{number_is}
 use Rattle.block_recovery.proofs.Lookups.{lookup_inserted}
 use Rattle.block_recovery.proofs.Tables.{itself}
 use Rattle.block_tables.specs.Changes.{with_recovery}
-use Rattle.recovery_queue.specs.Queue.{forgotten, without_each, leads}
+use Rattle.recovery_queue.specs.Queue.{without_recovery, without_each, leads}
 use Rattle.recovery_queue.specs.declared.begun.BegunRecovery.{BegunRecovery}
 use Rattle.begun_recoveries.specs.Leaders.{queued_for}
-use Rattle.block_map.specs.BlockFacts.{BlockFacts, block_of, leader}
-use Rattle.block_map.specs.BlockEffects.{all_removed, replicated, begun, recoveries_begun, recovered, reported_by}
+use Rattle.block_map.specs.BlockFacts.{Blocks, known_block, leader}
+use Rattle.block_map.specs.BlockEffects.{with_blocks_removed, with_block_replication, with_recovery_begun, recoveries_begun, with_recovery_ended, reported_by}
 use Rattle.block_effect_laws.proofs.Orders.{AreInOrder, put_in_order, taken_in_order}
 use Rattle.block_effect_laws.proofs.Looking.{changed_at}
 use Rattle.hdfs_values.specs.NodeId.{node_of}
@@ -34,7 +34,7 @@ use Rattle.flat_rows.specs.Takeover.{unfinished_at, sought_blocks}
 use Rattle.flat_rows.specs.Facts.{Facts}
 use Rattle.flat_rows.specs.declared.verdict.Verdict.{Verdict}
 use Rattle.flat_rows.specs.declared.verdict.Verdict.TheVariants.{Done, Denied, Refused}
-use Rattle.history.specs.Blocks.{heard_of, reported_of, extended, ended, all_replicated, taken_over, blocks_after, blocks_by}
+use Rattle.history.specs.Blocks.{heard_of, reported_of, file_extended, file_ended, all_replicated, taken_over, blocks_after, blocks_by}
 
 -- ---- a queue of blocks, each with its leader
 
@@ -71,47 +71,47 @@ fewer test q (entry ∷ queue) none = by (is_number q entry.0) refl (test entry)
 
 all_gone : (q : ℕ) (blocks : List ℕ) (queue : Queue) → entry_at q queue ≡ None → entry_at q (without_each queue blocks) ≡ None
 all_gone q [] queue none = none
-all_gone q (block ∷ blocks) queue none = all_gone q blocks (forgotten queue block) (gone (is_number block) q queue none)
+all_gone q (block ∷ blocks) queue none = all_gone q blocks (without_recovery queue block) (gone (is_number block) q queue none)
 
 all_in_order : (blocks : List ℕ) (queue : Queue) → AreInOrder queue → AreInOrder (without_each queue blocks)
 all_in_order [] queue up = up
-all_in_order (block ∷ blocks) queue up = all_in_order blocks (forgotten queue block) (taken_in_order (is_number block) queue up)
+all_in_order (block ∷ blocks) queue up = all_in_order blocks (without_recovery queue block) (taken_in_order (is_number block) queue up)
 
 -- ---- what an effect leaves of the queue
 
 -- the stamp of the block wasn't given before, if the block is known
-abbrev pub IsAnew : BlockFacts → BlockFacts → ℕ → Type 0
-IsAnew before later q = (own : BlockRecord) → block_of later q ≡ Some own → before.known.next_stamp ≤ own.stamp
+abbrev pub IsAnew : Blocks → Blocks → ℕ → Type 0
+IsAnew before later q = (own : BlockRecord) → known_block later q ≡ Some own → before.known.next_stamp ≤ own.stamp
 
-abbrev pub Waits : BlockFacts → BlockFacts → ℕ → Type 0
+abbrev pub Waits : Blocks → Blocks → ℕ → Type 0
 Waits before later q = (entry_at q before.queued ≡ None → entry_at q later.queued ≡ None) ⊎ IsAnew before later q
 
-pub record QueueKept (before later : BlockFacts) : Type 0 where
+pub record QueueKept (before later : Blocks) : Type 0 where
   pub order : AreInOrder before.queued → AreInOrder later.queued
   pub waits : (q : ℕ) → Waits before later q
 
-same_queue : (before later : BlockFacts) → later.queued ≡ before.queued → QueueKept before later
+same_queue : (before later : Blocks) → later.queued ≡ before.queued → QueueKept before later
 same_queue before later same = record { order = λ up. subst AreInOrder (sym same) up; waits = λ q. inl (λ none. ap (entry_at q) same ∙ none) }
 
 -- ---- recoveries that begin
 
-record Same (before later : BlockFacts) (q : ℕ) : Type 0 where
+record Same (before later : Blocks) (q : ℕ) : Type 0 where
   out : entry_at q before.queued ≡ None → entry_at q later.queued ≡ None
-  known : block_of later q ≡ block_of before q
+  known : known_block later q ≡ known_block before q
 
-abbrev SameOrAnew : BlockFacts → BlockFacts → ℕ → Type 0
+abbrev SameOrAnew : Blocks → Blocks → ℕ → Type 0
 SameOrAnew before later q = Same before later q ⊎ IsAnew before later q
 
 one : (own other : BlockRecord) → Some own ≡ Some other → own ≡ other
 one own other e = cc
 
-one_begun : (facts : BlockFacts) (block now q : ℕ) → SameOrAnew facts (begun facts block now) q
+one_begun : (facts : Blocks) (block now q : ℕ) → SameOrAnew facts (with_recovery_begun facts block now) q
 one_begun facts block now q = by (is_number block q) refl
   where
     next : ℕ
     next = facts.known.next_stamp
 
-    at_block : block_of (begun facts block now) q ≡ cond (is_number block q) (option_map (with_recovery next now) (block_of facts block)) (block_of facts q)
+    at_block : known_block (with_recovery_begun facts block now) q ≡ cond (is_number block q) (option_map (with_recovery next now) (known_block facts block)) (known_block facts q)
     at_block = changed_at (with_recovery next now) block facts.known.blocks q
 
     new : (found : Option BlockRecord) (own : BlockRecord) → option_map (with_recovery next now) found ≡ Some own → next ≤ own.stamp
@@ -122,43 +122,43 @@ one_begun facts block now q = by (is_number block q) refl
     out None apart none = none
     out (Some primary) apart none = lookup_inserted block q primary facts.queued ∙ (ap (λ b. cond b (Some primary) (entry_at q facts.queued)) apart ∙ none)
 
-    by : (b : Bool) → is_number block q ≡ b → SameOrAnew facts (begun facts block now) q
-    by true at = inr (λ own there. new (block_of facts block) own (sym (at_block ∙ ap (λ b. cond b (option_map (with_recovery next now) (block_of facts block)) (block_of facts q)) at) ∙ there))
+    by : (b : Bool) → is_number block q ≡ b → SameOrAnew facts (with_recovery_begun facts block now) q
+    by true at = inr (λ own there. new (known_block facts block) own (sym (at_block ∙ ap (λ b. cond b (option_map (with_recovery next now) (known_block facts block)) (known_block facts q)) at) ∙ there))
     by false apart = inl (record {
       out = out (leader facts block now) (apart_number block q apart);
-      known = at_block ∙ ap (λ b. cond b (option_map (with_recovery next now) (block_of facts block)) (block_of facts q)) apart;
+      known = at_block ∙ ap (λ b. cond b (option_map (with_recovery next now) (known_block facts block)) (known_block facts q)) apart;
     })
 
-begun_order : (facts : BlockFacts) (block now : ℕ) → AreInOrder facts.queued → AreInOrder (begun facts block now).queued
+begun_order : (facts : Blocks) (block now : ℕ) → AreInOrder facts.queued → AreInOrder (with_recovery_begun facts block now).queued
 begun_order facts block now up = by (leader facts block now)
   where
     by : (led : Option ℕ) → AreInOrder (queued_for led block facts.queued)
     by None = up
     by (Some primary) = put_in_order block primary facts.queued up
 
-pub begun_kept : (facts : BlockFacts) (block now : ℕ) → QueueKept facts (begun facts block now)
+pub begun_kept : (facts : Blocks) (block now : ℕ) → QueueKept facts (with_recovery_begun facts block now)
 begun_kept facts block now = record { order = begun_order facts block now; waits = λ q. by q (one_begun facts block now q) }
   where
-    by : (q : ℕ) → SameOrAnew facts (begun facts block now) q → Waits facts (begun facts block now) q
+    by : (q : ℕ) → SameOrAnew facts (with_recovery_begun facts block now) q → Waits facts (with_recovery_begun facts block now) q
     by q (inl same) = inl same.out
     by q (inr new) = inr new
 
 module _ (now : ℕ) where
-  abbrev all_from : BlockFacts → List BegunRecovery → BlockFacts
-  all_from facts recoveries = fold (λ left (own : BegunRecovery). begun left own.block now) facts recoveries
+  abbrev all_from : Blocks → List BegunRecovery → Blocks
+  all_from facts recoveries = fold (λ left (own : BegunRecovery). with_recovery_begun left own.block now) facts recoveries
 
-  all_order : (recoveries : List BegunRecovery) (facts : BlockFacts) → AreInOrder facts.queued → AreInOrder (all_from facts recoveries).queued
+  all_order : (recoveries : List BegunRecovery) (facts : Blocks) → AreInOrder facts.queued → AreInOrder (all_from facts recoveries).queued
   all_order [] facts up = up
-  all_order (own ∷ recoveries) facts up = all_order recoveries (begun facts own.block now) (begun_order facts own.block now up)
+  all_order (own ∷ recoveries) facts up = all_order recoveries (with_recovery_begun facts own.block now) (begun_order facts own.block now up)
 
-  all_begun : (recoveries : List BegunRecovery) (facts : BlockFacts) (q : ℕ) → SameOrAnew facts (all_from facts recoveries) q
+  all_begun : (recoveries : List BegunRecovery) (facts : Blocks) (q : ℕ) → SameOrAnew facts (all_from facts recoveries) q
   all_begun [] facts q = inl (record { out = λ none. none; known = refl })
   all_begun (own ∷ recoveries) facts q = by (one_begun facts own.block now q) (all_begun recoveries mid q)
     where
-      mid : BlockFacts
-      mid = begun facts own.block now
+      mid : Blocks
+      mid = with_recovery_begun facts own.block now
 
-      last : BlockFacts
+      last : Blocks
       last = all_from mid recoveries
 
       later : (n s : ℕ) → n + 1 ≤ s → n ≤ s
@@ -169,7 +169,7 @@ module _ (now : ℕ) where
       by (inr new) (inl b) = inr (λ own there. new own (sym b.known ∙ there))
       by a (inr new) = inr (λ own there. later facts.known.next_stamp own.stamp (new own there))
 
-  all_kept : (recoveries : List BegunRecovery) (facts : BlockFacts) → QueueKept facts (all_from facts recoveries)
+  all_kept : (recoveries : List BegunRecovery) (facts : Blocks) → QueueKept facts (all_from facts recoveries)
   all_kept recoveries facts = record { order = all_order recoveries facts; waits = λ q. by q (all_begun recoveries facts q) }
     where
       by : (q : ℕ) → SameOrAnew facts (all_from facts recoveries) q → Waits facts (all_from facts recoveries) q
@@ -178,25 +178,25 @@ module _ (now : ℕ) where
 
 -- ---- operations
 
-module _ (facts : BlockFacts) where
+module _ (facts : Blocks) where
   taken_kept : (holder : Option (List ℕ)) (block : Option ℕ) (now : ℕ) → QueueKept facts (taken_over holder block now facts)
   taken_kept None None now = same_queue facts facts refl
   taken_kept (Some holder) None now = same_queue facts facts refl
   taken_kept None (Some block) now = same_queue facts facts refl
   taken_kept (Some holder) (Some block) now = begun_kept facts block now
 
-  extended_queue : (last : Option LastBlock) (now : ℕ) (replication : Option ℕ) → (extended last now replication facts).queued ≡ facts.queued
+  extended_queue : (last : Option LastBlock) (now : ℕ) (replication : Option ℕ) → (file_extended last now replication facts).queued ≡ facts.queued
   extended_queue last now None = refl
   extended_queue None now (Some replication) = refl
   extended_queue (Some last) now (Some replication) = refl
 
-  ended_queue : (last : Option LastBlock) → (ended last facts).queued ≡ facts.queued
+  ended_queue : (last : Option LastBlock) → (file_ended last facts).queued ≡ facts.queued
   ended_queue None = refl
   ended_queue (Some last) = refl
 
   reported_queue : (node : Option ℕ) (replica : ReportedReplica) → (reported_of node replica facts).queued ≡ facts.queued
   reported_queue None replica = refl
-  reported_queue (Some node) replica = by (verdict_by (block_of facts replica.block) replica.stamp replica.length)
+  reported_queue (Some node) replica = by (verdict_by (known_block facts replica.block) replica.stamp replica.length)
     where
       by : (verdict : ReportVerdict) → (reported_by verdict facts node replica.block replica.stamp replica.length).queued ≡ facts.queued
       by Superseded = refl
@@ -210,12 +210,12 @@ module _ (facts : BlockFacts) where
     waits = λ q. inl (λ none. fewer (λ entry. not (leads node entry)) q facts.queued none);
   }
 
-replicated_queue : (replication : ℕ) (numbers : List ℕ) (facts : BlockFacts) → (all_replicated replication numbers facts).queued ≡ facts.queued
+replicated_queue : (replication : ℕ) (numbers : List ℕ) (facts : Blocks) → (all_replicated replication numbers facts).queued ≡ facts.queued
 replicated_queue replication [] facts = refl
-replicated_queue replication (block ∷ numbers) facts = replicated_queue replication numbers (replicated facts block replication)
+replicated_queue replication (block ∷ numbers) facts = replicated_queue replication numbers (with_block_replication facts block replication)
 
 module _ (facts : Facts) (caller : List ℕ) (rows : List Row) where
-  removed_kept : (blocks : List ℕ) → QueueKept facts.blocks (all_removed facts.blocks blocks)
+  removed_kept : (blocks : List ℕ) → QueueKept facts.blocks (with_blocks_removed facts.blocks blocks)
   removed_kept blocks = record { order = λ up. all_in_order blocks facts.blocks.queued up; waits = λ q. inl (λ none. all_gone q blocks facts.blocks.queued none) }
 
   kept_after : (what : Op) → QueueKept facts.blocks (blocks_after facts what caller rows facts.blocks)
@@ -223,14 +223,14 @@ module _ (facts : Facts) (caller : List ℕ) (rows : List Row) where
   kept_after (op.Delete path recursive) = removed_kept (blocks_in (rows_under path rows))
   kept_after (op.Append path) = taken_kept facts.blocks (holder_at (row_at path rows)) (unfinished_at (row_at path rows)) facts.now
   kept_after (op.AddBlock path last) =
-      same_queue facts.blocks (extended last facts.now (replication_at (row_at path rows)) facts.blocks) (extended_queue facts.blocks last facts.now (replication_at (row_at path rows)))
-  kept_after (op.Complete path last) = same_queue facts.blocks (ended last facts.blocks) (ended_queue facts.blocks last)
+      same_queue facts.blocks (file_extended last facts.now (replication_at (row_at path rows)) facts.blocks) (extended_queue facts.blocks last facts.now (replication_at (row_at path rows)))
+  kept_after (op.Complete path last) = same_queue facts.blocks (file_ended last facts.blocks) (ended_queue facts.blocks last)
   kept_after (op.SetReplication path replication) =
       same_queue facts.blocks (all_replicated replication (ids_at (row_at path rows)) facts.blocks) (replicated_queue replication (ids_at (row_at path rows)) facts.blocks)
   kept_after op.Tick = all_kept facts.now (recoveries_begun facts.blocks (sought_blocks facts rows) facts.now) facts.blocks
   kept_after op.Heartbeat = heard_kept facts.blocks (node_of caller) facts.now
   kept_after (op.Reported replica) = same_queue facts.blocks (reported_of (node_of caller) replica facts.blocks) (reported_queue facts.blocks (node_of caller) replica)
-  kept_after (op.CommitRecovery own) = same_queue facts.blocks (recovered facts.blocks own.block own.length own.nodes) refl
+  kept_after (op.CommitRecovery own) = same_queue facts.blocks (with_recovery_ended facts.blocks own.block own.length own.nodes) refl
   kept_after _ = same_queue facts.blocks facts.blocks refl
 
   pub queue_kept : (what : Op) (verdict : Verdict) → QueueKept facts.blocks (blocks_by facts what caller verdict rows facts.blocks)

@@ -14,7 +14,7 @@ use Rattle.namespace_rows.specs.Files.{new_file, holder_of, holders}
 use Rattle.flat_rows.specs.FileOutcome.{holder_at}
 use Rattle.flat_rows.specs.BlockOutcome.{ended_at}
 use Rattle.flat_rows.specs.Outcome.{with_new}
-use Rattle.flat_rows.specs.Changes.{rows_under, rewritten, without}
+use Rattle.flat_rows.specs.Changes.{rows_under, row_rewritten, without}
 use Rattle.lease_manager.specs.declared.writers.Writers.{Writers}
 use Rattle.lease_manager.specs.Writers.{count_of, IsLeased, renewed_at}
 use Rattle.file_effects.specs.Effected.{IsCreated, IsExact, IsFree, IsEffected}
@@ -73,7 +73,7 @@ effected_delete path recursive caller now rows left clients before after made is
     }
 
 pub exact_close : (path : List (List ℕ)) (state : FileState) (holder : List ℕ) (rows left : List Row) (before after : Writers) → IsNamespace rows → holder_at (row_at path rows) ≡ Some holder → holder_of state ≡ None
-    → left ≡ rewritten path (change.State state) rows
+    → left ≡ row_rewritten path (change.State state) rows
     → OneLess holder before after → KeepsLeased before after → KeepsExact rows before left after
 exact_close path state holder rows left before after namespace held unheld made less kept last exact =
     record { files = counted_close path state holder rows left before after namespace held unheld made exact.files less; leased = kept last exact.leased }

@@ -21,7 +21,7 @@ use Rattle.namespace_rows.specs.Namespace.{IsNamespace, suits_kind, suits_parts,
 use Rattle.namespace_rows.specs.Files.{new_file, holder_of, holder_of_file, is_client, open_files, holders}
 use Rattle.flat_rows.specs.FileOutcome.{directory_there, file_there, holder_at, of_file, if_some_file, refused_write, refused_by_state}
 use Rattle.flat_rows.specs.Outcome.{beneath_file, nothing_at, with_new, refused_where}
-use Rattle.flat_rows.specs.Changes.{rows_under, without, changed, rewritten}
+use Rattle.flat_rows.specs.Changes.{rows_under, without, with_change, row_rewritten}
 use Rattle.namespace_rows.proofs.Tests.{both, all_kept}
 use Rattle.namespace_rows.proofs.Namespaces.{namespace_tests}
 use Rattle.history.proofs.Counting.{count, bit, count_without}
@@ -182,9 +182,9 @@ counted_create path mode replication caller rows left before between after names
 
 -- a closed file is opened
 pub counted_reopen : (path : List (List ℕ)) (caller : List ℕ) (rows left : List Row) (before after : Writers) → IsNamespace rows → IsFileAt path rows → holder_at (row_at path rows) ≡ None
-    → left ≡ rewritten path (change.State (Open caller)) rows → AreCounted rows before → OneMore caller before after → AreCounted left after
+    → left ≡ row_rewritten path (change.State (Open caller)) rows → AreCounted rows before → OneMore caller before after → AreCounted left after
 counted_reopen path caller rows left before after namespace found closed made counted more client =
-    total (count_of after.files client) (count_of before.files client) (count (opens client) rows) (bit (same client caller)) (count (opens client) (rewritten path (change.State (Open caller)) rows)) (bit (opens client found.row)) (bit (opens client (changed (change.State (Open caller)) found.row)))
+    total (count_of after.files client) (count_of before.files client) (count (opens client) rows) (bit (same client caller)) (count (opens client) (row_rewritten path (change.State (Open caller)) rows)) (bit (opens client found.row)) (bit (opens client (with_change (change.State (Open caller)) found.row)))
     (more client ∙ plus_one (count_of before.files) caller client) (counted client) (count_rewritten (opens client) path (change.State (Open caller)) rows found.row (namespace_tests rows namespace).ascending found.at)
     (ap (λ h. bit (is_client client h)) (sym (ap holder_at found.at) ∙ closed)) (ap bit (with_holder client (Open caller) found.row found.file found.has))
     ∙ ap (λ rs. length (open_files client rs)) (sym made)
@@ -194,7 +194,7 @@ counted_reopen path caller rows left before after namespace found closed made co
 
 -- a file is taken from the client who has it open
 pub counted_close : (path : List (List ℕ)) (state : FileState) (holder : List ℕ) (rows left : List Row) (before after : Writers) → IsNamespace rows → holder_at (row_at path rows) ≡ Some holder → holder_of state ≡ None
-    → left ≡ rewritten path (change.State state) rows → AreCounted rows before → OneLess holder before after → AreCounted left after
+    → left ≡ row_rewritten path (change.State state) rows → AreCounted rows before → OneLess holder before after → AreCounted left after
 counted_close path state holder rows left before after namespace held unheld made counted less client = by (row_at path rows) refl held
   where
     total : (w1 w0 c b new p q : ℕ) → w1 ≡ w0 - b → w0 ≡ c → new + p ≡ c + q → p ≡ b → q ≡ 0 → w1 ≡ new
@@ -203,7 +203,7 @@ counted_close path state holder rows left before after namespace held unheld mad
     by : (at : Option Row) → row_at path rows ≡ at → holder_at at ≡ Some holder → count_of after.files client ≡ length (open_files client left)
     by None e h = cc
     by (Some row) e h =
-        total (count_of after.files client) (count_of before.files client) (count (opens client) rows) (bit (same client holder)) (count (opens client) (rewritten path (change.State state) rows)) (bit (opens client row)) (bit (opens client (changed (change.State state) row)))
+        total (count_of after.files client) (count_of before.files client) (count (opens client) rows) (bit (same client holder)) (count (opens client) (row_rewritten path (change.State state) rows)) (bit (opens client row)) (bit (opens client (with_change (change.State state) row)))
         (less client ∙ minus_one (count_of before.files) holder client) (counted client) (count_rewritten (opens client) path (change.State state) rows row (namespace_tests rows namespace).ascending e)
         (ap (λ h. bit (is_client client h)) h) (ap bit (unheld_row client state unheld row))
         ∙ ap (λ rs. length (open_files client rs)) (sym made)

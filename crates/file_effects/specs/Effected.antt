@@ -4,7 +4,7 @@ use Rattle.hdfs_values.specs.Text.{same}
 use Rattle.hdfs_types.specs.declared.op.Op.{Op}
 use Rattle.hdfs_types.specs.declared.op.Op.TheVariants.{Complete}
 use Rattle.hdfs_types.specs.declared.reply.Refusal.{Refusal}
-use Rattle.block_map.specs.BlockFacts.{BlockFacts}
+use Rattle.block_map.specs.BlockFacts.{Blocks}
 use Rattle.flat_rows.specs.BlockOutcome.{refused_end}
 use Rattle.lease_manager.specs.Leases.{latest_moment, renewals_with}
 use Rattle.principals.specs.Users.{Users}
@@ -39,7 +39,7 @@ abbrev pub IsFree : Op → List ℕ → List Row → Users → Type 0
 IsFree op caller rows users = (facts : Facts) × (first_refusal facts caller op rows users ≡ None)
 
 -- what the map of blocks refuses: the end of a file, until a DataNode has reported its last block
-abbrev pub refused_end_of : Op → BlockFacts → Option Refusal
+abbrev pub refused_end_of : Op → Blocks → Option Refusal
 refused_end_of (Complete path last) blocks = refused_end blocks last
 refused_end_of _ blocks = None
 

@@ -2,7 +2,7 @@ ghost use Rattle.std.specs.Prelude.{◌≡◌, ◌≤◌, ◌+◌, ℕ, List, Op
 ghost use Rattle.std.specs.Option.{IsSome};
 ghost use Rattle.flat_rows.specs.FileOutcome.{holder_at, directory_there};
 ghost use Rattle.namespace_rows.specs.Files.{holder_of, holders, new_file, blocks_in};
-ghost use Rattle.flat_rows.specs.Changes.{rows_under, rewritten};
+ghost use Rattle.flat_rows.specs.Changes.{rows_under, row_rewritten};
 ghost use Rattle.namespace_rows.specs.declared.row.Change.TheVariants as change;
 ghost use Rattle.namespace_rows.specs.Namespace.{IsNamespace, is_root};
 ghost use Rattle.flat_rows.specs.Facts.{Facts};
@@ -14,11 +14,11 @@ ghost use Rattle.hdfs_types.specs.declared.file.FileState.TheVariants.{Closed};
 ghost use Rattle.hdfs_types.specs.declared.op.Op.TheVariants as op;
 ghost use Rattle.lease_manager.specs.Leases as lease;
 ghost use Rattle.principals.specs.Users.{Users};
-ghost use Rattle.block_map.specs.BlockEffects.{all_removed};
+ghost use Rattle.block_map.specs.BlockEffects.{with_blocks_removed};
 ghost use Rattle.flat_rows.specs.BlockOutcome.{refused_end, ended_at};
-ghost use Rattle.history.specs.Blocks.{ended, blocks_after};
+ghost use Rattle.history.specs.Blocks.{file_ended, blocks_after};
 ghost use Rattle.file_effects.specs.Effected.{IsCreated, IsExact, IsFree, IsEffected, refused_end_of};
-ghost use Rattle.lease_manager.specs.Writers.{count_of, moment_of, HasRoom, IsAlike};
+ghost use Rattle.lease_manager.specs.Writers.{count_of, renewal_moment_of, CanCountOneMore, IsAlike};
 
 use crate::make::make_file;
 use block_map::blocks::Blocks;
@@ -75,13 +75,13 @@ fn create_first(
     now: Moment,
 ) -> Result<(), AllocError>
     requires latest { lease.latest_moment writers.old.leases.renewals ≤ now }
-    requires room { HasRoom writers.old.files caller.now }
-    requires absent { moment_of writers.old.leases.renewals caller.now ≡ None }
+    requires room { CanCountOneMore writers.old.files caller.now }
+    requires absent { renewal_moment_of writers.old.leases.renewals caller.now ≡ None }
     requires clear { file_above path.now tree.old ≡ None }
     requires file { directory_there (row_at path.now tree.old) ≡ None }
     requires new { is_missing path.now tree.old ≡ true → replaced.now ≡ [] }
     ensures ok { OnOk result (IsCreated path.now mode replication caller.now now tree.old writers.old tree.new writers.new) }
-    ensures blocks { OnOk result (blocks.new ≡ all_removed blocks.old replaced.now) }
+    ensures blocks { OnOk result (blocks.new ≡ with_blocks_removed blocks.old replaced.now) }
     ensures limits { writers.new.leases.limits ≡ writers.old.leases.limits }
     ensures err { OnErr result ((tree.new ≡ tree.old) × (writers.new.leases ≡ writers.old.leases) × (writers.new.files ≡ writers.old.files)) }
     ensures err_blocks { OnErr result (blocks.new ≡ blocks.old) }
@@ -123,7 +123,7 @@ fn create_open(
     requires file { directory_there (row_at path.now tree.old) ≡ None }
     requires new { is_missing path.now tree.old ≡ true → replaced.now ≡ [] }
     ensures ok { OnOk result (IsCreated path.now mode replication caller.now now tree.old writers.old tree.new writers.new) }
-    ensures blocks { OnOk result (blocks.new ≡ all_removed blocks.old replaced.now) }
+    ensures blocks { OnOk result (blocks.new ≡ with_blocks_removed blocks.old replaced.now) }
     ensures limits { writers.new.leases.limits ≡ writers.old.leases.limits }
     ensures err { OnErr result ((tree.new ≡ tree.old) × IsAlike writers.old writers.new) }
     ensures err_blocks { OnErr result (blocks.new ≡ blocks.old) }
@@ -204,7 +204,7 @@ fn create(
     requires free { (users : Users) × IsFree (op.Create path.now mode replication over) caller.now tree.old users }
     requires namespace { IsNamespace tree.old }
     ensures ok { OnOk result (IsEffected (op.Create path.now mode replication over) caller.now now tree.old writers.old tree.new writers.new) }
-    ensures blocks { OnOk result (blocks.new ≡ all_removed blocks.old (blocks_in (rows_under path.now tree.old))) }
+    ensures blocks { OnOk result (blocks.new ≡ with_blocks_removed blocks.old (blocks_in (rows_under path.now tree.old))) }
     ensures limits { writers.new.leases.limits ≡ writers.old.leases.limits }
     ensures latest { OnOk result (lease.latest_moment writers.new.leases.renewals ≤ now) }
     ensures err { OnErr result ((tree.new ≡ tree.old) × IsAlike writers.old writers.new) }
@@ -243,7 +243,7 @@ pub fn end_writing(
     requires held { holder_at (row_at path.now tree.old) ≡ Some client.now }
     requires unheld { holder_of state ≡ None }
     requires namespace { IsNamespace tree.old }
-    ensures tree { tree.new ≡ rewritten path.now (change.State state) tree.old }
+    ensures tree { tree.new ≡ row_rewritten path.now (change.State state) tree.old }
     ensures exact { (last : List ℕ → Option ℕ) → IsExact last tree.old writers.old → IsExact last tree.new writers.new }
     ensures limits { writers.new.leases.limits ≡ writers.old.leases.limits }
     ensures latest { lease.latest_moment writers.new.leases.renewals ≤ lease.latest_moment writers.old.leases.renewals }
@@ -262,7 +262,7 @@ fn release(
 )
     requires held { holder_at (row_at path.now tree.old) ≡ Some client.now }
     requires namespace { IsNamespace tree.old }
-    ensures tree { tree.new ≡ rewritten path.now (change.State Closed) tree.old }
+    ensures tree { tree.new ≡ row_rewritten path.now (change.State Closed) tree.old }
     ensures exact { (last : List ℕ → Option ℕ) → IsExact last tree.old writers.old → IsExact last tree.new writers.new }
     ensures limits { writers.new.leases.limits ≡ writers.old.leases.limits }
     ensures latest { lease.latest_moment writers.new.leases.renewals ≤ lease.latest_moment writers.old.leases.renewals }
@@ -281,7 +281,7 @@ fn delete(
     path: &Path,
 ) -> Result<(), AllocError>
     requires { not (is_root path.now) ≡ true }
-    ensures blocks { OnOk result (blocks.new ≡ all_removed blocks.old (blocks_in (rows_under path.now tree.old))) }
+    ensures blocks { OnOk result (blocks.new ≡ with_blocks_removed blocks.old (blocks_in (rows_under path.now tree.old))) }
     ensures err_blocks { OnErr result (blocks.new ≡ blocks.old) }
     ensures ok { (recursive : Bool) (caller : List ℕ) (now : ℕ) → OnOk result (IsEffected (op.Delete path.now recursive) caller now tree.old writers.old tree.new writers.new) }
     ensures limits { writers.new.leases.limits ≡ writers.old.leases.limits }
@@ -311,7 +311,7 @@ fn complete(
     requires namespace { IsNamespace tree.old }
     requires reported { refused_end blocks.old last ≡ None }
     ensures tree { OnOk result (tree.new ≡ ended_at path.now last tree.old) }
-    ensures blocks { OnOk result (blocks.new ≡ ended last blocks.old) }
+    ensures blocks { OnOk result (blocks.new ≡ file_ended last blocks.old) }
     ensures exact { OnOk result ((last : List ℕ → Option ℕ) → IsExact last tree.old writers.old → IsExact last tree.new writers.new) }
     ensures limits { writers.new.leases.limits ≡ writers.old.leases.limits }
     ensures latest { lease.latest_moment writers.new.leases.renewals ≤ lease.latest_moment writers.old.leases.renewals }

@@ -5,7 +5,7 @@ ghost use Rattle.flat_rows.specs.Outcome as spec;
 ghost use Rattle.namespace_rows.specs.Rows.{row_at, is_missing, file_above, ancestor};
 ghost use Rattle.hdfs_types.specs.declared.op.Op.TheVariants as op;
 ghost use Rattle.acl_entries.specs.Acl.{suits_file};
-ghost use Rattle.block_map.specs.BlockEffects.{all_removed};
+ghost use Rattle.block_map.specs.BlockEffects.{with_blocks_removed};
 ghost use Rattle.file_effects.specs.Inheriting.{IsInherited};
 
 use acl_entries::acl::Acl;
@@ -70,7 +70,7 @@ fn replace_file(
     requires there { is_missing path.now tree.old ≡ false }
     requires file { directory_there (row_at path.now tree.old) ≡ None }
     ensures ok { OnOk result (tree.new ≡ spec.with_new path.now mode (Some file) owner.now (ancestor path.now tree.old) tree.old) }
-    ensures blocks { OnOk result (blocks.new ≡ all_removed blocks.old replaced.now) }
+    ensures blocks { OnOk result (blocks.new ≡ with_blocks_removed blocks.old replaced.now) }
     ensures err { OnErr result ((tree.new ≡ tree.old) × (blocks.new ≡ blocks.old)) }
 {
     let Ok(parts) = taken_over(alloc, tree, path, mode, owner) else {
@@ -106,7 +106,7 @@ pub fn make_file(
     requires file { directory_there (row_at path.now tree.old) ≡ None }
     requires new { is_missing path.now tree.old ≡ true → replaced.now ≡ [] }
     ensures ok { (facts : Facts) (over : Bool) → OnOk result (tree.new ≡ spec.rows_after facts (op.Create path.now mode replication over) caller.now tree.old) }
-    ensures blocks { OnOk result (blocks.new ≡ all_removed blocks.old replaced.now) }
+    ensures blocks { OnOk result (blocks.new ≡ with_blocks_removed blocks.old replaced.now) }
     ensures err { OnErr result ((tree.new ≡ tree.old) × (blocks.new ≡ blocks.old)) }
 {
     let file = FileRow::opened(alloc, replication, caller.clone()?);

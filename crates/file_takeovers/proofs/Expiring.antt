@@ -7,7 +7,7 @@ use Rattle.hdfs_values.proofs.Texts.{same_is, same_symm, same_self}
 use Rattle.lease_manager.specs.Leases.{Limits, Renewal, age, renewals_past_hard, clients}
 use Rattle.lease_manager.specs.declared.leases.LeaseState.TheVariants.{Live, PastSoft, PastHard}
 use Rattle.history.specs.ClockAndLease.{is_past_hard, state_at}
-use Rattle.lease_manager.specs.Writers.{moment_of}
+use Rattle.lease_manager.specs.Writers.{renewal_moment_of}
 use Rattle.lease_manager.proofs.Moments.{shown}
 use Rattle.file_takeovers.specs.Expiry.{is_among}
 
@@ -36,13 +36,13 @@ module _ (limits : Limits) (now : ℕ) (client : List ℕ) where
       by true rest = ap (λ c. c || is_among (clients (filter hard rs)) client) other ∙ rest
       by false rest = rest
 
-  pub among_is : (rs : List Renewal) → IsDistinct same (clients rs) → is_among (clients (renewals_past_hard limits now rs)) client ≡ is_past_hard (state_at limits now (moment_of rs client))
+  pub among_is : (rs : List Renewal) → IsDistinct same (clients rs) → is_among (clients (renewals_past_hard limits now rs)) client ≡ is_past_hard (state_at limits now (renewal_moment_of rs client))
   unfolding IsDistinct
   among_is [] distinct = refl
   among_is (r ∷ rs) distinct = by (hard r) (same client r.client) refl refl (among_is rs distinct.1) ∙ ap (λ m. is_past_hard (state_at limits now m)) (sym (shown client r rs))
     where
-      by : (h b : Bool) → hard r ≡ h → same client r.client ≡ b → is_among (clients (renewals_past_hard limits now rs)) client ≡ is_past_hard (state_at limits now (moment_of rs client))
-          → is_among (clients (cond h (r ∷ filter hard rs) (filter hard rs))) client ≡ is_past_hard (state_at limits now (cond b (Some r.moment) (moment_of rs client)))
+      by : (h b : Bool) → hard r ≡ h → same client r.client ≡ b → is_among (clients (renewals_past_hard limits now rs)) client ≡ is_past_hard (state_at limits now (renewal_moment_of rs client))
+          → is_among (clients (cond h (r ∷ filter hard rs) (filter hard rs))) client ≡ is_past_hard (state_at limits now (cond b (Some r.moment) (renewal_moment_of rs client)))
       by true true k at rest = ap (λ c. c || is_among (clients (filter hard rs)) client) (same_symm r.client client ∙ at) ∙ sym (hard_is r.moment ∙ k)
       by false true k at rest = none_among r.client rs at distinct.0 ∙ sym (hard_is r.moment ∙ k)
       by true false k at rest = ap (λ c. c || is_among (clients (filter hard rs)) client) (same_symm r.client client ∙ at) ∙ rest

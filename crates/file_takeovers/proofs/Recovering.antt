@@ -7,7 +7,7 @@ use Rattle.std.specs.Option.{IsSome, is_some, option_map, option_and_then}
 use Rattle.hdfs_values.specs.PathOrder.{path_cmp, same_path}
 use Rattle.block_records.specs.declared.block_record.BlockRecord.{BlockRecord}
 use Rattle.block_records.specs.declared.fault.BlockRefusal.TheVariants.{StaleStamp, NotOpen}
-use Rattle.block_map.specs.BlockFacts.{BlockFacts, block_of, recovering_since, refused_recovered}
+use Rattle.block_map.specs.BlockFacts.{Blocks, known_block, recovering_since, refused_recovered}
 use Rattle.begun_recoveries.specs.Ends.{refused_recovered_by}
 use Rattle.namespace_rows.specs.declared.file_row.FileRow.{FileRow}
 use Rattle.namespace_rows.specs.declared.row.Row.{Row}
@@ -72,10 +72,10 @@ none_ended block bytes (row ∷ rows) none = by row.file refl none (none_ended b
         recovered_file own = with_state Closed (committed_at block bytes own)
 
 -- what may end is in a recovery
-pub in_recovery : (blocks : BlockFacts) (block stamp : ℕ) → refused_recovered blocks block stamp ≡ None → IsSome (recovering_since blocks block)
-in_recovery blocks block stamp free = by (block_of blocks block) refl free
+pub in_recovery : (blocks : Blocks) (block stamp : ℕ) → refused_recovered blocks block stamp ≡ None → IsSome (recovering_since blocks block)
+in_recovery blocks block stamp free = by (known_block blocks block) refl free
   where
-    by : (own : Option BlockRecord) → block_of blocks block ≡ own → refused_recovered_by own stamp ≡ None → IsSome (recovering_since blocks block)
+    by : (own : Option BlockRecord) → known_block blocks block ≡ own → refused_recovered_by own stamp ≡ None → IsSome (recovering_since blocks block)
     by None e h = absurd cc
     by (Some own) e h = subst (λ some. IsSome (option_and_then (λ (o : BlockRecord). o.recovering) some)) (sym e) (stamped (not (stamp == own.stamp)) h)
       where

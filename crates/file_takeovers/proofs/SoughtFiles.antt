@@ -17,11 +17,11 @@ use Rattle.namespace_rows.specs.declared.row.Row.{Row}
 use Rattle.namespace_rows.specs.First.{first}
 use Rattle.namespace_rows.specs.Rows.{row_at}
 use Rattle.namespace_rows.specs.Namespace.{IsNamespace, is_ascending, is_before_all}
-use Rattle.namespace_rows.specs.Files.{holder_of, holder_of_file, is_client, unfinished}
+use Rattle.namespace_rows.specs.Files.{holder_of, holder_of_file, is_client, unfinished_block}
 use Rattle.namespace_rows.proofs.Namespaces.{namespace_tests}
 use Rattle.namespace_rows.proofs.PathOrders.{same_path_is, less_is}
 use Rattle.namespace_rows.proofs.Tests.{both, and}
-use Rattle.block_map.specs.BlockFacts.{BlockFacts, due_recoveries}
+use Rattle.block_map.specs.BlockFacts.{Blocks, due_recoveries}
 use Rattle.flat_rows.specs.Changes.{rows_under}
 use Rattle.flat_rows.specs.FileOutcome.{holder_at}
 use Rattle.flat_rows.specs.declared.takeover.Sought.{Sought}
@@ -32,7 +32,7 @@ use Rattle.lease_manager.specs.declared.writers.Writers.{Writers}
 use Rattle.lease_manager.specs.Writers.{count_of}
 use Rattle.file_effects.specs.Effected.{IsExact}
 use Rattle.file_takeovers.specs.Found.{file_in}
-use Rattle.file_takeovers.specs.Expiry.{Expiry, is_among, sought_by, sought_at, files_sought, with_path, sought_entries, open_of, is_overdue_row, AreDue}
+use Rattle.file_takeovers.specs.Expiry.{Expiry, is_among, sought_by, sought_at, files_sought, with_path, sought_entries, open_count, is_overdue_row, AreDue}
 
 -- entries by their paths
 abbrev pub Entries : Type 0
@@ -66,17 +66,17 @@ module _ (expiry : Expiry) where
   overdue begun = nat_lt expiry.retry (expiry.now - begun)
 
   -- a client whose lease is past the limit has it open
-  pub held_is : (client holder : List ℕ) (file : FileRow) (sought : Sought) → file.state ≡ Open holder → client ≡ holder → sought ≡ record { holder = Some holder; block = unfinished file.blocks } → is_among expiry.past client ≡ true
+  pub held_is : (client holder : List ℕ) (file : FileRow) (sought : Sought) → file.state ≡ Open holder → client ≡ holder → sought ≡ record { holder = Some holder; block = unfinished_block file.blocks } → is_among expiry.past client ≡ true
       → sought_by expiry (Some file) ≡ Some sought
   held_is client holder file sought state is made among =
-      ap (sought_by_state (is_among expiry.past) overdue (unfinished file.blocks)) state
-      ∙ (ap (λ b. cond b (Some (record { holder = Some holder; block = unfinished file.blocks })) None) (sym (ap (is_among expiry.past) is) ∙ among) ∙ ap (λ s. Some s) (sym made))
+      ap (sought_by_state (is_among expiry.past) overdue (unfinished_block file.blocks)) state
+      ∙ (ap (λ b. cond b (Some (record { holder = Some holder; block = unfinished_block file.blocks })) None) (sym (ap (is_among expiry.past) is) ∙ among) ∙ ap (λ s. Some s) (sym made))
 
   -- its recovery is overdue
   pub overdue_is : (block own stamp begun : ℕ) (file : FileRow) → file.state ≡ Recovering own stamp begun → own ≡ block → overdue begun ≡ true
       → sought_by expiry (Some file) ≡ Some (record { holder = None; block = Some block })
   overdue_is block own stamp begun file state is late =
-      ap (sought_by_state (is_among expiry.past) overdue (unfinished file.blocks)) state
+      ap (sought_by_state (is_among expiry.past) overdue (unfinished_block file.blocks)) state
       ∙ (ap (λ b. cond b (Some (record { holder = None; block = Some own })) None) late ∙ ap (λ n. Some (record { holder = None; block = Some n })) is)
 
   -- who has a file open that is taken
@@ -84,12 +84,12 @@ module _ (expiry : Expiry) where
   holder_sought None sought h = absurd cc
   holder_sought (Some file) sought h = by_state file.state h
     where
-      by_state : (state : FileState) → sought_by_state (is_among expiry.past) overdue (unfinished file.blocks) state ≡ Some sought → holder_of state ≡ sought.holder
+      by_state : (state : FileState) → sought_by_state (is_among expiry.past) overdue (unfinished_block file.blocks) state ≡ Some sought → holder_of state ≡ sought.holder
       by_state Closed e = absurd cc
       by_state (Open holder) e = by (is_among expiry.past holder) e
         where
-          by : (b : Bool) → cond b (Some (record { holder = Some holder; block = unfinished file.blocks })) None ≡ Some sought → Some holder ≡ sought.holder
-          by true k = ap (λ (s : Sought). s.holder) (one_sought (record { holder = Some holder; block = unfinished file.blocks }) sought k)
+          by : (b : Bool) → cond b (Some (record { holder = Some holder; block = unfinished_block file.blocks })) None ≡ Some sought → Some holder ≡ sought.holder
+          by true k = ap (λ (s : Sought). s.holder) (one_sought (record { holder = Some holder; block = unfinished_block file.blocks }) sought k)
           by false k = absurd cc
       by_state (Recovering own stamp begun) e = by (overdue begun) e
         where
@@ -294,11 +294,11 @@ module _ (expiry : Expiry) where
       by (Some file) is = by_state file.state refl
         where
           by_state : (state : FileState) → file.state ≡ state
-              → bit (is_some (sought_by_state (is_among expiry.past) (overdue expiry) (unfinished file.blocks) state)) ≤ bits expiry.past row + bit (is_some (sought_by_state (λ client. false) (overdue expiry) (unfinished file.blocks) state))
+              → bit (is_some (sought_by_state (is_among expiry.past) (overdue expiry) (unfinished_block file.blocks) state)) ≤ bits expiry.past row + bit (is_some (sought_by_state (λ client. false) (overdue expiry) (unfinished_block file.blocks) state))
           by_state Closed e = least (bits expiry.past row) 0
           by_state (Open holder) e = by_among (is_among expiry.past holder) refl
             where
-              by_among : (b : Bool) → is_among expiry.past holder ≡ b → bit (is_some {T = Sought} (cond b (Some (record { holder = Some holder; block = unfinished file.blocks })) None)) ≤ bits expiry.past row + 0
+              by_among : (b : Bool) → is_among expiry.past holder ≡ b → bit (is_some {T = Sought} (cond b (Some (record { holder = Some holder; block = unfinished_block file.blocks })) None)) ≤ bits expiry.past row + 0
               by_among true k = left (bits expiry.past row) 0 (holds_among row holder (ap holder_of_file is ∙ ap holder_of e) expiry.past k)
               by_among false k = least (bits expiry.past row) 0
           by_state (Recovering own stamp begun) e = by_late (overdue expiry begun)
@@ -330,20 +330,20 @@ module _ (expiry : Expiry) where
       total n one rest c b cs l d ds h i j k m = omega (arith, h, i, j, k, m)
 
 -- what is counted of these clients is what they have open
-pub open_counts : (last : List ℕ → Option ℕ) (rows : List Row) (writers : Writers) → IsExact last rows writers → (clients : List (List ℕ)) → open_of writers.files clients ≡ counts clients rows
+pub open_counts : (last : List ℕ → Option ℕ) (rows : List Row) (writers : Writers) → IsExact last rows writers → (clients : List (List ℕ)) → open_count writers.files clients ≡ counts clients rows
 open_counts last rows writers exact [] = refl
 open_counts last rows writers exact (client ∷ clients) =
     sum_by-cons (count_of writers.files) client clients
-    ∙ (ap (λ n. n + open_of writers.files clients) (exact.files client) ∙ (ap (λ n. count (opens client) rows + n) (open_counts last rows writers exact clients) ∙ sym (sum_by-cons (λ c. count (opens c) rows) client clients)))
+    ∙ (ap (λ n. n + open_count writers.files clients) (exact.files client) ∙ (ap (λ n. count (opens client) rows + n) (open_counts last rows writers exact clients) ∙ sym (sum_by-cons (λ c. count (opens c) rows) client clients)))
 
 -- as many are known as there can be, and so all
-pub all_known : (last : List ℕ → Option ℕ) (past : List (List ℕ)) (now : ℕ) (rows : List Row) (writers : Writers) (blocks : BlockFacts) (entries : Entries) (due number : ℕ) → IsNamespace rows → IsExact last rows writers → AreDue now rows blocks
-    → due ≡ length (due_recoveries blocks now) → number ≡ length entries → open_of writers.files past + due ≡ number → IsStrictlySortedBy path_cmp (keys_of entries) → AreFoundIn (record { past = past; retry = blocks.retry; now = now }) rows entries
+pub all_known : (last : List ℕ → Option ℕ) (past : List (List ℕ)) (now : ℕ) (rows : List Row) (writers : Writers) (blocks : Blocks) (entries : Entries) (due number : ℕ) → IsNamespace rows → IsExact last rows writers → AreDue now rows blocks
+    → due ≡ length (due_recoveries blocks now) → number ≡ length entries → open_count writers.files past + due ≡ number → IsStrictlySortedBy path_cmp (keys_of entries) → AreFoundIn (record { past = past; retry = blocks.retry; now = now }) rows entries
     → entries ≡ sought_entries (record { past = past; retry = blocks.retry; now = now }) rows
 all_known last past now rows writers blocks entries due number namespace exact are_due due_is number_is have sorted found =
     let expiry : Expiry = record { past = past; retry = blocks.retry; now = now } in
     (whole expiry rows entries (namespace_tests rows namespace).ascending sorted found).all
-    (total (length (sought_entries expiry rows)) (counts past rows) (count (is_overdue_row blocks.retry now) rows) (length (due_recoveries blocks now)) (open_of writers.files past) due number (length entries)
+    (total (length (sought_entries expiry rows)) (counts past rows) (count (is_overdue_row blocks.retry now) rows) (length (due_recoveries blocks now)) (open_count writers.files past) due number (length entries)
     (bounded expiry rows) (open_counts last rows writers exact past) are_due due_is number_is have)
   where
     total : (n c l d o due number e : ℕ) → n ≤ c + l → o ≡ c → l ≤ d → due ≡ d → number ≡ e → o + due ≡ number → n ≤ e

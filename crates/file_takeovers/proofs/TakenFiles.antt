@@ -22,18 +22,18 @@ use Rattle.namespace_rows.specs.Files.{is_client, holder_of, open_files}
 use Rattle.namespace_rows.proofs.Namespaces.{namespace_tests}
 use Rattle.namespace_rows.proofs.PathOrders.{same_path_is, less_is}
 use Rattle.namespace_rows.proofs.Tests.{both}
-use Rattle.flat_rows.specs.Changes.{changed, rewritten, suits_change}
+use Rattle.flat_rows.specs.Changes.{with_change, row_rewritten, suits_change}
 use Rattle.flat_rows.specs.FileOutcome.{holder_at}
 use Rattle.flat_rows.specs.declared.takeover.Sought.{Sought}
-use Rattle.block_map.specs.BlockFacts.{BlockFacts}
-use Rattle.block_map.specs.BlockEffects.{begun as begun_one, recoveries_begun, all_begun}
-use Rattle.flat_rows.specs.Takeover.{stamp_in, recovering_from, taken, taken_row}
+use Rattle.block_map.specs.BlockFacts.{Blocks}
+use Rattle.block_map.specs.BlockEffects.{with_recovery_begun as begun_one, recoveries_begun, with_recoveries_begun}
+use Rattle.flat_rows.specs.Takeover.{stamp_in, recovering_from, taken_state, taken_row}
 use Rattle.flat_rows.proofs.Changes.{rewritten_namespace}
 use Rattle.history.proofs.Counting.{count, bit}
 use Rattle.history.proofs.OpenFiles.{count_rewritten, unheld_row, opens}
 use Rattle.lease_manager.specs.declared.writers.Writers.{Writers}
 use Rattle.file_effects.specs.Effected.{IsExact}
-use Rattle.file_takeovers.specs.Expiry.{Expiry, sought_by, sought_entries, files_sought, blocks_of, closed_of, state_from, state_behind, holder_in, rewritten_where, all_taken, AreTaken, IsExpired}
+use Rattle.file_takeovers.specs.Expiry.{Expiry, sought_by, sought_entries, files_sought, blocks_to_recover, closed_of, state_from, state_behind, holder_in, rewritten_where, all_taken, AreTaken, IsExpired}
 use Rattle.file_takeovers.specs.Taken.{recovered_for, IsTaken}
 use Rattle.file_effects.proofs.Effects.{AreCounted}
 use Rattle.file_takeovers.proofs.SoughtFiles.{Entries, not_same, path_itself, own_entry, values_sought}
@@ -89,7 +89,7 @@ same_state f g now (Some block) same = ap (state_from now block) (same block)
 
 abbrev pub changed_where : Option FileState → Row → Row
 changed_where None row = row
-changed_where (Some state) row = changed (change.State state) row
+changed_where (Some state) row = with_change (change.State state) row
 
 path_stays : (state : Option FileState) (row : Row) → (changed_where state row).path ≡ row.path
 path_stays None row = refl
@@ -278,67 +278,67 @@ all_are_taken begun expiry now rows left before after entries it at namespace do
 
 -- ---- a file that nobody has open
 
-untouched : (path : List (List ℕ)) (what : Change) (rows : List Row) → row_at path rows ≡ None → rewritten path what rows ≡ rows
+untouched : (path : List (List ℕ)) (what : Change) (rows : List Row) → row_at path rows ≡ None → row_rewritten path what rows ≡ rows
 untouched path what [] none = refl
 untouched path what (row ∷ rows) none = by (same_path path row.path) none (untouched path what rows)
   where
-    by : (b : Bool) → first (cond b (row ∷ filter (λ other. same_path path other.path) rows) (filter (λ other. same_path path other.path) rows)) ≡ None → (row_at path rows ≡ None → rewritten path what rows ≡ rows)
-        → cond b (changed what row) row ∷ rewritten path what rows ≡ row ∷ rows
+    by : (b : Bool) → first (cond b (row ∷ filter (λ other. same_path path other.path) rows) (filter (λ other. same_path path other.path) rows)) ≡ None → (row_at path rows ≡ None → row_rewritten path what rows ≡ rows)
+        → cond b (with_change what row) row ∷ row_rewritten path what rows ≡ row ∷ rows
     by true h rest = absurd (some_none row h)
       where
         some_none : (x : Row) → Some x ≡ None → ⊥
         some_none x e = cc
     by false h rest = ap (λ l. row ∷ l) (rest h)
 
-pub counted_unheld : (path : List (List ℕ)) (state : FileState) (rows left : List Row) (writers : Writers) → IsNamespace rows → holder_at (row_at path rows) ≡ None → holder_of state ≡ None → left ≡ rewritten path (change.State state) rows → AreCounted rows writers → AreCounted left writers
+pub counted_unheld : (path : List (List ℕ)) (state : FileState) (rows left : List Row) (writers : Writers) → IsNamespace rows → holder_at (row_at path rows) ≡ None → holder_of state ≡ None → left ≡ row_rewritten path (change.State state) rows → AreCounted rows writers → AreCounted left writers
 counted_unheld path state rows left writers namespace held unheld made counted client = counted client ∙ (by (row_at path rows) refl held ∙ ap (λ rs. length (open_files client rs)) (sym made))
   where
     total : (new old p q : ℕ) → new + p ≡ old + q → p ≡ 0 → q ≡ 0 → old ≡ new
     total new old p q e1 e2 e3 = omega (arith, e1, e2, e3)
 
-    by : (at : Option Row) → row_at path rows ≡ at → holder_at at ≡ None → count (opens client) rows ≡ count (opens client) (rewritten path (change.State state) rows)
+    by : (at : Option Row) → row_at path rows ≡ at → holder_at at ≡ None → count (opens client) rows ≡ count (opens client) (row_rewritten path (change.State state) rows)
     by None e h = ap (count (opens client)) (sym (untouched path (change.State state) rows e))
     by (Some row) e h =
-        total (count (opens client) (rewritten path (change.State state) rows)) (count (opens client) rows) (bit (opens client row)) (bit (opens client (changed (change.State state) row)))
+        total (count (opens client) (row_rewritten path (change.State state) rows)) (count (opens client) rows) (bit (opens client row)) (bit (opens client (with_change (change.State state) row)))
         (count_rewritten (opens client) path (change.State state) rows row (namespace_tests rows namespace).ascending e) (ap (λ who. bit (is_client client who)) h) (ap bit (unheld_row client state unheld row))
 
-pub exact_unheld : (path : List (List ℕ)) (state : FileState) (rows left : List Row) (writers : Writers) → IsNamespace rows → holder_at (row_at path rows) ≡ None → holder_of state ≡ None → left ≡ rewritten path (change.State state) rows
+pub exact_unheld : (path : List (List ℕ)) (state : FileState) (rows left : List Row) (writers : Writers) → IsNamespace rows → holder_at (row_at path rows) ≡ None → holder_of state ≡ None → left ≡ row_rewritten path (change.State state) rows
     → (last : List ℕ → Option ℕ) → IsExact last rows writers → IsExact last left writers
 exact_unheld path state rows left writers namespace held unheld made last exact = record { files = counted_unheld path state rows left writers namespace held unheld made exact.files; leased = exact.leased }
 
 -- ---- one file, from the client who has it open
 
-pub taken_closed : (path : List (List ℕ)) (now : ℕ) (block : Option ℕ) (rows left : List Row) (blocks : BlockFacts) (before after : Writers) → block ≡ None → left ≡ rewritten path (change.State Closed) rows
+pub taken_closed : (path : List (List ℕ)) (now : ℕ) (block : Option ℕ) (rows left : List Row) (blocks : Blocks) (before after : Writers) → block ≡ None → left ≡ row_rewritten path (change.State Closed) rows
     → ((last : List ℕ → Option ℕ) → IsExact last rows before → IsExact last left after) → IsTaken path now block rows blocks before left blocks after
 taken_closed path now block rows left blocks before after none made exact =
     record {
-      tree = made ∙ ap (λ b. rewritten path (change.State (taken blocks now b)) rows) (sym none);
+      tree = made ∙ ap (λ b. row_rewritten path (change.State (taken_state blocks now b)) rows) (sym none);
       blocks_is = ap (recovered_for blocks now) (sym none);
       exact = exact;
     }
 
-pub taken_recovering : (path : List (List ℕ)) (now : ℕ) (block : Option ℕ) (own stamp : ℕ) (rows left : List Row) (blocks blocks_left : BlockFacts) (before after : Writers) → block ≡ Some own → stamp ≡ blocks.known.next_stamp
-    → left ≡ rewritten path (change.State (Recovering own stamp now)) rows → blocks_left ≡ begun_one blocks own now → ((last : List ℕ → Option ℕ) → IsExact last rows before → IsExact last left after)
+pub taken_recovering : (path : List (List ℕ)) (now : ℕ) (block : Option ℕ) (own stamp : ℕ) (rows left : List Row) (blocks blocks_left : Blocks) (before after : Writers) → block ≡ Some own → stamp ≡ blocks.known.next_stamp
+    → left ≡ row_rewritten path (change.State (Recovering own stamp now)) rows → blocks_left ≡ begun_one blocks own now → ((last : List ℕ → Option ℕ) → IsExact last rows before → IsExact last left after)
     → IsTaken path now block rows blocks before left blocks_left after
 taken_recovering path now block own stamp rows left blocks blocks_left before after some next made known exact =
     record {
-      tree = made ∙ (ap (λ s. rewritten path (change.State (Recovering own s now)) rows) next ∙ ap (λ b. rewritten path (change.State (taken blocks now b)) rows) (sym some));
+      tree = made ∙ (ap (λ s. row_rewritten path (change.State (Recovering own s now)) rows) next ∙ ap (λ b. row_rewritten path (change.State (taken_state blocks now b)) rows) (sym some));
       blocks_is = known ∙ ap (recovered_for blocks now) (sym some);
       exact = exact;
     }
 
 -- ---- a tick
 
-pub expired_is : (last : List ℕ → Option ℕ) (expiry : Expiry) (rows left : List Row) (blocks blocks_left : BlockFacts) (before after : Writers) (entries : Entries) (sought : List ℕ) (begun : List BegunRecovery) (closed recovering : ℕ)
-    → entries ≡ sought_entries expiry rows → sought ≡ blocks_of (values_of entries) → begun ≡ recoveries_begun blocks sought expiry.now → blocks_left ≡ all_begun blocks sought expiry.now → closed ≡ length (closed_of (values_of entries))
+pub expired_is : (last : List ℕ → Option ℕ) (expiry : Expiry) (rows left : List Row) (blocks blocks_left : Blocks) (before after : Writers) (entries : Entries) (sought : List ℕ) (begun : List BegunRecovery) (closed recovering : ℕ)
+    → entries ≡ sought_entries expiry rows → sought ≡ blocks_to_recover (values_of entries) → begun ≡ recoveries_begun blocks sought expiry.now → blocks_left ≡ with_recoveries_begun blocks sought expiry.now → closed ≡ length (closed_of (values_of entries))
     → recovering ≡ length begun → AreTaken begun expiry rows before left after → IsExact last rows before → IsExpired last expiry rows blocks (record { closed = closed; recovering = recovering }) left blocks_left after
 expired_is last expiry rows left blocks blocks_left before after entries sought begun closed recovering all sought_are planned known closed_is recovering_is taken exact =
     let files : values_of entries ≡ files_sought expiry rows = ap values_of all ∙ values_sought expiry rows in
-    let own : sought ≡ blocks_of (files_sought expiry rows) = sought_are ∙ ap blocks_of files in
-    let begun_are : begun ≡ recoveries_begun blocks (blocks_of (files_sought expiry rows)) expiry.now = planned ∙ ap (λ numbers. recoveries_begun blocks numbers expiry.now) own in
+    let own : sought ≡ blocks_to_recover (files_sought expiry rows) = sought_are ∙ ap blocks_to_recover files in
+    let begun_are : begun ≡ recoveries_begun blocks (blocks_to_recover (files_sought expiry rows)) expiry.now = planned ∙ ap (λ numbers. recoveries_begun blocks numbers expiry.now) own in
     record {
       tree = taken.tree ∙ ap (λ some. all_taken some expiry rows) begun_are;
-      blocks_are = known ∙ ap (λ numbers. all_begun blocks numbers expiry.now) own;
+      blocks_are = known ∙ ap (λ numbers. with_recoveries_begun blocks numbers expiry.now) own;
       told =
           ap (λ n. record { closed = n; recovering = recovering }) (closed_is ∙ ap (λ some. length (closed_of some)) files)
           ∙ ap (λ n. record { closed = length (closed_of (files_sought expiry rows)); recovering = n }) (recovering_is ∙ ap length begun_are);

@@ -8,14 +8,14 @@ use Rattle.hdfs_types.specs.declared.file.FileState.{FileState}
 use Rattle.hdfs_types.specs.declared.file.FileState.TheVariants.{Closed, Recovering}
 use Rattle.hdfs_types.specs.declared.reply.Expired.{Expired}
 use Rattle.recovery_queue.specs.declared.begun.BegunRecovery.{BegunRecovery}
-use Rattle.block_map.specs.BlockFacts.{BlockFacts, due_recoveries}
-use Rattle.block_map.specs.BlockEffects.{recoveries_begun, all_begun}
+use Rattle.block_map.specs.BlockFacts.{Blocks, due_recoveries}
+use Rattle.block_map.specs.BlockEffects.{recoveries_begun, with_recoveries_begun}
 use Rattle.namespace_rows.specs.declared.file_row.FileRow.{FileRow}
 use Rattle.namespace_rows.specs.declared.row.Row.{Row}
 use Rattle.namespace_rows.specs.declared.row.Change.TheVariants as change
 use Rattle.namespace_rows.specs.Files.{holder_of}
 use Rattle.namespace_rows.specs.Rows.{row_at}
-use Rattle.flat_rows.specs.Changes.{rewritten}
+use Rattle.flat_rows.specs.Changes.{row_rewritten}
 use Rattle.flat_rows.specs.FileOutcome.{holder_at}
 use Rattle.flat_rows.specs.declared.takeover.Sought.{Sought}
 use Rattle.flat_rows.specs.Takeover.{sought_of, taken_row}
@@ -45,8 +45,8 @@ abbrev pub files_sought : Expiry → List Row → List Sought
 files_sought expiry rows = filter_map (λ row. sought_by expiry row.file) rows
 
 -- their blocks that are to be recovered
-abbrev pub blocks_of : List Sought → List ℕ
-blocks_of files = filter_map (λ (file : Sought). file.block) files
+abbrev pub blocks_to_recover : List Sought → List ℕ
+blocks_to_recover files = filter_map (λ (file : Sought). file.block) files
 
 -- the same files with their paths
 abbrev pub with_path : Row → Sought → List (List ℕ) × Sought
@@ -68,14 +68,14 @@ abbrev pub AreHeld : List Row → BTreeMap (List (List ℕ)) Sought → Type 0
 AreHeld rows files = AllByRecursion (λ (entry : List (List ℕ) × Sought). holder_at (row_at entry.0 rows) ≡ entry.1.holder) files.entries
 
 -- how many files these clients have open
-abbrev pub open_of : List (List ℕ × ℕ) → List (List ℕ) → ℕ
-open_of counts clients = sum_by (count_of counts) clients
+abbrev pub open_count : List (List ℕ × ℕ) → List (List ℕ) → ℕ
+open_count counts clients = sum_by (count_of counts) clients
 
 -- the files whose recovery is overdue are no more than the blocks whose recovery is
 abbrev pub is_overdue_row : ℕ → ℕ → Row → Bool
 is_overdue_row retry now row = is_some (sought_of (λ client. false) (λ begun. nat_lt retry (now - begun)) row.file)
 
-abbrev pub AreDue : ℕ → List Row → BlockFacts → Type 0
+abbrev pub AreDue : ℕ → List Row → Blocks → Type 0
 AreDue now rows blocks = length (filter (is_overdue_row blocks.retry now) rows) ≤ length (due_recoveries blocks now)
 
 -- the state that a tick gives a file, by the stamps under which recoveries begin
@@ -90,7 +90,7 @@ state_behind stamps now (Some block) = state_from now block (stamps block)
 -- a file that it gives a state gets that
 abbrev pub rewritten_where : List (List ℕ) → Option FileState → List Row → List Row
 rewritten_where path None rows = rows
-rewritten_where path (Some state) rows = rewritten path (change.State state) rows
+rewritten_where path (Some state) rows = row_rewritten path (change.State state) rows
 
 -- nobody has a file open in this state
 abbrev pub holder_in : Option FileState → Option (List ℕ)
@@ -111,8 +111,8 @@ pub record AreTaken (begun : List BegunRecovery) (expiry : Expiry) (rows : List 
   pub exact : (last : List ℕ → Option ℕ) → IsExact last rows writers → IsExact last rows_left writers_left
 
 -- the recoveries begin that can, and that is told
-pub record IsExpired (last : List ℕ → Option ℕ) (expiry : Expiry) (rows : List Row) (blocks : BlockFacts) (expired : Expired) (rows_left : List Row) (blocks_left : BlockFacts) (writers_left : Writers) : Type 0 where
-  pub tree : rows_left ≡ all_taken (recoveries_begun blocks (blocks_of (files_sought expiry rows)) expiry.now) expiry rows
-  pub blocks_are : blocks_left ≡ all_begun blocks (blocks_of (files_sought expiry rows)) expiry.now
-  pub told : expired ≡ record { closed = length (closed_of (files_sought expiry rows)); recovering = length (recoveries_begun blocks (blocks_of (files_sought expiry rows)) expiry.now) }
+pub record IsExpired (last : List ℕ → Option ℕ) (expiry : Expiry) (rows : List Row) (blocks : Blocks) (expired : Expired) (rows_left : List Row) (blocks_left : Blocks) (writers_left : Writers) : Type 0 where
+  pub tree : rows_left ≡ all_taken (recoveries_begun blocks (blocks_to_recover (files_sought expiry rows)) expiry.now) expiry rows
+  pub blocks_are : blocks_left ≡ with_recoveries_begun blocks (blocks_to_recover (files_sought expiry rows)) expiry.now
+  pub told : expired ≡ record { closed = length (closed_of (files_sought expiry rows)); recovering = length (recoveries_begun blocks (blocks_to_recover (files_sought expiry rows)) expiry.now) }
   pub exact : IsExact last rows_left writers_left

@@ -4,8 +4,8 @@ use Rattle.hdfs_types.specs.declared.replica.RecoveredBlock.{RecoveredBlock}
 use Rattle.hdfs_types.specs.declared.reply.Refusal.{Refusal}
 use Rattle.hdfs_types.specs.declared.reply.Reply.TheVariants.{Empty}
 use Rattle.std.specs.List.{list_any}
-use Rattle.block_map.specs.BlockFacts.{BlockFacts, refused_recovered}
-use Rattle.block_map.specs.BlockEffects.{recovered}
+use Rattle.block_map.specs.BlockFacts.{Blocks, refused_recovered}
+use Rattle.block_map.specs.BlockEffects.{with_recovery_ended}
 use Rattle.namespace_rows.specs.declared.row.Row.{Row}
 use Rattle.namespace_rows.specs.Rows.{row_at}
 use Rattle.flat_rows.specs.BlockOutcome.{refused_by}
@@ -31,9 +31,9 @@ abbrev pub refused_or_ended : Option Refusal → Verdict
 refused_or_ended None = Done Empty
 refused_or_ended (Some refusal) = Refused refusal
 
-abbrev pub verdict_on_end : BlockFacts → RecoveredBlock → Verdict
+abbrev pub verdict_on_end : Blocks → RecoveredBlock → Verdict
 verdict_on_end blocks own = refused_or_ended (refused_by (refused_recovered blocks own.block own.stamp))
 
-pub record IsEnded (own : RecoveredBlock) (rows : List Row) (blocks : BlockFacts) (rows_left : List Row) (blocks_left : BlockFacts) : Type 0 where
+pub record IsEnded (own : RecoveredBlock) (rows : List Row) (blocks : Blocks) (rows_left : List Row) (blocks_left : Blocks) : Type 0 where
   pub tree : rows_left ≡ recovery_ended own.block own.length rows
-  pub blocks_is : blocks_left ≡ recovered blocks own.block own.length own.nodes
+  pub blocks_is : blocks_left ≡ with_recovery_ended blocks own.block own.length own.nodes

@@ -6,7 +6,7 @@ ghost use Rattle.namespace_rows.specs.Files.{holder_of};
 ghost use Rattle.namespace_rows.specs.Namespace.{IsNamespace};
 ghost use Rattle.namespace_rows.specs.Rows.{row_at};
 ghost use Rattle.namespace_rows.specs.declared.row.Change.TheVariants as change;
-ghost use Rattle.flat_rows.specs.Changes.{rewritten};
+ghost use Rattle.flat_rows.specs.Changes.{row_rewritten};
 ghost use Rattle.flat_rows.specs.FileOutcome.{holder_at};
 ghost use Rattle.flat_rows.specs.Takeover.{stamp_in};
 ghost use Rattle.lease_manager.specs.Leases as lease;
@@ -46,7 +46,7 @@ fn push_block(blocks: &mut Vec<BlockId>, file: &Sought) -> Result<(), AllocError
 
 /// The blocks that are to be recovered, in the order of the files.
 fn sought_blocks(alloc: Global, files: &BTreeMap<Path, Sought>) -> Result<Vec<BlockId>, AllocError>
-    ensures { IfOk result (λ blocks. blocks.items ≡ spec.blocks_of (values files.now)) }
+    ensures { IfOk result (λ blocks. blocks.items ≡ spec.blocks_to_recover (values files.now)) }
 {
     let mut sought = Vec::new(alloc);
     for file in files.values() {
@@ -99,7 +99,7 @@ fn take(
     requires held { holder_at (row_at path.now tree.old) ≡ file.now.holder }
     requires unheld { holder_of state ≡ None }
     requires namespace { IsNamespace tree.old }
-    ensures tree { tree.new ≡ rewritten path.now (change.State state) tree.old }
+    ensures tree { tree.new ≡ row_rewritten path.now (change.State state) tree.old }
     ensures exact { (last : List ℕ → Option ℕ) → IsExact last tree.old writers.old → IsExact last tree.new writers.new }
     ensures limits { writers.new.leases.limits ≡ writers.old.leases.limits }
     ensures latest { lease.latest_moment writers.new.leases.renewals ≤ lease.latest_moment writers.old.leases.renewals }

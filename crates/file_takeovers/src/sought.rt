@@ -1,6 +1,6 @@
 ghost use Rattle.std.specs.Prelude.{◌≡◌, ◌+◌, ◌-◌, ◌==◌, ◌++◌, ◌∷◌, [], ℕ, nat_lt, List, Option, Some, None, true, IfOk, IfSome, OnOk, Bool};
 ghost use Rattle.namespace_rows.specs.declared.row.Row.{Row};
-ghost use Rattle.namespace_rows.specs.Files.{unfinished};
+ghost use Rattle.namespace_rows.specs.Files.{unfinished_block};
 ghost use Rattle.namespace_rows.specs.Namespace.{IsNamespace, is_ascending};
 ghost use Rattle.namespace_rows.specs.Rows.{row_at};
 ghost use Rattle.block_map.specs.BlockFacts.{due_recoveries};
@@ -27,7 +27,7 @@ use std::collections::BTreeMap;
 
 /// What a tick does with a file of a client whose lease is past the hard limit.
 fn taken_from(holder: &Who, file: &FileRow) -> Result<Sought, AllocError>
-    ensures { IfOk result (λ sought. sought ≡ record { holder = Some holder.now; block = unfinished file.now.blocks }) }
+    ensures { IfOk result (λ sought. sought ≡ record { holder = Some holder.now; block = unfinished_block file.now.blocks }) }
 {
     let holder = holder.clone()?;
     Ok(Sought {
@@ -186,7 +186,7 @@ fn add_each_overdue(
 
 /// Whether these clients have so many files open, beside this number. Takes no memory.
 fn have_open(writers: &Writers, clients: &[Who], number: usize, beside: usize) -> bool
-    ensures { result ≡ (spec.open_of writers.now.files clients.now + beside == number) }
+    ensures { result ≡ (spec.open_count writers.now.files clients.now + beside == number) }
 {
     let Some(others) = number.checked_sub(beside) else {
         return false;

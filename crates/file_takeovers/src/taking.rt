@@ -1,7 +1,7 @@
 ghost use Rattle.std.specs.Prelude.{◌≡◌, ◌≤◌, ℕ, List, Option, None, Some, true, false, IfOk, OnOk, OnErr};
 ghost use Rattle.flat_rows.specs.FileOutcome.{holder_at};
-ghost use Rattle.flat_rows.specs.Takeover.{refused_taking, taken, taken_reply};
-ghost use Rattle.flat_rows.specs.Changes.{rewritten};
+ghost use Rattle.flat_rows.specs.Takeover.{refused_taking, taken_state, taken_reply};
+ghost use Rattle.flat_rows.specs.Changes.{row_rewritten};
 ghost use Rattle.flat_rows.specs.Verdicts.{is_done};
 ghost use Rattle.namespace_rows.specs.declared.row.Change.TheVariants as change;
 ghost use Rattle.namespace_rows.specs.Namespace.{IsNamespace};
@@ -43,7 +43,7 @@ pub fn reopen(
     requires latest { lease.latest_moment writers.old.leases.renewals ≤ now }
     requires closed { IsClosedFile path.now tree.old }
     requires namespace { IsNamespace tree.old }
-    ensures tree { OnOk result (tree.new ≡ rewritten path.now (change.State (state.Open caller.now)) tree.old) }
+    ensures tree { OnOk result (tree.new ≡ row_rewritten path.now (change.State (state.Open caller.now)) tree.old) }
     ensures exact { OnOk result ((last : List ℕ → Option ℕ) → IsExact last tree.old writers.old → IsExact (renewed_where true caller.now now last) tree.new writers.new) }
     ensures limits { writers.new.leases.limits ≡ writers.old.leases.limits }
     ensures latest { OnOk result (lease.latest_moment writers.new.leases.renewals ≤ now) }

@@ -8,8 +8,8 @@ use Rattle.namespace_rows.specs.declared.file_row.FileRow.{FileRow}
 use Rattle.namespace_rows.specs.declared.row.Row.{Row}
 use Rattle.namespace_rows.specs.declared.row.Change.TheVariants as change
 use Rattle.namespace_rows.specs.Rows.{row_at}
-use Rattle.namespace_rows.specs.Files.{ids_in, with_replication}
-use Rattle.flat_rows.specs.Changes.{changed, rewritten}
+use Rattle.namespace_rows.specs.Files.{ids_in, with_file_replication}
+use Rattle.flat_rows.specs.Changes.{with_change, row_rewritten}
 use Rattle.flat_rows.specs.BlockOutcome.{ids_at}
 
 pub row_at_map : (f : Row → Row) → ((row : Row) → (f row).path ≡ row.path) → (path : List (List ℕ)) (rows : List Row) → row_at path (map f rows) ≡ option_map f (row_at path rows)
@@ -23,22 +23,22 @@ row_at_map f keeps path (row ∷ rows) =
     by true rest = refl
     by false rest = rest
 
-ids_of_file : (replication : ℕ) (file : Option FileRow) → ids_in (option_map (with_replication replication) file) ≡ ids_in file
+ids_of_file : (replication : ℕ) (file : Option FileRow) → ids_in (option_map (with_file_replication replication) file) ≡ ids_in file
 ids_of_file replication None = refl
 ids_of_file replication (Some file) = refl
 
 -- another replication leaves the blocks of a file
-pub ids_stay : (path : List (List ℕ)) (replication : ℕ) (rows : List Row) → ids_at (row_at path (rewritten path (change.Replication replication) rows)) ≡ ids_at (row_at path rows)
-ids_stay path replication rows = ap ids_at (row_at_map (λ row. cond (same_path path row.path) (changed (change.Replication replication) row) row) (λ row. paths row (same_path path row.path)) path rows) ∙ found (row_at path rows)
+pub ids_stay : (path : List (List ℕ)) (replication : ℕ) (rows : List Row) → ids_at (row_at path (row_rewritten path (change.Replication replication) rows)) ≡ ids_at (row_at path rows)
+ids_stay path replication rows = ap ids_at (row_at_map (λ row. cond (same_path path row.path) (with_change (change.Replication replication) row) row) (λ row. paths row (same_path path row.path)) path rows) ∙ found (row_at path rows)
   where
-    paths : (row : Row) (b : Bool) → (cond b (changed (change.Replication replication) row) row).path ≡ row.path
+    paths : (row : Row) (b : Bool) → (cond b (with_change (change.Replication replication) row) row).path ≡ row.path
     paths row true = refl
     paths row false = refl
 
-    ids : (row : Row) (b : Bool) → ids_in (cond b (changed (change.Replication replication) row) row).file ≡ ids_in row.file
+    ids : (row : Row) (b : Bool) → ids_in (cond b (with_change (change.Replication replication) row) row).file ≡ ids_in row.file
     ids row true = ids_of_file replication row.file
     ids row false = refl
 
-    found : (at : Option Row) → ids_at (option_map (λ row. cond (same_path path row.path) (changed (change.Replication replication) row) row) at) ≡ ids_at at
+    found : (at : Option Row) → ids_at (option_map (λ row. cond (same_path path row.path) (with_change (change.Replication replication) row) row) at) ≡ ids_at at
     found None = refl
     found (Some row) = ids row (same_path path row.path)

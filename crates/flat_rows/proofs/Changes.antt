@@ -16,12 +16,12 @@ use Rattle.namespace_rows.specs.declared.row.Change.{Change}
 use Rattle.namespace_rows.specs.declared.row.Change.TheVariants as change
 use Rattle.std.specs.Option.{option_map}
 use Rattle.acl_entries.specs.Acl.{suits_file}
-use Rattle.namespace_rows.specs.Files.{with_state, with_replication, without_last, committed_at, recovered_at}
+use Rattle.namespace_rows.specs.Files.{with_state, with_file_replication, without_last, committed_at, recovered_at}
 use Rattle.namespace_rows.specs.First.{first}
-use Rattle.namespace_rows.specs.Rows.{is_directory, row_at, ancestor, is_before, is_beyond, replaced, with_sub_tree}
+use Rattle.namespace_rows.specs.Rows.{is_directory, row_at, ancestor, is_before, is_beyond, rows_replaced, with_sub_tree}
 use Rattle.namespace_rows.specs.Namespace.{IsNamespace, is_ascending, is_before_all, is_child, has_parent, is_root, is_rooted, have_parents, suits_parts, suits_kind, fits}
 use Rattle.flat_rows.specs.Outcome.{mode_of_new, file_of_new, new_row, new_rows}
-use Rattle.flat_rows.specs.Changes.{without, edited, changed, rewritten, suits_row, suits_change, are_paths}
+use Rattle.flat_rows.specs.Changes.{without, file_edited, with_change, row_rewritten, suits_row, suits_change, are_paths}
 use Rattle.namespace_rows.proofs.Tests.{both, and, or_left, or_right, all_imp, all_both, all_append, all_filtered, all_kept}
 use Rattle.namespace_rows.proofs.PathOrders.{less_is, child_starts, same_path_is}
 use Rattle.flat_rows.proofs.NewDirectories.{starts_self, beneath_parts, ancestor_above}
@@ -100,7 +100,7 @@ without_namespace path rows below h =
 pub without_paths : (path : List (List ℕ)) (rows : List Row) → are_paths rows ≡ true → are_paths (without path rows) ≡ true
 without_paths path rows h = all_kept (kept path) (λ row. is_path row.path) rows h
 
-pub replaced_paths : (path : List (List ℕ)) (block rows : List Row) → are_paths block ≡ true → are_paths rows ≡ true → are_paths (replaced path block rows) ≡ true
+pub replaced_paths : (path : List (List ℕ)) (block rows : List Row) → are_paths block ≡ true → are_paths rows ≡ true → are_paths (rows_replaced path block rows) ≡ true
 replaced_paths path block rows h k =
     all_append (λ row. is_path row.path) (filter (is_before path) rows) (block ++ filter (is_beyond path) rows) (all_kept (is_before path) (λ row. is_path row.path) rows k)
     (all_append (λ row. is_path row.path) block (filter (is_beyond path) rows) h (all_kept (is_beyond path) (λ row. is_path row.path) rows k))
@@ -159,7 +159,7 @@ module _ (f : Row → Row) (paths : (row : Row) → (f row).path ≡ row.path) (
 
 -- each change leaves the path and the kind
 
-pub changed_path : (change : Change) (row : Row) → (changed change row).path ≡ row.path
+pub changed_path : (change : Change) (row : Row) → (with_change change row).path ≡ row.path
 changed_path (change.Owner owner group) row = refl
 changed_path (change.List acl) row = refl
 changed_path (change.State state) row = refl
@@ -168,7 +168,7 @@ changed_path (change.Committed block bytes) row = refl
 changed_path change.LastTaken row = refl
 changed_path (change.Recovered block bytes) row = refl
 
-changed_kind : (change : Change) (row : Row) → is_directory (changed change row) ≡ is_directory row
+changed_kind : (change : Change) (row : Row) → is_directory (with_change change row) ≡ is_directory row
 changed_kind (change.Owner owner group) row = refl
 changed_kind (change.List acl) row = refl
 changed_kind (change.State state) row = refl
@@ -191,30 +191,30 @@ filed_suits f true acl (Some file) h = cc
 filed_suits f false acl None h = cc
 filed_suits f false acl (Some file) h = h
 
-pub changed_suits : (change : Change) (row : Row) → suits_kind row ≡ true → suits_row change row ≡ true → suits_kind (changed change row) ≡ true
+pub changed_suits : (change : Change) (row : Row) → suits_kind row ≡ true → suits_row change row ≡ true → suits_kind (with_change change row) ≡ true
 changed_suits (change.Owner owner group) row h k = h
 changed_suits (change.List acl) row h k = listed_suits (is_directory row) row.acl acl row.file h k
 changed_suits (change.State state) row h k = filed_suits (with_state state) (is_directory row) row.acl row.file h
-changed_suits (change.Replication replication) row h k = filed_suits (with_replication replication) (is_directory row) row.acl row.file h
+changed_suits (change.Replication replication) row h k = filed_suits (with_file_replication replication) (is_directory row) row.acl row.file h
 changed_suits (change.Committed block bytes) row h k = filed_suits (committed_at block bytes) (is_directory row) row.acl row.file h
 changed_suits change.LastTaken row h k = filed_suits without_last (is_directory row) row.acl row.file h
 changed_suits (change.Recovered block bytes) row h k = filed_suits (recovered_at block bytes) (is_directory row) row.acl row.file h
 
 module _ (path : List (List ℕ)) (change : Change) where
   abbrev anew : Row → Row
-  anew row = cond (same_path path row.path) (changed change row) row
+  anew row = cond (same_path path row.path) (with_change change row) row
 
   anew_path : (row : Row) → (anew row).path ≡ row.path
   anew_path row = by (same_path path row.path)
     where
-      by : (b : Bool) → (cond b (changed change row) row).path ≡ row.path
+      by : (b : Bool) → (cond b (with_change change row) row).path ≡ row.path
       by true = changed_path change row
       by false = refl
 
   anew_kind : (row : Row) → is_directory (anew row) ≡ is_directory row
   anew_kind row = by (same_path path row.path)
     where
-      by : (b : Bool) → is_directory (cond b (changed change row) row) ≡ is_directory row
+      by : (b : Bool) → is_directory (cond b (with_change change row) row) ≡ is_directory row
       by true = changed_kind change row
       by false = refl
 
@@ -225,7 +225,7 @@ module _ (path : List (List ℕ)) (change : Change) where
       let lows = both (is_lt (path_cmp row.path other.path)) (is_before_all row rows) low in
       let hs = both (suits_kind other) (list_all suits_kind rows) h in
       let apart : same_path path other.path ≡ false = ap (λ p. same_path p other.path) (same_path_is path row.path at) ∙ ap is_eq (less_is _ lows.0) in
-      and _ _ (ap (λ b. suits_kind (cond b (changed change other) other)) apart ∙ hs.0) (behind_suits row rows at lows.1 hs.1)
+      and _ _ (ap (λ b. suits_kind (cond b (with_change change other) other)) apart ∙ hs.0) (behind_suits row rows at lows.1 hs.1)
 
   rewritten_suits : (rows : List Row) → is_ascending rows ≡ true → list_all suits_kind rows ≡ true → suits_change change (row_at path rows) ≡ true → list_all suits_kind (map anew rows) ≡ true
   rewritten_suits [] up h suits = refl
@@ -236,33 +236,33 @@ module _ (path : List (List ℕ)) (change : Change) where
     where
       by : (b : Bool) → same_path path row.path ≡ b → suits_change change (first (cond b (row ∷ filter (λ r. same_path path r.path) rows) (filter (λ r. same_path path r.path) rows))) ≡ true
           → (same_path path row.path ≡ true → list_all suits_kind (map anew rows) ≡ true) → suits_kind row ≡ true → (suits_change change (row_at path rows) ≡ true → list_all suits_kind (map anew rows) ≡ true)
-          → list_all suits_kind (cond b (changed change row) row ∷ map anew rows) ≡ true
+          → list_all suits_kind (cond b (with_change change row) row ∷ map anew rows) ≡ true
       by true e s behind own others = and _ _ (changed_suits change row own s) (behind e)
       by false e s behind own others = and _ _ own (others s)
 
-  pub rewritten_namespace : (rows : List Row) → IsNamespace rows → suits_change change (row_at path rows) ≡ true → IsNamespace (rewritten path change rows)
+  pub rewritten_namespace : (rows : List Row) → IsNamespace rows → suits_change change (row_at path rows) ≡ true → IsNamespace (row_rewritten path change rows)
   rewritten_namespace rows h suits = let tests = namespace_tests rows h in map_namespace anew anew_path anew_kind rows h (rewritten_suits rows tests.ascending tests.suit suits)
 
-  pub rewritten_paths : (rows : List Row) → are_paths rows ≡ true → are_paths (rewritten path change rows) ≡ true
+  pub rewritten_paths : (rows : List Row) → are_paths rows ≡ true → are_paths (row_rewritten path change rows) ≡ true
   rewritten_paths rows h = map_paths anew anew_path anew_kind rows ∙ h
 
 -- the file of a row edited where the row passes a test
 
 module _ (edit : FileRow → FileRow) (test : Row → Bool) where
   abbrev edited_where : Row → Row
-  edited_where row = cond (test row) (edited edit row) row
+  edited_where row = cond (test row) (file_edited edit row) row
 
   edited_path : (row : Row) → (edited_where row).path ≡ row.path
   edited_path row = by (test row)
     where
-      by : (b : Bool) → (cond b (edited edit row) row).path ≡ row.path
+      by : (b : Bool) → (cond b (file_edited edit row) row).path ≡ row.path
       by true = refl
       by false = refl
 
   edited_kind : (row : Row) → is_directory (edited_where row) ≡ is_directory row
   edited_kind row = by (test row)
     where
-      by : (b : Bool) → is_directory (cond b (edited edit row) row) ≡ is_directory row
+      by : (b : Bool) → is_directory (cond b (file_edited edit row) row) ≡ is_directory row
       by true = refl
       by false = refl
 
@@ -270,7 +270,7 @@ module _ (edit : FileRow → FileRow) (test : Row → Bool) where
   edited_suits [] h = refl
   edited_suits (row ∷ rows) h = let hs = both (suits_kind row) (list_all suits_kind rows) h in and _ _ (by (test row) hs.0) (edited_suits rows hs.1)
     where
-      by : (b : Bool) → suits_kind row ≡ true → suits_kind (cond b (edited edit row) row) ≡ true
+      by : (b : Bool) → suits_kind row ≡ true → suits_kind (cond b (file_edited edit row) row) ≡ true
       by true k = filed_suits edit (is_directory row) row.acl row.file k
       by false k = k
 

@@ -10,15 +10,15 @@ use Rattle.required_rights.specs.declared.need.By.TheVariants.{Superuser}
 use Rattle.flat_rows.specs.declared.trail.Judged.{Judged}
 use Rattle.namespace_rows.specs.First.{first_answer}
 use Rattle.required_rights.specs.RequiredRights.{required_rights}
-use Rattle.flat_rows.specs.Denial.{Denial, Decided, deciding, denial_at}
-use Rattle.flat_rows.specs.Decision.{Ask, asks_of, denial_of, judged, up_to_denied, asking, decision, trail}
-use Rattle.flat_rows.specs.Laws.{are_granted, failed, ends_failed, is_failed, EndsAs}
+use Rattle.flat_rows.specs.Denial.{Denial, Decided, need_decided, denial_at}
+use Rattle.flat_rows.specs.Decision.{Ask, asks_of, denial_of, ask_judged, up_to_denied, asking_caller, decision, trail}
+use Rattle.flat_rows.specs.Laws.{are_granted, failed_need, ends_failed, is_failed, EndsAs}
 use Rattle.namespace_rows.proofs.Tests.{both, and}
 
 -- a need as it is judged, beside its denial or none
 abbrev Judges : Judged → Option Denial → Type 0
 Judges need None = need.granted ≡ true
-Judges need (Some denied) = need ≡ failed denied
+Judges need (Some denied) = need ≡ failed_need denied
 
 -- needs up to the first denial, beside it or none
 abbrev Ends : List Judged → Option Denial → Type 0
@@ -36,12 +36,12 @@ module _ (caller : Caller) (ask : Ask) where
   of_decided what false = refl
 
   of_caller : (superuser : Bool)
-      → Judges (as_judged (cond superuser (record { by = Superuser; granted = true }) (deciding ask.need ask.row ask.above caller.name caller.groups)))
+      → Judges (as_judged (cond superuser (record { by = Superuser; granted = true }) (need_decided ask.need ask.row ask.above caller.name caller.groups)))
       (cond superuser None (denial_at ask.need ask.row ask.above caller.name caller.groups))
   of_caller true = refl
-  of_caller false = let what = deciding ask.need ask.row ask.above caller.name caller.groups in of_decided what.by what.granted
+  of_caller false = let what = need_decided ask.need ask.row ask.above caller.name caller.groups in of_decided what.by what.granted
 
-  judges : Judges (judged caller ask) (denial_of caller ask)
+  judges : Judges (ask_judged caller ask) (denial_of caller ask)
   judges = of_caller caller.is_superuser
 
 -- one more need in front
@@ -55,10 +55,10 @@ more need None needs (Some denied) met ends = record {
   ends = ap (λ (b : Bool). need ∷ cond b needs []) met ∙ ap (λ (xs : List Judged). need ∷ xs) ends.ends;
 }
 
-up_to_denial : (caller : Caller) (asks : List Ask) → Ends (up_to_denied (map (judged caller) asks)) (first_answer (denial_of caller) asks)
+up_to_denial : (caller : Caller) (asks : List Ask) → Ends (up_to_denied (map (ask_judged caller) asks)) (first_answer (denial_of caller) asks)
 up_to_denial caller [] = refl
 up_to_denial caller (ask ∷ asks) =
-    more (judged caller ask) (denial_of caller ask) (up_to_denied (map (judged caller) asks)) (first_answer (denial_of caller) asks) (judges caller ask) (up_to_denial caller asks)
+    more (ask_judged caller ask) (denial_of caller ask) (up_to_denied (map (ask_judged caller) asks)) (first_answer (denial_of caller) asks) (judges caller ask) (up_to_denial caller asks)
 
 -- what stands at the end of a list is its last
 last_behind : {X : Type 0} (first : Option X) (xs : List X) (x : X) → last_or first (xs ++ x ∷ []) ≡ Some x
@@ -71,11 +71,11 @@ last_granted first (need ∷ needs) met all = let parts = both need.granted (are
 
 last_tells : (needs : List Judged) (decided : Option Denial) → Ends needs decided → ends_failed needs ≡ is_some decided
 last_tells needs None ends = last_granted None needs refl ends
-last_tells needs (Some denied) ends = ap ends_failed ends.ends ∙ ap is_failed (last_behind None ends.met (failed denied))
+last_tells needs (Some denied) ends = ap ends_failed ends.ends ∙ ap is_failed (last_behind None ends.met (failed_need denied))
 
 module _ (rows : List Row) (users : Users) (caller : List ℕ) (op : Op) where
   trail_ends : Ends (trail rows users caller op) (decision rows users caller op)
-  trail_ends = up_to_denial (asking users caller op) (flat_map (asks_of rows) (required_rights op))
+  trail_ends = up_to_denial (asking_caller users caller op) (flat_map (asks_of rows) (required_rights op))
 
 pub ends_where_decided : (rows : List Row) (users : Users) (caller : List ℕ) (op : Op) → ends_failed (trail rows users caller op) ≡ is_some (decision rows users caller op)
 ends_where_decided rows users caller op = last_tells (trail rows users caller op) (decision rows users caller op) (trail_ends rows users caller op)

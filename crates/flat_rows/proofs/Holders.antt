@@ -16,9 +16,9 @@ use Rattle.namespace_rows.specs.declared.row.Row.{Row}
 use Rattle.namespace_rows.specs.declared.row.Change.{Change}
 use Rattle.namespace_rows.specs.declared.row.Change.TheVariants as change
 use Rattle.namespace_rows.specs.First.{first}
-use Rattle.namespace_rows.specs.Rows.{row_at, is_missing, is_before, is_beyond, replaced, with_sub_tree}
+use Rattle.namespace_rows.specs.Rows.{row_at, is_missing, is_before, is_beyond, rows_replaced, with_sub_tree}
 use Rattle.namespace_rows.specs.Namespace.{IsNamespace, is_ascending, is_before_all}
-use Rattle.flat_rows.specs.Changes.{rows_under, without, moved_row, moved, changed, rewritten}
+use Rattle.flat_rows.specs.Changes.{rows_under, without, moved_row, with_rows_moved, with_change, row_rewritten}
 use Rattle.namespace_rows.specs.Files.{with_state, is_client, holder_of_file, holders, is_open_by, open_files}
 use Rattle.namespace_rows.proofs.Tests.{both, and, all_kept}
 use Rattle.namespace_rows.proofs.PathOrders.{less_is, starts_upto, tied_starts, same_path_is}
@@ -76,7 +76,7 @@ module _ (p : Row → Bool) where
       by Greater false e h lows highs others rest = omega (arith, tally_cons row lows, tally_cons row others, rest)
 
   -- new rows in the place of those at and beneath a path
-  pub tally_replaced : (path : List (List ℕ)) (block rows : List Row) → tally p (replaced path block rows) ≡ tally p block + tally p (without path rows)
+  pub tally_replaced : (path : List (List ℕ)) (block rows : List Row) → tally p (rows_replaced path block rows) ≡ tally p block + tally p (without path rows)
   tally_replaced path block rows =
       let lows : List Row = filter (is_before path) rows in
       let highs : List Row = filter (is_beyond path) rows in
@@ -122,15 +122,15 @@ module _ (client : List ℕ) where
   kept_file f h (Some file) = h file
 
   -- a row is changed otherwise than in its state
-  pub tally_rewritten : (path : List (List ℕ)) (what : Change) → ((row : Row) → holder_of_file (changed what row).file ≡ holder_of_file row.file) → (rows : List Row) → tally mine (rewritten path what rows) ≡ tally mine rows
-  tally_rewritten path what h rows = tally_map mine (λ row. cond (same_path path row.path) (changed what row) row) (λ row. by row (same_path path row.path)) rows
+  pub tally_rewritten : (path : List (List ℕ)) (what : Change) → ((row : Row) → holder_of_file (with_change what row).file ≡ holder_of_file row.file) → (rows : List Row) → tally mine (row_rewritten path what rows) ≡ tally mine rows
+  tally_rewritten path what h rows = tally_map mine (λ row. cond (same_path path row.path) (with_change what row) row) (λ row. by row (same_path path row.path)) rows
     where
-      by : (row : Row) (b : Bool) → mine (cond b (changed what row) row) ≡ mine row
+      by : (row : Row) (b : Bool) → mine (cond b (with_change what row) row) ≡ mine row
       by row true = ap (is_client client) (h row)
       by row false = refl
 
   -- what stands at a path is moved to one that is missing
-  pub tally_moved : (from to : List (List ℕ)) (rows : List Row) → IsNamespace rows → is_missing to rows ≡ true → tally mine (moved from to rows) ≡ tally mine rows
+  pub tally_moved : (from to : List (List ℕ)) (rows : List Row) → IsNamespace rows → is_missing to rows ≡ true → tally mine (with_rows_moved from to rows) ≡ tally mine rows
   tally_moved from to rows h missing =
       let block : List Row = rows_under from rows in
       let others : List Row = without from rows in
@@ -165,18 +165,18 @@ module _ (client : List ℕ) where
   -- the file at a path gets another state
 
   abbrev after : FileState → Row → Row
-  after state row = changed (change.State state) row
+  after state row = with_change (change.State state) row
 
-  behind : (path : List (List ℕ)) (what : Change) (row : Row) (rows : List Row) → same_path path row.path ≡ true → is_before_all row rows ≡ true → tally mine (rewritten path what rows) ≡ tally mine rows
+  behind : (path : List (List ℕ)) (what : Change) (row : Row) (rows : List Row) → same_path path row.path ≡ true → is_before_all row rows ≡ true → tally mine (row_rewritten path what rows) ≡ tally mine rows
   behind path what row [] at low = refl
   behind path what row (other ∷ rows) at low =
       let lows = both (is_lt (path_cmp row.path other.path)) (is_before_all row rows) low in
       let apart : same_path path other.path ≡ false = ap (λ p. same_path p other.path) (same_path_is path row.path at) ∙ ap is_eq (less_is _ lows.0) in
-      let stays : mine (cond (same_path path other.path) (changed what other) other) ≡ mine other = ap (λ b. mine (cond b (changed what other) other)) apart in
-      omega (arith, tally_cons mine (cond (same_path path other.path) (changed what other) other) (rewritten path what rows), tally_cons mine other rows, ap bit stays, behind path what row rows at lows.1)
+      let stays : mine (cond (same_path path other.path) (with_change what other) other) ≡ mine other = ap (λ b. mine (cond b (with_change what other) other)) apart in
+      omega (arith, tally_cons mine (cond (same_path path other.path) (with_change what other) other) (row_rewritten path what rows), tally_cons mine other rows, ap bit stays, behind path what row rows at lows.1)
 
   pub tally_state : (path : List (List ℕ)) (state : FileState) (row : Row) (rows : List Row) → is_ascending rows ≡ true → row_at path rows ≡ Some row
-      → tally mine (rewritten path (change.State state) rows) + bit (mine row) ≡ tally mine rows + bit (mine (after state row))
+      → tally mine (row_rewritten path (change.State state) rows) + bit (mine row) ≡ tally mine rows + bit (mine (after state row))
   tally_state path state row [] up e = cc
   tally_state path state row (x ∷ xs) up e =
       let ups = both (is_before_all x xs) (is_ascending xs) up in
@@ -186,13 +186,13 @@ module _ (client : List ℕ) where
       one a b h = cc
 
       by : (b : Bool) → same_path path x.path ≡ b → first (cond b (x ∷ filter (λ r. same_path path r.path) xs) (filter (λ r. same_path path r.path) xs)) ≡ Some row
-          → (same_path path x.path ≡ true → tally mine (rewritten path (change.State state) xs) ≡ tally mine xs)
-          → (row_at path xs ≡ Some row → tally mine (rewritten path (change.State state) xs) + bit (mine row) ≡ tally mine xs + bit (mine (after state row)))
-          → tally mine (cond b (after state x) x ∷ rewritten path (change.State state) xs) + bit (mine row) ≡ tally mine (x ∷ xs) + bit (mine (after state row))
+          → (same_path path x.path ≡ true → tally mine (row_rewritten path (change.State state) xs) ≡ tally mine xs)
+          → (row_at path xs ≡ Some row → tally mine (row_rewritten path (change.State state) xs) + bit (mine row) ≡ tally mine xs + bit (mine (after state row)))
+          → tally mine (cond b (after state x) x ∷ row_rewritten path (change.State state) xs) + bit (mine row) ≡ tally mine (x ∷ xs) + bit (mine (after state row))
       by true k at here rest =
           let same_row = one x row at in
-          omega (arith, tally_cons mine (after state x) (rewritten path (change.State state) xs), tally_cons mine x xs, here k, ap (λ r. bit (mine r)) same_row, ap (λ r. bit (mine (after state r))) same_row)
-      by false k at here rest = omega (arith, tally_cons mine x (rewritten path (change.State state) xs), tally_cons mine x xs, rest at)
+          omega (arith, tally_cons mine (after state x) (row_rewritten path (change.State state) xs), tally_cons mine x xs, here k, ap (λ r. bit (mine r)) same_row, ap (λ r. bit (mine (after state r))) same_row)
+      by false k at here rest = omega (arith, tally_cons mine x (row_rewritten path (change.State state) xs), tally_cons mine x xs, rest at)
 
   -- files of leases past the hard limit are closed
 

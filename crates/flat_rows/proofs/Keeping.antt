@@ -17,10 +17,10 @@ use Rattle.namespace_rows.specs.declared.file_row.FileRow.{FileRow}
 use Rattle.namespace_rows.specs.declared.row.Change.TheVariants as change
 use Rattle.namespace_rows.specs.Rows.{row_at, is_none, directory_of, ancestor}
 use Rattle.namespace_rows.specs.Namespace.{IsNamespace, is_root}
-use Rattle.flat_rows.specs.Changes.{changed, rewritten, are_paths}
+use Rattle.flat_rows.specs.Changes.{with_change, row_rewritten, are_paths}
 use Rattle.flat_rows.specs.Denial as denied
 use Rattle.flat_rows.specs.Decision.{decision}
-use Rattle.namespace_rows.specs.Files.{is_open_by, with_replication}
+use Rattle.namespace_rows.specs.Files.{is_open_by, with_file_replication}
 use Rattle.flat_rows.specs.Facts.{Facts}
 use Rattle.flat_rows.specs.Outcome.{step, denied_or_outcome, refused_or_done, first_refusal, first_some, something_at, nothing_at, beneath_file, refused_where, rows_moved, rows_after, made_at, with_new, with_mode_at, with_owner_at, with_acl_at, with_list_at}
 use Rattle.flat_rows.proofs.Holders.{tally, tally_rewritten, tally_moved, kept_file}
@@ -79,8 +79,8 @@ module _ (client : List ℕ) (rows : List Row) (namespace : IsNamespace rows) wh
       by (Err refusal) = refl
 
   -- another replication leaves each client's files open as they were
-  pub kept_replication : (path : List (List ℕ)) (replication : ℕ) → count (rewritten path (change.Replication replication) rows) ≡ count rows
-  kept_replication path replication = tally_rewritten client path (change.Replication replication) (λ row. kept_file client (with_replication replication) (λ file. refl) row.file) rows
+  pub kept_replication : (path : List (List ℕ)) (replication : ℕ) → count (row_rewritten path (change.Replication replication) rows) ≡ count rows
+  kept_replication path replication = tally_rewritten client path (change.Replication replication) (λ row. kept_file client (with_file_replication replication) (λ file. refl) row.file) rows
 
   module _ (facts : Facts) (users : Users) (caller : List ℕ) where
     kept_done : (what : Op) → keeps_leases what ≡ true → first_refusal facts caller what rows users ≡ None → count (rows_after facts what caller rows) ≡ count rows

@@ -12,7 +12,7 @@ use Rattle.hdfs_values.proofs.Texts.{same_is, same_self}
 use Rattle.namespace_rows.specs.declared.row.Row.{Row}
 use Rattle.namespace_rows.specs.Rows.{is_directory}
 use Rattle.namespace_rows.specs.Namespace.{IsNamespace, is_ascending, is_before_all, is_child, has_parent, is_root, have_parents, suits_kind}
-use Rattle.flat_rows.specs.Changes.{rows_under, without, moved_row, moved}
+use Rattle.flat_rows.specs.Changes.{rows_under, without, moved_row, with_rows_moved}
 use Rattle.namespace_rows.proofs.Tests.{both, and, or_left, or_right, all_filtered, all_kept}
 use Rattle.namespace_rows.proofs.PathOrders.{child_starts}
 use Rattle.namespace_rows.proofs.Namespaces.{namespace_tests, ascending_filter, replaced_rooted, replaced_ascending, replaced_held, replaced_suits}
@@ -180,14 +180,14 @@ module _ (from to : List (List ℕ)) where
       by (n ∷ ns) a = refl
 
   -- the directory of the new path isn't moved itself
-  pub moved_namespace : (rows : List Row) → is_prefix from to ≡ false → has_parent to rows ≡ true → IsNamespace rows → IsNamespace (moved from to rows)
+  pub moved_namespace : (rows : List Row) → is_prefix from to ≡ false → has_parent to rows ≡ true → IsNamespace rows → IsNamespace (with_rows_moved from to rows)
   moved_namespace rows apart held h =
       let tests = namespace_tests rows h in
       let left : List Row = without from rows in
       let top : has_parent to left ≡ true = parent_away rows apart held in
       let suits : list_all suits_kind (block rows) ≡ true =
       all_moved suits_kind suits_kind (λ row i s. s) (rows_under from rows) (under_inside rows) (all_kept inside suits_kind rows tests.suit) in
-      namespace_of (moved from to rows)
+      namespace_of (with_rows_moved from to rows)
       (record {
         rooted = replaced_rooted to left (block rows) (without_rooted from rows (from_not_root apart) tests.rooted) top;
         ascending =

@@ -10,7 +10,7 @@ use Rattle.namespace_rows.specs.Namespace.{IsNamespace, suits_kind}
 use Rattle.namespace_rows.proofs.Tests.{both, and}
 use Rattle.namespace_rows.proofs.Namespaces.{namespace_tests}
 use Rattle.flat_rows.specs.Facts.{Facts}
-use Rattle.flat_rows.specs.Takeover.{stamp_in, recovering_from, with_begun, taken_row, sought_in, ticked}
+use Rattle.flat_rows.specs.Takeover.{stamp_in, recovering_from, with_begun, taken_row, sought_in, row_ticked}
 use Rattle.flat_rows.specs.declared.takeover.Sought.{Sought}
 use Rattle.flat_rows.proofs.Changes.{changed_suits, map_namespace}
 
@@ -41,16 +41,16 @@ module _ (begun : List BegunRecovery) (now : ℕ) where
   taken_suits (Some file) row h = begun_suits file.block row h
 
 module _ (facts : Facts) (begun : List BegunRecovery) where
-  all_suit : (rows : List Row) → list_all suits_kind rows ≡ true → list_all suits_kind (map (ticked facts begun) rows) ≡ true
+  all_suit : (rows : List Row) → list_all suits_kind rows ≡ true → list_all suits_kind (map (row_ticked facts begun) rows) ≡ true
   all_suit [] h = refl
   all_suit (row ∷ rows) h =
       let parts = both (suits_kind row) (list_all suits_kind rows) h in
       and _ _ (taken_suits begun facts.now (sought_in facts row) row parts.0) (all_suit rows parts.1)
 
-  pub ticked_namespace : (rows : List Row) → IsNamespace rows → IsNamespace (map (ticked facts begun) rows)
+  pub ticked_namespace : (rows : List Row) → IsNamespace rows → IsNamespace (map (row_ticked facts begun) rows)
   ticked_namespace rows namespace =
-      map_namespace (ticked facts begun) (λ row. ap (λ (r : Row). r.path) (edits row)) (λ row. ap is_directory (edits row)) rows namespace
+      map_namespace (row_ticked facts begun) (λ row. ap (λ (r : Row). r.path) (edits row)) (λ row. ap is_directory (edits row)) rows namespace
       (all_suit rows (namespace_tests rows namespace).suit)
     where
-      edits : (row : Row) → ticked facts begun row ≡ record row { file = (ticked facts begun row).file }
+      edits : (row : Row) → row_ticked facts begun row ≡ record row { file = (row_ticked facts begun row).file }
       edits row = taken_edits begun facts.now (sought_in facts row) row

@@ -10,8 +10,8 @@ use Rattle.namespace_rows.specs.declared.row.Row.{Row}
 use Rattle.namespace_rows.specs.declared.row.Change.{Change}
 use Rattle.namespace_rows.specs.declared.row.Change.TheVariants as change
 use Rattle.namespace_rows.specs.declared.file_row.FileRow.{FileRow}
-use Rattle.namespace_rows.specs.Files.{with_state, with_replication, with_block, committed_at, without_last, state_recovers, recovered_at}
-use Rattle.namespace_rows.specs.Rows.{is_directory, replaced}
+use Rattle.namespace_rows.specs.Files.{with_state, with_file_replication, with_block, committed_at, without_last, state_recovers, recovered_at}
+use Rattle.namespace_rows.specs.Rows.{is_directory, rows_replaced}
 use Rattle.namespace_rows.specs.Namespace.{is_child}
 
 -- the rows at and beneath a path
@@ -40,37 +40,37 @@ abbrev pub moved_row : List (List ℕ) → List (List ℕ) → Row → Row
 moved_row from to row = record row { path = to ++ drop (length from) row.path }
 
 -- the rows in which those at and beneath `from` stand at and beneath `to`
-abbrev pub moved : List (List ℕ) → List (List ℕ) → List Row → List Row
-moved from to rows = replaced to (map (moved_row from to) (rows_under from rows)) (without from rows)
+abbrev pub with_rows_moved : List (List ℕ) → List (List ℕ) → List Row → List Row
+with_rows_moved from to rows = rows_replaced to (map (moved_row from to) (rows_under from rows)) (without from rows)
 
 abbrev pub with_file : Option FileRow → Row → Row
 with_file file row = record row { file = file }
 
 -- a row with what its file has changed; a directory has nothing of that
-abbrev pub edited : (FileRow → FileRow) → Row → Row
-edited edit row = with_file (option_map edit row.file) row
+abbrev pub file_edited : (FileRow → FileRow) → Row → Row
+file_edited edit row = with_file (option_map edit row.file) row
 
 -- a row with one of its parts changed; a directory has neither state nor replication nor blocks
-abbrev pub changed : Change → Row → Row
-changed (change.Owner owner group) row = record row { owner = owner; group = group }
-changed (change.List acl) row = record row { acl = acl }
-changed (change.State state) row = with_file (option_map (with_state state) row.file) row
-changed (change.Replication replication) row = with_file (option_map (with_replication replication) row.file) row
-changed (change.Committed block bytes) row = edited (committed_at block bytes) row
-changed change.LastTaken row = edited without_last row
-changed (change.Recovered block bytes) row = edited (recovered_at block bytes) row
+abbrev pub with_change : Change → Row → Row
+with_change (change.Owner owner group) row = record row { owner = owner; group = group }
+with_change (change.List acl) row = record row { acl = acl }
+with_change (change.State state) row = with_file (option_map (with_state state) row.file) row
+with_change (change.Replication replication) row = with_file (option_map (with_file_replication replication) row.file) row
+with_change (change.Committed block bytes) row = file_edited (committed_at block bytes) row
+with_change change.LastTaken row = file_edited without_last row
+with_change (change.Recovered block bytes) row = file_edited (recovered_at block bytes) row
 
 -- the rows with the one at a path changed
-abbrev pub rewritten : List (List ℕ) → Change → List Row → List Row
-rewritten path change rows = map (λ row. if same_path path row.path then changed change row else row) rows
+abbrev pub row_rewritten : List (List ℕ) → Change → List Row → List Row
+row_rewritten path change rows = map (λ row. if same_path path row.path then with_change change row else row) rows
 
 -- the rows with a new block at the end of the file at a path (HDFS Architecture, "Data Replication")
 abbrev pub block_added : List (List ℕ) → ℕ → List Row → List Row
-block_added path block rows = map (λ row. if same_path path row.path then edited (with_block block) row else row) rows
+block_added path block rows = map (λ row. if same_path path row.path then file_edited (with_block block) row else row) rows
 
 -- the rows with the recovery of a block ended: the file whose state is that has the block's length committed, and is closed
 abbrev pub recovery_ended : ℕ → ℕ → List Row → List Row
-recovery_ended block bytes rows = map (edited (recovered_at block bytes)) rows
+recovery_ended block bytes rows = map (file_edited (recovered_at block bytes)) rows
 
 abbrev pub is_recovered : ℕ → Option FileRow → Bool
 is_recovered block None = false

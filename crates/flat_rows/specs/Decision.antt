@@ -18,7 +18,7 @@ use Rattle.flat_rows.specs.declared.trail.Judged.{Judged}
 use Rattle.namespace_rows.specs.First.{first_answer}
 use Rattle.namespace_rows.specs.Rows.{is_missing, has_directory, has_file, has_sticky_parent, has_other_owner, row_at, directories_above, directories_beneath, ancestor, directory_of, owner_above}
 use Rattle.required_rights.specs.RequiredRights.{Demand, required_rights}
-use Rattle.flat_rows.specs.Denial.{Decided, Denial, deciding, denial_at}
+use Rattle.flat_rows.specs.Denial.{Decided, Denial, need_decided, denial_at}
 
 -- the rows of the components that have a role on a path, in path order
 abbrev pub rows_in_role : Role → List (List ℕ) → List Row → List Row
@@ -28,17 +28,17 @@ rows_in_role Parent path rows = option_to_list (directory_of path rows)
 rows_in_role Final path rows = option_to_list (row_at path rows)
 rows_in_role SubTree path rows = directories_beneath path rows
 
-abbrev pub holds : Condition → List (List ℕ) → List Row → Bool
-holds Always path rows = true
-holds WhereMissing path rows = is_missing path rows
-holds WhereDirectory path rows = has_directory path rows
-holds WhereFile path rows = has_file path rows
-holds WhereSticky path rows = has_sticky_parent path rows
-holds (WhereOwnedByAnother user) path rows = has_other_owner user path rows
+abbrev pub condition_holds : Condition → List (List ℕ) → List Row → Bool
+condition_holds Always path rows = true
+condition_holds WhereMissing path rows = is_missing path rows
+condition_holds WhereDirectory path rows = has_directory path rows
+condition_holds WhereFile path rows = has_file path rows
+condition_holds WhereSticky path rows = has_sticky_parent path rows
+condition_holds (WhereOwnedByAnother user) path rows = has_other_owner user path rows
 
 -- the components that a demand is judged at
 abbrev pub components : List Row → Demand → List Row
-components rows demand = if holds demand.condition demand.path rows then rows_in_role demand.role demand.path rows else []
+components rows demand = if condition_holds demand.condition demand.path rows then rows_in_role demand.role demand.path rows else []
 
 -- a need at a component, and the owner of the directory that holds it
 pub record Ask : Type 0 where
@@ -53,8 +53,8 @@ abbrev pub asks_of : List Row → Demand → List Ask
 asks_of rows demand = map (ask_at rows demand.need) (components rows demand)
 
 -- a superuser meets every need, where his rank is of use
-abbrev pub decided : Caller → Ask → Decided
-decided caller ask = if caller.is_superuser then record { by = by.Superuser; granted = true } else deciding ask.need ask.row ask.above caller.name caller.groups
+abbrev pub ask_decided : Caller → Ask → Decided
+ask_decided caller ask = if caller.is_superuser then record { by = by.Superuser; granted = true } else need_decided ask.need ask.row ask.above caller.name caller.groups
 
 abbrev pub denial_of : Caller → Ask → Option Denial
 denial_of caller ask = if caller.is_superuser then None else denial_at ask.need ask.row ask.above caller.name caller.groups
@@ -64,18 +64,18 @@ abbrev pub denial_among : List Row → Caller → List Demand → Option Denial
 denial_among rows caller demands = first_answer (denial_of caller) (flat_map (asks_of rows) demands)
 
 -- who asks for an operation: to be a superuser is of no use for one that is for DataNodes alone
-abbrev pub ranked : Bool → Caller → Caller
-ranked true caller = record caller { is_superuser = false }
-ranked false caller = caller
+abbrev pub without_rank_where : Bool → Caller → Caller
+without_rank_where true caller = record caller { is_superuser = false }
+without_rank_where false caller = caller
 
-abbrev pub asking : Users → List ℕ → Op → Caller
-asking users caller op = ranked (is_for_nodes op) (caller_of users caller)
+abbrev pub asking_caller : Users → List ℕ → Op → Caller
+asking_caller users caller op = without_rank_where (is_for_nodes op) (caller_of users caller)
 
 abbrev pub decision : List Row → Users → List ℕ → Op → Option Denial
-decision rows users caller op = denial_among rows (asking users caller op) (required_rights op)
+decision rows users caller op = denial_among rows (asking_caller users caller op) (required_rights op)
 
-abbrev pub judged : Caller → Ask → Judged
-judged caller ask = let what = decided caller ask in record { path = ask.row.path; need = ask.need; by = what.by; granted = what.granted }
+abbrev pub ask_judged : Caller → Ask → Judged
+ask_judged caller ask = let what = ask_decided caller ask in record { path = ask.row.path; need = ask.need; by = what.by; granted = what.granted }
 
 -- up to the first that isn't granted
 abbrev pub up_to_denied : List Judged → List Judged
@@ -84,4 +84,4 @@ up_to_denied (need ∷ needs) = need ∷ (if need.granted then up_to_denied need
 
 -- the needs that are judged, in their order, up to the first that fails
 abbrev pub trail : List Row → Users → List ℕ → Op → List Judged
-trail rows users caller op = up_to_denied (map (judged (asking users caller op)) (flat_map (asks_of rows) (required_rights op)))
+trail rows users caller op = up_to_denied (map (ask_judged (asking_caller users caller op)) (flat_map (asks_of rows) (required_rights op)))

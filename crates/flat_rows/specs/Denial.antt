@@ -23,13 +23,13 @@ abbrev pub by_judgement : Chosen → Decided
 by_judgement judged = record { by = by.Entry judged.entry judged.mask; granted = judged.granted }
 
 -- for a caller whose rank is of no use; `above` is the owner of the directory that holds the component
-abbrev pub deciding : Need → Row → List ℕ → List ℕ → List (List ℕ) → Decided
-deciding (need.Rights asked) row above caller groups = by_judgement (judgement row caller groups asked)
-deciding need.Sticky row above caller groups = record { by = by.Owners row.owner above; granted = same caller row.owner || same caller above }
-deciding need.Owner row above caller groups = record { by = by.Owner row.owner; granted = same caller row.owner }
-deciding (need.Member group) row above caller groups = record { by = by.Group group; granted = has_group groups group }
-deciding need.Superuser row above caller groups = record { by = by.Superuser; granted = false }
-deciding need.Node row above caller groups = record { by = by.Node; granted = is_some (node_of caller) }
+abbrev pub need_decided : Need → Row → List ℕ → List ℕ → List (List ℕ) → Decided
+need_decided (need.Rights asked) row above caller groups = by_judgement (judgement row caller groups asked)
+need_decided need.Sticky row above caller groups = record { by = by.Owners row.owner above; granted = same caller row.owner || same caller above }
+need_decided need.Owner row above caller groups = record { by = by.Owner row.owner; granted = same caller row.owner }
+need_decided (need.Member group) row above caller groups = record { by = by.Group group; granted = has_group groups group }
+need_decided need.Superuser row above caller groups = record { by = by.Superuser; granted = false }
+need_decided need.Node row above caller groups = record { by = by.Node; granted = is_some (node_of caller) }
 
 pub record Denial : Type 0 where
   pub need : Need
@@ -41,7 +41,7 @@ pub record Denial : Type 0 where
 -- the denial of a need at a row, where it isn't met
 abbrev pub denial_at : Need → Row → List ℕ → List ℕ → List (List ℕ) → Option Denial
 denial_at need row above caller groups =
-    let decided = deciding need row above caller groups in
+    let decided = need_decided need row above caller groups in
     if decided.granted then None else Some (record { need = need; by = decided.by; row = row; caller = caller; groups = groups })
 
 -- the owner of the directory that holds the component, where what decided names one
@@ -52,4 +52,4 @@ named_above _ = []
 -- the row, judged for the caller with these groups, is what denies the need
 abbrev pub IsDenied : Denial → Type 0
 IsDenied denied =
-    deciding denied.need denied.row (named_above denied.by) denied.caller denied.groups ≡ record { by = denied.by; granted = false }
+    need_decided denied.need denied.row (named_above denied.by) denied.caller denied.groups ≡ record { by = denied.by; granted = false }

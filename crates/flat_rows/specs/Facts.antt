@@ -3,14 +3,14 @@
 use Rattle.std.specs.Prelude.{ℕ, List, Option}
 use Rattle.permission_specs.specs.declared.modes.Modes.{Modes}
 use Rattle.hdfs_types.specs.KeyList.{KeyList}
-use Rattle.block_map.specs.BlockFacts.{BlockFacts}
+use Rattle.block_map.specs.BlockFacts.{Blocks}
 use Rattle.flat_rows.specs.FileOutcome.{LeaseFacts}
 
 pub record Facts : Type 0 where
   -- in milliseconds
   pub now : ℕ
   pub leases : LeaseFacts
-  pub blocks : BlockFacts
+  pub blocks : Blocks
   -- the keys that serve now
   pub keys : KeyList
   -- the serial of the next key; none where all serials are given away

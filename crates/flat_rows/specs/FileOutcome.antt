@@ -58,9 +58,9 @@ abbrev pub detail_of_row : Option FileRow → Option FileDetail
 detail_of_row None = None
 detail_of_row (Some file) = Some (detail_of file)
 
-abbrev pub bytes_of : Option FileRow → ℕ
-bytes_of None = 0
-bytes_of (Some file) = length_of file.blocks
+abbrev pub file_bytes : Option FileRow → ℕ
+file_bytes None = 0
+file_bytes (Some file) = length_of file.blocks
 
 abbrev pub holder_at : Option Row → Option (List ℕ)
 holder_at None = None

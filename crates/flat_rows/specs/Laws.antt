@@ -9,8 +9,8 @@ abbrev pub are_granted : List Judged → Bool
 are_granted needs = list_all (λ need. need.granted) needs
 
 -- the need of a denial, as it is judged
-abbrev pub failed : Denial → Judged
-failed denied = record { path = denied.row.path; need = denied.need; by = denied.by; granted = false }
+abbrev pub failed_need : Denial → Judged
+failed_need denied = record { path = denied.row.path; need = denied.need; by = denied.by; granted = false }
 
 abbrev pub is_failed : Option Judged → Bool
 is_failed None = false
@@ -24,4 +24,4 @@ ends_failed needs = is_failed (last_or None needs)
 pub record EndsAs (needs : List Judged) (denied : Denial) : Type 0 where
   pub met : List Judged
   pub granted : are_granted met ≡ true
-  pub ends : needs ≡ met ++ failed denied ∷ []
+  pub ends : needs ≡ met ++ failed_need denied ∷ []

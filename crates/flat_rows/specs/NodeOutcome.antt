@@ -15,8 +15,8 @@ use Rattle.block_records.specs.declared.mark.Mark.{Mark}
 use Rattle.block_copies.specs.declared.transfer.Transfer.{Transfer}
 use Rattle.node_orders.specs.declared.recovery.Recovery.{Recovery}
 use Rattle.block_records.specs.Marks.{marks_for}
-use Rattle.block_map.specs.BlockFacts.{BlockFacts, recoveries_for, transfers_for}
-use Rattle.block_map.specs.BlockEffects.{beaten}
+use Rattle.block_map.specs.BlockFacts.{Blocks, recoveries_for, transfers_for}
+use Rattle.block_map.specs.BlockEffects.{with_node_heard}
 use Rattle.flat_rows.specs.Facts.{Facts}
 
 -- the bytes of the token that a user is granted for some modes of a block
@@ -45,12 +45,12 @@ commands_of keys token principal recoveries marks copies = record {
 }
 
 -- by what is known of blocks once the heartbeat is taken in
-abbrev pub commands_by : Facts → List ℕ → BlockFacts → ℕ → Commands
+abbrev pub commands_by : Facts → List ℕ → Blocks → ℕ → Commands
 commands_by facts principal blocks node =
     commands_of facts.keys facts.token principal (recoveries_for blocks node) (marks_for node blocks.marks) (transfers_for blocks facts.now node)
 
 abbrev pub commands_to : Facts → List ℕ → ℕ → Commands
-commands_to facts principal node = commands_by facts principal (beaten facts.blocks node facts.now) node
+commands_to facts principal node = commands_by facts principal (with_node_heard facts.blocks node facts.now) node
 
 -- only a node's principal isn't denied
 abbrev pub heartbeat_reply : Facts → List ℕ → Option ℕ → Reply

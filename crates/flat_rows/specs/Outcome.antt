@@ -32,14 +32,14 @@ use Rattle.namespace_rows.specs.Rows.{is_directory, is_none, row_at, file_above,
 use Rattle.namespace_rows.specs.Namespace.{is_root}
 use Rattle.namespace_rows.specs.declared.file_row.FileRow.{FileRow}
 use Rattle.namespace_rows.specs.declared.row.Change.TheVariants as change
-use Rattle.flat_rows.specs.Changes.{rows_under, child_names, last_name, without, moved_row, moved, rewritten, recovery_ended, are_paths}
+use Rattle.flat_rows.specs.Changes.{rows_under, child_names, last_name, without, moved_row, with_rows_moved, row_rewritten, recovery_ended, are_paths}
 use Rattle.namespace_rows.specs.Files.{new_file, has_open_file}
-use Rattle.flat_rows.specs.FileOutcome.{directory_there, file_there, of_file, refused_write, detail_of_row, bytes_of, holder_at}
+use Rattle.flat_rows.specs.FileOutcome.{directory_there, file_there, of_file, refused_write, detail_of_row, file_bytes, holder_at}
 use Rattle.block_map.specs.BlockFacts.{refused_recovered}
 use Rattle.flat_rows.specs.Facts.{Facts}
 use Rattle.flat_rows.specs.NodeOutcome.{heartbeat_reply}
-use Rattle.flat_rows.specs.BlockOutcome.{replication_at, refused_by, refused_last, refused_new, refused_end, added_to, opened, blocks_at, bytes_behind_at, with_block_at, ended_at}
-use Rattle.flat_rows.specs.Takeover.{unfinished_at, refused_append, appended_reply, state_after_append, expired_files, begun_in, ticked}
+use Rattle.flat_rows.specs.BlockOutcome.{replication_at, refused_by, refused_unless_last, refused_new, refused_end, added_to, opened_reply, blocks_of_row, bytes_behind_at, with_block_at, ended_at}
+use Rattle.flat_rows.specs.Takeover.{unfinished_at, refused_append, appended_reply, state_after_append, expired_files, begun_in, row_ticked}
 use Rattle.flat_rows.specs.Denial as denied
 use Rattle.flat_rows.specs.Decision.{decision}
 
@@ -125,9 +125,9 @@ first_refusal facts caller (op.Create path mode replication over) rows users =
     first_some (beneath_file path rows ∷ directory_there (row_at path rows) ∷ file_there over (row_at path rows) ∷ [])
 first_refusal facts caller (op.Append path) rows users = first_some (refusals_of_file path rows ++ of_file (refused_append facts caller) (row_at path rows) ∷ [])
 first_refusal facts caller (op.AddBlock path last) rows users = first_some (
-    refusals_of_file path rows ++ of_file (refused_write caller) (row_at path rows) ∷ of_file (refused_last last) (row_at path rows) ∷ refused_new facts.blocks last facts.now ∷ [])
+    refusals_of_file path rows ++ of_file (refused_write caller) (row_at path rows) ∷ of_file (refused_unless_last last) (row_at path rows) ∷ refused_new facts.blocks last facts.now ∷ [])
 first_refusal facts caller (op.Complete path last) rows users = first_some (
-    refusals_of_file path rows ++ of_file (refused_write caller) (row_at path rows) ∷ of_file (refused_last last) (row_at path rows) ∷ refused_end facts.blocks last ∷ [])
+    refusals_of_file path rows ++ of_file (refused_write caller) (row_at path rows) ∷ of_file (refused_unless_last last) (row_at path rows) ∷ refused_end facts.blocks last ∷ [])
 first_refusal facts caller (op.Open path) rows users = first_some (refusals_of_file path rows)
 first_refusal facts caller (op.SetReplication path replication) rows users = first_some (refusals_of_file path rows)
 first_refusal facts caller (op.RollKey key) rows users = refused_roll facts.next_serial
@@ -153,13 +153,13 @@ own_name [] = []
 own_name (name ∷ names) = last_name (name ∷ names) ∷ []
 
 -- the names that a directory holds, or a file's own
-abbrev pub listed : List (List ℕ) → Option Row → List Row → List (List ℕ)
-listed path None rows = []
-listed path (Some row) rows = if is_directory row then child_names path rows else own_name path
+abbrev pub listed_names : List (List ℕ) → Option Row → List Row → List (List ℕ)
+listed_names path None rows = []
+listed_names path (Some row) rows = if is_directory row then child_names path rows else own_name path
 
 abbrev pub bytes_in : List Row → ℕ
 bytes_in [] = 0
-bytes_in (row ∷ rows) = bytes_of row.file + bytes_in rows
+bytes_in (row ∷ rows) = file_bytes row.file + bytes_in rows
 
 -- how many directories and files there are, and how many bytes the files hold
 abbrev pub summary_of : List Row → Reply
@@ -172,14 +172,14 @@ serial_reply (Some serial) = reply.Serial serial
 
 abbrev pub reply_of : Facts → List ℕ → Op → List Row → Reply
 reply_of facts caller (op.Stat path) rows = status_of (row_at path rows)
-reply_of facts caller (op.List path) rows = reply.Names (listed path (row_at path rows) rows)
+reply_of facts caller (op.List path) rows = reply.Names (listed_names path (row_at path rows) rows)
 reply_of facts caller (op.Summary path) rows = summary_of (rows_under path rows)
 reply_of facts caller (op.Delete path recursive) rows = reply.Deleted (length (rows_under path rows))
 reply_of facts caller (op.GetAcl path) rows = acl_status_of (row_at path rows)
 reply_of facts caller (op.Append path) rows = appended_reply facts.blocks (holder_at (row_at path rows)) (unfinished_at (row_at path rows))
 reply_of facts caller (op.AddBlock path last) rows = added_to facts.token caller facts.blocks last facts.now (replication_at (row_at path rows))
 reply_of facts caller (op.Complete path last) rows = reply.Closed (bytes_behind_at last (row_at path rows))
-reply_of facts caller (op.Open path) rows = opened facts.token caller facts.blocks (blocks_at (row_at path rows))
+reply_of facts caller (op.Open path) rows = opened_reply facts.token caller facts.blocks (blocks_of_row (row_at path rows))
 reply_of facts caller (op.RollKey key) rows = serial_reply facts.next_serial
 reply_of facts caller op.Tick rows = reply.Expired (record { closed = length (expired_files facts rows); recovering = length (begun_in facts rows) })
 reply_of facts caller op.Heartbeat rows = heartbeat_reply facts caller (node_of caller)
@@ -227,15 +227,15 @@ made_at path mode owner (Some row) rows = rows
 -- the rows with what stands at a path given another mode, or another owner and group
 abbrev pub with_mode_at : List (List ℕ) → ℕ → Option Row → List Row → List Row
 with_mode_at path mode None rows = rows
-with_mode_at path mode (Some row) rows = rewritten path (change.List (with_mode mode row.kind row.acl)) rows
+with_mode_at path mode (Some row) rows = row_rewritten path (change.List (with_mode mode row.kind row.acl)) rows
 
 abbrev pub with_owner_at : List (List ℕ) → Option (List ℕ) → Option (List ℕ) → Option Row → List Row → List Row
 with_owner_at path owner group None rows = rows
-with_owner_at path owner group (Some row) rows = rewritten path (change.Owner (unwrap_or owner row.owner) (unwrap_or group row.group)) rows
+with_owner_at path owner group (Some row) rows = row_rewritten path (change.Owner (unwrap_or owner row.owner) (unwrap_or group row.group)) rows
 
 -- the rows with the access control list of what stands at a path changed
 abbrev pub with_list_at : List (List ℕ) → Result Acl Refusal → List Row → List Row
-with_list_at path (Ok acl) rows = rewritten path (change.List acl) rows
+with_list_at path (Ok acl) rows = row_rewritten path (change.List acl) rows
 with_list_at path (Err refusal) rows = rows
 
 abbrev pub with_acl_at : List (List ℕ) → AclChange → Option Row → List Row → List Row
@@ -245,17 +245,17 @@ with_acl_at path form (Some row) rows = with_list_at path (acl_change form row.k
 abbrev pub rows_after : Facts → Op → List ℕ → List Row → List Row
 rows_after facts (op.Mkdirs path mode) caller rows = made_at path mode caller (row_at path rows) rows
 rows_after facts (op.Delete path recursive) caller rows = without path rows
-rows_after facts (op.Rename from to) caller rows = moved from to rows
+rows_after facts (op.Rename from to) caller rows = with_rows_moved from to rows
 rows_after facts (op.SetMode path mode) caller rows = with_mode_at path mode (row_at path rows) rows
 rows_after facts (op.SetOwner path owner group) caller rows = with_owner_at path owner group (row_at path rows) rows
 rows_after facts (op.SetAcl path change) caller rows = with_acl_at path change (row_at path rows) rows
 rows_after facts (op.Create path mode replication over) caller rows = with_new path mode (Some (new_file replication caller)) caller (ancestor path rows) rows
 rows_after facts (op.Append path) caller rows =
-    rewritten path (change.State (state_after_append facts.blocks facts.now caller (holder_at (row_at path rows)) (unfinished_at (row_at path rows)))) rows
+    row_rewritten path (change.State (state_after_append facts.blocks facts.now caller (holder_at (row_at path rows)) (unfinished_at (row_at path rows)))) rows
 rows_after facts (op.AddBlock path last) caller rows = with_block_at path last facts.blocks.known.next_block rows
 rows_after facts (op.Complete path last) caller rows = ended_at path last rows
-rows_after facts (op.SetReplication path replication) caller rows = rewritten path (change.Replication replication) rows
-rows_after facts op.Tick caller rows = map (ticked facts (begun_in facts rows)) rows
+rows_after facts (op.SetReplication path replication) caller rows = row_rewritten path (change.Replication replication) rows
+rows_after facts op.Tick caller rows = map (row_ticked facts (begun_in facts rows)) rows
 rows_after facts (op.CommitRecovery recovered) caller rows = recovery_ended recovered.block recovered.length rows
 rows_after facts _ caller rows = rows
 

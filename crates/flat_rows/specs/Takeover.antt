@@ -13,14 +13,14 @@ use Rattle.hdfs_types.specs.declared.reply.Refusal.TheVariants.{LeaseHeld, Recov
 use Rattle.hdfs_types.specs.declared.reply.Reply.{Reply}
 use Rattle.hdfs_types.specs.declared.reply.Reply.TheVariants as reply
 use Rattle.recovery_queue.specs.declared.begun.BegunRecovery.{BegunRecovery}
-use Rattle.block_map.specs.BlockFacts.{BlockFacts, refused_recovery}
+use Rattle.block_map.specs.BlockFacts.{Blocks, refused_recovery}
 use Rattle.block_map.specs.BlockEffects.{recoveries_begun}
 use Rattle.namespace_rows.specs.declared.file_row.FileRow.{FileRow}
 use Rattle.namespace_rows.specs.declared.row.Row.{Row}
 use Rattle.namespace_rows.specs.declared.row.Change.TheVariants as change
-use Rattle.namespace_rows.specs.Files.{unfinished}
+use Rattle.namespace_rows.specs.Files.{unfinished_block}
 use Rattle.flat_rows.specs.BlockOutcome.{refused_by}
-use Rattle.flat_rows.specs.Changes.{changed}
+use Rattle.flat_rows.specs.Changes.{with_change}
 use Rattle.flat_rows.specs.Facts.{Facts}
 use Rattle.flat_rows.specs.declared.takeover.Sought.{Sought}
 
@@ -28,21 +28,21 @@ use Rattle.flat_rows.specs.declared.takeover.Sought.{Sought}
 
 abbrev pub unfinished_of : Option FileRow → Option ℕ
 unfinished_of None = None
-unfinished_of (Some file) = unfinished file.blocks
+unfinished_of (Some file) = unfinished_block file.blocks
 
 abbrev pub unfinished_at : Option Row → Option ℕ
 unfinished_at None = None
 unfinished_at (Some row) = unfinished_of row.file
 
 -- a stamp has to be left, and a node that is to hold the block to be live
-abbrev pub refused_taking : BlockFacts → ℕ → Option ℕ → Option Refusal
+abbrev pub refused_taking : Blocks → ℕ → Option ℕ → Option Refusal
 refused_taking blocks now None = None
 refused_taking blocks now (Some block) = refused_by (refused_recovery blocks block now)
 
 -- a file that is taken is closed, or its last block is recovered from now on under the next stamp
-abbrev pub taken : BlockFacts → ℕ → Option ℕ → FileState
-taken blocks now None = Closed
-taken blocks now (Some block) = Recovering block blocks.known.next_stamp now
+abbrev pub taken_state : Blocks → ℕ → Option ℕ → FileState
+taken_state blocks now None = Closed
+taken_state blocks now (Some block) = Recovering block blocks.known.next_stamp now
 
 -- ---- an append
 
@@ -54,20 +54,20 @@ refused_state facts caller block (Open holder) =
     if same caller holder || facts.leases.is_live holder then Some (LeaseHeld holder) else refused_taking facts.blocks facts.now block
 
 abbrev pub refused_append : Facts → List ℕ → FileRow → Option Refusal
-refused_append facts caller file = refused_state facts caller (unfinished file.blocks) file.state
+refused_append facts caller file = refused_state facts caller (unfinished_block file.blocks) file.state
 
-abbrev pub taken_reply : BlockFacts → Option ℕ → Reply
+abbrev pub taken_reply : Blocks → Option ℕ → Reply
 taken_reply blocks None = reply.Released
 taken_reply blocks (Some block) = reply.Recovering block blocks.known.next_stamp
 
 -- who appends to a closed file, which has no holder, has it open; one that another had open is taken from him
-abbrev pub appended_reply : BlockFacts → Option (List ℕ) → Option ℕ → Reply
+abbrev pub appended_reply : Blocks → Option (List ℕ) → Option ℕ → Reply
 appended_reply blocks None block = reply.Empty
 appended_reply blocks (Some holder) block = taken_reply blocks block
 
-abbrev pub state_after_append : BlockFacts → ℕ → List ℕ → Option (List ℕ) → Option ℕ → FileState
+abbrev pub state_after_append : Blocks → ℕ → List ℕ → Option (List ℕ) → Option ℕ → FileState
 state_after_append blocks now caller None block = Open caller
-state_after_append blocks now caller (Some holder) block = taken blocks now block
+state_after_append blocks now caller (Some holder) block = taken_state blocks now block
 
 -- ---- a tick
 
@@ -79,7 +79,7 @@ sought_by_state is_past is_overdue block (Recovering own stamp begun) = if is_ov
 
 abbrev pub sought_of : (List ℕ → Bool) → (ℕ → Bool) → Option FileRow → Option Sought
 sought_of is_past is_overdue None = None
-sought_of is_past is_overdue (Some file) = sought_by_state is_past is_overdue (unfinished file.blocks) file.state
+sought_of is_past is_overdue (Some file) = sought_by_state is_past is_overdue (unfinished_block file.blocks) file.state
 
 -- the stamp under which the recovery of a block begins, if it does
 abbrev pub stamp_in : List BegunRecovery → ℕ → Option ℕ
@@ -87,11 +87,11 @@ stamp_in begun block = last_or None (map (λ own. own.stamp) (filter (λ own. ow
 
 abbrev pub recovering_from : ℕ → ℕ → Option ℕ → Row → Row
 recovering_from now block None row = row
-recovering_from now block (Some stamp) row = changed (change.State (Recovering block stamp now)) row
+recovering_from now block (Some stamp) row = with_change (change.State (Recovering block stamp now)) row
 
 -- a recovery that can't begin is passed over
 abbrev pub with_begun : List BegunRecovery → ℕ → Option ℕ → Row → Row
-with_begun begun now None row = changed (change.State Closed) row
+with_begun begun now None row = with_change (change.State Closed) row
 with_begun begun now (Some block) row = recovering_from now block (stamp_in begun block) row
 
 abbrev pub taken_row : List BegunRecovery → ℕ → Option Sought → Row → Row
@@ -122,5 +122,5 @@ expired_files facts rows = filter (λ file. not (is_some file.block)) (all_sough
 abbrev pub begun_in : Facts → List Row → List BegunRecovery
 begun_in facts rows = recoveries_begun facts.blocks (sought_blocks facts rows) facts.now
 
-abbrev pub ticked : Facts → List BegunRecovery → Row → Row
-ticked facts begun row = taken_row begun facts.now (sought_in facts row) row
+abbrev pub row_ticked : Facts → List BegunRecovery → Row → Row
+row_ticked facts begun row = taken_row begun facts.now (sought_in facts row) row

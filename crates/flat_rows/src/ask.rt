@@ -116,7 +116,7 @@ fn rows_in_role<'a>(
 }
 
 fn holds(condition: &Condition, path: &[Name], rows: &[Row]) -> bool
-    ensures { result ≡ spec.holds condition.now path.now rows.now }
+    ensures { result ≡ spec.condition_holds condition.now path.now rows.now }
 {
     match condition {
         Condition::Always => true,

@@ -15,7 +15,7 @@ use std::alloc::{AllocError, Global};
 /// Who asks for an operation: to be a superuser is of no use for one that is for DataNodes alone. Costs a look-up of the user, and
 /// takes no memory.
 pub fn asking<'a>(users: &'a Users, caller: &'a Who, op: &Op) -> Caller<'a>
-    ensures { result ≡ spec.asking users.now caller.now op.now }
+    ensures { result ≡ spec.asking_caller users.now caller.now op.now }
 {
     let asking = users.caller(caller);
     if is_for_nodes(op) {

@@ -1,5 +1,5 @@
 ghost use Rattle.std.specs.Prelude.{◌≡◌, false, Some, IfOk};
-ghost use Rattle.flat_rows.specs.Denial.{IsDenied, deciding, denial_at};
+ghost use Rattle.flat_rows.specs.Denial.{IsDenied, need_decided, denial_at};
 
 use hdfs_values::groups::{Groups, has_group};
 use hdfs_values::node_id::node_of;
@@ -56,7 +56,7 @@ impl Model for Denial {
 /// Whether a need is met at the row, for a caller with these groups who is no superuser; `above` is the owner of the
 /// directory that holds it. Costs the caller's groups, and takes no memory.
 pub fn is_met(need: &Need, row: &Row, above: &Who, caller: &Who, groups: &[Who]) -> bool
-    ensures { result ≡ (deciding need.now row.now above.now caller.now groups.now).granted }
+    ensures { result ≡ (need_decided need.now row.now above.now caller.now groups.now).granted }
 {
     match need {
         Need::Rights(rights) => row.judged(caller, groups, *rights).is_granted(),
@@ -76,7 +76,7 @@ pub fn by_of(
     caller: &Who,
     groups: &[Who],
 ) -> Result<By, AllocError>
-    ensures { IfOk result (λ by. by ≡ (deciding need.now row.now above.now caller.now groups.now).by) }
+    ensures { IfOk result (λ by. by ≡ (need_decided need.now row.now above.now caller.now groups.now).by) }
 {
     match need {
         Need::Rights(rights) => {
@@ -100,7 +100,7 @@ fn cause_at(
     caller: &Who,
     groups: &[Who],
 ) -> Result<Cause, AllocError>
-    ensures { IfOk result (λ cause. cause ≡ record { need = need.now; by = (deciding need.now row.now above.now caller.now groups.now).by; caller = caller.now; groups = groups.now }) }
+    ensures { IfOk result (λ cause. cause ≡ record { need = need.now; by = (need_decided need.now row.now above.now caller.now groups.now).by; caller = caller.now; groups = groups.now }) }
 {
     Ok(Cause {
         caller: caller.clone()?,

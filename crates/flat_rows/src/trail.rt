@@ -51,7 +51,7 @@ impl fmt::Display for Judged {
 
 /// What decided about a need, and whether it is met.
 fn decided(caller: &Caller, ask: &Ask) -> Result<(By, bool), AllocError>
-    ensures { IfOk result (λ what. spec.decided caller.now ask.now ≡ record { by = what.0; granted = what.1 }) }
+    ensures { IfOk result (λ what. spec.ask_decided caller.now ask.now ≡ record { by = what.0; granted = what.1 }) }
 {
     if caller.is_superuser() {
         return Ok((By::Superuser, true));
@@ -63,7 +63,7 @@ fn decided(caller: &Caller, ask: &Ask) -> Result<(By, bool), AllocError>
 }
 
 fn judge(caller: &Caller, ask: &Ask) -> Result<Judged, AllocError>
-    ensures { IfOk result (λ judged. judged ≡ spec.judged caller.now ask.now) }
+    ensures { IfOk result (λ judged. judged ≡ spec.ask_judged caller.now ask.now) }
 {
     let path = ask.row().path.clone()?;
     let need = ask.need().clone()?;
@@ -81,7 +81,7 @@ fn judged_up_to_denied(
     caller: &Caller,
     asks: &[Ask],
 ) -> Result<Vec<Judged>, AllocError>
-    ensures { IfOk result (λ needs. needs.items ≡ spec.up_to_denied (map (spec.judged caller.now) asks.now)) }
+    ensures { IfOk result (λ needs. needs.items ≡ spec.up_to_denied (map (spec.ask_judged caller.now) asks.now)) }
 {
     let mut needs = Vec::new(alloc);
     for ask in asks {

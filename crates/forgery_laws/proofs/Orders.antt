@@ -6,7 +6,7 @@ use Rattle.permission_specs.specs.Modes.{modes}
 use Rattle.block_records.specs.declared.last_block.LastBlock.{LastBlock}
 use Rattle.block_copies.specs.declared.transfer.Transfer.{Transfer}
 use Rattle.node_orders.specs.declared.recovery.Recovery.{Recovery}
-use Rattle.block_tokens.specs.Ring.{Ring, grant_of}
+use Rattle.block_tokens.specs.Ring.{KeyRing, grant_of}
 use Rattle.grant_ledger.specs.declared.ledger.LedgerRow.{LedgerRow}
 use Rattle.hdfs_values.specs.NodeId.{node_of}
 use Rattle.hdfs_types.specs.Commands.{Commands}
@@ -22,7 +22,7 @@ use Rattle.namespace_rows.specs.declared.row.Row.{Row}
 use Rattle.namespace_rows.specs.Rows.{row_at}
 use Rattle.principals.specs.Users.{Users}
 use Rattle.block_map.specs.BlockFacts.{recoveries_for, transfers_for}
-use Rattle.block_map.specs.BlockEffects.{beaten}
+use Rattle.block_map.specs.BlockEffects.{with_node_heard}
 use Rattle.flat_rows.specs.BlockOutcome.{added_to, replication_at}
 use Rattle.flat_rows.specs.Decision.{decision}
 use Rattle.flat_rows.specs.Denial as denied
@@ -34,7 +34,7 @@ use Rattle.flat_rows.specs.Takeover.{unfinished_at, appended_reply}
 use Rattle.flat_rows.specs.declared.verdict.Verdict.{Verdict}
 use Rattle.flat_rows.specs.declared.verdict.Verdict.TheVariants.{Done, Denied, Refused}
 use Rattle.history.specs.Config as name
-use Rattle.history.specs.Grants.{Access, granted_with, row_of, rows_granted}
+use Rattle.history.specs.Grants.{BlockModes, granted_with, ledger_row, rows_granted}
 use Rattle.history.specs.Keys.{ring_of}
 use Rattle.history.specs.LegalHistory.{now_at, verdict_of}
 use Rattle.history.specs.State.{rows_of, users_of, facts_of}
@@ -84,8 +84,8 @@ heartbeat_tells : (facts : Facts) (principal : List ℕ) (node : Option ℕ) →
 heartbeat_tells facts principal None = tt
 heartbeat_tells facts principal (Some node) = (
   refl,
-  each_map (λ (recovery : Recover). recovery.token ≡ facts.token principal recovery.block (modes 2)) (recover_command facts.token principal) (λ (recovery : Recovery). refl) (recoveries_for (beaten facts.blocks node facts.now) node),
-  each_map (λ (copy : CopyOrder). copy.token ≡ facts.token principal copy.block (modes 3)) (copy_command facts.token principal) (λ (copy : Transfer). refl) (transfers_for (beaten facts.blocks node facts.now) facts.now node),
+  each_map (λ (recovery : Recover). recovery.token ≡ facts.token principal recovery.block (modes 2)) (recover_command facts.token principal) (λ (recovery : Recovery). refl) (recoveries_for (with_node_heard facts.blocks node facts.now) node),
+  each_map (λ (copy : CopyOrder). copy.token ≡ facts.token principal copy.block (modes 3)) (copy_command facts.token principal) (λ (copy : Transfer). refl) (transfers_for (with_node_heard facts.blocks node facts.now) facts.now node),
 )
 
 reply_tells : (facts : Facts) (caller : List ℕ) (what : Op) (rows : List Row) → TellsTokens facts.token caller what (reply_of facts caller what rows)
@@ -124,18 +124,18 @@ abbrev pub TellsGranted : List LedgerRow → Verdict → Type 0
 TellsGranted rows (Done (reply.Commands commands)) = CommandsGranted rows commands
 TellsGranted rows _ = ⊤
 
-module _ (place : ℕ) (ring : Ring) (now : ℕ) (caller : List ℕ) where
+module _ (place : ℕ) (ring : KeyRing) (now : ℕ) (caller : List ℕ) where
   abbrev token_in : Tokens
   token_in user block access = (grant_of ring now user block access).token
 
-  abbrev copied : CopyOrder → Access
+  abbrev copied : CopyOrder → BlockModes
   copied copy = record { block = copy.block; modes = modes 3 }
 
-  abbrev led : Recover → Access
+  abbrev led : Recover → BlockModes
   led recovery = record { block = recovery.block; modes = modes 2 }
 
-  abbrev row_in : Access → LedgerRow
-  row_in own = row_of place ring now caller own
+  abbrev row_in : BlockModes → LedgerRow
+  row_in own = ledger_row place ring now caller own
 
   lead_granted : (commands : Commands) (recovery : Recover) → IsIn recovery commands.recoveries → recovery.token ≡ token_in caller recovery.block (modes 2)
       → IsTokenOf (map row_in (granted_with commands)) recovery.token

@@ -18,14 +18,14 @@ use Rattle.node_words.specs.Words.{behind, token_at, token_word, next_word, byte
 use Rattle.node_calls.specs.declared.presented.Presented.{Presented}
 use Rattle.cluster_trace.specs.DataCall.{DataCall, BeginWrite, Packet, Finalize, Read, Decide, Commit}
 use Rattle.cluster_trace.specs.Provenance.{IsIn}
-use Rattle.cluster_trace.specs.Trace.{Opening, after}
+use Rattle.cluster_trace.specs.Trace.{ClusterOpening, after}
 use Rattle.cluster_trace.specs.declared.event.Event.{Event}
 use Rattle.cluster_trace.proofs.Each.{some_is, never_some}
 use Rattle.cluster_core.specs.World.{state_after}
-use Rattle.cluster_text.specs.EventLine.{is_call, place_of, presented_of, begin_of, packet_of, finalize_of, read_of, going_on, is_that, led_of, call_of, asker_of, asked_by, node_event, is_delivery, delivery_event, names_node, event_of}
-use Rattle.forgery_laws.specs.Forgeries.{IsTokenOf, Shows, PresentsOf, AllPresentGranted, ScriptsForgeNothing}
+use Rattle.cluster_text.specs.EventLine.{is_call, place_words, presented_of, begin_of, packet_of, finalize_of, read_of, going_on, is_that, led_of, data_call_of, node_asker_of, call_event, node_event, is_delivery, delivery_event, names_node, event_of}
+use Rattle.forgery_laws.specs.Forgeries.{IsTokenOf, PresentsGrantedToken, PresentsOf, AllPresentGranted, ScriptsForgeNothing}
 use Rattle.forgery_laws.proofs.Sent.{nothing_is_forged}
-use Rattle.cluster_runs.specs.Output.{State, no_lines, ledger_after, answered, event_in, after_answer, after_line}
+use Rattle.cluster_runs.specs.Output.{State, no_lines, ledger_after, line_answered, event_in, after_answer, after_line}
 
 -- ---- what a word says, and then what is made of it
 
@@ -64,7 +64,7 @@ token_has rows word = by (option_and_then number_of (behind 35 word))
 
 module _ (rows : List LedgerRow) where
   abbrev CallShows : DataCall → Type 0
-  CallShows asked = Shows rows asked
+  CallShows asked = PresentsGrantedToken rows asked
 
   presented_has : (caller : List ℕ) (at : _) (token : List ℕ) → IfOk (presented_of rows caller at token) (λ presented. IsTokenOf rows presented.token)
   presented_has caller at token = then_uses (λ (presented : Presented). IsTokenOf rows presented.token) (IsTokenOf rows) (token_word rows token) _ (token_has rows token) (λ t h. h)
@@ -76,20 +76,20 @@ module _ (rows : List LedgerRow) where
 
   begin_has : (caller block stamp next token : List ℕ) → IfOk (begin_of rows caller block stamp next token) CallShows
   begin_has caller block stamp next token =
-      then_has CallShows (place_of block stamp) _ (λ at. then_has CallShows (next_word next) _ (λ n. last_has caller at token (λ p. BeginWrite p n) (λ p h. h)))
+      then_has CallShows (place_words block stamp) _ (λ at. then_has CallShows (next_word next) _ (λ n. last_has caller at token (λ p. BeginWrite p n) (λ p h. h)))
 
   packet_has : (caller block stamp offset bytes next token : List ℕ) → IfOk (packet_of rows caller block stamp offset bytes next token) CallShows
   packet_has caller block stamp offset bytes next token =
-      then_has CallShows (place_of block stamp) _ (λ at. then_has CallShows (number_word offset) _ (λ o. then_has CallShows (bytes_word bytes) _ (λ b. then_has CallShows (next_word next) _ (λ n.
+      then_has CallShows (place_words block stamp) _ (λ at. then_has CallShows (number_word offset) _ (λ o. then_has CallShows (bytes_word bytes) _ (λ b. then_has CallShows (next_word next) _ (λ n.
       last_has caller at token (λ p. Packet p o b n) (λ p h. h)))))
 
   finalize_has : (caller block stamp count next token : List ℕ) → IfOk (finalize_of rows caller block stamp count next token) CallShows
   finalize_has caller block stamp count next token =
-      then_has CallShows (place_of block stamp) _ (λ at. then_has CallShows (number_word count) _ (λ c. then_has CallShows (next_word next) _ (λ n. last_has caller at token (λ p. Finalize p c n) (λ p h. h))))
+      then_has CallShows (place_words block stamp) _ (λ at. then_has CallShows (number_word count) _ (λ c. then_has CallShows (next_word next) _ (λ n. last_has caller at token (λ p. Finalize p c n) (λ p h. h))))
 
   read_has : (caller block stamp offset count token : List ℕ) → IfOk (read_of rows caller block stamp offset count token) CallShows
   read_has caller block stamp offset count token =
-      then_has CallShows (place_of block stamp) _ (λ at. then_has CallShows (number_word offset) _ (λ o. then_has CallShows (number_word count) _ (λ c. last_has caller at token (λ p. Read p o c) (λ p h. h))))
+      then_has CallShows (place_words block stamp) _ (λ at. then_has CallShows (number_word offset) _ (λ o. then_has CallShows (number_word count) _ (λ c. last_has caller at token (λ p. Read p o c) (λ p h. h))))
 
   five_has : (finalizes : Bool) (caller block stamp number next token : List ℕ)
       → IfOk (if finalizes then finalize_of rows caller block stamp number next token else read_of rows caller block stamp number next token) CallShows
@@ -97,7 +97,7 @@ module _ (rows : List LedgerRow) where
   five_has false caller block stamp number next token = read_has caller block stamp number next token
 
   going_on_has : (verb block stamp : List ℕ) → IfOk (going_on verb block stamp) CallShows
-  going_on_has verb block stamp = then_has CallShows (place_of block stamp) _ (λ at. by at.block at.stamp (same verb (codes "decide")))
+  going_on_has verb block stamp = then_has CallShows (place_words block stamp) _ (λ at. by at.block at.stamp (same verb (codes "decide")))
     where
       by : (b s : ℕ) (decides : Bool) → CallShows (if decides then Decide b s else Commit b s)
       by b s true = tt
@@ -110,7 +110,7 @@ module _ (rows : List LedgerRow) where
       by true = going_on_has verb block stamp
       by false = tt
 
-  call_has : (asker : _) (verb : List ℕ) (words : List (List ℕ)) → IfOk (call_of rows asker verb words) CallShows
+  call_has : (asker : _) (verb : List ℕ) (words : List (List ℕ)) → IfOk (data_call_of rows asker verb words) CallShows
   call_has asker verb [] = tt
   call_has asker verb (a ∷ []) = tt
   call_has asker verb (a ∷ b ∷ []) = led_has asker verb a b
@@ -122,12 +122,12 @@ module _ (rows : List LedgerRow) where
 
   -- ---- events
 
-  asked_has : (asker : _) (verb : List ℕ) (words : List (List ℕ)) → IfOk (asked_by rows asker verb words) (PresentsOf rows)
-  asked_has asker verb words = then_uses (PresentsOf rows) CallShows (call_of rows asker verb words) _ (call_has asker verb words) (λ call h. h)
+  asked_has : (asker : _) (verb : List ℕ) (words : List (List ℕ)) → IfOk (call_event rows asker verb words) (PresentsOf rows)
+  asked_has asker verb words = then_uses (PresentsOf rows) CallShows (data_call_of rows asker verb words) _ (call_has asker verb words) (λ call h. h)
 
   data_has : (is : Bool) (moment caller node verb : List ℕ) (words : List (List ℕ))
-      → IfOk (if is then (asker_of moment caller node >>= (λ asker. asked_by rows asker verb words)) else Err BadLine) (PresentsOf rows)
-  data_has true moment caller node verb words = then_has (PresentsOf rows) (asker_of moment caller node) _ (λ asker. asked_has asker verb words)
+      → IfOk (if is then (node_asker_of moment caller node >>= (λ asker. call_event rows asker verb words)) else Err BadLine) (PresentsOf rows)
+  data_has true moment caller node verb words = then_has (PresentsOf rows) (node_asker_of moment caller node) _ (λ asker. asked_has asker verb words)
   data_has false moment caller node verb words = tt
 
   node_has : (moment caller node : List ℕ) (words : List (List ℕ)) → IfOk (node_event rows moment caller node words) (PresentsOf rows)
@@ -154,14 +154,14 @@ module _ (rows : List LedgerRow) where
 
 -- ---- lines
 
-opening_stays : (opening : Opening) (events : List Event) → (after opening events).opening ≡ opening.name
+opening_stays : (opening : ClusterOpening) (events : List Event) → (after opening events).opening ≡ opening.name
 opening_stays opening [] = refl
 opening_stays opening (event ∷ earlier) = opening_stays opening earlier
 
 abbrev Granted : State → Type 0
 Granted state = AllPresentGranted state.past.opening state.past.events
 
-answer_granted : (state : State) (said : Result Event IllFormed) → IfOk said (PresentsOf (ledger_after state.past)) → Granted state → Granted (after_answer state (answered state.past said))
+answer_granted : (state : State) (said : Result Event IllFormed) → IfOk said (PresentsOf (ledger_after state.past)) → Granted state → Granted (after_answer state (line_answered state.past said))
 answer_granted state (Err fault) has granted = granted
 answer_granted state (Ok event) has granted = (
   subst (λ (opening : name.Opening). PresentsOf (ledger_of opening (state_after state.past).entries) event) (sym (opening_stays state.past.opening state.past.events)) has,
@@ -171,7 +171,7 @@ answer_granted state (Ok event) has granted = (
 line_granted : (state : State) (line : List ℕ) → Granted state → Granted (after_line state line)
 line_granted state line granted = by (is_skipped (without_return line))
   where
-    by : (skipped : Bool) → Granted (if skipped then record state { number = state.number + 1 } else after_answer state (answered state.past (event_in state.past (without_return line))))
+    by : (skipped : Bool) → Granted (if skipped then record state { number = state.number + 1 } else after_answer state (line_answered state.past (event_in state.past (without_return line))))
     by true = granted
     by false = answer_granted state (event_in state.past (without_return line)) (event_has (ledger_after state.past) (words_of (without_return line))) granted
 

@@ -33,14 +33,14 @@ use Rattle.node_replies.specs.Asking.{asked_by, sends_copy}
 use Rattle.node_replies.specs.Sending.{call_sends, forward, to_primary}
 use Rattle.replicas.specs.ReplicaStep.{held_at, removal_refusal}
 use Rattle.replicas.specs.declared.held.Held.{Held}
-use Rattle.datanode.specs.NodeStep.{Node, node_answer, presented_answer, told_by, removal_told, clock_with, call_refusal}
+use Rattle.datanode.specs.NodeStep.{DataNode, node_answer, presented_answer, told_by, removal_told, clock_with, call_refusal}
 use Rattle.block_recovery.specs.Plans.{PlanTable, plan_at, new_plan, with_answer, with_decision, with_updated}
 use Rattle.block_recovery.specs.declared.fault.PlanRefusal.{PlanRefusal}
 use Rattle.block_recovery.specs.declared.plan.Plan.{Plan}
-use Rattle.plan_steps.specs.PlanStep.{recover_of, plan_refusal, answer_of, plans_with, left_unless, plans_after, no_plan, decided, presenting, to_each, plan_sends, told_unless, plan_answer}
+use Rattle.plan_steps.specs.PlanStep.{recover_of, plan_refusal, answer_of, plans_with, left_unless, plans_after, no_plan, decision_there, presented_by_leader, to_each, plan_sends, told_unless, plan_answer}
 use Rattle.cluster_trace.specs.DataCall.{DataCall, as_message, BeginWrite, Packet, Finalize, Read, Decide, Commit}
 use Rattle.cluster_trace.specs.Provenance.{call_brought, call_of}
-use Rattle.cluster_trace.specs.Trace.{State, Opening, Happened, start, with_no_plan, lost, named, entry_of, called, called_at, led, led_at, delivered, message_at, reporting, committing, is_from_outside, recover_message, removal_message, copy_message, command_messages, told_messages, sent_by, happened, left_by, after}
+use Rattle.cluster_trace.specs.Trace.{Cluster, ClusterOpening, Happened, start, with_no_plan, event_lost, request_named, entry_of, node_called, called_at, leader_called, led_at, message_delivered, message_at, report_request, commit_request, is_from_outside, recover_message, removal_message, copy_message, command_messages, told_messages, sent_by, event_happened, left_by, after}
 use Rattle.cluster_trace.specs.declared.event.Event.{Event}
 use Rattle.cluster_trace.specs.declared.event.Event.TheVariants.{Name, Deliver, Data}
 use Rattle.cluster_trace.specs.declared.outcome.ClusterRefusal.{ClusterRefusal}
@@ -49,7 +49,7 @@ use Rattle.cluster_trace.proofs.Each.{some_is, each_append, each_more, each_map,
 use Rattle.cluster_trace.proofs.EachPlan.{EachPlan, plan_has, with_plan_has, changed_has}
 use Rattle.cluster_trace.proofs.Sound.{message_brings}
 use Rattle.cluster_laws.specs.Laws.{IsForgery, PresentsForged}
-use Rattle.forgery_laws.specs.Forgeries.{IsTokenOf, Shows, granted_in, PresentsOf, AllPresentGranted, ClientsAloneForge}
+use Rattle.forgery_laws.specs.Forgeries.{IsTokenOf, PresentsGrantedToken, granted_in, PresentsOf, AllPresentGranted, ClientsAloneForge}
 use Rattle.forgery_laws.proofs.Members.{in_behind, each_of_map}
 use Rattle.forgery_laws.proofs.Orders.{CommandsGranted, TellsGranted, request_granted}
 
@@ -96,7 +96,7 @@ module _ (rows : List LedgerRow) where
   sends_show node presented (call.SendCopy to) held h = (h, tt)
   sends_show node presented (call.TakeCopy bytes) held h = (tt, tt)
 
-  presented_shows : (node : Node) (clock : ℕ) (own : Presented) (asked : TokenCall) → IsTokenOf rows own.token → AllByRecursion (MessageShows rows) (presented_answer node clock own asked).messages
+  presented_shows : (node : DataNode) (clock : ℕ) (own : Presented) (asked : TokenCall) → IsTokenOf rows own.token → AllByRecursion (MessageShows rows) (presented_answer node clock own asked).messages
   unfolding presented_answer
   presented_shows node clock own asked h = by (call_refusal node clock own asked)
     where
@@ -109,7 +109,7 @@ module _ (rows : List LedgerRow) where
   own_shows node own true h = h
   own_shows node own false h = h
 
-  answer_shows : (node : Node) (now : ℕ) (asked : NodeCall) → CallShows rows asked → AllByRecursion (MessageShows rows) (node_answer node now asked).messages
+  answer_shows : (node : DataNode) (now : ℕ) (asked : NodeCall) → CallShows rows asked → AllByRecursion (MessageShows rows) (node_answer node now asked).messages
   unfolding node_answer
   answer_shows node now (Presenting own asked) h = presented_shows node (clock_with node now) (asked_by node.id own asked) asked (own_shows node.id own (sends_copy asked) h)
   answer_shows node now (Keys update) h = tt
@@ -128,14 +128,14 @@ module _ (rows : List LedgerRow) where
   each_shows presented asked nodes h = each_map (MessageShows rows) (λ (node : ℕ). message.Node node (Presenting presented asked)) (λ (node : ℕ). h) nodes
 
   plan_sends_show : (leader : ℕ) (asked : PlanCall) (plans : PlanTable) → EachPlan PlanHas plans → PlanCallShows rows asked → AllByRecursion (MessageShows rows) (plan_sends leader asked plans)
-  plan_sends_show leader (plan.Recover block stamp nodes token) plans all h = each_shows (presenting leader block stamp token) call.InitRecovery nodes h
+  plan_sends_show leader (plan.Recover block stamp nodes token) plans all h = each_shows (presented_by_leader leader block stamp token) call.InitRecovery nodes h
   plan_sends_show leader (plan.Reply node block stamp state bytes) plans all h = tt
   plan_sends_show leader (plan.Decide block stamp) plans all h = by (plan_at block stamp plans) (λ own e. plan_has PlanHas block stamp plans own all e)
     where
       by : (found : Option Plan) → ((own : Plan) → found ≡ Some own → PlanHas own)
-          → AllByRecursion (MessageShows rows) (to_each (presenting leader block stamp (unwrap_or found no_plan).token) (call.UpdateReplica (decided (unwrap_or found no_plan)).length) (decided (unwrap_or found no_plan)).nodes)
+          → AllByRecursion (MessageShows rows) (to_each (presented_by_leader leader block stamp (unwrap_or found no_plan).token) (call.UpdateReplica (decision_there (unwrap_or found no_plan)).length) (decision_there (unwrap_or found no_plan)).nodes)
       by None has = tt
-      by (Some own) has = each_shows (presenting leader block stamp own.token) (call.UpdateReplica (decided own).length) (decided own).nodes (has own refl)
+      by (Some own) has = each_shows (presented_by_leader leader block stamp own.token) (call.UpdateReplica (decision_there own).length) (decision_there own).nodes (has own refl)
   plan_sends_show leader (plan.Updated node block stamp) plans all h = tt
   plan_sends_show leader (plan.Commit block stamp) plans all h = (tt, tt)
 
@@ -226,25 +226,25 @@ told_more front rows _ granted = tt
 abbrev PlansShow : List LedgerRow → List (ℕ × PlanTable) → Type 0
 PlansShow rows plans = AllValues (EachPlan (PlanHas rows)) plans
 
-record Keeps (state : State) (what : Happened) : Type 0 where
+record Keeps (state : Cluster) (what : Happened) : Type 0 where
   sent : AllByRecursion (MessageShows (ledger_of state.opening what.entries)) what.sent
   plans : PlansShow (ledger_of state.opening what.entries) what.plans
   more : (token : List ℕ) → IsTokenOf (granted_in state) token → IsTokenOf (ledger_of state.opening what.entries) token
 
-record AllShow (state : State) : Type 0 where
+record AllShow (state : Cluster) : Type 0 where
   messages : AllByRecursion (MessageShows (granted_in state)) state.messages
   plans : PlansShow (granted_in state) state.plans
 
-left_shows : (state : State) (what : Happened) → AllShow state → Keeps state what → AllShow (left_by state what)
+left_shows : (state : Cluster) (what : Happened) → AllShow state → Keeps state what → AllShow (left_by state what)
 left_shows state what all keeps = record {
   messages = each_append (MessageShows (ledger_of state.opening what.entries)) state.messages what.sent (messages_more (granted_in state) (ledger_of state.opening what.entries) keeps.more state.messages all.messages) keeps.sent;
   plans = keeps.plans;
 }
 
-lost_keeps : (state : State) (refusal : ClusterRefusal) → AllShow state → Keeps state (lost state refusal)
+lost_keeps : (state : Cluster) (refusal : ClusterRefusal) → AllShow state → Keeps state (event_lost state refusal)
 lost_keeps state refusal all = record { sent = tt; plans = all.plans; more = λ token h. h }
 
-named_keeps : (state : State) (request : Request) → AllShow state → Keeps state (named state request)
+named_keeps : (state : Cluster) (request : Request) → AllShow state → Keeps state (request_named state request)
 named_keeps state request all =
     let before = granted_in state in
     let verdict = verdict_of state.opening state.entries request in
@@ -255,14 +255,14 @@ named_keeps state request all =
       more = token_more before rows;
     }
 
-called_keeps : (state : State) (id now : ℕ) (asked : NodeCall) → AllShow state → CallShows (granted_in state) asked → Keeps state (called state id now asked)
+called_keeps : (state : Cluster) (id now : ℕ) (asked : NodeCall) → AllShow state → CallShows (granted_in state) asked → Keeps state (node_called state id now asked)
 called_keeps state id now asked all shows = by (entry_at id state.nodes)
   where
-    by : (found : Option Node) → Keeps state (called_at state id now asked found)
+    by : (found : Option DataNode) → Keeps state (called_at state id now asked found)
     by None = lost_keeps state NoNode all
     by (Some node) = record { sent = answer_shows (granted_in state) node now asked shows; plans = all.plans; more = λ token h. h }
 
-led_keeps : (state : State) (id : ℕ) (asked : PlanCall) → AllShow state → PlanCallShows (granted_in state) asked → Keeps state (led state id asked)
+led_keeps : (state : Cluster) (id : ℕ) (asked : PlanCall) → AllShow state → PlanCallShows (granted_in state) asked → Keeps state (leader_called state id asked)
 led_keeps state id asked all shows = by (entry_at id state.plans) (λ own e. values_at (EachPlan (PlanHas (granted_in state))) state.plans id own all.plans e)
   where
     by : (found : Option PlanTable) → ((own : PlanTable) → found ≡ Some own → EachPlan (PlanHas (granted_in state)) own) → Keeps state (led_at state id asked found)
@@ -273,15 +273,15 @@ led_keeps state id asked all shows = by (entry_at id state.plans) (λ own e. val
       more = λ token h. h;
     }
 
-delivered_keeps : (state : State) (now : ℕ) (found : Option Message) → AllShow state → ((own : Message) → found ≡ Some own → MessageShows (granted_in state) own) → Keeps state (delivered state now found)
+delivered_keeps : (state : Cluster) (now : ℕ) (found : Option Message) → AllShow state → ((own : Message) → found ≡ Some own → MessageShows (granted_in state) own) → Keeps state (message_delivered state now found)
 delivered_keeps state now None all shows = lost_keeps state NoMessage all
 delivered_keeps state now (Some (message.Node node asked)) all shows = called_keeps state node now asked all (shows (message.Node node asked) refl)
 delivered_keeps state now (Some (message.Plan node asked)) all shows = led_keeps state node asked all (shows (message.Plan node asked) refl)
-delivered_keeps state now (Some (message.Reported node block stamp bytes)) all shows = named_keeps state (reporting node now block stamp bytes) all
-delivered_keeps state now (Some (message.CommitRecovery node block stamp bytes nodes)) all shows = named_keeps state (committing node now block stamp bytes nodes) all
+delivered_keeps state now (Some (message.Reported node block stamp bytes)) all shows = named_keeps state (report_request node now block stamp bytes) all
+delivered_keeps state now (Some (message.CommitRecovery node block stamp bytes nodes)) all shows = named_keeps state (commit_request node now block stamp bytes nodes) all
 
 -- what is asked from outside shows what its client presents
-outside_shows : (rows : List LedgerRow) (node : ℕ) (asked : DataCall) → Shows rows asked → MessageShows rows (as_message node asked)
+outside_shows : (rows : List LedgerRow) (node : ℕ) (asked : DataCall) → PresentsGrantedToken rows asked → MessageShows rows (as_message node asked)
 outside_shows rows node (BeginWrite presented next) h = h
 outside_shows rows node (Packet presented offset bytes next) h = h
 outside_shows rows node (Finalize presented count next) h = h
@@ -289,13 +289,13 @@ outside_shows rows node (Read presented offset count) h = h
 outside_shows rows node (Decide block stamp) h = tt
 outside_shows rows node (Commit block stamp) h = tt
 
-shows_as : (rows : List LedgerRow) (node : ℕ) (asked : DataCall) → Shows rows asked → (own : Message) → Some (as_message node asked) ≡ Some own → MessageShows rows own
+shows_as : (rows : List LedgerRow) (node : ℕ) (asked : DataCall) → PresentsGrantedToken rows asked → (own : Message) → Some (as_message node asked) ≡ Some own → MessageShows rows own
 shows_as rows node asked h own e = subst (MessageShows rows) (some_is (as_message node asked) own e) (outside_shows rows node asked h)
 
-event_keeps : (state : State) (event : Event) → AllShow state → PresentsOf (granted_in state) event → Keeps state (happened state event)
+event_keeps : (state : Cluster) (event : Event) → AllShow state → PresentsOf (granted_in state) event → Keeps state (event_happened state event)
 event_keeps state (Name request) all presents = by (is_from_outside request.op)
   where
-    by : (b : Bool) → Keeps state (cond b (named state request) (lost state NotFromOutside))
+    by : (b : Bool) → Keeps state (cond b (request_named state request) (event_lost state NotFromOutside))
     by true = named_keeps state request all
     by false = lost_keeps state NotFromOutside all
 event_keeps state (Deliver number now) all presents =
@@ -306,27 +306,27 @@ start_plans : (rows : List LedgerRow) (ids : List ℕ) (plans : List (ℕ × Pla
 start_plans rows [] plans all = all
 start_plans rows (id ∷ ids) plans all = start_plans rows ids (with_no_plan plans id) (values_inserted (EachPlan (PlanHas rows)) plans id [] all tt)
 
-all_show : (opening : Opening) (events : List Event) → AllPresentGranted opening events → AllShow (after opening events)
+all_show : (opening : ClusterOpening) (events : List Event) → AllPresentGranted opening events → AllShow (after opening events)
 all_show opening [] presents = record { messages = tt; plans = start_plans (granted_in (start opening)) opening.nodes [] tt }
 all_show opening (event ∷ earlier) presents =
     let all = all_show opening earlier presents.1 in
-    left_shows (after opening earlier) (happened (after opening earlier) event) all (event_keeps (after opening earlier) event all presents.0)
+    left_shows (after opening earlier) (event_happened (after opening earlier) event) all (event_keeps (after opening earlier) event all presents.0)
 
 -- ---- nothing is forged
 
-granted_is_right : (state : State) (asked : NodeCall) → CallShows (granted_in state) asked → PresentsForged state asked → ⊥
+granted_is_right : (state : Cluster) (asked : NodeCall) → CallShows (granted_in state) asked → PresentsForged state asked → ⊥
 granted_is_right state (Presenting presented asked) h forged = forged.not_granted h.0 h.1 h.2
 granted_is_right state (Invalidate block stamp) h forged = forged
 granted_is_right state (Keys update) h forged = forged
 
-message_is_right : (state : State) (now : ℕ) (found : Option Message) → ((own : Message) → found ≡ Some own → MessageShows (granted_in state) own) → IsForgery state (call_brought now found) → ⊥
+message_is_right : (state : Cluster) (now : ℕ) (found : Option Message) → ((own : Message) → found ≡ Some own → MessageShows (granted_in state) own) → IsForgery state (call_brought now found) → ⊥
 message_is_right state now None shows forged = forged
 message_is_right state now (Some (message.Node node asked)) shows forged = granted_is_right state asked (shows (message.Node node asked) refl) forged
 message_is_right state now (Some (message.Plan node asked)) shows forged = forged
 message_is_right state now (Some (message.Reported node block stamp bytes)) shows forged = forged
 message_is_right state now (Some (message.CommitRecovery node block stamp bytes nodes)) shows forged = forged
 
-event_is_right : (state : State) (event : Event) → AllShow state → PresentsOf (granted_in state) event → IsForgery state (call_of state event) → ⊥
+event_is_right : (state : Cluster) (event : Event) → AllShow state → PresentsOf (granted_in state) event → IsForgery state (call_of state event) → ⊥
 event_is_right state (Name request) all presents forged = forged
 event_is_right state (Deliver number now) all presents forged =
     message_is_right state now (message_at number state.messages) (λ own e. message_brings (MessageShows (granted_in state)) state.messages number own all.messages e) forged

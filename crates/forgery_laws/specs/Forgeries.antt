@@ -4,7 +4,7 @@ use Rattle.std.specs.Bool.{⊤}
 use Rattle.grant_ledger.specs.declared.ledger.LedgerRow.{LedgerRow}
 use Rattle.history.specs.Grants.{ledger_of}
 use Rattle.cluster_trace.specs.DataCall.{DataCall, BeginWrite, Packet, Finalize, Read, Decide, Commit}
-use Rattle.cluster_trace.specs.Trace.{State, Opening, after}
+use Rattle.cluster_trace.specs.Trace.{Cluster, ClusterOpening, after}
 use Rattle.cluster_trace.specs.Provenance.{IsIn}
 use Rattle.cluster_trace.specs.declared.event.Event.{Event}
 use Rattle.cluster_trace.specs.declared.event.Event.TheVariants.{Name, Deliver, Data}
@@ -16,32 +16,32 @@ abbrev pub IsTokenOf : List LedgerRow → List ℕ → Type 0
 IsTokenOf rows token = (row : LedgerRow) × IsIn row rows × (row.grant.token ≡ token)
 
 -- the NameNode granted the token that a client presents; a node that goes on with a recovery presents none
-abbrev pub Shows : List LedgerRow → DataCall → Type 0
-Shows rows (BeginWrite presented next) = IsTokenOf rows presented.token
-Shows rows (Packet presented offset bytes next) = IsTokenOf rows presented.token
-Shows rows (Finalize presented count next) = IsTokenOf rows presented.token
-Shows rows (Read presented offset count) = IsTokenOf rows presented.token
-Shows rows (Decide block stamp) = ⊤
-Shows rows (Commit block stamp) = ⊤
+abbrev pub PresentsGrantedToken : List LedgerRow → DataCall → Type 0
+PresentsGrantedToken rows (BeginWrite presented next) = IsTokenOf rows presented.token
+PresentsGrantedToken rows (Packet presented offset bytes next) = IsTokenOf rows presented.token
+PresentsGrantedToken rows (Finalize presented count next) = IsTokenOf rows presented.token
+PresentsGrantedToken rows (Read presented offset count) = IsTokenOf rows presented.token
+PresentsGrantedToken rows (Decide block stamp) = ⊤
+PresentsGrantedToken rows (Commit block stamp) = ⊤
 
 -- what was granted so far
-abbrev pub granted_in : State → List LedgerRow
+abbrev pub granted_in : Cluster → List LedgerRow
 granted_in state = ledger_of state.opening state.entries
 
 -- what a client presents himself is among them
 abbrev pub PresentsOf : List LedgerRow → Event → Type 0
 PresentsOf rows (Name request) = ⊤
 PresentsOf rows (Deliver number now) = ⊤
-PresentsOf rows (Data node now asked) = Shows rows asked
+PresentsOf rows (Data node now asked) = PresentsGrantedToken rows asked
 
 -- at each event
-abbrev pub AllPresentGranted : Opening → List Event → Type 0
+abbrev pub AllPresentGranted : ClusterOpening → List Event → Type 0
 AllPresentGranted opening [] = ⊤
 AllPresentGranted opening (event ∷ earlier) = PresentsOf (granted_in (after opening earlier)) event × AllPresentGranted opening earlier
 
 -- over every list of events
 abbrev pub ClientsAloneForge : Type 0
-ClientsAloneForge = (opening : Opening) (events : List Event) → AllPresentGranted opening events → NothingIsForged opening events
+ClientsAloneForge = (opening : ClusterOpening) (events : List Event) → AllPresentGranted opening events → NothingIsForged opening events
 
 -- no line of a script presents a forged token, and no message brings one: a line names a token by its row in the ledger
 abbrev pub ScriptsForgeNothing : Type 0

@@ -140,7 +140,7 @@ fn listed(
     path: &Path,
     component: &Component,
 ) -> Result<Vec<Name>, AllocError>
-    ensures { IfOk result (λ names. names.items ≡ spec.listed path.now (Some component.now) tree.now) }
+    ensures { IfOk result (λ names. names.items ≡ spec.listed_names path.now (Some component.now) tree.now) }
 {
     match component.inode().kind() {
         ObjectKind::Directory => copies(alloc, &tree.children(path)?),

@@ -7,9 +7,9 @@ use Rattle.hdfs_values.specs.declared.fault.IllFormed.{IllFormed}
 use Rattle.script_words.specs.Words.{without_return, is_skipped}
 use Rattle.script_runs.proofs.Lines.{fold_step}
 use Rattle.cluster_trace.specs.declared.event.Event.{Event}
-use Rattle.cluster_core.specs.Past.{Past}
+use Rattle.cluster_core.specs.Past.{World}
 use Rattle.script_hints.specs.Hints.{fault_in}
-use Rattle.cluster_runs.specs.Output.{State, Numbered, ledger_after, no_lines, answered, event_in, after_answer, after_line, after_lines, behind_lines}
+use Rattle.cluster_runs.specs.Output.{State, Numbered, ledger_after, no_lines, line_answered, event_in, after_answer, after_line, after_lines, behind_lines}
 use Rattle.cluster_runs.specs.Shown.{Shows}
 use Rattle.cluster_runs.specs.declared.session.Session.{Session}
 use Rattle.hdfs_cli.specs.Hinted.{NumberedFault, faults_at, bad_at, bad_answers}
@@ -17,12 +17,12 @@ use Rattle.hdfs_cli.specs.Hinted.{NumberedFault, faults_at, bad_at, bad_answers}
 -- ---- one line more
 
 one_answer : (state : State) (said : Result Event IllFormed)
-    → bad_answers (after_answer state (answered state.past said)).answers ≡ bad_answers state.answers ++ faults_at (state.number + 1) (result_err said)
+    → bad_answers (after_answer state (line_answered state.past said)).answers ≡ bad_answers state.answers ++ faults_at (state.number + 1) (result_err said)
 one_answer state (Ok event) = filter_map-append (λ (numbered : Numbered). bad_at numbered.number numbered.answer) state.answers _
 one_answer state (Err fault) = filter_map-append (λ (numbered : Numbered). bad_at numbered.number numbered.answer) state.answers _
 
 abbrev after_said : State → Bool → Result Event IllFormed → State
-after_said state skipped said = if skipped then record state { number = state.number + 1 } else after_answer state (answered state.past said)
+after_said state skipped said = if skipped then record state { number = state.number + 1 } else after_answer state (line_answered state.past said)
 
 bad_said : (state : State) (skipped : Bool) (said : Result Event IllFormed)
     → bad_answers (after_said state skipped said).answers ≡ bad_answers state.answers ++ faults_at (state.number + 1) (if skipped then None else result_err said)
@@ -66,6 +66,6 @@ module _ (lines : List (Bor (List ℕ))) (i : ℕ) (d : Bor (List ℕ)) (within 
       added
       ∙ ap (λ before. before ++ faults_at (old.number + 1) (fault_in (ledger_after old.world) line)) found
       ∙ ap (λ n. bad_answers state.answers ++ faults_at (n + 1) (fault_in (ledger_after old.world) line)) shows.number
-      ∙ ap (λ (past : Past). bad_answers state.answers ++ faults_at (state.number + 1) (fault_in (ledger_after past) line)) shows.world
+      ∙ ap (λ (past : World). bad_answers state.answers ++ faults_at (state.number + 1) (fault_in (ledger_after past) line)) shows.world
       ∙ sym (bad_more state line)
       ∙ ap (λ (s : State). bad_answers s.answers) one_more

@@ -6,3 +6,4 @@ pub mod Spelling
 pub mod Beneath
 pub mod Nodes
 pub mod ShortTexts
+pub mod Cuts

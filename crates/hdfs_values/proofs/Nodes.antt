@@ -7,7 +7,7 @@ use Rattle.std.specs.Str.Parse.{digits_value}
 use Rattle.std.proofs.lemmas.Bool.Decides.{nat_tests}
 use Rattle.std.proofs.lemmas.Fmt.{digits_decimal, digits_value-decimal, decimal-digits_value, decimal_nonempty, first_decimal}
 use Rattle.hdfs_values.specs.Text.{same}
-use Rattle.hdfs_values.specs.Number.{number_of, is_number}
+use Rattle.hdfs_values.specs.Number.{number_of, is_number_text}
 use Rattle.hdfs_values.specs.NodeId.{is_node_id, node_principal, node_of}
 use Rattle.hdfs_values.proofs.Numbers.{numerals}
 use Rattle.hdfs_values.proofs.Texts.{same_is, same_self}
@@ -65,7 +65,7 @@ pub canonical : (ds : List ℕ) (id : ℕ) → false ≡ eqb (get_or ds 0 0) 48 
 canonical ds id test spelled =
     let some : get_or ds 0 0 ≢ 48 = grind (arith, nat_tests, test) in
     let parts = guard_some _ _ _ spelled in
-    let tests = both (is_number ds) _ parts.0 in
+    let tests = both (is_number_text ds) _ parts.0 in
     let filled : 0 < length ds = grind (arith, nat_tests, tests.0) in
     let digits : list_all is_ascii_digit ds ≡ true = grind (arith, nat_tests, tests.0) in
     let small : digits_value 10 ds < 18446744073709551616 = grind (arith, nat_tests, tests.1) in

@@ -1,8 +1,8 @@
 -- The order of texts that stand before zeros is that of all the bytes, and then that of the lengths; and the order of lists of bytes
 -- is that of the words of eight of their bytes, the first byte highest.
 use Rattle.std.proofs.Common.{◌≡◌, ◌≢◌, ℕ, zero, suc, ◌+◌, ◌-◌, ◌*◌, ◌<◌, ◌≤◌, List, [], ◌∷◌, ◌++◌, length, take, drop, replicate, refl, sym, ap, subst, ◌∙◌, arith, Fits, w8}
-use Rattle.std.proofs.Math.ListN.{get_or}
-use Rattle.std.proofs.lemmas.List.{length-append, length-replicate, length-take-le, take-append-drop, length-drop, take_all, get_or-drop}
+use Rattle.std.proofs.Math.ListN.{get_or, drop_of_length-le}
+use Rattle.std.proofs.lemmas.List.{length-append, length-replicate, length-take-le, take-append-drop, length-drop, get_or-drop, drop-drop}
 use Rattle.std.specs.Cmp.{ranks, nat_cmp_is}
 use Rattle.std.specs.Cmp.Lexicographic.{slice_cmp}
 use Rattle.std.specs.Ordering.{nat_cmp, ordering_then, ordering_index, MatchOrdering}
@@ -157,25 +157,28 @@ module _ (n x y : ℕ) (us vs : List ℕ) (p : n ≤ length us) (q : n ≤ lengt
 later : (i : ℕ) (xs : List ℕ) → Bytes xs → Bytes (drop i xs)
 later i xs g = λ k. subst (Fits w8) (sym (get_or-drop i xs k 0)) (g (i + k))
 
--- two lists of 14 bytes, by their words at 0 and at 6
+-- two lists of 14 bytes, by their words of eight, four and two bytes
 module _ (xs ys : List ℕ) (p : length xs ≡ 14) (q : length ys ≡ 14) (g : Bytes xs) (h : Bytes ys) where
-  abbrev IsAt : ℕ → ℕ → ℕ → Type 0
-  IsAt i x y = (x ≡ big_endian 0 (take 8 (drop i xs))) × (y ≡ big_endian 0 (take 8 (drop i ys)))
+  abbrev IsAt : ℕ → ℕ → ℕ → ℕ → Type 0
+  IsAt i n x y = (x ≡ big_endian 0 (take n (drop i xs))) × (y ≡ big_endian 0 (take n (drop i ys)))
 
-  pub at_first : (x y : ℕ) → IsAt 0 x y → (x ≢ y) → nat_cmp x y ≡ slice_cmp nat_cmp xs ys
-  at_first x y at = spelt_apart 8 x y xs ys (omega arith) (omega arith) g h at.0 at.1
+  -- words that differ decide how the bytes from there on compare
+  pub differ_at : (i n x y : ℕ) → i + n ≤ 14 → IsAt i n x y → (x ≢ y) → nat_cmp x y ≡ slice_cmp nat_cmp (drop i xs) (drop i ys)
+  differ_at i n x y l at = spelt_apart n x y (drop i xs) (drop i ys) (omega (arith, length-drop i xs)) (omega (arith, length-drop i ys)) (later i xs g) (later i ys h) at.0 at.1
 
-  pub past_first : (x y : ℕ) → IsAt 0 x y → x ≡ y → slice_cmp nat_cmp (drop 6 xs) (drop 6 ys) ≡ slice_cmp nat_cmp xs ys
-  past_first x y at e =
-      behind 6 8 xs ys (omega arith) (omega arith) (omega arith) (spelt_alike 8 x y xs ys (omega arith) (omega arith) g h at.0 at.1 e)
+  -- behind words that are alike those decide that follow
+  pub past_at : (i n x y : ℕ) → i + n ≤ 14 → IsAt i n x y → x ≡ y → slice_cmp nat_cmp (drop (i + n) xs) (drop (i + n) ys) ≡ slice_cmp nat_cmp (drop i xs) (drop i ys)
+  past_at i n x y l at e =
+      let alike = spelt_alike n x y (drop i xs) (drop i ys) (omega (arith, length-drop i xs)) (omega (arith, length-drop i ys)) (later i xs g) (later i ys h) at.0 at.1 e in
+      (λ t. slice_cmp nat_cmp (sym (drop-drop n i xs) t) (sym (drop-drop n i ys) t))
+      ∙ behind n n (drop i xs) (drop i ys) (omega arith) (omega (arith, length-drop i xs)) (omega (arith, length-drop i ys)) alike
 
-  pub at_last : (x y : ℕ) → IsAt 6 x y → nat_cmp x y ≡ slice_cmp nat_cmp (drop 6 xs) (drop 6 ys)
-  at_last x y at =
-      spelt 8 x y (drop 6 xs) (drop 6 ys) (omega (arith, length-drop 6 xs)) (omega (arith, length-drop 6 ys)) (later 6 xs g) (later 6 ys h) at.0 at.1
-      ∙ (λ i. slice_cmp nat_cmp (take_all 8 (drop 6 xs) (omega (arith, length-drop 6 xs)) i) (take_all 8 (drop 6 ys) (omega (arith, length-drop 6 ys)) i))
-
-  pub past_last : (x y : ℕ) → IsAt 6 x y → x ≡ y → slice_cmp nat_cmp (drop 6 xs) (drop 6 ys) ≡ Equal
-  past_last x y at e = sym (at_last x y at) ∙ level x y e
+  -- behind all bytes nothing is left to decide
+  pub past_all : slice_cmp nat_cmp (drop 14 xs) (drop 14 ys) ≡ Equal
+  past_all =
+      let own : drop 14 xs ≡ [] = drop_of_length-le xs {i = 14} (omega arith) in
+      let others : drop 14 ys ≡ [] = drop_of_length-le ys {i = 14} (omega arith) in
+      λ t. slice_cmp nat_cmp (own t) (others t)
 
 -- texts of n and m bytes before zeros, as they stand
 pub held_order : (n m : ℕ) (xs ys : List ℕ) → length xs ≡ 14 → length ys ≡ 14 → n ≤ 14 → m ≤ 14

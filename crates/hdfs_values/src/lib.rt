@@ -10,6 +10,7 @@ pub mod name;
 pub mod node_id;
 pub mod number;
 pub mod path;
+pub mod pieces;
 pub mod replication;
 mod short_text;
 pub mod who;

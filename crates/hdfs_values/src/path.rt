@@ -12,6 +12,7 @@ ghost use Rattle.std.specs.Ordering.{as_partial_cmp};
 
 use crate::fault::{IllFormed, ParseFault};
 use crate::name::{Name, is_name};
+use crate::pieces::cut_at;
 use std::alloc::{AllocError, Global};
 use std::cmp::Ordering;
 use std::fmt;
@@ -70,7 +71,14 @@ fn piece_count(text: &str) -> usize
 fn are_names(text: &str) -> bool
     ensures { result ≡ list_all is_name (slice_split is_slash text.now) }
 {
-    text.split('/').all(|piece| is_name(piece))
+    let mut rest = text;
+    while let Some((piece, behind)) = cut_at(rest, b'/') {
+        if !is_name(piece) {
+            return false;
+        }
+        rest = behind;
+    }
+    is_name(rest)
 }
 
 /// Whether a text, which is a slash with `rest` behind it, is that of a path other than the root. Takes no memory.
@@ -87,9 +95,12 @@ fn names_in(alloc: Global, text: &str) -> Result<Vec<Name>, AllocError>
     ensures { IfOk result (λ names. names.items ≡ slice_split is_slash text.now) }
 {
     let mut names = Vec::with_capacity(alloc, piece_count(text))?;
-    for piece in text.split('/') {
+    let mut rest = text;
+    while let Some((piece, behind)) = cut_at(rest, b'/') {
         names.push(Name::copied(alloc, piece)?)?;
+        rest = behind;
     }
+    names.push(Name::copied(alloc, rest)?)?;
     Ok(names)
 }
 

@@ -42,21 +42,30 @@ impl Model for ShortText {
     ghost invariant = { λ text. IsHeld text.held };
 }
 
-/// The eight bytes from a place on as a number, the first one highest.
-fn word(bytes: &[u8], at: usize) -> u64
-    requires { at + 8 ≤ length bytes.now }
-    ensures { result ≡ big_endian 0 (chunk at 8 bytes.now) }
+/// The eight bytes at the beginning as a number, the first one highest.
+fn first_eight(bytes: &[u8]) -> u64
+    requires { 8 ≤ length bytes.now }
+    ensures { result ≡ big_endian 0 (chunk 0 8 bytes.now) }
 {
     u64::from_be_bytes([
-        bytes[at],
-        bytes[at + 1],
-        bytes[at + 2],
-        bytes[at + 3],
-        bytes[at + 4],
-        bytes[at + 5],
-        bytes[at + 6],
-        bytes[at + 7],
+        bytes[0], bytes[1], bytes[2], bytes[3], bytes[4], bytes[5], bytes[6], bytes[7],
     ])
+}
+
+/// The four bytes behind the first eight as a number, the first one highest.
+fn next_four(bytes: &[u8]) -> u64
+    requires { 12 ≤ length bytes.now }
+    ensures { result ≡ big_endian 0 (chunk 8 4 bytes.now) }
+{
+    u64::from(u32::from_be_bytes([bytes[8], bytes[9], bytes[10], bytes[11]]))
+}
+
+/// The two bytes behind the first twelve as a number, the first one higher.
+fn last_two(bytes: &[u8]) -> u64
+    requires { 14 ≤ length bytes.now }
+    ensures { result ≡ big_endian 0 (chunk 12 2 bytes.now) }
+{
+    u64::from(u16::from_be_bytes([bytes[12], bytes[13]]))
 }
 
 /// The order of two numbers that differ. Each branch ends in an answer of its own, from which a search goes on at once.
@@ -71,18 +80,22 @@ fn unequal(own: u64, others: u64) -> Ordering
     }
 }
 
-/// The order of two texts that stand within their values, by words of their bytes; the last word overlaps the one before. The zeros
-/// behind a text are below all that stands there in another, unless that is zeros too: then the shorter text is the lower one.
+/// The order of two texts that stand within their values, by words of their bytes. No byte is in two words: so each word is one load. The
+/// zeros behind a text are below all that stands there in another, unless that is zeros too: then the shorter text is the lower one.
 fn order(own: &[u8], own_length: u8, others: &[u8], others_length: u8) -> Ordering
     requires own { length own.now ≡ 14 }
     requires others { length others.now ≡ 14 }
     ensures { result ≡ ordering_then (text_cmp own.now others.now) (nat_cmp own_length others_length) }
 {
-    let (first, others_first) = (word(own, 0), word(others, 0));
+    let (first, others_first) = (first_eight(own), first_eight(others));
     if first != others_first {
         return unequal(first, others_first);
     }
-    let (last, others_last) = (word(own, 6), word(others, 6));
+    let (next, others_next) = (next_four(own), next_four(others));
+    if next != others_next {
+        return unequal(next, others_next);
+    }
+    let (last, others_last) = (last_two(own), last_two(others));
     if last != others_last {
         return unequal(last, others_last);
     }

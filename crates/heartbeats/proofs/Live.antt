@@ -15,7 +15,7 @@ use Rattle.block_records.specs.Numbers.{is_number, entry_at}
 use Rattle.block_records.proofs.Ascending.{above_lower, lacks_lower, kept_ascending}
 use Rattle.block_records.proofs.Entries.{found_keys}
 use Rattle.block_records.proofs.Numbers.{number_is}
-use Rattle.heartbeats.specs.Live.{Heartbeats, beaten, is_recent, is_live, live_nodes}
+use Rattle.heartbeats.specs.Live.{Heartbeats, with_heartbeat, is_recent, is_live, live_nodes}
 
 -- the keys of those entries that pass a test ascend
 pub kept_increasing : (keep : ℕ × ℕ → Bool) (entries : List (ℕ × ℕ)) → IsStrictlySortedBy nat_cmp (keys_of entries) → IsStrictlyIncreasing (keys_of (filter keep entries))
@@ -74,16 +74,16 @@ abbrev pub is_own_or_recent : ℕ → ℕ → ℕ → ℕ × ℕ → Bool
 is_own_or_recent node dead now entry = (entry.0 == node) || is_recent dead now (Some entry.1)
 
 pub live_behind : (nodes : Heartbeats) (node now : ℕ) → IsStrictlySortedBy nat_cmp (keys_of nodes.last) → IsSome (entry_at node nodes.last)
-    → keys_of (filter (is_own_or_recent node nodes.dead now) nodes.last) ≡ live_nodes (beaten nodes node now) now
+    → keys_of (filter (is_own_or_recent node nodes.dead now) nodes.last) ≡ live_nodes (with_heartbeat nodes node now) now
 live_behind nodes node now up known =
-    found_keys (is_own_or_recent node nodes.dead now) (is_live (beaten nodes node now) now) nodes.last up each
-    ∙ ap (filter (is_live (beaten nodes node now) now)) (sym (keys_behind node now nodes.last up known))
+    found_keys (is_own_or_recent node nodes.dead now) (is_live (with_heartbeat nodes node now) now) nodes.last up each
+    ∙ ap (filter (is_live (with_heartbeat nodes node now) now)) (sym (keys_behind node now nodes.last up known))
   where
     by : (moment : ℕ) (b : Bool) → (b || is_recent nodes.dead now (Some moment)) ≡ is_recent nodes.dead now (cond b (Some now) (Some moment))
     by moment true = sym (now_is_recent nodes.dead now)
     by moment false = refl
 
-    each : (entry : ℕ × ℕ) → entry_at entry.0 nodes.last ≡ Some entry.1 → is_own_or_recent node nodes.dead now entry ≡ is_live (beaten nodes node now) now entry.0
+    each : (entry : ℕ × ℕ) → entry_at entry.0 nodes.last ≡ Some entry.1 → is_own_or_recent node nodes.dead now entry ≡ is_live (with_heartbeat nodes node now) now entry.0
     each entry is =
         ap (λ b. b || is_recent nodes.dead now (Some entry.1)) (unsigned_ties entry.0 node)
         ∙ by entry.1 (is_number entry.0 node)

@@ -14,8 +14,8 @@ pub record Heartbeats : Type 0 where
   -- the nodes that ever sent a heartbeat, by their ids, each with the moment of the last
   pub last : List (ℕ × ℕ)
 
-abbrev pub beaten : Heartbeats → ℕ → ℕ → Heartbeats
-beaten nodes node now = record nodes { last = insert_entry nat_cmp nodes.last node now }
+abbrev pub with_heartbeat : Heartbeats → ℕ → ℕ → Heartbeats
+with_heartbeat nodes node now = record nodes { last = insert_entry nat_cmp nodes.last node now }
 
 -- ---- live nodes
 
@@ -32,17 +32,17 @@ live_nodes nodes now = filter (is_live nodes now) (keys_of nodes.last)
 
 -- ---- the node that was heard of last
 
-abbrev pub last_of : Heartbeats → ℕ → ℕ
-last_of nodes node = unwrap_or (entry_at node nodes.last) 0
+abbrev pub last_heard : Heartbeats → ℕ → ℕ
+last_heard nodes node = unwrap_or (entry_at node nodes.last) 0
 
 -- a node was heard of later than another, or as late and has the lower id
-abbrev pub is_ahead : Heartbeats → ℕ → ℕ → Bool
-is_ahead nodes node other = nat_lt (last_of nodes other) (last_of nodes node) || ((last_of nodes other == last_of nodes node) && nat_lt node other)
+abbrev pub is_heard_later : Heartbeats → ℕ → ℕ → Bool
+is_heard_later nodes node other = nat_lt (last_heard nodes other) (last_heard nodes node) || ((last_heard nodes other == last_heard nodes node) && nat_lt node other)
 
 -- no node of these is ahead of it
-abbrev pub leads : Heartbeats → List ℕ → ℕ → Bool
-leads nodes some node = not (list_any (λ other. is_ahead nodes other node) some)
+abbrev pub is_heard_last : Heartbeats → List ℕ → ℕ → Bool
+is_heard_last nodes some node = not (list_any (λ other. is_heard_later nodes other node) some)
 
 -- of some nodes the live one that no other live one is ahead of
 abbrev pub primary_of : Heartbeats → ℕ → List ℕ → Option ℕ
-primary_of nodes now some = find (leads nodes (filter (is_live nodes now) some)) (filter (is_live nodes now) some)
+primary_of nodes now some = find (is_heard_last nodes (filter (is_live nodes now) some)) (filter (is_live nodes now) some)

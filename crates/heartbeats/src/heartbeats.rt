@@ -46,7 +46,7 @@ impl Heartbeats {
     /// # Errors
     /// Out of memory, which only a node's first heartbeat can meet. Nothing has changed then.
     pub fn beat(&mut self, node: NodeId, now: Moment) -> Result<(), AllocError>
-        ensures ok { OnOk result (self.new ≡ spec.beaten self.old node now) }
+        ensures ok { OnOk result (self.new ≡ spec.with_heartbeat self.old node now) }
         ensures err { OnErr result (self.new ≡ self.old) }
     {
         self.last.insert(node, now)?;
@@ -111,7 +111,7 @@ impl Heartbeats {
 
     // The nodes that are live behind the first heartbeat of a node.
     fn live_behind_first(&self, node: NodeId, now: Moment) -> Result<NodeSet, AllocError>
-        ensures { IfOk result (λ nodes. nodes ≡ spec.live_nodes (spec.beaten self.now node now) now) }
+        ensures { IfOk result (λ nodes. nodes ≡ spec.live_nodes (spec.with_heartbeat self.now node now) now) }
     {
         let mut behind = Heartbeats {
             dead: self.dead,
@@ -125,7 +125,7 @@ impl Heartbeats {
     // The nodes that are live behind a heartbeat of a node that sent one before.
     fn live_behind_another(&self, node: NodeId, now: Moment) -> Result<NodeSet, AllocError>
         requires { IsSome (entry_at node self.now.last) }
-        ensures { IfOk result (λ nodes. nodes ≡ spec.live_nodes (spec.beaten self.now node now) now) }
+        ensures { IfOk result (λ nodes. nodes ≡ spec.live_nodes (spec.with_heartbeat self.now node now) now) }
     {
         // its contract tells that the keys ascend
         let _count = self.last.len();
@@ -139,7 +139,7 @@ impl Heartbeats {
     /// # Errors
     /// Out of memory.
     pub fn live_behind(&self, node: NodeId, now: Moment) -> Result<NodeSet, AllocError>
-        ensures { IfOk result (λ nodes. nodes ≡ spec.live_nodes (spec.beaten self.now node now) now) }
+        ensures { IfOk result (λ nodes. nodes ≡ spec.live_nodes (spec.with_heartbeat self.now node now) now) }
     {
         if self.last.contains_key(&node) {
             self.live_behind_another(node, now)
@@ -150,7 +150,7 @@ impl Heartbeats {
 
     // The moment of a node's last heartbeat; 0 where it sent none.
     fn last_of(&self, node: NodeId) -> u64
-        ensures { result ≡ spec.last_of self.now node }
+        ensures { result ≡ spec.last_heard self.now node }
     {
         match self.last.get(&node) {
             Some(last) => last.milliseconds(),
@@ -160,7 +160,7 @@ impl Heartbeats {
 
     // Whether a node was heard of later than another, or as late and has the lower id.
     fn is_ahead(&self, node: NodeId, other: NodeId) -> bool
-        ensures { result ≡ spec.is_ahead self.now node other }
+        ensures { result ≡ spec.is_heard_later self.now node other }
     {
         let (own, others) = (self.last_of(node), self.last_of(other));
         others < own || others == own && node < other
@@ -168,7 +168,7 @@ impl Heartbeats {
 
     // Whether none of these nodes is ahead of one.
     fn leads(&self, node: NodeId, nodes: &[NodeId]) -> bool
-        ensures { result ≡ spec.leads self.now nodes.now node }
+        ensures { result ≡ spec.is_heard_last self.now nodes.now node }
     {
         for other in nodes {
             if self.is_ahead(*other, node) {
@@ -204,7 +204,7 @@ impl Heartbeats {
 
 // The first of these nodes that no other of them is ahead of.
 fn first_that_leads(beats: &Heartbeats, nodes: &[NodeId]) -> Option<NodeId>
-    ensures { result ≡ find (spec.leads beats.now nodes.now) nodes.now }
+    ensures { result ≡ find (spec.is_heard_last beats.now nodes.now) nodes.now }
 {
     nodes.iter().copied().find(|node| beats.leads(*node, nodes))
 }

@@ -7,7 +7,7 @@ use Rattle.std.specs.Ordering.{is_lt, is_gt}
 use Rattle.hdfs_values.specs.Path.{is_prefix}
 use Rattle.hdfs_values.specs.PathOrder.{path_cmp}
 use Rattle.namespace_rows.specs.declared.row.Row.{Row}
-use Rattle.namespace_rows.specs.Rows.{is_before, is_beyond, replaced}
+use Rattle.namespace_rows.specs.Rows.{is_before, is_beyond, rows_replaced}
 use Rattle.flat_rows.specs.Changes.{rows_under, without}
 use Rattle.namespace_rows.proofs.Tests.{both}
 use Rattle.namespace_rows.proofs.PathOrders.{starts_upto, tied_starts}
@@ -103,7 +103,7 @@ module _ (p : Row → Bool) where
   one_side Greater true upto tied = absurd (differ (upto refl))
   one_side Greater false upto tied = refl
 
-  pub count_replaced : (path : List (List ℕ)) (block rows : List Row) → count p (replaced path block rows) + count p (rows_under path rows) ≡ count p block + count p rows
+  pub count_replaced : (path : List (List ℕ)) (block rows : List Row) → count p (rows_replaced path block rows) + count p (rows_under path rows) ≡ count p block + count p rows
   count_replaced path block rows =
       total (count p (filter (is_before path) rows)) (count p block) (count p (filter (is_beyond path) rows)) (count p (rows_under path rows)) (count p rows) (count p (block ++ filter (is_beyond path) rows)) _
       (count_append (filter (is_before path) rows) (block ++ filter (is_beyond path) rows)) (count_append block (filter (is_beyond path) rows))

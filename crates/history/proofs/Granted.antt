@@ -7,7 +7,7 @@ use Rattle.hdfs_types.specs.declared.op.Op.{Op}
 use Rattle.hdfs_types.specs.declared.op.Op.TheVariants as op
 use Rattle.hdfs_types.specs.declared.reply.Reply.{Reply}
 use Rattle.hdfs_types.specs.declared.reply.Reply.TheVariants as reply
-use Rattle.block_tokens.specs.Ring.{Ring}
+use Rattle.block_tokens.specs.Ring.{KeyRing}
 use Rattle.grant_ledger.specs.declared.ledger.LedgerRow.{LedgerRow}
 use Rattle.flat_rows.specs.declared.verdict.Verdict.{Verdict}
 use Rattle.flat_rows.specs.declared.verdict.Verdict.TheVariants.{Done, Denied, Refused}
@@ -15,8 +15,8 @@ use Rattle.history.specs.declared.entry.HistoryEntry.{HistoryEntry}
 use Rattle.history.specs.Config.{Opening}
 use Rattle.history.specs.ClockAndLease.{clock_of}
 use Rattle.history.specs.Keys.{ring_of}
-use Rattle.history.specs.Grants.{Access, granted_by, row_of, rows_granted, ledger_of}
-use Rattle.history.specs.GrantLaws.{IsTold, Lets, LetsBy, IsGrantOf, IsGranted, GrantsWereAsked}
+use Rattle.history.specs.Grants.{BlockModes, granted_by, ledger_row, rows_granted, ledger_of}
+use Rattle.history.specs.GrantLaws.{IsToldOf, Lets, LetsBy, IsGrantOf, IsGrantOfAny, GrantsWereAsked}
 
 all_joined : {X : Type 0} (P : X → Type 0) (xs ys : List X) → AllByRecursion P xs → AllByRecursion P ys → AllByRecursion P (xs ++ ys)
 all_joined P [] ys h k = k
@@ -35,11 +35,11 @@ each P h [] = tt
 each P h (x ∷ xs) = (h x, each P h xs)
 
 -- what an operation lets its caller do, of each access that it grants
-abbrev Given : Op → Reply → Access → Type 0
+abbrev Given : Op → Reply → BlockModes → Type 0
 Given what told own = Lets what told own.block own.modes
 
-of_reader : (all blocks : List LocatedBlock) → ((block : ℕ) → IsTold block blocks → IsTold block all)
-    → AllByRecursion (λ (own : Access). IsTold own.block all × (own.modes ≡ modes 1)) (map (λ (block : LocatedBlock). record { block = block.block; modes = modes 1 }) blocks)
+of_reader : (all blocks : List LocatedBlock) → ((block : ℕ) → IsToldOf block blocks → IsToldOf block all)
+    → AllByRecursion (λ (own : BlockModes). IsToldOf own.block all × (own.modes ≡ modes 1)) (map (λ (block : LocatedBlock). record { block = block.block; modes = modes 1 }) blocks)
 of_reader all [] among = tt
 of_reader all (own ∷ blocks) among = ((among own.block (inl refl), refl), of_reader all blocks (λ block told. among block (inr told)))
 
@@ -52,13 +52,13 @@ lets_each op.Heartbeat (reply.Commands commands) = each (Given op.Heartbeat (rep
 lets_each op.Heartbeat _ = tt
 lets_each _ told = tt
 
-rows_let : (entry : HistoryEntry) (ring : Ring) (now : ℕ) → AllByRecursion (IsGrantOf entry) (rows_granted entry.place ring now entry.request.caller entry.request.op entry.verdict)
+rows_let : (entry : HistoryEntry) (ring : KeyRing) (now : ℕ) → AllByRecursion (IsGrantOf entry) (rows_granted entry.place ring now entry.request.caller entry.request.op entry.verdict)
 rows_let entry ring now = by entry.verdict refl
   where
     by : (verdict : Verdict) → entry.verdict ≡ verdict → AllByRecursion (IsGrantOf entry) (rows_granted entry.place ring now entry.request.caller entry.request.op verdict)
     by (Done told) is =
-        all_mapped (IsGrantOf entry) (row_of entry.place ring now entry.request.caller) (granted_by entry.request.op told)
-        (all_weaker (Given entry.request.op told) (λ own. IsGrantOf entry (row_of entry.place ring now entry.request.caller own))
+        all_mapped (IsGrantOf entry) (ledger_row entry.place ring now entry.request.caller) (granted_by entry.request.op told)
+        (all_weaker (Given entry.request.op told) (λ own. IsGrantOf entry (ledger_row entry.place ring now entry.request.caller own))
         (λ own let_it. record { place = refl; user = refl; let_by = rw is let_it }) (granted_by entry.request.op told) (lets_each entry.request.op told))
     by (Denied denial) is = tt
     by (Refused refusal) is = tt
@@ -66,6 +66,6 @@ rows_let entry ring now = by entry.verdict refl
 pub grants_were_asked : GrantsWereAsked
 grants_were_asked opening [] = tt
 grants_were_asked opening (entry ∷ earlier) =
-    all_joined (IsGranted (entry ∷ earlier)) (ledger_of opening earlier) (rows_granted entry.place (ring_of opening earlier) (clock_of (entry ∷ earlier)) entry.request.caller entry.request.op entry.verdict)
-    (all_weaker (IsGranted earlier) (IsGranted (entry ∷ earlier)) (λ row. inr) (ledger_of opening earlier) (grants_were_asked opening earlier))
-    (all_weaker (IsGrantOf entry) (IsGranted (entry ∷ earlier)) (λ row. inl) (rows_granted entry.place (ring_of opening earlier) (clock_of (entry ∷ earlier)) entry.request.caller entry.request.op entry.verdict) (rows_let entry (ring_of opening earlier) (clock_of (entry ∷ earlier))))
+    all_joined (IsGrantOfAny (entry ∷ earlier)) (ledger_of opening earlier) (rows_granted entry.place (ring_of opening earlier) (clock_of (entry ∷ earlier)) entry.request.caller entry.request.op entry.verdict)
+    (all_weaker (IsGrantOfAny earlier) (IsGrantOfAny (entry ∷ earlier)) (λ row. inr) (ledger_of opening earlier) (grants_were_asked opening earlier))
+    (all_weaker (IsGrantOf entry) (IsGrantOfAny (entry ∷ earlier)) (λ row. inl) (rows_granted entry.place (ring_of opening earlier) (clock_of (entry ∷ earlier)) entry.request.caller entry.request.op entry.verdict) (rows_let entry (ring_of opening earlier) (clock_of (entry ∷ earlier))))

@@ -14,11 +14,11 @@ use Rattle.namespace_rows.specs.declared.row.Row.{Row}
 use Rattle.namespace_rows.specs.declared.row.Change.{Change}
 use Rattle.namespace_rows.specs.declared.row.Change.TheVariants as change
 use Rattle.namespace_rows.specs.First.{first}
-use Rattle.namespace_rows.specs.Rows.{is_missing, row_at, ancestor, replaced}
+use Rattle.namespace_rows.specs.Rows.{is_missing, row_at, ancestor, rows_replaced}
 use Rattle.namespace_rows.specs.Namespace.{IsNamespace, is_ascending, is_before_all}
-use Rattle.namespace_rows.specs.Files.{holder_of, holder_of_file, is_client, is_open_by, has_open_file, holders, with_state, with_replication}
+use Rattle.namespace_rows.specs.Files.{holder_of, holder_of_file, is_client, is_open_by, has_open_file, holders, with_state, with_file_replication}
 use Rattle.flat_rows.specs.Outcome.{new_rows, new_row, mode_of_new, with_new}
-use Rattle.flat_rows.specs.Changes.{rows_under, without, moved_row, moved, changed, rewritten}
+use Rattle.flat_rows.specs.Changes.{rows_under, without, moved_row, with_rows_moved, with_change, row_rewritten}
 use Rattle.namespace_rows.proofs.Tests.{both, all_kept}
 use Rattle.namespace_rows.proofs.PathOrders.{same_path_is, less_is}
 use Rattle.flat_rows.proofs.NewDirectories.{beneath_parts, ancestor_above}
@@ -32,7 +32,7 @@ one_row x y e = cc
 
 module _ (p : Row → Bool) (path : List (List ℕ)) (change : Change) where
   abbrev anew : Row → Row
-  anew row = cond (same_path path row.path) (changed change row) row
+  anew row = cond (same_path path row.path) (with_change change row) row
 
   -- behind the row of the path there is none other of it
   pub behind : (row : Row) (rows : List Row) → same_path path row.path ≡ true → is_before_all row rows ≡ true → map anew rows ≡ rows
@@ -40,9 +40,9 @@ module _ (p : Row → Bool) (path : List (List ℕ)) (change : Change) where
   behind row (other ∷ rows) at low =
       let lows = both (is_lt (path_cmp row.path other.path)) (is_before_all row rows) low in
       let apart : same_path path other.path ≡ false = ap (λ t. same_path t other.path) (same_path_is path row.path at) ∙ ap is_eq (less_is _ lows.0) in
-      ap (λ b. cond b (changed change other) other ∷ map anew rows) apart ∙ ap (λ rest. other ∷ rest) (behind row rows at lows.1)
+      ap (λ b. cond b (with_change change other) other ∷ map anew rows) apart ∙ ap (λ rest. other ∷ rest) (behind row rows at lows.1)
 
-  pub count_rewritten : (rows : List Row) (row : Row) → is_ascending rows ≡ true → row_at path rows ≡ Some row → count p (rewritten path change rows) + bit (p row) ≡ count p rows + bit (p (changed change row))
+  pub count_rewritten : (rows : List Row) (row : Row) → is_ascending rows ≡ true → row_at path rows ≡ Some row → count p (row_rewritten path change rows) + bit (p row) ≡ count p rows + bit (p (with_change change row))
   count_rewritten [] row up at = cc
   count_rewritten (r ∷ rows) row up at =
       let ups = both (is_before_all r rows) (is_ascending rows) up in
@@ -55,18 +55,18 @@ module _ (p : Row → Bool) (path : List (List ℕ)) (change : Change) where
       later a b c d e l m f g h = omega (arith, f, g, h)
 
       by : (b : Bool) → same_path path r.path ≡ b → first (cond b (r ∷ filter (λ other. same_path path other.path) rows) (filter (λ other. same_path path other.path) rows)) ≡ Some row
-          → (same_path path r.path ≡ true → map anew rows ≡ rows) → (row_at path rows ≡ Some row → count p (rewritten path change rows) + bit (p row) ≡ count p rows + bit (p (changed change row)))
-          → count p (cond b (changed change r) r ∷ map anew rows) + bit (p row) ≡ count p (r ∷ rows) + bit (p (changed change row))
+          → (same_path path r.path ≡ true → map anew rows ≡ rows) → (row_at path rows ≡ Some row → count p (row_rewritten path change rows) + bit (p row) ≡ count p rows + bit (p (with_change change row)))
+          → count p (cond b (with_change change r) r ∷ map anew rows) + bit (p row) ≡ count p (r ∷ rows) + bit (p (with_change change row))
       by true e at low rest =
-          subst (λ x. count p (changed change r ∷ map anew rows) + bit (p x) ≡ count p (r ∷ rows) + bit (p (changed change x))) (one_row r row at)
-          (here (bit (p (changed change r))) (bit (p r)) (count p rows) 0 _ _ (ap (λ some. count p (changed change r ∷ some)) (low e) ∙ count_head p (changed change r) rows) (count_head p r rows))
-      by false e at low rest = later (bit (p r)) (bit (p row)) (count p (map anew rows)) (count p rows) (bit (p (changed change row))) _ _ (count_head p r (map anew rows)) (count_head p r rows) (rest at)
+          subst (λ x. count p (with_change change r ∷ map anew rows) + bit (p x) ≡ count p (r ∷ rows) + bit (p (with_change change x))) (one_row r row at)
+          (here (bit (p (with_change change r))) (bit (p r)) (count p rows) 0 _ _ (ap (λ some. count p (with_change change r ∷ some)) (low e) ∙ count_head p (with_change change r) rows) (count_head p r rows))
+      by false e at low rest = later (bit (p r)) (bit (p row)) (count p (map anew rows)) (count p rows) (bit (p (with_change change row))) _ _ (count_head p r (map anew rows)) (count_head p r rows) (rest at)
 
   -- a change that no row shows
-  pub count_unchanged : ((row : Row) → p (changed change row) ≡ p row) → (rows : List Row) → count p (rewritten path change rows) ≡ count p rows
+  pub count_unchanged : ((row : Row) → p (with_change change row) ≡ p row) → (rows : List Row) → count p (row_rewritten path change rows) ≡ count p rows
   count_unchanged h rows = count_map p anew (λ row. by row (same_path path row.path)) rows
     where
-      by : (row : Row) (b : Bool) → p (cond b (changed change row) row) ≡ p row
+      by : (row : Row) (b : Bool) → p (cond b (with_change change row) row) ≡ p row
       by row true = h row
       by row false = refl
 
@@ -77,20 +77,20 @@ module _ (client : List ℕ) where
   opens = is_open_by client
 
   -- what a change of a file's holder does to a row
-  pub with_holder : (state : FileState) (row : Row) (file : FileRow) → row.file ≡ Some file → opens (changed (change.State state) row) ≡ is_client client (holder_of state)
+  pub with_holder : (state : FileState) (row : Row) (file : FileRow) → row.file ≡ Some file → opens (with_change (change.State state) row) ≡ is_client client (holder_of state)
   with_holder state row file is = ap (λ o. is_client client (holder_of_file (option_map (with_state state) o))) is
 
-  pub unheld_row : (state : FileState) → holder_of state ≡ None → (row : Row) → opens (changed (change.State state) row) ≡ false
+  pub unheld_row : (state : FileState) → holder_of state ≡ None → (row : Row) → opens (with_change (change.State state) row) ≡ false
   unheld_row state unheld row = by row.file
     where
       by : (file : Option FileRow) → is_client client (holder_of_file (option_map (with_state state) file)) ≡ false
       by None = refl
       by (Some file) = ap (is_client client) unheld
 
-  pub replication_row : (replication : ℕ) (row : Row) → opens (changed (change.Replication replication) row) ≡ opens row
+  pub replication_row : (replication : ℕ) (row : Row) → opens (with_change (change.Replication replication) row) ≡ opens row
   replication_row replication row = by row.file
     where
-      by : (file : Option FileRow) → is_client client (holder_of_file (option_map (with_replication replication) file)) ≡ is_client client (holder_of_file file)
+      by : (file : Option FileRow) → is_client client (holder_of_file (option_map (with_file_replication replication) file)) ≡ is_client client (holder_of_file file)
       by None = refl
       by (Some file) = refl
 
@@ -110,18 +110,18 @@ module _ (client : List ℕ) where
       let top : List (List ℕ) = above.path ++ parts.name ∷ [] in
       let block : List Row = new_rows above owner mode file (parts.name ∷ parts.names) in
       rw parts.left
-      (total (count opens (replaced top block rows)) (count opens (rows_under top rows)) (count opens (rows_under path rows)) (count opens block) (count opens rows) (bit (is_client client (holder_of_file file)))
+      (total (count opens (rows_replaced top block rows)) (count opens (rows_under top rows)) (count opens (rows_under path rows)) (count opens block) (count opens rows) (bit (is_client client (holder_of_file file)))
       (count_replaced opens top block rows) (ap (count opens) (under_top path rows above parts.name parts.names namespace found whole)) (count_made owner mode file above parts.name parts.names))
     where
       total : (new top under block all one : ℕ) → new + top ≡ block + all → top ≡ under → block ≡ one → new + under ≡ one + all
       total new top under block all one h i j = omega (arith, h, i, j)
 
   -- what moves
-  pub count_moved : (from to : List (List ℕ)) (rows : List Row) → IsNamespace rows → is_missing to rows ≡ true → count opens (moved from to rows) ≡ count opens rows
+  pub count_moved : (from to : List (List ℕ)) (rows : List Row) → IsNamespace rows → is_missing to rows ≡ true → count opens (with_rows_moved from to rows) ≡ count opens rows
   count_moved from to rows namespace missing =
       let block : List Row = map (moved_row from to) (rows_under from rows) in
       let free : rows_under to (without from rows) ≡ [] = none_under to (without from rows) (all_kept (λ row. not (is_prefix from row.path)) (λ row. not (is_prefix to row.path)) rows (missing_apart rows to namespace missing)) in
-      total (count opens (moved from to rows)) (count opens (rows_under to (without from rows))) (count opens block) (count opens (without from rows)) (count opens (rows_under from rows)) (count opens rows)
+      total (count opens (with_rows_moved from to rows)) (count opens (rows_under to (without from rows))) (count opens block) (count opens (without from rows)) (count opens (rows_under from rows)) (count opens rows)
       (count_replaced opens to block (without from rows)) (ap (count opens) free) (count_map opens (moved_row from to) (λ row. refl) (rows_under from rows)) (count_without opens from rows)
     where
       total : (a b c d e f : ℕ) → a + b ≡ c + d → b ≡ 0 → c ≡ e → d + e ≡ f → a ≡ f

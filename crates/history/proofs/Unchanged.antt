@@ -10,15 +10,15 @@ use Rattle.principals.specs.Users.{Users}
 use Rattle.namespace_rows.specs.declared.row.Row.{Row}
 use Rattle.flat_rows.specs.declared.verdict.Verdict.{Verdict}
 use Rattle.flat_rows.specs.declared.verdict.Verdict.TheVariants.{Done, Denied, Refused}
-use Rattle.block_tokens.specs.Ring.{Ring}
-use Rattle.block_map.specs.BlockFacts.{BlockFacts}
+use Rattle.block_tokens.specs.Ring.{KeyRing}
+use Rattle.block_map.specs.BlockFacts.{Blocks}
 use Rattle.flat_rows.specs.Facts.{Facts}
 use Rattle.history.specs.declared.entry.HistoryEntry.{HistoryEntry}
 use Rattle.history.specs.Config.{Opening, limits_of}
 use Rattle.history.specs.ClockAndLease.{renews, last_renewal, clock_of, lease_in}
 use Rattle.history.specs.Keys.{ring_by, ring_of}
 use Rattle.history.specs.Blocks.{blocks_by}
-use Rattle.history.specs.Grants.{granted_by, row_of, rows_granted, ledger_of}
+use Rattle.history.specs.Grants.{granted_by, ledger_row, rows_granted, ledger_of}
 use Rattle.history.specs.State.{users_by, users_of, facts_with, rows_by, rows_of, blocks_of}
 use Rattle.flat_rows.specs.Verdicts.{is_done}
 use Rattle.history.specs.Laws.{IsSame}
@@ -28,9 +28,9 @@ pub record Rests (op : Op) (verdict : Verdict) : Type 0 where
   pub users : (users : Users) → users_by op verdict users ≡ users
   pub rows : (facts : Facts) (caller : List ℕ) (rows : List Row) → rows_by facts op caller verdict rows ≡ rows
   pub renewals : renews op verdict ≡ false
-  pub keys : (now : ℕ) (ring : Ring) → ring_by op verdict now ring ≡ ring
-  pub blocks : (facts : Facts) (caller : List ℕ) (rows : List Row) (blocks : BlockFacts) → blocks_by facts op caller verdict rows blocks ≡ blocks
-  pub grants : (place : ℕ) (ring : Ring) (now : ℕ) (caller : List ℕ) → rows_granted place ring now caller op verdict ≡ []
+  pub keys : (now : ℕ) (ring : KeyRing) → ring_by op verdict now ring ≡ ring
+  pub blocks : (facts : Facts) (caller : List ℕ) (rows : List Row) (blocks : Blocks) → blocks_by facts op caller verdict rows blocks ≡ blocks
+  pub grants : (place : ℕ) (ring : KeyRing) (now : ℕ) (caller : List ℕ) → rows_granted place ring now caller op verdict ≡ []
 
 pub same_where_rests : (opening : Opening) (entry : HistoryEntry) (earlier : List HistoryEntry) → Rests entry.request.op entry.verdict → IsSame opening entry earlier
 same_where_rests opening entry earlier rests =
@@ -50,8 +50,8 @@ not_done_rests op (Refused refusal) h = record { users = λ users. refl; rows = 
 
 -- a reply changes nothing, and what isn't done neither
 rests : (op : Op) → ((users : Users) (told : Reply) → users_by op (Done told) users ≡ users) → ((facts : Facts) (caller : List ℕ) (told : Reply) (rows : List Row) → rows_by facts op caller (Done told) rows ≡ rows)
-    → ((told : Reply) → renews op (Done told) ≡ false) → ((told : Reply) (now : ℕ) (ring : Ring) → ring_by op (Done told) now ring ≡ ring)
-    → ((facts : Facts) (caller : List ℕ) (told : Reply) (rows : List Row) (blocks : BlockFacts) → blocks_by facts op caller (Done told) rows blocks ≡ blocks)
+    → ((told : Reply) → renews op (Done told) ≡ false) → ((told : Reply) (now : ℕ) (ring : KeyRing) → ring_by op (Done told) now ring ≡ ring)
+    → ((facts : Facts) (caller : List ℕ) (told : Reply) (rows : List Row) (blocks : Blocks) → blocks_by facts op caller (Done told) rows blocks ≡ blocks)
     → ((told : Reply) → granted_by op told ≡ []) → (verdict : Verdict) → Rests op verdict
 rests op users rows renewals keys blocks grants (Done told) =
     record {
@@ -60,7 +60,7 @@ rests op users rows renewals keys blocks grants (Done told) =
       renewals = renewals told;
       keys = keys told;
       blocks = λ facts caller. blocks facts caller told;
-      grants = λ place ring now caller. ap (map (row_of place ring now caller)) (grants told);
+      grants = λ place ring now caller. ap (map (ledger_row place ring now caller)) (grants told);
     }
 rests op users rows renewals keys blocks grants (Denied denial) = not_done_rests op (Denied denial) refl
 rests op users rows renewals keys blocks grants (Refused refusal) = not_done_rests op (Refused refusal) refl

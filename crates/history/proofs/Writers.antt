@@ -20,7 +20,7 @@ use Rattle.flat_rows.specs.Denial as denied
 use Rattle.flat_rows.specs.Decision.{decision}
 use Rattle.namespace_rows.specs.Rows.{row_at, file_above, is_directory}
 use Rattle.namespace_rows.specs.Namespace.{is_ascending, is_before_all}
-use Rattle.namespace_rows.specs.Files.{holder_of, holder_of_file, is_open_by, is_client, unfinished}
+use Rattle.namespace_rows.specs.Files.{holder_of, holder_of_file, is_open_by, is_client, unfinished_block}
 use Rattle.flat_rows.specs.FileOutcome.{directory_there, if_some_file, of_file, holder_at}
 use Rattle.flat_rows.specs.Takeover.{refused_taking, refused_state, refused_append}
 use Rattle.flat_rows.specs.Facts.{Facts}
@@ -83,7 +83,7 @@ held_by_state facts caller writer block (Open holder) h live =
 held_by_file : (facts : Facts) (caller writer : List ℕ) (file : Option FileRow) → holder_of_file file ≡ Some writer → facts.leases.is_live writer ≡ true
     → if_some_file (refused_append facts caller) file ≡ Some (LeaseHeld writer)
 held_by_file facts caller writer None h live = cc
-held_by_file facts caller writer (Some file) h live = held_by_state facts caller writer (unfinished file.blocks) file.state h live
+held_by_file facts caller writer (Some file) h live = held_by_state facts caller writer (unfinished_block file.blocks) file.state h live
 
 held : (facts : Facts) (caller writer : List ℕ) (at : Option Row) → holder_at at ≡ Some writer → facts.leases.is_live writer ≡ true
     → of_file (refused_append facts caller) at ≡ Some (LeaseHeld writer)

@@ -54,11 +54,11 @@ last_renewal (entry ∷ earlier) client =
 abbrev pub lease_in : (List ℕ → Option ℕ) → List Row → List ℕ → Option ℕ
 lease_in renewal rows client = if has_open_file client rows then renewal client else None
 
-abbrev pub is_live : Option LeaseState → Bool
-is_live None = false
-is_live (Some Live) = true
-is_live (Some PastSoft) = false
-is_live (Some PastHard) = false
+abbrev pub is_lease_live : Option LeaseState → Bool
+is_lease_live None = false
+is_lease_live (Some Live) = true
+is_lease_live (Some PastSoft) = false
+is_lease_live (Some PastHard) = false
 
 abbrev pub is_past_hard : Option LeaseState → Bool
 is_past_hard None = false
@@ -72,4 +72,4 @@ state_at limits now renewal = option_map (λ last. lease_state limits last now) 
 
 -- what an operation asks of leases, each given by its last renewal
 abbrev pub facts_at : Limits → ℕ → (List ℕ → Option ℕ) → LeaseFacts
-facts_at limits now lease = record { is_live = λ client. is_live (state_at limits now (lease client)); is_past_hard = λ client. is_past_hard (state_at limits now (lease client)) }
+facts_at limits now lease = record { is_live = λ client. is_lease_live (state_at limits now (lease client)); is_past_hard = λ client. is_past_hard (state_at limits now (lease client)) }

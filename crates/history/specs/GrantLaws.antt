@@ -18,15 +18,15 @@ use Rattle.history.specs.Grants.{ledger_of}
 -- ---- who was granted what
 
 -- a reader was told of the block
-abbrev pub IsTold : ℕ → List LocatedBlock → Type 0
-IsTold block [] = ⊥
-IsTold block (own ∷ others) = (block ≡ own.block) ⊎ IsTold block others
+abbrev pub IsToldOf : ℕ → List LocatedBlock → Type 0
+IsToldOf block [] = ⊥
+IsToldOf block (own ∷ others) = (block ≡ own.block) ⊎ IsToldOf block others
 
 -- what an operation with this reply lets its caller do: one who asked for a new block writes it, one who opened a file reads its blocks,
 -- and a DataNode does what its heartbeat was answered
 abbrev pub Lets : Op → Reply → ℕ → Modes → Type 0
 Lets (op.AddBlock path last) (reply.Added added) block granted = (block ≡ added.block) × (granted ≡ modes 2)
-Lets (op.Open path) (reply.Opened opened) block granted = IsTold block opened.blocks × (granted ≡ modes 1)
+Lets (op.Open path) (reply.Opened opened) block granted = IsToldOf block opened.blocks × (granted ≡ modes 1)
 Lets op.Heartbeat (reply.Commands commands) block granted = Unit {0}
 Lets _ told block granted = ⊥
 
@@ -41,10 +41,10 @@ pub record IsGrantOf (entry : HistoryEntry) (row : LedgerRow) : Type 0 where
   pub user : row.grant.user ≡ entry.request.caller
   pub let_by : LetsBy entry.request.op entry.verdict row.grant.block row.grant.modes
 
-abbrev pub IsGranted : List HistoryEntry → LedgerRow → Type 0
-IsGranted [] row = ⊥
-IsGranted (entry ∷ earlier) row = IsGrantOf entry row ⊎ IsGranted earlier row
+abbrev pub IsGrantOfAny : List HistoryEntry → LedgerRow → Type 0
+IsGrantOfAny [] row = ⊥
+IsGrantOfAny (entry ∷ earlier) row = IsGrantOf entry row ⊎ IsGrantOfAny earlier row
 
 -- each token was granted to the caller of an entry at that place, for what that entry let him do
 abbrev pub GrantsWereAsked : Type 0
-GrantsWereAsked = (opening : Opening) (entries : List HistoryEntry) → AllByRecursion (IsGranted entries) (ledger_of opening entries)
+GrantsWereAsked = (opening : Opening) (entries : List HistoryEntry) → AllByRecursion (IsGrantOfAny entries) (ledger_of opening entries)

@@ -11,7 +11,7 @@ use Rattle.hdfs_types.specs.declared.op.Op.{Op}
 use Rattle.hdfs_types.specs.declared.op.Op.TheVariants as op
 use Rattle.hdfs_types.specs.declared.reply.Reply.{Reply}
 use Rattle.hdfs_types.specs.declared.reply.Reply.TheVariants as reply
-use Rattle.block_tokens.specs.Ring.{Ring, grant_of}
+use Rattle.block_tokens.specs.Ring.{KeyRing, grant_of}
 use Rattle.grant_ledger.specs.declared.ledger.LedgerRow.{LedgerRow}
 use Rattle.flat_rows.specs.declared.verdict.Verdict.{Verdict}
 use Rattle.flat_rows.specs.declared.verdict.Verdict.TheVariants.{Done, Denied, Refused}
@@ -21,43 +21,43 @@ use Rattle.history.specs.ClockAndLease.{clock_of}
 use Rattle.history.specs.Keys.{ring_of}
 
 -- the modes of a block
-pub record Access : Type 0 where
+pub record BlockModes : Type 0 where
   pub block : ℕ
   pub modes : Modes
 
 -- what a DataNode gets tokens for: to write the blocks whose recovery it leads, and to read and write those that it copies
-abbrev pub granted_with : Commands → List Access
+abbrev pub granted_with : Commands → List BlockModes
 granted_with commands =
     map (λ (recovery : Recover). record { block = recovery.block; modes = modes 2 }) commands.recoveries
     ++ map (λ (copy : CopyOrder). record { block = copy.block; modes = modes 3 }) commands.copies
 
-abbrev pub granted_to_node : Reply → List Access
+abbrev pub granted_to_node : Reply → List BlockModes
 granted_to_node (reply.Commands commands) = granted_with commands
 granted_to_node _ = []
 
 -- a writer gets a token to write his new block
-abbrev pub granted_to_writer : Reply → List Access
+abbrev pub granted_to_writer : Reply → List BlockModes
 granted_to_writer (reply.Added added) = record { block = added.block; modes = modes 2 } ∷ []
 granted_to_writer _ = []
 
 -- a reader gets one to read each block that he is told of
-abbrev pub granted_to_reader : Reply → List Access
+abbrev pub granted_to_reader : Reply → List BlockModes
 granted_to_reader (reply.Opened opened) = map (λ (block : LocatedBlock). record { block = block.block; modes = modes 1 }) opened.blocks
 granted_to_reader _ = []
 
 -- only these three operations grant something
-abbrev pub granted_by : Op → Reply → List Access
+abbrev pub granted_by : Op → Reply → List BlockModes
 granted_by (op.AddBlock path last) told = granted_to_writer told
 granted_by (op.Open path) told = granted_to_reader told
 granted_by op.Heartbeat told = granted_to_node told
 granted_by _ told = []
 
-abbrev pub row_of : ℕ → Ring → ℕ → List ℕ → Access → LedgerRow
-row_of place ring now caller own = record { place = place; grant = grant_of ring now caller own.block own.modes }
+abbrev pub ledger_row : ℕ → KeyRing → ℕ → List ℕ → BlockModes → LedgerRow
+ledger_row place ring now caller own = record { place = place; grant = grant_of ring now caller own.block own.modes }
 
 -- the grants of one entry: to the caller, under the key that is the current one, from that moment on
-abbrev pub rows_granted : ℕ → Ring → ℕ → List ℕ → Op → Verdict → List LedgerRow
-rows_granted place ring now caller what (Done told) = map (row_of place ring now caller) (granted_by what told)
+abbrev pub rows_granted : ℕ → KeyRing → ℕ → List ℕ → Op → Verdict → List LedgerRow
+rows_granted place ring now caller what (Done told) = map (ledger_row place ring now caller) (granted_by what told)
 rows_granted place ring now caller what (Denied denial) = []
 rows_granted place ring now caller what (Refused refusal) = []
 

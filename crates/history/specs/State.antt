@@ -7,8 +7,8 @@ use Rattle.flat_rows.specs.declared.verdict.Verdict.{Verdict}
 use Rattle.flat_rows.specs.declared.verdict.Verdict.TheVariants.{Done, Denied, Refused}
 use Rattle.namespace_rows.specs.Opening.{root_row}
 use Rattle.namespace_rows.specs.Files.{has_open_file}
-use Rattle.block_tokens.specs.Ring.{Ring, next_serial, update_of, grant_of}
-use Rattle.block_map.specs.BlockFacts.{BlockFacts}
+use Rattle.block_tokens.specs.Ring.{KeyRing, next_serial, update_of, grant_of}
+use Rattle.block_map.specs.BlockFacts.{Blocks}
 use Rattle.flat_rows.specs.Facts.{Facts}
 use Rattle.flat_rows.specs.Outcome.{rows_after, users_after}
 use Rattle.history.specs.declared.entry.HistoryEntry.{HistoryEntry}
@@ -39,7 +39,7 @@ users_of (entry ∷ earlier) = users_by entry.request.op entry.verdict (users_of
 -- ---- the namespace
 
 -- what an outcome asks at a moment: of leases, each given by its last renewal, of the keys, and of blocks and nodes
-abbrev pub facts_with : Limits → ℕ → (List ℕ → Option ℕ) → Ring → BlockFacts → Facts
+abbrev pub facts_with : Limits → ℕ → (List ℕ → Option ℕ) → KeyRing → Blocks → Facts
 facts_with limits now lease ring blocks = record {
   now = now;
   leases = facts_at limits now lease;
@@ -57,7 +57,7 @@ rows_by facts op caller (Refused refusal) rows = rows
 -- the namespace, and what is known of blocks and DataNodes: each is asked for what becomes of the other
 pub record Spaces : Type 0 where
   pub rows : List Row
-  pub blocks : BlockFacts
+  pub blocks : Blocks
 
 abbrev pub spaces_by : Facts → Op → List ℕ → Verdict → Spaces → Spaces
 spaces_by facts op caller verdict before =
@@ -72,7 +72,7 @@ spaces_of opening (entry ∷ earlier) =
 abbrev pub rows_of : Opening → List HistoryEntry → List Row
 rows_of opening entries = (spaces_of opening entries).rows
 
-abbrev pub blocks_of : Opening → List HistoryEntry → BlockFacts
+abbrev pub blocks_of : Opening → List HistoryEntry → Blocks
 blocks_of opening entries = (spaces_of opening entries).blocks
 
 -- ---- leases

@@ -21,7 +21,7 @@ use Rattle.namespace_rows.proofs.Namespaces.{ascending_filter}
 use Rattle.inode_nodes.specs.Kept.{branch_of, rows_in}
 use Rattle.inode_nodes.specs.declared.node.Held.TheVariants.{Directory}
 use Rattle.inode_nodes.specs.declared.node.Node.TheInside.{Inside}
-use Rattle.inode_nodes.specs.Node.{Node, flatten, rows, rows_or, row_of, top_of, under, placed}
+use Rattle.inode_nodes.specs.Node.{Node, flatten, rows, rows_or, row_of, top_of, under, row_placed}
 use Rattle.inode_nodes.specs.Part.{IsWhole}
 use Rattle.inode_nodes.proofs.Filters.{Entries, filter-map, inside}
 use Rattle.inode_nodes.proofs.Wholes.{filter_within}
@@ -62,13 +62,13 @@ held_keys i m b seen is up =
 
 -- at a path
 
-placed_before : (path : List (List ℕ)) (r : Row) (rs : List Row) → is_before_all (placed path r) (map (placed path) rs) ≡ is_before_all r rs
+placed_before : (path : List (List ℕ)) (r : Row) (rs : List Row) → is_before_all (row_placed path r) (map (row_placed path) rs) ≡ is_before_all r rs
 placed_before path r [] = refl
-placed_before path r (s ∷ rs) = ap (λ o. is_lt o && is_before_all (placed path r) (map (placed path) rs)) (front_cmp path r.path s.path) ∙ ap (λ b. is_lt (path_cmp r.path s.path) && b) (placed_before path r rs)
+placed_before path r (s ∷ rs) = ap (λ o. is_lt o && is_before_all (row_placed path r) (map (row_placed path) rs)) (front_cmp path r.path s.path) ∙ ap (λ b. is_lt (path_cmp r.path s.path) && b) (placed_before path r rs)
 
-placed_ascending : (path : List (List ℕ)) (rs : List Row) → is_ascending (map (placed path) rs) ≡ is_ascending rs
+placed_ascending : (path : List (List ℕ)) (rs : List Row) → is_ascending (map (row_placed path) rs) ≡ is_ascending rs
 placed_ascending path [] = refl
-placed_ascending path (r ∷ rs) = ap (λ b. b && is_ascending (map (placed path) rs)) (placed_before path r rs) ∙ ap (λ b. is_before_all r rs && b) (placed_ascending path rs)
+placed_ascending path (r ∷ rs) = ap (λ b. b && is_ascending (map (row_placed path) rs)) (placed_before path r rs) ∙ ap (λ b. is_before_all r rs && b) (placed_ascending path rs)
 
 pub part_ascending : (path : List (List ℕ)) (all : List Row) (b : Node) → IsWhole path all (Some b) → is_ascending all ≡ true → is_ascending (rows b) ≡ true
 part_ascending path all b whole up = sym (placed_ascending path (rows b)) ∙ sym (ap is_ascending whole) ∙ ascending_filter (inside path) all up
@@ -91,17 +91,17 @@ last_longer (m ∷ []) n = refl
 last_longer (m ∷ k ∷ ms) n = last_longer (k ∷ ms) n
 
 -- the names of children, wherever their directory stands
-placed_names : (path : List (List ℕ)) (rs : List Row) → map (λ row. last_name row.path) (map (placed path) (filter (child []) rs)) ≡ map (λ row. last_name row.path) (filter (child []) rs)
+placed_names : (path : List (List ℕ)) (rs : List Row) → map (λ row. last_name row.path) (map (row_placed path) (filter (child []) rs)) ≡ map (λ row. last_name row.path) (filter (child []) rs)
 placed_names path [] = refl
 placed_names path (r ∷ rs) = by r.path (placed_names path rs)
   where
-    by : (p : List (List ℕ)) → map (λ row. last_name row.path) (map (placed path) (filter (child []) rs)) ≡ map (λ row. last_name row.path) (filter (child []) rs)
-        → map (λ row. last_name row.path) (map (placed path) (cond (is_child p []) (row_of p (top_of r) ∷ filter (child []) rs) (filter (child []) rs))) ≡ map (λ row. last_name row.path) (cond (is_child p []) (row_of p (top_of r) ∷ filter (child []) rs) (filter (child []) rs))
+    by : (p : List (List ℕ)) → map (λ row. last_name row.path) (map (row_placed path) (filter (child []) rs)) ≡ map (λ row. last_name row.path) (filter (child []) rs)
+        → map (λ row. last_name row.path) (map (row_placed path) (cond (is_child p []) (row_of p (top_of r) ∷ filter (child []) rs) (filter (child []) rs))) ≡ map (λ row. last_name row.path) (cond (is_child p []) (row_of p (top_of r) ∷ filter (child []) rs) (filter (child []) rs))
     by [] e = e
-    by (n ∷ []) e = ap (λ k. k ∷ map (λ row. last_name row.path) (map (placed path) (filter (child []) rs))) (last_longer path n) ∙ ap (λ l. n ∷ l) e
+    by (n ∷ []) e = ap (λ k. k ∷ map (λ row. last_name row.path) (map (row_placed path) (filter (child []) rs))) (last_longer path n) ∙ ap (λ l. n ∷ l) e
     by (n ∷ m ∷ ms) e = e
 
 pub child_names_whole : (path : List (List ℕ)) (all : List Row) (part : Option Node) → IsWhole path all part → child_names [] (rows_or part) ≡ child_names path all
 child_names_whole path all part whole =
     sym (placed_names path (rows_or part))
-    ∙ ap (map (λ row. last_name row.path)) (sym (filter-map (child path) (child []) (placed path) (λ r. child_placed path r.path) (rows_or part)) ∙ sym (ap (filter (child path)) whole) ∙ filter_within (child path) (inside path) (child_inside path) all)
+    ∙ ap (map (λ row. last_name row.path)) (sym (filter-map (child path) (child []) (row_placed path) (λ r. child_placed path r.path) (rows_or part)) ∙ sym (ap (filter (child path)) whole) ∙ filter_within (child path) (inside path) (child_inside path) all)

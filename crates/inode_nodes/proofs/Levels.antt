@@ -10,12 +10,12 @@ use Rattle.hdfs_values.specs.PathOrder.{path_cmp, same_path}
 use Rattle.namespace_rows.specs.declared.row.Change.{Change}
 use Rattle.namespace_rows.specs.declared.row.Change.TheVariants as change
 use Rattle.namespace_rows.specs.declared.row.Row.{Row}
-use Rattle.namespace_rows.specs.Rows.{is_before, is_beyond, replaced}
+use Rattle.namespace_rows.specs.Rows.{is_before, is_beyond, rows_replaced}
 use Rattle.namespace_rows.specs.declared.file_row.FileRow.{FileRow}
-use Rattle.namespace_rows.specs.Files.{with_state, with_replication, without_last, committed_at, recovered_at}
-use Rattle.flat_rows.specs.Changes.{without, edited, changed}
-use Rattle.inode_nodes.specs.Node.{Node, Top, flatten, rows, row_of, top_of, under, placed}
-use Rattle.inode_nodes.specs.Change.{grafted}
+use Rattle.namespace_rows.specs.Files.{with_state, with_file_replication, without_last, committed_at, recovered_at}
+use Rattle.flat_rows.specs.Changes.{without, file_edited, with_change}
+use Rattle.inode_nodes.specs.Node.{Node, Top, flatten, rows, row_of, top_of, under, row_placed}
+use Rattle.inode_nodes.specs.Change.{branch_grafted}
 use Rattle.inode_nodes.proofs.Split.{R, Side, split, at, entry}
 use Rattle.inode_nodes.proofs.Filters.{Entries, flatten-append, append_rows, self, filter-flatten, filter-missing, before-splits, beyond-splits, outside-splits, outside}
 use Rattle.inode_nodes.proofs.Parts.{placed_under, placed_top}
@@ -57,7 +57,7 @@ missing_entry f n d es sorted missing =
 joined : (n : List ℕ) (p q m a x y z r : List Row) → p ≡ a ++ (map (under n) x ++ []) → q ≡ map (under n) y ++ z → r ≡ x ++ (m ++ y) → p ++ (map (under n) m ++ q) ≡ a ++ (map (under n) r ++ z)
 joined n p q m a x y z r e1 e2 e3 = rw (e1, e2, e3) (simp (append_rows, map-append, append-nil))
 
-pub replaced-level : (n : List ℕ) (ns : List (List ℕ)) (block : List Row) → IsLevel n (replaced (n ∷ ns) (map (under n) block)) (replaced ns block)
+pub replaced-level : (n : List ℕ) (ns : List (List ℕ)) (block : List Row) → IsLevel n (rows_replaced (n ∷ ns) (map (under n) block)) (rows_replaced ns block)
 replaced-level n ns block = record {
   level = λ es fs b c s t is.
       joined n _ _ block (flatten es) (filter (is_before ns) (rows b)) (filter (is_beyond ns) (rows b)) (flatten fs) (rows c)
@@ -67,9 +67,9 @@ replaced-level n ns block = record {
   top = λ t rs. refl;
 }
 
-pub grafted-level : (n : List ℕ) (ns : List (List ℕ)) (new : Node) → IsLevel n (grafted (n ∷ ns) new) (grafted ns new)
+pub grafted-level : (n : List ℕ) (ns : List (List ℕ)) (new : Node) → IsLevel n (branch_grafted (n ∷ ns) new) (branch_grafted ns new)
 grafted-level n ns new =
-    subst (λ block. IsLevel n (replaced (n ∷ ns) block) (grafted ns new)) (sym (placed_under n ns (rows new))) (replaced-level n ns (map (placed ns) (rows new)))
+    subst (λ block. IsLevel n (rows_replaced (n ∷ ns) block) (branch_grafted ns new)) (sym (placed_under n ns (rows new))) (replaced-level n ns (map (row_placed ns) (rows new)))
 
 not_before : (path : List (List ℕ)) (a b : List Row) → cond (is_gt (path_cmp [] path)) a b ≡ b
 not_before [] a b = refl
@@ -87,19 +87,19 @@ none-beyond : (rs : List Row) → filter (is_beyond []) rs ≡ []
 none-beyond [] = refl
 none-beyond (r ∷ rs) = not_beyond r.path (r ∷ filter (is_beyond []) rs) (filter (is_beyond []) rs) ∙ none-beyond rs
 
-pub replaced_top : (block rs : List Row) → block ≡ replaced [] block rs
+pub replaced_top : (block rs : List Row) → block ≡ rows_replaced [] block rs
 replaced_top block rs = sym (rw (none-before rs, none-beyond rs) (append-nil block))
 
-pub grafted_top : (new : Node) (rs : List Row) → rows new ≡ grafted [] new rs
-grafted_top new rs = sym (placed_top (rows new)) ∙ replaced_top (map (placed []) (rows new)) rs
+pub grafted_top : (new : Node) (rs : List Row) → rows new ≡ branch_grafted [] new rs
+grafted_top new rs = sym (placed_top (rows new)) ∙ replaced_top (map (row_placed []) (rows new)) rs
 
 -- the map after an insertion
-pub put_entry : (n : List ℕ) (es : Entries) (new : Node) → Sorted es → flatten (insert_entry R es n new) ≡ replaced (n ∷ []) (map (under n) (rows new)) (flatten es)
+pub put_entry : (n : List ℕ) (es : Entries) (new : Node) → Sorted es → flatten (insert_entry R es n new) ≡ rows_replaced (n ∷ []) (map (under n) (rows new)) (flatten es)
 put_entry n es new sorted =
     let s = split n es sorted in
-    ap flatten (s.inserted new) ∙ sym (ap (λ x. replaced (n ∷ []) (map (under n) (rows new)) (flatten x)) s.whole ∙ by s.found s.before s.after s.low s.high)
+    ap flatten (s.inserted new) ∙ sym (ap (λ x. rows_replaced (n ∷ []) (map (under n) (rows new)) (flatten x)) s.whole ∙ by s.found s.before s.after s.low s.high)
   where
-    by : (found : Option Node) (es fs : Entries) → Side Greater n es → Side Less n fs → replaced (n ∷ []) (map (under n) (rows new)) (flatten (es ++ (entry n found ++ fs))) ≡ flatten (es ++ ((n, new) ∷ fs))
+    by : (found : Option Node) (es fs : Entries) → Side Greater n es → Side Less n fs → rows_replaced (n ∷ []) (map (under n) (rows new)) (flatten (es ++ (entry n found ++ fs))) ≡ flatten (es ++ ((n, new) ∷ fs))
     by (Some b) es fs s t = (replaced-level n [] (rows new)).level es fs b new s t (replaced_top (rows new) (rows b))
     by None es fs s t =
         joined n _ _ (rows new) (flatten es) [] [] (flatten fs) (rows new)
@@ -147,14 +147,14 @@ pub record IsPathless (new : Row → Row) : Type 0 where
   pub under_name : (n : List ℕ) (row : Row) → new (under n row) ≡ under n (new row)
   pub top : (t : Top) → row_of [] (top_of (new (row_of [] t))) ≡ new (row_of [] t)
 
-pub edited_pathless : (edit : FileRow → FileRow) → IsPathless (edited edit)
+pub edited_pathless : (edit : FileRow → FileRow) → IsPathless (file_edited edit)
 edited_pathless edit = record { under_name = λ n row. refl; top = λ t. refl }
 
-pub changed_pathless : (c : Change) → IsPathless (changed c)
+pub changed_pathless : (c : Change) → IsPathless (with_change c)
 changed_pathless (change.Owner owner group) = record { under_name = λ n row. refl; top = λ t. refl }
 changed_pathless (change.List acl) = record { under_name = λ n row. refl; top = λ t. refl }
 changed_pathless (change.State state) = edited_pathless (with_state state)
-changed_pathless (change.Replication replication) = edited_pathless (with_replication replication)
+changed_pathless (change.Replication replication) = edited_pathless (with_file_replication replication)
 changed_pathless (change.Committed block bytes) = edited_pathless (committed_at block bytes)
 changed_pathless change.LastTaken = edited_pathless without_last
 changed_pathless (change.Recovered block bytes) = edited_pathless (recovered_at block bytes)

@@ -14,7 +14,7 @@ use Rattle.default_acl.specs.Inheritance.{inherited_acl}
 use Rattle.namespace_rows.specs.declared.file_row.FileRow.{FileRow}
 use Rattle.namespace_rows.specs.declared.row.Row.{Row}
 use Rattle.namespace_rows.specs.First.{first}
-use Rattle.namespace_rows.specs.Rows.{is_directory, is_missing, file_above, ancestor, with_sub_tree, replaced}
+use Rattle.namespace_rows.specs.Rows.{is_directory, is_missing, file_above, ancestor, with_sub_tree, rows_replaced}
 use Rattle.flat_rows.specs.Outcome.{mode_of_new, file_of_new, new_at, new_row, new_rows, with_new}
 use Rattle.inode_nodes.specs.Node.{Node, Top, flatten, rows, row_of, under}
 use Rattle.inode_nodes.specs.Part.{Splits, IsPart}
@@ -109,7 +109,7 @@ module _ (owner : List ℕ) (mode : ℕ) (file : Option FileRow) where
   pub make_here : (n : List ℕ) (ns : List (List ℕ)) (t : Top) (c : Node) (es fs : Entries) → Sorted es → lookup (at n) es ≡ None → rows c ≡ chain t.acl t.group owner mode file ns → fs ≡ insert_entry R es n c
       → row_of [] t ∷ flatten fs ≡ made (n ∷ ns) (row_of [] t ∷ flatten es)
   make_here n ns t c es fs sorted found is inserted =
-      ap (λ x. row_of [] t ∷ flatten x) inserted ∙ ap (λ x. row_of [] t ∷ x) (put_entry n es c sorted ∙ ap (λ block. replaced (n ∷ []) block (flatten es)) (ap (map (under n)) is ∙ chain_under n ns t))
+      ap (λ x. row_of [] t ∷ flatten x) inserted ∙ ap (λ x. row_of [] t ∷ x) (put_entry n es c sorted ∙ ap (λ block. rows_replaced (n ∷ []) block (flatten es)) (ap (map (under n)) is ∙ chain_under n ns t))
       ∙ ap (λ o. with_new (n ∷ ns) mode file owner o (row_of [] t ∷ flatten es)) (sym (ancestor_here n ns t es sorted found))
 
   make_beneath : (n k : List ℕ) (ks : List (List ℕ)) (t : Top) (b c : Node) (es fs : Entries) → Sorted es → lookup (at n) es ≡ Some b → rows c ≡ made (k ∷ ks) (rows b) → fs ≡ set_value (at n) es c

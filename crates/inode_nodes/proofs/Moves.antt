@@ -12,14 +12,14 @@ use Rattle.hdfs_values.specs.PathOrder.{path_cmp}
 use Rattle.hdfs_values.proofs.Texts.{same_is, same_symm}
 use Rattle.namespace_rows.specs.declared.row.Row.{Row}
 use Rattle.namespace_rows.specs.First.{first}
-use Rattle.namespace_rows.specs.Rows.{is_before, is_beyond, is_none, is_missing, replaced}
-use Rattle.flat_rows.specs.Changes.{rows_under, without, moved_row, moved}
+use Rattle.namespace_rows.specs.Rows.{is_before, is_beyond, is_none, is_missing, rows_replaced}
+use Rattle.flat_rows.specs.Changes.{rows_under, without, moved_row, with_rows_moved}
 use Rattle.namespace_rows.proofs.Tests.{both}
 use Rattle.namespace_rows.proofs.PathOrders.{tied_starts, starts_upto}
 use Rattle.flat_rows.proofs.Moves.{front_at, front_inside}
-use Rattle.inode_nodes.specs.Node.{Node, rows, rows_or, row_of, placed, with_rows}
+use Rattle.inode_nodes.specs.Node.{Node, rows, rows_or, row_of, row_placed, with_rows}
 use Rattle.inode_nodes.specs.Part.{IsWhole}
-use Rattle.inode_nodes.specs.Change.{grafted}
+use Rattle.inode_nodes.specs.Change.{branch_grafted}
 use Rattle.inode_nodes.proofs.Filters.{inside, outside, standing, pick}
 use Rattle.inode_nodes.proofs.Wholes.{filter_within, standing_inside}
 
@@ -71,32 +71,32 @@ and_false false = refl
 
 module _ (to : List (List ℕ)) (s : Node) (rs : List Row) where
   abbrev block : List Row
-  block = map (placed to) (rows s)
+  block = map (row_placed to) (rows s)
 
-  first_part : filter (is_before to) (grafted to s rs) ≡ filter (is_before to) rs
+  first_part : filter (is_before to) (branch_grafted to s rs) ≡ filter (is_before to) rs
   first_part =
       filter-append (is_before to) (filter (is_before to) rs) (block ++ filter (is_beyond to) rs)
       ∙ ap (λ t. t ++ filter (is_before to) (block ++ filter (is_beyond to) rs)) (filter_const (is_before to) (is_before to) true (λ r h. h) rs)
       ∙ ap (λ t. filter (is_before to) rs ++ t) (filter-append (is_before to) block (filter (is_beyond to) rs)
-      ∙ ap (λ t. t ++ filter (is_before to) (filter (is_beyond to) rs)) (none_of (is_before to) (placed to) (λ r. starts_upto to (to ++ r.path) (front_inside to r.path)) (rows s))
+      ∙ ap (λ t. t ++ filter (is_before to) (filter (is_beyond to) rs)) (none_of (is_before to) (row_placed to) (λ r. starts_upto to (to ++ r.path) (front_inside to r.path)) (rows s))
       ∙ filter_const (is_before to) (is_beyond to) false (λ r h. not_both (path_cmp to r.path) (not (is_prefix to r.path)) h) rs)
       ∙ append-nil (filter (is_before to) rs)
 
-  last_part : filter (is_beyond to) (grafted to s rs) ≡ filter (is_beyond to) rs
+  last_part : filter (is_beyond to) (branch_grafted to s rs) ≡ filter (is_beyond to) rs
   last_part =
       filter-append (is_beyond to) (filter (is_before to) rs) (block ++ filter (is_beyond to) rs)
       ∙ ap (λ t. t ++ filter (is_beyond to) (block ++ filter (is_beyond to) rs)) (filter_const (is_beyond to) (is_before to) false (λ r h. both_not (path_cmp to r.path) (not (is_prefix to r.path)) h) rs)
       ∙ filter-append (is_beyond to) block (filter (is_beyond to) rs)
-      ∙ ap (λ t. t ++ filter (is_beyond to) (filter (is_beyond to) rs)) (none_of (is_beyond to) (placed to) (λ r. rw (front_inside to r.path) (and_false (is_lt (path_cmp to (to ++ r.path))))) (rows s))
+      ∙ ap (λ t. t ++ filter (is_beyond to) (filter (is_beyond to) rs)) (none_of (is_beyond to) (row_placed to) (λ r. rw (front_inside to r.path) (and_false (is_lt (path_cmp to (to ++ r.path))))) (rows s))
       ∙ filter_const (is_beyond to) (is_beyond to) true (λ r h. h) rs
 
-filled : (to from : List (List ℕ)) (s b : Node) (rs : List Row) → grafted to b (without from (grafted to s rs)) ≡ grafted to b (without from rs)
+filled : (to from : List (List ℕ)) (s b : Node) (rs : List Row) → branch_grafted to b (without from (branch_grafted to s rs)) ≡ branch_grafted to b (without from rs)
 filled to from s b rs =
-    let one : filter (is_before to) (without from (grafted to s rs)) ≡ filter (is_before to) (without from rs) =
-    filter_swap (is_before to) (outside from) (grafted to s rs) ∙ ap (filter (outside from)) (first_part to s rs) ∙ filter_swap (outside from) (is_before to) rs in
-    let other : filter (is_beyond to) (without from (grafted to s rs)) ≡ filter (is_beyond to) (without from rs) =
-    filter_swap (is_beyond to) (outside from) (grafted to s rs) ∙ ap (filter (outside from)) (last_part to s rs) ∙ filter_swap (outside from) (is_beyond to) rs in
-    ap (λ t. t ++ (map (placed to) (rows b) ++ filter (is_beyond to) (without from (grafted to s rs)))) one ∙ ap (λ t. filter (is_before to) (without from rs) ++ (map (placed to) (rows b) ++ t)) other
+    let one : filter (is_before to) (without from (branch_grafted to s rs)) ≡ filter (is_before to) (without from rs) =
+    filter_swap (is_before to) (outside from) (branch_grafted to s rs) ∙ ap (filter (outside from)) (first_part to s rs) ∙ filter_swap (outside from) (is_before to) rs in
+    let other : filter (is_beyond to) (without from (branch_grafted to s rs)) ≡ filter (is_beyond to) (without from rs) =
+    filter_swap (is_beyond to) (outside from) (branch_grafted to s rs) ∙ ap (filter (outside from)) (last_part to s rs) ∙ filter_swap (outside from) (is_beyond to) rs in
+    ap (λ t. t ++ (map (row_placed to) (rows b) ++ filter (is_beyond to) (without from (branch_grafted to s rs)))) one ∙ ap (λ t. filter (is_before to) (without from rs) ++ (map (row_placed to) (rows b) ++ t)) other
 
 -- paths of which neither is beneath the other
 
@@ -138,8 +138,8 @@ side_outside (t ∷ ts) (f ∷ fs) (q ∷ qs) a b h =
 
 -- what stands beside a stand-in without rows beneath it
 module _ (to from : List (List ℕ)) (apart : is_prefix to from ≡ false) (beside : is_prefix from to ≡ false) (s : Node) (leaf : s.beneath ≡ []) (rs : List Row) where
-  stand_in : filter (inside from) (map (placed to) (rows s)) ≡ []
-  stand_in = ap (λ l. filter (inside from) (placed to (row_of [] s.top) ∷ map (placed to) l)) leaf ∙ rw (append-nil to, beside) refl
+  stand_in : filter (inside from) (map (row_placed to) (rows s)) ≡ []
+  stand_in = ap (λ l. filter (inside from) (row_placed to (row_of [] s.top) ∷ map (row_placed to) l)) leaf ∙ rw (append-nil to, beside) refl
 
   below : filter (inside from) (filter (is_before to) rs) ≡ pick (is_gt (path_cmp to from)) (rows_under from rs)
   below = filter_swap (inside from) (is_before to) rs ∙ filter_const (is_before to) (inside from) (is_gt (path_cmp to from)) (λ r h. ap is_gt (side_cmp to from r.path apart beside h)) rs
@@ -154,10 +154,10 @@ module _ (to from : List (List ℕ)) (apart : is_prefix to from ≡ false) (besi
   either Equal e xs = absurd (false≢true (sym apart ∙ tied_starts to from e))
   either Greater e xs = append-nil xs
 
-  pub under_stand_in : rows_under from (grafted to s rs) ≡ rows_under from rs
+  pub under_stand_in : rows_under from (branch_grafted to s rs) ≡ rows_under from rs
   under_stand_in =
-      filter-append (inside from) (filter (is_before to) rs) (map (placed to) (rows s) ++ filter (is_beyond to) rs)
-      ∙ ap (λ l. filter (inside from) (filter (is_before to) rs) ++ l) (filter-append (inside from) (map (placed to) (rows s)) (filter (is_beyond to) rs))
+      filter-append (inside from) (filter (is_before to) rs) (map (row_placed to) (rows s) ++ filter (is_beyond to) rs)
+      ∙ ap (λ l. filter (inside from) (filter (is_before to) rs) ++ l) (filter-append (inside from) (map (row_placed to) (rows s)) (filter (is_beyond to) rs))
       ∙ rw (below, stand_in, above) (either (path_cmp to from) refl (rows_under from rs))
 
 -- the stand-in is still there
@@ -173,49 +173,49 @@ not_standing to r h = by (path_cmp to r.path) h
     by Equal k = cc
     by Greater k = refl
 
-pub there_after : (to from : List (List ℕ)) (s : Node) (rs : List Row) → is_prefix from to ≡ false → is_missing to (without from (grafted to s rs)) ≡ false
+pub there_after : (to from : List (List ℕ)) (s : Node) (rs : List Row) → is_prefix from to ≡ false → is_missing to (without from (branch_grafted to s rs)) ≡ false
 there_after to from s rs beside =
-    let top : Row = placed to (row_of [] s.top) in
-    let more : List Row = map (placed to) s.beneath ++ filter (is_beyond to) rs in
-    let one : filter (standing to) (grafted to s rs) ≡ top ∷ filter (standing to) more =
+    let top : Row = row_placed to (row_of [] s.top) in
+    let more : List Row = map (row_placed to) s.beneath ++ filter (is_beyond to) rs in
+    let one : filter (standing to) (branch_grafted to s rs) ≡ top ∷ filter (standing to) more =
     filter-append (standing to) (filter (is_before to) rs) (top ∷ more)
     ∙ ap (λ t. t ++ filter (standing to) (top ∷ more)) (filter_const (standing to) (is_before to) false (not_standing to) rs)
     ∙ kept_row (standing to) top more (front_at to []) in
     ap (λ l. is_none (first l))
-    (filter_swap (standing to) (outside from) (grafted to s rs) ∙ ap (filter (outside from)) one ∙ kept_row (outside from) top (filter (standing to) more) (ap (λ p. not (is_prefix from p)) (append-nil to) ∙ ap not beside))
+    (filter_swap (standing to) (outside from) (branch_grafted to s rs) ∙ ap (filter (outside from)) one ∙ kept_row (outside from) top (filter (standing to) more) (ap (λ p. not (is_prefix from p)) (append-nil to) ∙ ap not beside))
 
 -- the whole
 
-pub moved_placed : (from to : List (List ℕ)) (xs : List Row) → map (moved_row from to) (map (placed from) xs) ≡ map (placed to) xs
+pub moved_placed : (from to : List (List ℕ)) (xs : List Row) → map (moved_row from to) (map (row_placed from) xs) ≡ map (row_placed to) xs
 moved_placed from to [] = refl
 moved_placed from to (r ∷ rs) =
-    ap (λ p. record r { path = to ++ p } ∷ map (moved_row from to) (map (placed from) rs)) (drop-append_seam from r.path) ∙ ap (λ t. placed to r ∷ t) (moved_placed from to rs)
+    ap (λ p. record r { path = to ++ p } ∷ map (moved_row from to) (map (row_placed from) rs)) (drop-append_seam from r.path) ∙ ap (λ t. row_placed to r ∷ t) (moved_placed from to rs)
 
-moved_top : (f : List ℕ) (fs above : List (List ℕ)) (name : List ℕ) (b : Node) → row_of [] b.top ∷ moved (f ∷ fs) (above ++ name ∷ []) b.beneath ≡ moved (f ∷ fs) (above ++ name ∷ []) (rows b)
+moved_top : (f : List ℕ) (fs above : List (List ℕ)) (name : List ℕ) (b : Node) → row_of [] b.top ∷ with_rows_moved (f ∷ fs) (above ++ name ∷ []) b.beneath ≡ with_rows_moved (f ∷ fs) (above ++ name ∷ []) (rows b)
 moved_top f fs [] name b = refl
 moved_top f fs (n ∷ ns) name b = refl
 
 pub moved_rows : (f : List ℕ) (fs above : List (List ℕ)) (name : List ℕ) (b b1 b2 b3 s part : Node) (o : Option Node) → is_prefix (above ++ name ∷ []) (f ∷ fs) ≡ false → is_prefix (f ∷ fs) (above ++ name ∷ []) ≡ false → s.beneath ≡ []
-    → b1 ≡ with_rows b (grafted (above ++ name ∷ []) s b.beneath) → IsWhole (f ∷ fs) b1.beneath o → o ≡ Some part → b2 ≡ with_rows b1 (without (f ∷ fs) b1.beneath) → b3 ≡ with_rows b2 (grafted (above ++ name ∷ []) part b2.beneath)
-    → rows b3 ≡ moved (f ∷ fs) (above ++ name ∷ []) (rows b)
+    → b1 ≡ with_rows b (branch_grafted (above ++ name ∷ []) s b.beneath) → IsWhole (f ∷ fs) b1.beneath o → o ≡ Some part → b2 ≡ with_rows b1 (without (f ∷ fs) b1.beneath) → b3 ≡ with_rows b2 (branch_grafted (above ++ name ∷ []) part b2.beneath)
+    → rows b3 ≡ with_rows_moved (f ∷ fs) (above ++ name ∷ []) (rows b)
 moved_rows f fs above name b b1 b2 b3 s part o apart beside leaf put whole some taken fill =
     let from : List (List ℕ) = f ∷ fs in
     let to : List (List ℕ) = above ++ name ∷ [] in
-    let under : map (placed from) (rows part) ≡ rows_under from b.beneath =
-    sym (subst (λ x. rows_under from b1.beneath ≡ map (placed from) (rows_or x)) some whole) ∙ ap (λ x. rows_under from x.beneath) put ∙ under_stand_in to from apart beside s leaf b.beneath in
-    let same_block : map (placed to) (rows part) ≡ map (moved_row from to) (rows_under from b.beneath) = sym (moved_placed from to (rows part)) ∙ ap (map (moved_row from to)) under in
-    let two_calls : b2 ≡ with_rows b (without from (grafted to s b.beneath)) = taken ∙ ap (λ x. with_rows x (without from x.beneath)) put in
-    ap rows fill ∙ ap (λ x. rows (with_rows x (grafted to part x.beneath))) two_calls ∙ ap (λ l. row_of [] b.top ∷ l) (filled to from s part b.beneath ∙ ap (λ l. replaced to l (without from b.beneath)) same_block) ∙ moved_top f fs above name b
+    let under : map (row_placed from) (rows part) ≡ rows_under from b.beneath =
+    sym (subst (λ x. rows_under from b1.beneath ≡ map (row_placed from) (rows_or x)) some whole) ∙ ap (λ x. rows_under from x.beneath) put ∙ under_stand_in to from apart beside s leaf b.beneath in
+    let same_block : map (row_placed to) (rows part) ≡ map (moved_row from to) (rows_under from b.beneath) = sym (moved_placed from to (rows part)) ∙ ap (map (moved_row from to)) under in
+    let two_calls : b2 ≡ with_rows b (without from (branch_grafted to s b.beneath)) = taken ∙ ap (λ x. with_rows x (without from x.beneath)) put in
+    ap rows fill ∙ ap (λ x. rows (with_rows x (branch_grafted to part x.beneath))) two_calls ∙ ap (λ l. row_of [] b.top ∷ l) (filled to from s part b.beneath ∙ ap (λ l. rows_replaced to l (without from b.beneath)) same_block) ∙ moved_top f fs above name b
 
 pub taken_some : (f : List ℕ) (fs above : List (List ℕ)) (name : List ℕ) (b b1 s : Node) (o : Option Node) → is_prefix (above ++ name ∷ []) (f ∷ fs) ≡ false → is_prefix (f ∷ fs) (above ++ name ∷ []) ≡ false → s.beneath ≡ []
-    → b1 ≡ with_rows b (grafted (above ++ name ∷ []) s b.beneath) → IsWhole (f ∷ fs) b1.beneath o → o ≡ None → is_missing (f ∷ fs) (rows b) ≡ false → ⊥
+    → b1 ≡ with_rows b (branch_grafted (above ++ name ∷ []) s b.beneath) → IsWhole (f ∷ fs) b1.beneath o → o ≡ None → is_missing (f ∷ fs) (rows b) ≡ false → ⊥
 taken_some f fs above name b b1 s o apart beside leaf put whole none there =
     let from : List (List ℕ) = f ∷ fs in
     let under : rows_under from b.beneath ≡ [] =
-    sym (under_stand_in (above ++ name ∷ []) from apart beside s leaf b.beneath) ∙ sym (ap (λ x. rows_under from x.beneath) put) ∙ subst (λ x. rows_under from b1.beneath ≡ map (placed from) (rows_or x)) none whole in
+    sym (under_stand_in (above ++ name ∷ []) from apart beside s leaf b.beneath) ∙ sym (ap (λ x. rows_under from x.beneath) put) ∙ subst (λ x. rows_under from b1.beneath ≡ map (row_placed from) (rows_or x)) none whole in
     false≢true (sym there ∙ ap (λ l. is_none (first l)) (sym (filter_within (standing from) (inside from) (standing_inside from) b.beneath) ∙ ap (filter (standing from)) under))
 
-pub fill_there : (f : List ℕ) (fs above : List (List ℕ)) (name : List ℕ) (b b1 b2 s : Node) → is_prefix (f ∷ fs) (above ++ name ∷ []) ≡ false → b1 ≡ with_rows b (grafted (above ++ name ∷ []) s b.beneath) → b2 ≡ with_rows b1 (without (f ∷ fs) b1.beneath)
+pub fill_there : (f : List ℕ) (fs above : List (List ℕ)) (name : List ℕ) (b b1 b2 s : Node) → is_prefix (f ∷ fs) (above ++ name ∷ []) ≡ false → b1 ≡ with_rows b (branch_grafted (above ++ name ∷ []) s b.beneath) → b2 ≡ with_rows b1 (without (f ∷ fs) b1.beneath)
     → is_missing (above ++ name ∷ []) b2.beneath ≡ false
 fill_there f fs above name b b1 b2 s beside put taken =
     ap (λ x. is_missing (above ++ name ∷ []) x.beneath) (taken ∙ ap (λ x. with_rows x (without (f ∷ fs) x.beneath)) put) ∙ there_after (above ++ name ∷ []) (f ∷ fs) s b.beneath beside

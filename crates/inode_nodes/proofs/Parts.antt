@@ -11,7 +11,7 @@ use Rattle.flat_rows.specs.Changes.{rows_under}
 use Rattle.inode_nodes.specs.Kept.{branch_of, rows_in, IsSorted}
 use Rattle.inode_nodes.specs.declared.node.Held.TheVariants.{File, Directory}
 use Rattle.inode_nodes.specs.declared.node.Node.TheInside.{Inside}
-use Rattle.inode_nodes.specs.Node.{Node, flatten, rows, rows_or, under, placed}
+use Rattle.inode_nodes.specs.Node.{Node, flatten, rows, rows_or, under, row_placed}
 use Rattle.inode_nodes.specs.Part.{IsPart, IsWhole}
 use Rattle.inode_nodes.proofs.Split.{R, Side, split, at, entry}
 use Rattle.inode_nodes.proofs.Filters.{Entries, filter-flatten, filter-missing, inside, inside-splits}
@@ -34,11 +34,11 @@ file_parts n i file b seen is = subst (λ x. IsPart n x.beneath None) seen (subs
 
 -- wholes
 
-pub placed_under : (n : List ℕ) (ns : List (List ℕ)) (rs : List Row) → map (placed (n ∷ ns)) rs ≡ map (under n) (map (placed ns) rs)
+pub placed_under : (n : List ℕ) (ns : List (List ℕ)) (rs : List Row) → map (row_placed (n ∷ ns)) rs ≡ map (under n) (map (row_placed ns) rs)
 placed_under n ns [] = refl
-placed_under n ns (r ∷ rs) = ap (λ t. placed (n ∷ ns) r ∷ t) (placed_under n ns rs)
+placed_under n ns (r ∷ rs) = ap (λ t. row_placed (n ∷ ns) r ∷ t) (placed_under n ns rs)
 
-pub placed_top : (rs : List Row) → map (placed []) rs ≡ rs
+pub placed_top : (rs : List Row) → map (row_placed []) rs ≡ rs
 placed_top [] = refl
 placed_top (r ∷ rs) = ap (λ t. r ∷ t) (placed_top rs)
 

@@ -16,14 +16,14 @@ use Rattle.namespace_rows.specs.Rows.{is_directory, is_none, is_missing}
 use Rattle.namespace_rows.specs.Namespace.{is_child, has_parent}
 use Rattle.namespace_rows.specs.declared.row.Change.{Change}
 use Rattle.namespace_rows.specs.Files.{with_block}
-use Rattle.flat_rows.specs.Changes.{without, edited, changed, rewritten, block_added}
+use Rattle.flat_rows.specs.Changes.{without, file_edited, with_change, row_rewritten, block_added}
 use Rattle.inode_nodes.specs.Kept.{branch_of, rows_in, IsSorted}
 use Rattle.inode_nodes.specs.declared.node.Held.{Held}
 use Rattle.inode_nodes.specs.declared.node.Held.TheVariants.{File, Directory}
 use Rattle.inode_nodes.specs.declared.node.Node.TheInside.{Inside}
 use Rattle.inode_nodes.specs.Node.{Node, Top, flatten, rows, rows_or, row_of, top_of, under, with_rows}
 use Rattle.inode_nodes.specs.Part.{Splits, IsPart, IsWhole}
-use Rattle.inode_nodes.specs.Change.{grafted, holds_parent}
+use Rattle.inode_nodes.specs.Change.{branch_grafted, holds_parent}
 use Rattle.inode_nodes.proofs.Split.{R, at}
 use Rattle.inode_nodes.proofs.Filters.{Entries, self, standing, standing-splits}
 use Rattle.inode_nodes.proofs.Parts.{part-lookup, whole_at, whole_itself}
@@ -151,22 +151,22 @@ not_beneath n ns names name es sorted is found h = false≢true (sym h ∙ ap (�
 pub not_here : (names : List (List ℕ)) (name : List ℕ) (es : Entries) → Sorted es → names ≡ [] → lookup (at name) es ≡ None → is_missing (names ++ name ∷ []) (flatten es) ≡ false → ⊥
 not_here names name es sorted is found h = false≢true (sym h ∙ ap (λ xs. is_missing (xs ++ name ∷ []) (flatten es)) is ∙ missing_at name [] es None sorted found)
 
-pub put_top : (above : List (List ℕ)) (name : List ℕ) (new : Node) (t : Top) (rs : List Row) → grafted (above ++ name ∷ []) new (row_of [] t ∷ rs) ≡ row_of [] t ∷ grafted (above ++ name ∷ []) new rs
+pub put_top : (above : List (List ℕ)) (name : List ℕ) (new : Node) (t : Top) (rs : List Row) → branch_grafted (above ++ name ∷ []) new (row_of [] t ∷ rs) ≡ row_of [] t ∷ branch_grafted (above ++ name ∷ []) new rs
 put_top [] name new t rs = refl
 put_top (n ∷ ns) name new t rs = refl
 
-pub put_through : (n : List ℕ) (ns names : List (List ℕ)) (name : List ℕ) (new b c : Node) (es fs : Entries) → Sorted es → names ≡ n ∷ ns → lookup (at n) es ≡ Some b → c ≡ with_rows b (grafted (ns ++ name ∷ []) new b.beneath) → fs ≡ set_value (at n) es c
-    → flatten fs ≡ grafted (names ++ name ∷ []) new (flatten es)
+pub put_through : (n : List ℕ) (ns names : List (List ℕ)) (name : List ℕ) (new b c : Node) (es fs : Entries) → Sorted es → names ≡ n ∷ ns → lookup (at n) es ≡ Some b → c ≡ with_rows b (branch_grafted (ns ++ name ∷ []) new b.beneath) → fs ≡ set_value (at n) es c
+    → flatten fs ≡ branch_grafted (names ++ name ∷ []) new (flatten es)
 put_through n ns names name new b c es fs sorted is found changed written =
-    level_through (grafted (n ∷ (ns ++ name ∷ [])) new) (grafted (ns ++ name ∷ []) new) n (grafted-level n (ns ++ name ∷ []) new) (put_top ns name new) b c es fs sorted found changed written
-    ∙ ap (λ xs. grafted (xs ++ name ∷ []) new (flatten es)) (sym is)
+    level_through (branch_grafted (n ∷ (ns ++ name ∷ [])) new) (branch_grafted (ns ++ name ∷ []) new) n (grafted-level n (ns ++ name ∷ []) new) (put_top ns name new) b c es fs sorted found changed written
+    ∙ ap (λ xs. branch_grafted (xs ++ name ∷ []) new (flatten es)) (sym is)
 
-pub put_here : (names : List (List ℕ)) (name : List ℕ) (new : Node) (es fs : Entries) → Sorted es → names ≡ [] → fs ≡ insert_entry R es name new → flatten fs ≡ grafted (names ++ name ∷ []) new (flatten es)
-put_here names name new es fs sorted is inserted = ap flatten inserted ∙ put_entry name es new sorted ∙ ap (λ xs. grafted (xs ++ name ∷ []) new (flatten es)) (sym is)
+pub put_here : (names : List (List ℕ)) (name : List ℕ) (new : Node) (es fs : Entries) → Sorted es → names ≡ [] → fs ≡ insert_entry R es name new → flatten fs ≡ branch_grafted (names ++ name ∷ []) new (flatten es)
+put_here names name new es fs sorted is inserted = ap flatten inserted ∙ put_entry name es new sorted ∙ ap (λ xs. branch_grafted (xs ++ name ∷ []) new (flatten es)) (sym is)
 
-pub fill_here : (names : List (List ℕ)) (name : List ℕ) (b c : Node) (es fs : Entries) → Sorted es → names ≡ [] → lookup (at name) es ≡ Some b → fs ≡ set_value (at name) es c → flatten fs ≡ grafted (names ++ name ∷ []) c (flatten es)
+pub fill_here : (names : List (List ℕ)) (name : List ℕ) (b c : Node) (es fs : Entries) → Sorted es → names ≡ [] → lookup (at name) es ≡ Some b → fs ≡ set_value (at name) es c → flatten fs ≡ branch_grafted (names ++ name ∷ []) c (flatten es)
 fill_here names name b c es fs sorted is found written =
-    ap flatten written ∙ set_entry (grafted (name ∷ []) c) (grafted [] c) name (grafted-level name [] c) es b c sorted found (grafted_top c (rows b)) ∙ ap (λ xs. grafted (xs ++ name ∷ []) c (flatten es)) (sym is)
+    ap flatten written ∙ set_entry (branch_grafted (name ∷ []) c) (branch_grafted [] c) name (grafted-level name [] c) es b c sorted found (grafted_top c (rows b)) ∙ ap (λ xs. branch_grafted (xs ++ name ∷ []) c (flatten es)) (sym is)
 
 -- taking
 
@@ -207,11 +207,11 @@ module _ (new : Row → Row) where
   untouched_beneath : (i : Inside) (b : Node) → branch_of i ≡ b → rewritten_by new [] b.beneath ≡ b.beneath
   untouched_beneath i b seen = subst (λ x. rewritten_by new [] x.beneath ≡ x.beneath) seen (untouched_in i.held)
 
-pub unchanged_beneath : (c : Change) (i : Inside) (b : Node) → branch_of i ≡ b → rewritten [] c b.beneath ≡ b.beneath
-unchanged_beneath c = untouched_beneath (changed c)
+pub unchanged_beneath : (c : Change) (i : Inside) (b : Node) → branch_of i ≡ b → row_rewritten [] c b.beneath ≡ b.beneath
+unchanged_beneath c = untouched_beneath (with_change c)
 
 pub unadded_beneath : (block : ℕ) (i : Inside) (b : Node) → branch_of i ≡ b → block_added [] block b.beneath ≡ b.beneath
-unadded_beneath block = untouched_beneath (edited (with_block block))
+unadded_beneath block = untouched_beneath (file_edited (with_block block))
 
 module _ (new : Row → Row) (pathless : IsPathless new) where
   pub rewrite_top : (names : List (List ℕ)) (b d : Node) → names ≡ [] → rewritten_by new [] b.beneath ≡ b.beneath → d ≡ record { top = top_of (new (row_of [] b.top)); beneath = b.beneath } → rows d ≡ rewritten_by new names (rows b)

@@ -10,7 +10,7 @@ use Rattle.namespace_rows.specs.First.{first}
 use Rattle.namespace_rows.specs.Rows.{row_at}
 use Rattle.namespace_rows.proofs.PathOrders.{same_path_is}
 use Rattle.flat_rows.proofs.NewDirectories.{starts_self}
-use Rattle.inode_nodes.specs.Node.{Node, rows_or, row_of, placed}
+use Rattle.inode_nodes.specs.Node.{Node, rows_or, row_of, row_placed}
 use Rattle.inode_nodes.specs.Part.{IsWhole}
 use Rattle.inode_nodes.proofs.Filters.{self, filter-map, inside, standing}
 
@@ -36,9 +36,9 @@ same_placed [] q = refl
 same_placed (n ∷ ns) q = rw (self n) (same_placed ns q)
 
 -- the rows of the whole that have the path
-pub found_at : (path : List (List ℕ)) (all : List Row) (part : Option Node) → IsWhole path all part → filter (standing path) all ≡ map (placed path) (filter (standing []) (rows_or part))
+pub found_at : (path : List (List ℕ)) (all : List Row) (part : Option Node) → IsWhole path all part → filter (standing path) all ≡ map (row_placed path) (filter (standing []) (rows_or part))
 found_at path all part whole =
-    sym (filter_within (standing path) (inside path) (standing_inside path) all) ∙ ap (filter (standing path)) whole ∙ filter-map (standing path) (standing []) (placed path) (λ r. same_placed path r.path) (rows_or part)
+    sym (filter_within (standing path) (inside path) (standing_inside path) all) ∙ ap (filter (standing path)) whole ∙ filter-map (standing path) (standing []) (row_placed path) (λ r. same_placed path r.path) (rows_or part)
 
 pub row_at_whole : (path : List (List ℕ)) (all : List Row) (part : Option Node) → IsWhole path all part → option_map (λ b. row_of path b.top) part ≡ row_at path all
 row_at_whole path all None whole = sym (ap first (found_at path all None whole))

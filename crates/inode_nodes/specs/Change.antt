@@ -4,15 +4,15 @@ use Rattle.acl_entries.specs.Acl.{Acl}
 use Rattle.namespace_rows.specs.declared.file_row.FileRow.{FileRow}
 use Rattle.namespace_rows.specs.declared.row.Change.{Change}
 use Rattle.namespace_rows.specs.declared.row.Row.{Row}
-use Rattle.namespace_rows.specs.Rows.{replaced}
+use Rattle.namespace_rows.specs.Rows.{rows_replaced}
 use Rattle.namespace_rows.specs.Namespace.{has_parent}
-use Rattle.flat_rows.specs.Changes.{changed}
+use Rattle.flat_rows.specs.Changes.{with_change}
 use Rattle.flat_rows.specs.Outcome.{mode_of_new, file_of_new, new_at, new_rows}
-use Rattle.inode_nodes.specs.Node.{Top, Node, rows, row_of, top_of, placed}
+use Rattle.inode_nodes.specs.Node.{Top, Node, rows, row_of, top_of, row_placed}
 
 -- the rows with the branch at the path, and nothing else there
-abbrev pub grafted : List (List ℕ) → Node → List Row → List Row
-grafted path branch all = replaced path (map (placed path) (rows branch)) all
+abbrev pub branch_grafted : List (List ℕ) → Node → List Row → List Row
+branch_grafted path branch all = rows_replaced path (map (row_placed path) (rows branch)) all
 
 -- of the rows that a directory holds, one is the directory that holds a name beneath these, where it isn't the directory itself
 abbrev pub holds_parent : List (List ℕ) → List ℕ → List Row → Bool
@@ -25,4 +25,4 @@ chain above group owner mode file names = let top = new_at above group owner (mo
 
 -- a top with one of its parts changed
 abbrev pub changed_top : Change → Top → Top
-changed_top change top = top_of (changed change (row_of [] top))
+changed_top change top = top_of (with_change change (row_of [] top))

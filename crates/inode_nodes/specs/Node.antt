@@ -32,8 +32,8 @@ rows_or None = []
 rows_or (Some branch) = rows branch
 
 -- a row of a branch as the namespace sees it, where the branch stands at the path
-abbrev pub placed : List (List ℕ) → Row → Row
-placed path row = row_of (path ++ row.path) (top_of row)
+abbrev pub row_placed : List (List ℕ) → Row → Row
+row_placed path row = row_of (path ++ row.path) (top_of row)
 
 -- a row of a branch as the directory that holds it by a name sees it
 abbrev pub under : List ℕ → Row → Row

@@ -4,7 +4,7 @@ use Rattle.std.specs.declared.cmp.Ordering.TheVariants.{Less, Greater}
 use Rattle.hdfs_values.specs.Text.{text_cmp}
 use Rattle.namespace_rows.specs.declared.row.Row.{Row}
 use Rattle.flat_rows.specs.Changes.{rows_under}
-use Rattle.inode_nodes.specs.Node.{Node, rows_or, under, placed}
+use Rattle.inode_nodes.specs.Node.{Node, rows_or, under, row_placed}
 
 -- A test p passes the rows at a name as q passes the rows of its branch, and all rows before it or none, and all behind it or none.
 pub record Splits (p q : Row → Bool) (name : List ℕ) (low high : Bool) : Type 0 where
@@ -18,4 +18,4 @@ pub record IsPart (name : List ℕ) (beneath : List Row) (part : Option Node) : 
 
 -- the rows at and beneath the path are those of the branch, or there is none
 abbrev pub IsWhole : List (List ℕ) → List Row → Option Node → Type 0
-IsWhole path all part = rows_under path all ≡ map (placed path) (rows_or part)
+IsWhole path all part = rows_under path all ≡ map (row_placed path) (rows_or part)

@@ -3,7 +3,7 @@ ghost use Rattle.std.specs.List.Sorted.{IsStrictlySortedBy};
 ghost use Rattle.std.specs.Map.{keys_of};
 ghost use Rattle.hdfs_values.specs.Text.{text_cmp};
 ghost use Rattle.namespace_rows.specs.Files.{with_block};
-ghost use Rattle.flat_rows.specs.Changes.{edited, block_added};
+ghost use Rattle.flat_rows.specs.Changes.{file_edited, block_added};
 ghost use Rattle.inode_nodes.specs.Node.{rows, row_of, top_of, flatten};
 ghost use Rattle.inode_nodes.specs.Kept.{kind_of, file_of, rows_in, IsSorted};
 
@@ -32,7 +32,7 @@ impl Node {
     /// Adds a block to the node, where that is a file.
     #[tactic(auto, using(crate::proofs::Through::unadded_beneath))]
     fn add_block(&mut self, block: BlockId) -> Result<(), AllocError>
-        ensures ok { OnOk result (self.new ≡ record { top = top_of (edited (with_block block) (row_of [] self.old.top)); beneath = self.old.beneath }) }
+        ensures ok { OnOk result (self.new ≡ record { top = top_of (file_edited (with_block block) (row_of [] self.old.top)); beneath = self.old.beneath }) }
         ensures err { OnErr result (self.new ≡ self.old) }
         ensures beneath { block_added [] block self.old.beneath ≡ self.old.beneath }
     {

@@ -5,12 +5,12 @@ ghost use Rattle.hdfs_values.specs.Path.{is_prefix};
 ghost use Rattle.hdfs_values.specs.Text.{text_cmp};
 ghost use Rattle.namespace_rows.specs.Rows.{is_missing, file_above, ancestor};
 ghost use Rattle.namespace_rows.specs.Namespace.{has_parent};
-ghost use Rattle.namespace_rows.specs.Files.{with_state, with_replication, without_last, committed_at, recovered_at};
+ghost use Rattle.namespace_rows.specs.Files.{with_state, with_file_replication, without_last, committed_at, recovered_at};
 ghost use Rattle.flat_rows.specs.Outcome.{kind_of_new, with_new};
-ghost use Rattle.flat_rows.specs.Changes.{without, moved, rewritten};
+ghost use Rattle.flat_rows.specs.Changes.{without, with_rows_moved, row_rewritten};
 ghost use Rattle.inode_nodes.specs.Node.{Top, rows, row_of, under, flatten, with_rows};
 ghost use Rattle.inode_nodes.specs.Part.{IsWhole};
-ghost use Rattle.inode_nodes.specs.Change.{grafted, holds_parent, chain, changed_top};
+ghost use Rattle.inode_nodes.specs.Change.{branch_grafted, holds_parent, chain, changed_top};
 ghost use Rattle.inode_nodes.specs.Kept.{kind_of as kind_of_held, file_of, rows_in, IsSorted};
 
 use crate::node::{Held, Node};
@@ -33,7 +33,7 @@ impl Node {
     #[cycle(put)]
     pub fn put(&mut self, above: &[Name], name: Name, new: Node) -> Result<(), AllocError>
         requires { IsTrue (has_parent (above.now ++ name ∷ []) (rows self.old)) }
-        ensures ok { OnOk result (self.new ≡ with_rows self.old (grafted (above.now ++ name ∷ []) new self.old.beneath)) }
+        ensures ok { OnOk result (self.new ≡ with_rows self.old (branch_grafted (above.now ++ name ∷ []) new self.old.beneath)) }
         ensures err { OnErr result (self.new ≡ self.old) }
     {
         match &mut self.held {
@@ -46,7 +46,7 @@ impl Node {
     #[cycle(fill)]
     pub fn fill(&mut self, above: &[Name], name: &Name, new: Node)
         requires { is_missing (above.now ++ name.now ∷ []) self.old.beneath ≡ false }
-        ensures { self.new ≡ with_rows self.old (grafted (above.now ++ name.now ∷ []) new self.old.beneath) }
+        ensures { self.new ≡ with_rows self.old (branch_grafted (above.now ++ name.now ∷ []) new self.old.beneath) }
     {
         match &mut self.held {
             Held::Directory(map) => fill_in(map, above, name, new),
@@ -90,7 +90,7 @@ impl Node {
         requires parent { IsTrue (has_parent (above.now ++ name.now ∷ []) (rows self.old)) }
         requires beside { is_prefix (first.now ∷ rest.now) (above.now ++ name.now ∷ []) ≡ false }
         requires apart { is_prefix (above.now ++ name.now ∷ []) (first.now ∷ rest.now) ≡ false }
-        ensures ok { OnOk result (rows self.new ≡ moved (first.now ∷ rest.now) (above.now ++ name.now ∷ []) (rows self.old)) }
+        ensures ok { OnOk result (rows self.new ≡ with_rows_moved (first.now ∷ rest.now) (above.now ++ name.now ∷ []) (rows self.old)) }
         ensures err { OnErr result (self.new ≡ self.old) }
     {
         let own_name = name.clone()?;
@@ -107,7 +107,7 @@ impl Node {
     #[tactic(auto, using(crate::proofs::Through::unchanged_beneath))]
     fn give(&mut self, change: Change)
         ensures given { self.new ≡ record { top = changed_top change self.old.top; beneath = self.old.beneath } }
-        ensures beneath { rewritten [] change self.old.beneath ≡ self.old.beneath }
+        ensures beneath { row_rewritten [] change self.old.beneath ≡ self.old.beneath }
     {
         match change {
             Change::Owner(owner, group) => {
@@ -126,7 +126,7 @@ impl Node {
     /// Gives what stands at the path what the change says.
     #[cycle(rewrite)]
     pub fn rewrite(&mut self, path: &[Name], change: Change)
-        ensures { rows self.new ≡ rewritten path.now change (rows self.old) }
+        ensures { rows self.new ≡ row_rewritten path.now change (rows self.old) }
     {
         match path.split_first() {
             None => self.give(change),
@@ -248,7 +248,7 @@ impl Held {
         requires { IsSorted self.old }
         ensures sorted { IsSorted self.new }
         ensures kind { kind_of_held self.new ≡ kind_of_held self.old }
-        ensures file { file_of self.new ≡ option_map (with_replication replication) (file_of self.old) }
+        ensures file { file_of self.new ≡ option_map (with_file_replication replication) (file_of self.old) }
         ensures rows { rows_in self.new ≡ rows_in self.old }
     {
         match self {
@@ -372,7 +372,7 @@ fn put_in(
     requires sorted { IsStrictlySortedBy text_cmp (keys_of map.old.entries) }
     requires parent { IsTrue (holds_parent above.now name (flatten map.old.entries)) }
     ensures sorted { IsStrictlySortedBy text_cmp (keys_of map.new.entries) }
-    ensures ok { OnOk result (flatten map.new.entries ≡ grafted (above.now ++ name ∷ []) new (flatten map.old.entries)) }
+    ensures ok { OnOk result (flatten map.new.entries ≡ branch_grafted (above.now ++ name ∷ []) new (flatten map.old.entries)) }
     ensures err { OnErr result (flatten map.new.entries ≡ flatten map.old.entries) }
 {
     match above.split_first() {
@@ -392,7 +392,7 @@ fn fill_in(map: &mut BTreeMap<Name, Node>, above: &[Name], name: &Name, new: Nod
     requires sorted { IsStrictlySortedBy text_cmp (keys_of map.old.entries) }
     requires there { is_missing (above.now ++ name.now ∷ []) (flatten map.old.entries) ≡ false }
     ensures sorted { IsStrictlySortedBy text_cmp (keys_of map.new.entries) }
-    ensures rows { flatten map.new.entries ≡ grafted (above.now ++ name.now ∷ []) new (flatten map.old.entries) }
+    ensures rows { flatten map.new.entries ≡ branch_grafted (above.now ++ name.now ∷ []) new (flatten map.old.entries) }
 {
     match above.split_first() {
         None => match map.get_mut(name) {
@@ -426,7 +426,7 @@ fn take_in(map: &mut BTreeMap<Name, Node>, first: &Name, rest: &[Name]) -> Optio
 fn rewrite_in(map: &mut BTreeMap<Name, Node>, first: &Name, rest: &[Name], change: Change)
     requires { IsStrictlySortedBy text_cmp (keys_of map.old.entries) }
     ensures sorted { IsStrictlySortedBy text_cmp (keys_of map.new.entries) }
-    ensures rows { flatten map.new.entries ≡ rewritten (first.now ∷ rest.now) change (flatten map.old.entries) }
+    ensures rows { flatten map.new.entries ≡ row_rewritten (first.now ∷ rest.now) change (flatten map.old.entries) }
 {
     match map.get_mut(first) {
         Some(child) => child.rewrite(rest, change),

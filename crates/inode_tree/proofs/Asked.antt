@@ -13,19 +13,19 @@ use Rattle.namespace_rows.specs.Namespace.{is_ascending}
 use Rattle.flat_rows.specs.Changes.{rows_under, child_names, are_paths}
 use Rattle.namespace_rows.proofs.Tests.{both, all_kept}
 use Rattle.namespace_rows.proofs.Namespaces.{namespace_tests}
-use Rattle.inode_nodes.specs.Node.{Node, rows, rows_or, placed}
+use Rattle.inode_nodes.specs.Node.{Node, rows, rows_or, row_placed}
 use Rattle.inode_nodes.specs.Part.{IsWhole}
 use Rattle.inode_tree.specs.Tree.{IsTree}
-use Rattle.inode_tree.specs.Visits.{told, counts_of}
+use Rattle.inode_tree.specs.Visits.{told_number, counts_of}
 use Rattle.inode_tree.specs.declared.visit.Counts.{Counts}
 use Rattle.inode_nodes.proofs.Filters.{filter-map, inside}
 use Rattle.inode_tree.proofs.Visits.{bytes_map, holders_map}
 use Rattle.inode_nodes.proofs.Children.{part_ascending, child_names_whole}
 
 abbrev made : ℕ → ℕ → ℕ → Counts
-made directories files bytes = record { directories = told directories; files = told files; bytes = told_length bytes }
+made directories files bytes = record { directories = told_number directories; files = told_number files; bytes = told_length bytes }
 
-first_placed : (path : List (List ℕ)) (rs : List Row) → first (map (placed path) rs) ≡ option_map (placed path) (first rs)
+first_placed : (path : List (List ℕ)) (rs : List Row) → first (map (row_placed path) rs) ≡ option_map (row_placed path) (first rs)
 first_placed path [] = refl
 first_placed path (r ∷ rs) = refl
 
@@ -41,38 +41,38 @@ first_passes p q rs row h found = by (filter p rs) (all_kept p q rs h) found
 
 -- what was found at these names, in a tree whose rows are all of these
 module _ (names path : List (List ℕ)) (is : names ≡ path) (root : Node) (all : List Row) (seen : rows root ≡ all) (tree : IsTree (rows root)) (o : Option Node) (whole : IsWhole names (rows root) o) where
-  under : rows_under path all ≡ map (placed path) (rows_or o)
-  under = sym (ap (λ p. rows_under p all) is) ∙ sym (ap (rows_under names) seen) ∙ whole ∙ ap (λ p. map (placed p) (rows_or o)) is
+  under : rows_under path all ≡ map (row_placed path) (rows_or o)
+  under = sym (ap (λ p. rows_under p all) is) ∙ sym (ap (rows_under names) seen) ∙ whole ∙ ap (λ p. map (row_placed p) (rows_or o)) is
 
-  module _ (p : Row → Bool) (same : (row : Row) → p (placed path row) ≡ p row) where
-    passing : filter p (rows_under path all) ≡ map (placed path) (filter p (rows_or o))
-    passing = ap (filter p) under ∙ filter-map p p (placed path) same (rows_or o)
+  module _ (p : Row → Bool) (same : (row : Row) → p (row_placed path row) ≡ p row) where
+    passing : filter p (rows_under path all) ≡ map (row_placed path) (filter p (rows_or o))
+    passing = ap (filter p) under ∙ filter-map p p (row_placed path) same (rows_or o)
 
     number : length (filter p (rows_or o)) ≡ length (filter p (rows_under path all))
-    number = sym (ap length passing ∙ length-map (filter p (rows_or o)) (placed path))
+    number = sym (ap length passing ∙ length-map (filter p (rows_or o)) (row_placed path))
 
-    pub first_there : option_map (placed path) (first (filter p (rows_or o))) ≡ first (filter p (rows_under path all))
+    pub first_there : option_map (row_placed path) (first (filter p (rows_or o))) ≡ first (filter p (rows_under path all))
     first_there = sym (ap first passing ∙ first_placed path (filter p (rows_or o)))
 
   pub counts_there : counts_of (rows_or o) ≡ counts_of (rows_under path all)
   counts_there =
       ap (λ n. made n (length (filter (λ row. not (is_directory row)) (rows_or o))) (bytes_in (rows_or o))) (number is_directory (λ row. refl))
       ∙ ap (λ n. made (length (filter is_directory (rows_under path all))) n (bytes_in (rows_or o))) (number (λ row. not (is_directory row)) (λ row. refl))
-      ∙ ap (made (length (filter is_directory (rows_under path all))) (length (filter (λ row. not (is_directory row)) (rows_under path all)))) (sym (ap bytes_in under ∙ bytes_map (placed path) (λ row. refl) (rows_or o)))
+      ∙ ap (made (length (filter is_directory (rows_under path all))) (length (filter (λ row. not (is_directory row)) (rows_under path all)))) (sym (ap bytes_in under ∙ bytes_map (row_placed path) (λ row. refl) (rows_or o)))
 
   pub holders_there : holders (rows_or o) ≡ holders (rows_under path all)
-  holders_there = sym (ap holders under ∙ holders_map (placed path) (λ row. refl) (rows_or o))
+  holders_there = sym (ap holders under ∙ holders_map (row_placed path) (λ row. refl) (rows_or o))
 
-  paths_there : are_paths (map (placed path) (rows_or o)) ≡ true
+  paths_there : are_paths (map (row_placed path) (rows_or o)) ≡ true
   paths_there = sym (ap are_paths under) ∙ all_kept (inside path) (λ row. is_path row.path) all (ap are_paths (sym seen) ∙ tree.paths)
 
-  pub rows_there : (b : Node) → o ≡ Some b → IsTrue (are_paths (map (placed path) (rows b)))
-  rows_there b found = subst (λ x. are_paths (map (placed path) (rows_or x)) ≡ true) found paths_there
+  pub rows_there : (b : Node) → o ≡ Some b → IsTrue (are_paths (map (row_placed path) (rows b)))
+  rows_there b found = subst (λ x. are_paths (map (row_placed path) (rows_or x)) ≡ true) found paths_there
 
   -- the row that was found has a path
-  pub found_path : (p : Row → Bool) (row : Row) → ((row : Row) → p (placed path row) ≡ p row) → first (filter p (rows_or o)) ≡ Some row → IsPath (path ++ row.path)
+  pub found_path : (p : Row → Bool) (row : Row) → ((row : Row) → p (row_placed path row) ≡ p row) → first (filter p (rows_or o)) ≡ Some row → IsPath (path ++ row.path)
   found_path p row same found =
-      first_passes p (λ r. is_path r.path) (map (placed path) (rows_or o)) (placed path row) paths_there (ap first (filter-map p p (placed path) same (rows_or o)) ∙ first_placed path (filter p (rows_or o)) ∙ ap (option_map (placed path)) found)
+      first_passes p (λ r. is_path r.path) (map (row_placed path) (rows_or o)) (row_placed path row) paths_there (ap first (filter-map p p (row_placed path) same (rows_or o)) ∙ first_placed path (filter p (rows_or o)) ∙ ap (option_map (row_placed path)) found)
 
   pub ascending_there : (b : Node) → o ≡ Some b → is_ascending (rows b) ≡ true
   ascending_there b found = part_ascending names (rows root) b (subst (IsWhole names (rows root)) found whole) (namespace_tests (rows root) tree.namespace).ascending

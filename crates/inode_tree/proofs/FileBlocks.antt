@@ -12,9 +12,9 @@ use Rattle.namespace_rows.specs.declared.row.Change.TheVariants as change
 use Rattle.namespace_rows.specs.Files.{ids_in, blocks_in, new_block, with_block, with_state, but_last, without_last, committed_at, recovered_at}
 use Rattle.namespace_rows.proofs.Tests.{both}
 use Rattle.namespace_rows.proofs.Commits.{committed_before}
-use Rattle.flat_rows.specs.Changes.{with_file, edited, rewritten, block_added, is_recovered, recovers_nowhere_else, recovery_ended, rows_under, suits_change}
+use Rattle.flat_rows.specs.Changes.{with_file, file_edited, row_rewritten, block_added, is_recovered, recovers_nowhere_else, recovery_ended, rows_under, suits_change}
 use Rattle.flat_rows.proofs.Changes.{edited_namespace, edited_paths}
-use Rattle.inode_nodes.specs.Node.{Node, flatten, rows, rows_or, under, placed}
+use Rattle.inode_nodes.specs.Node.{Node, flatten, rows, rows_or, under, row_placed}
 use Rattle.inode_nodes.specs.Part.{IsWhole}
 use Rattle.inode_nodes.proofs.Filters.{Entries}
 use Rattle.inode_nodes.proofs.Through.{on_err}
@@ -41,7 +41,7 @@ blocks_next it new n b before after all is a h =
 -- those of the rows at and beneath a path, where these were found there
 pub blocks_there : (names path : List (List ℕ)) → names ≡ path → (root : Node) (all : List Row) → rows root ≡ all → (o : Option Node) → IsWhole names (rows root) o → blocks_in (rows_or o) ≡ blocks_in (rows_under path all)
 blocks_there names path is root all seen o whole =
-    sym (ap blocks_in (sym (ap (λ p. rows_under p all) is) ∙ sym (ap (rows_under names) seen) ∙ whole) ∙ blocks_map (placed names) (λ row. refl) (rows_or o))
+    sym (ap blocks_in (sym (ap (λ p. rows_under p all) is) ∙ sym (ap (rows_under names) seen) ∙ whole) ∙ blocks_map (row_placed names) (λ row. refl) (rows_or o))
 
 -- a block that was added and taken back
 
@@ -56,20 +56,20 @@ module _ (path : List (List ℕ)) (block : ℕ) where
   file_back None = refl
   file_back (Some file) = ap (λ blocks. Some (record file { blocks = blocks })) (last_added file.blocks (new_block block))
 
-  back : (row : Row) → edited without_last (edited (with_block block) row) ≡ row
+  back : (row : Row) → file_edited without_last (file_edited (with_block block) row) ≡ row
   back row = ap (λ file. with_file file row) (file_back row.file)
 
-  pub taken_back : (rows : List Row) → rewritten path change.LastTaken (block_added path block rows) ≡ rows
+  pub taken_back : (rows : List Row) → row_rewritten path change.LastTaken (block_added path block rows) ≡ rows
   taken_back [] = refl
   taken_back (row ∷ rows) = by (same_path path row.path) refl (taken_back rows)
     where
-      by : (b : Bool) → same_path path row.path ≡ b → rewritten path change.LastTaken (block_added path block rows) ≡ rows
-          → rewritten path change.LastTaken (cond b (edited (with_block block) row) row ∷ block_added path block rows) ≡ row ∷ rows
-      by true e rest = ap (λ b. cond b (edited without_last (edited (with_block block) row)) (edited (with_block block) row) ∷ rewritten path change.LastTaken (block_added path block rows)) e ∙ ap (λ r. r ∷ rewritten path change.LastTaken (block_added path block rows)) (back row) ∙ ap (λ l. row ∷ l) rest
-      by false e rest = ap (λ b. cond b (edited without_last row) row ∷ rewritten path change.LastTaken (block_added path block rows)) e ∙ ap (λ l. row ∷ l) rest
+      by : (b : Bool) → same_path path row.path ≡ b → row_rewritten path change.LastTaken (block_added path block rows) ≡ rows
+          → row_rewritten path change.LastTaken (cond b (file_edited (with_block block) row) row ∷ block_added path block rows) ≡ row ∷ rows
+      by true e rest = ap (λ b. cond b (file_edited without_last (file_edited (with_block block) row)) (file_edited (with_block block) row) ∷ row_rewritten path change.LastTaken (block_added path block rows)) e ∙ ap (λ r. r ∷ row_rewritten path change.LastTaken (block_added path block rows)) (back row) ∙ ap (λ l. row ∷ l) rest
+      by false e rest = ap (λ b. cond b (file_edited without_last row) row ∷ row_rewritten path change.LastTaken (block_added path block rows)) e ∙ ap (λ l. row ∷ l) rest
 
-  pub undone : (old new rows : List Row) → new ≡ rewritten path change.LastTaken old → old ≡ block_added path block rows → new ≡ rows
-  undone old new rows taken added = taken ∙ ap (rewritten path change.LastTaken) added ∙ taken_back rows
+  pub undone : (old new rows : List Row) → new ≡ row_rewritten path change.LastTaken old → old ≡ block_added path block rows → new ≡ rows
+  undone old new rows taken added = taken ∙ ap (row_rewritten path change.LastTaken) added ∙ taken_back rows
 
 -- a length that is committed behind a new block of another id
 
@@ -78,29 +78,29 @@ module _ (path : List (List ℕ)) (block bytes added : ℕ) (other : nat_eq adde
   file_commits None = refl
   file_commits (Some file) = ap (λ blocks. Some (record file { blocks = blocks })) (committed_before block bytes file.blocks (new_block added) other)
 
-  row_commits : (row : Row) → edited (committed_at block bytes) (edited (with_block added) row) ≡ edited (with_block added) (edited (committed_at block bytes) row)
+  row_commits : (row : Row) → file_edited (committed_at block bytes) (file_edited (with_block added) row) ≡ file_edited (with_block added) (file_edited (committed_at block bytes) row)
   row_commits row = ap (λ file. with_file file row) (file_commits row.file)
 
-  before_added : (rows : List Row) → rewritten path (change.Committed block bytes) (block_added path added rows) ≡ block_added path added (rewritten path (change.Committed block bytes) rows)
+  before_added : (rows : List Row) → row_rewritten path (change.Committed block bytes) (block_added path added rows) ≡ block_added path added (row_rewritten path (change.Committed block bytes) rows)
   before_added [] = refl
   before_added (row ∷ rows) = by (same_path path row.path) refl (before_added rows)
     where
       later : List Row
-      later = rewritten path (change.Committed block bytes) (block_added path added rows)
+      later = row_rewritten path (change.Committed block bytes) (block_added path added rows)
 
       sooner : List Row
-      sooner = block_added path added (rewritten path (change.Committed block bytes) rows)
+      sooner = block_added path added (row_rewritten path (change.Committed block bytes) rows)
 
       by : (b : Bool) → same_path path row.path ≡ b → later ≡ sooner
-          → rewritten path (change.Committed block bytes) (cond b (edited (with_block added) row) row ∷ block_added path added rows) ≡ block_added path added (cond b (edited (committed_at block bytes) row) row ∷ rewritten path (change.Committed block bytes) rows)
+          → row_rewritten path (change.Committed block bytes) (cond b (file_edited (with_block added) row) row ∷ block_added path added rows) ≡ block_added path added (cond b (file_edited (committed_at block bytes) row) row ∷ row_rewritten path (change.Committed block bytes) rows)
       by true e rest =
-          ap (λ b. cond b (edited (committed_at block bytes) (edited (with_block added) row)) (edited (with_block added) row) ∷ later) e ∙ ap (λ r. r ∷ later) (row_commits row) ∙ ap (λ l. edited (with_block added) (edited (committed_at block bytes) row) ∷ l) rest
-          ∙ ap (λ b. cond b (edited (with_block added) (edited (committed_at block bytes) row)) (edited (committed_at block bytes) row) ∷ sooner) (sym e)
+          ap (λ b. cond b (file_edited (committed_at block bytes) (file_edited (with_block added) row)) (file_edited (with_block added) row) ∷ later) e ∙ ap (λ r. r ∷ later) (row_commits row) ∙ ap (λ l. file_edited (with_block added) (file_edited (committed_at block bytes) row) ∷ l) rest
+          ∙ ap (λ b. cond b (file_edited (with_block added) (file_edited (committed_at block bytes) row)) (file_edited (committed_at block bytes) row) ∷ sooner) (sym e)
       by false e rest =
-          ap (λ b. cond b (edited (committed_at block bytes) row) row ∷ later) e ∙ ap (λ l. row ∷ l) rest ∙ ap (λ b. cond b (edited (with_block added) row) row ∷ sooner) (sym e)
+          ap (λ b. cond b (file_edited (committed_at block bytes) row) row ∷ later) e ∙ ap (λ l. row ∷ l) rest ∙ ap (λ b. cond b (file_edited (with_block added) row) row ∷ sooner) (sym e)
 
-  pub committed_as_before : (old new rows : List Row) → new ≡ rewritten path (change.Committed block bytes) old → old ≡ block_added path added rows → new ≡ block_added path added (rewritten path (change.Committed block bytes) rows)
-  committed_as_before old new rows done is = done ∙ ap (rewritten path (change.Committed block bytes)) is ∙ before_added rows
+  pub committed_as_before : (old new rows : List Row) → new ≡ row_rewritten path (change.Committed block bytes) old → old ≡ block_added path added rows → new ≡ block_added path added (row_rewritten path (change.Committed block bytes) rows)
+  committed_as_before old new rows done is = done ∙ ap (row_rewritten path (change.Committed block bytes)) is ∙ before_added rows
 
 -- the end of a recovery
 
@@ -113,16 +113,16 @@ module _ (path : List (List ℕ)) (block bytes : ℕ) where
   kept_file None h = refl
   kept_file (Some file) h = ap (λ b. Some (cond b (with_state Closed (committed_at block bytes file)) file)) h
 
-  kept_row : (row : Row) → is_recovered block row.file ≡ false → edited (recovered_at block bytes) row ≡ row
+  kept_row : (row : Row) → is_recovered block row.file ≡ false → file_edited (recovered_at block bytes) row ≡ row
   kept_row row h = ap (λ file. with_file file row) (kept_file row.file h)
 
-  pub all_ended : (rows : List Row) → recovers_nowhere_else path block rows ≡ true → rewritten path (change.Recovered block bytes) rows ≡ recovery_ended block bytes rows
+  pub all_ended : (rows : List Row) → recovers_nowhere_else path block rows ≡ true → row_rewritten path (change.Recovered block bytes) rows ≡ recovery_ended block bytes rows
   all_ended [] h = refl
   all_ended (row ∷ rows) h =
       let hs = both (same_path path row.path || not (is_recovered block row.file)) (recovers_nowhere_else path block rows) h in
-      ap (λ r. r ∷ rewritten path (change.Recovered block bytes) rows) (by (same_path path row.path) hs.0) ∙ ap (λ l. edited (recovered_at block bytes) row ∷ l) (all_ended rows hs.1)
+      ap (λ r. r ∷ row_rewritten path (change.Recovered block bytes) rows) (by (same_path path row.path) hs.0) ∙ ap (λ l. file_edited (recovered_at block bytes) row ∷ l) (all_ended rows hs.1)
     where
-      by : (b : Bool) → (b || not (is_recovered block row.file)) ≡ true → cond b (edited (recovered_at block bytes) row) row ≡ edited (recovered_at block bytes) row
+      by : (b : Bool) → (b || not (is_recovered block row.file)) ≡ true → cond b (file_edited (recovered_at block bytes) row) row ≡ file_edited (recovered_at block bytes) row
       by true k = refl
       by false k = sym (kept_row row (not_true (is_recovered block row.file) k))
 

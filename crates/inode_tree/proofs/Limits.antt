@@ -10,7 +10,7 @@ use Rattle.hdfs_values.specs.Path.{IsPath, is_path, path_text, component}
 use Rattle.namespace_rows.specs.declared.row.Row.{Row}
 use Rattle.flat_rows.specs.Changes.{rows_under, moved_row, are_paths}
 use Rattle.namespace_rows.proofs.Tests.{both, and, all_imp, all_kept}
-use Rattle.inode_nodes.specs.Node.{Node, flatten, rows, rows_or, under, placed}
+use Rattle.inode_nodes.specs.Node.{Node, flatten, rows, rows_or, under, row_placed}
 use Rattle.inode_nodes.specs.Part.{IsWhole}
 use Rattle.inode_tree.specs.Tree.{IsTree}
 use Rattle.inode_tree.specs.Limits.{bytes_of, fits_behind}
@@ -116,11 +116,11 @@ path_behind front other row h k =
     and_true true = refl
     and_true false = refl
 
-paths_behind : (front other : List (List ℕ)) (rs : List Row) → is_path other ≡ true → are_paths (map (placed front) rs) ≡ true → are_paths (map (placed other) rs) ≡ list_all (fits_behind (length other) (bytes_of other)) rs
+paths_behind : (front other : List (List ℕ)) (rs : List Row) → is_path other ≡ true → are_paths (map (row_placed front) rs) ≡ true → are_paths (map (row_placed other) rs) ≡ list_all (fits_behind (length other) (bytes_of other)) rs
 paths_behind front other [] h k = refl
 paths_behind front other (r ∷ rs) h k =
-    let ks = both (is_path (front ++ r.path)) (are_paths (map (placed front) rs)) k in
-    ap (λ b. b && are_paths (map (placed other) rs)) (path_behind front other r h ks.0) ∙ ap (λ b. fits_behind (length other) (bytes_of other) r && b) (paths_behind front other rs h ks.1)
+    let ks = both (is_path (front ++ r.path)) (are_paths (map (row_placed front) rs)) k in
+    ap (λ b. b && are_paths (map (row_placed other) rs)) (path_behind front other r h ks.0) ∙ ap (λ b. fits_behind (length other) (bytes_of other) r && b) (paths_behind front other rs h ks.1)
 
 -- no front that is deeper or longer
 fits_shorter : (d e b c : ℕ) (row : Row) → e ≤ d → c ≤ b → fits_behind d b row ≡ true → fits_behind e c row ≡ true
@@ -132,8 +132,8 @@ fits_shorter d e b c row less short h =
 
 -- what was found at these names, in a tree whose rows are all of these
 module _ (names from to : List (List ℕ)) (is : names ≡ from) (root : Node) (all : List Row) (seen : rows root ≡ all) (tree : IsTree (rows root)) (source : IsPath from) (target : IsPath to) where
-  under_from : (o : Option Node) → IsWhole names (rows root) o → rows_under from all ≡ map (placed from) (rows_or o)
-  under_from o whole = sym (ap (λ p. rows_under p all) is) ∙ sym (ap (rows_under names) seen) ∙ whole ∙ ap (λ p. map (placed p) (rows_or o)) is
+  under_from : (o : Option Node) → IsWhole names (rows root) o → rows_under from all ≡ map (row_placed from) (rows_or o)
+  under_from o whole = sym (ap (λ p. rows_under p all) is) ∙ sym (ap (rows_under names) seen) ∙ whole ∙ ap (λ p. map (row_placed p) (rows_or o)) is
 
   old_paths : are_paths (rows_under from all) ≡ true
   old_paths = all_kept (inside from) (λ row. is_path row.path) all (ap are_paths (sym seen) ∙ tree.paths)
@@ -144,7 +144,7 @@ module _ (names from to : List (List ℕ)) (is : names ≡ from) (root : Node) (
 
   pub fits_short : (o : Option Node) → IsWhole names (rows root) o → length to ≤ length from → bytes_of to ≤ bytes_of from → are_paths (map (moved_row from to) (rows_under from all)) ≡ true
   fits_short o whole less short =
-      let held : are_paths (map (placed from) (rows_or o)) ≡ true = sym (ap are_paths (under_from o whole)) ∙ old_paths in
+      let held : are_paths (map (row_placed from) (rows_or o)) ≡ true = sym (ap are_paths (under_from o whole)) ∙ old_paths in
       sym (fits_moved o whole)
       ∙ all_imp (fits_behind (length from) (bytes_of from)) (fits_behind (length to) (bytes_of to)) (λ row h. fits_shorter (length from) (length to) (bytes_of from) (bytes_of to) row less short h) (rows_or o)
       (sym (paths_behind from from (rows_or o) source held) ∙ held)

@@ -9,18 +9,18 @@ use Rattle.acl_entries.specs.Acl.{Acl, suits_file}
 use Rattle.namespace_rows.specs.declared.file_row.FileRow.{FileRow}
 use Rattle.namespace_rows.specs.declared.row.Change.{Change}
 use Rattle.namespace_rows.specs.declared.row.Row.{Row}
-use Rattle.namespace_rows.specs.Rows.{is_directory_kind, is_missing, row_at, file_above, ancestor, replaced, with_sub_tree}
+use Rattle.namespace_rows.specs.Rows.{is_directory_kind, is_missing, row_at, file_above, ancestor, rows_replaced, with_sub_tree}
 use Rattle.namespace_rows.specs.Namespace.{has_parent, is_root, suits_parts, suits_kind, fits}
 use Rattle.flat_rows.specs.Outcome.{kind_of_new, with_new}
-use Rattle.flat_rows.specs.Changes.{are_paths, rows_under, without, moved_row, moved, rewritten, suits_change}
+use Rattle.flat_rows.specs.Changes.{are_paths, rows_under, without, moved_row, with_rows_moved, row_rewritten, suits_change}
 use Rattle.namespace_rows.proofs.Tests.{and}
 use Rattle.namespace_rows.proofs.Namespaces.{with_sub_tree_namespace}
 use Rattle.flat_rows.proofs.NewDirectories.{missing_fit}
 use Rattle.flat_rows.proofs.Moves.{moved_namespace}
 use Rattle.flat_rows.proofs.Missing.{missing_above}
 use Rattle.flat_rows.proofs.Changes.{without_namespace, without_paths, replaced_paths, with_sub_tree_paths, row_fits, missing_paths, rewritten_namespace, rewritten_paths}
-use Rattle.inode_nodes.specs.Node.{Node, rows, row_of, placed, with_rows}
-use Rattle.inode_nodes.specs.Change.{grafted}
+use Rattle.inode_nodes.specs.Node.{Node, rows, row_of, row_placed, with_rows}
+use Rattle.inode_nodes.specs.Change.{branch_grafted}
 use Rattle.inode_tree.specs.Tree.{IsTree}
 use Rattle.inode_nodes.proofs.Through.{put_top, on_ok, on_err}
 
@@ -40,7 +40,7 @@ made_tree owner mode file path all clear is tree = by (ancestor path all) refl
 pub without_tree : (path : List (List ℕ)) (all : List Row) → is_root path ≡ false → IsTree all → IsTree (without path all)
 without_tree path all below tree = record { namespace = without_namespace path all below tree.namespace; paths = without_paths path all tree.paths }
 
-pub rewritten_tree : (path : List (List ℕ)) (change : Change) (all : List Row) → suits_change change (row_at path all) ≡ true → IsTree all → IsTree (rewritten path change all)
+pub rewritten_tree : (path : List (List ℕ)) (change : Change) (all : List Row) → suits_change change (row_at path all) ≡ true → IsTree all → IsTree (row_rewritten path change all)
 rewritten_tree path change all suits tree = record { namespace = rewritten_namespace path change all tree.namespace suits; paths = rewritten_paths path change all tree.paths }
 
 pub new_suits : (file : Option FileRow) (acl : Acl) → (is_directory_kind (kind_of_new file) || suits_file acl) ≡ true → suits_parts (is_directory_kind (kind_of_new file)) acl file ≡ true
@@ -52,11 +52,11 @@ pub either_tree : {T E : Type 0} (r : Result T E) (old new wanted : List Row) �
 either_tree (Ok x) old new wanted done kept t u = subst IsTree (sym done) t
 either_tree (Err e) old new wanted done kept t u = subst IsTree (sym kept) u
 
-leaf_rows : (path : List (List ℕ)) (leaf : Node) (all : List Row) → leaf.beneath ≡ [] → grafted path leaf all ≡ with_sub_tree all (row_of path leaf.top ∷ [])
-leaf_rows path leaf all none = ap (λ l. replaced path (row_of (path ++ []) leaf.top ∷ map (placed path) l) all) none ∙ ap (λ p. replaced path (row_of p leaf.top ∷ []) all) (append-nil path)
+leaf_rows : (path : List (List ℕ)) (leaf : Node) (all : List Row) → leaf.beneath ≡ [] → branch_grafted path leaf all ≡ with_sub_tree all (row_of path leaf.top ∷ [])
+leaf_rows path leaf all none = ap (λ l. rows_replaced path (row_of (path ++ []) leaf.top ∷ map (row_placed path) l) all) none ∙ ap (λ p. rows_replaced path (row_of p leaf.top ∷ []) all) (append-nil path)
 
 -- the rows after a leaf was put at a path
-pub inserted_rows : (path above : List (List ℕ)) (name : List ℕ) (b leaf : Node) → path ≡ above ++ name ∷ [] → leaf.beneath ≡ [] → rows (with_rows b (grafted (above ++ name ∷ []) leaf b.beneath)) ≡ with_sub_tree (rows b) (row_of path leaf.top ∷ [])
+pub inserted_rows : (path above : List (List ℕ)) (name : List ℕ) (b leaf : Node) → path ≡ above ++ name ∷ [] → leaf.beneath ≡ [] → rows (with_rows b (branch_grafted (above ++ name ∷ []) leaf b.beneath)) ≡ with_sub_tree (rows b) (row_of path leaf.top ∷ [])
 inserted_rows path above name b leaf is none =
     sym (put_top above name leaf b.top b.beneath) ∙ leaf_rows (above ++ name ∷ []) leaf (rows b) none ∙ ap (λ p. with_sub_tree (rows b) (row_of p leaf.top ∷ [])) (sym is)
 
@@ -70,7 +70,7 @@ no_parent_above (n ∷ ns) all none h = absurd (omega (arith, none))
 
 module _ (path names : List (List ℕ)) (is : names ≡ path) (b : Node) (all : List Row) (seen : rows b ≡ all) (tree : IsTree (rows b)) where
   pub insert_keeps : (r : Result (Unit {0}) AllocError) (above : List (List ℕ)) (name : List ℕ) (leaf new : Node) → names ≡ above ++ name ∷ [] → leaf.beneath ≡ [] → has_parent path all ≡ true → suits_kind (row_of path leaf.top) ≡ true → IsPath path
-      → OnOk r (new ≡ with_rows b (grafted (above ++ name ∷ []) leaf b.beneath)) → OnErr r (new ≡ b) → IsTree (rows new)
+      → OnOk r (new ≡ with_rows b (branch_grafted (above ++ name ∷ []) leaf b.beneath)) → OnErr r (new ≡ b) → IsTree (rows new)
   insert_keeps r above name leaf new parted none held suits within ok err =
       either_tree r (rows b) (rows new) (with_sub_tree (rows b) (row_of path leaf.top ∷ [])) (on_ok r (λ e. ap rows e ∙ inserted_rows path above name b leaf (sym is ∙ parted) none) ok) (on_err r (ap rows) err)
       (row_tree (row_of path leaf.top) (rows b) (ap (has_parent path) seen ∙ held) suits within tree) tree
@@ -80,14 +80,14 @@ module _ (path names : List (List ℕ)) (is : names ≡ path) (b : Node) (all : 
       either_tree r (rows b) (rows new) (with_new names mode file owner (ancestor names (rows b)) (rows b)) ok (on_err r (ap rows) err)
       (made_tree owner mode file names (rows b) (ap (λ p. file_above p (rows b)) is ∙ ap (file_above path) seen ∙ clear) (subst IsPath (sym is) within) tree) tree
 
-  pub rewrite_keeps : (change : Change) (new : Node) → suits_change change (row_at path all) ≡ true → rows new ≡ rewritten names change (rows b) → IsTree (rows new)
+  pub rewrite_keeps : (change : Change) (new : Node) → suits_change change (row_at path all) ≡ true → rows new ≡ row_rewritten names change (rows b) → IsTree (rows new)
   rewrite_keeps change new suits done =
       subst IsTree (sym done) (rewritten_tree names change (rows b) (ap (λ p. suits_change change (row_at p (rows b))) is ∙ ap (λ l. suits_change change (row_at path l)) seen ∙ suits) tree)
 
 pub remove_keeps : (first : List ℕ) (rest : List (List ℕ)) (b new : Node) → new ≡ with_rows b (without (first ∷ rest) b.beneath) → IsTree (rows b) → IsTree (rows new)
 remove_keeps first rest b new done tree = subst (λ x. IsTree (rows x)) (sym done) (without_tree (first ∷ rest) (rows b) refl tree)
 
-pub moved_tree : (from to : List (List ℕ)) (all : List Row) → is_prefix from to ≡ false → has_parent to all ≡ true → are_paths (map (moved_row from to) (rows_under from all)) ≡ true → IsTree all → IsTree (moved from to all)
+pub moved_tree : (from to : List (List ℕ)) (all : List Row) → is_prefix from to ≡ false → has_parent to all ≡ true → are_paths (map (moved_row from to) (rows_under from all)) ≡ true → IsTree all → IsTree (with_rows_moved from to all)
 moved_tree from to all beside held within tree = record {
   namespace = moved_namespace from to all beside held tree.namespace;
   paths = replaced_paths to (map (moved_row from to) (rows_under from all)) (without from all) within (without_paths from all tree.paths);
@@ -102,7 +102,7 @@ module _ (from to ns ms : List (List ℕ)) (is : ns ≡ from) (ends : ms ≡ to)
   move_apart there free =
       ap (λ p. is_prefix p ns) ends ∙ ap (is_prefix to) is ∙ missing_above all from to (subst IsTree seen tree).namespace (not_false (is_missing from all) there) free
 
-  pub move_keeps : (r : Result (Unit {0}) AllocError) (new : Node) → has_parent to all ≡ true → not (is_prefix from to) ≡ true → are_paths (map (moved_row from to) (rows_under from all)) ≡ true → OnOk r (rows new ≡ moved ns ms (rows b)) → OnErr r (new ≡ b) → IsTree (rows new)
+  pub move_keeps : (r : Result (Unit {0}) AllocError) (new : Node) → has_parent to all ≡ true → not (is_prefix from to) ≡ true → are_paths (map (moved_row from to) (rows_under from all)) ≡ true → OnOk r (rows new ≡ with_rows_moved ns ms (rows b)) → OnErr r (new ≡ b) → IsTree (rows new)
   move_keeps r new held beside within ok err =
-      let same : moved ns ms (rows b) ≡ moved from to all = ap (λ p. moved p ms (rows b)) is ∙ ap (λ p. moved from p (rows b)) ends ∙ ap (moved from to) seen in
-      either_tree r (rows b) (rows new) (moved from to all) (on_ok r (λ e. e ∙ same) ok) (on_err r (ap rows) err) (moved_tree from to all (not_false (is_prefix from to) beside) held within (subst IsTree seen tree)) tree
+      let same : with_rows_moved ns ms (rows b) ≡ with_rows_moved from to all = ap (λ p. with_rows_moved p ms (rows b)) is ∙ ap (λ p. with_rows_moved from p (rows b)) ends ∙ ap (with_rows_moved from to) seen in
+      either_tree r (rows b) (rows new) (with_rows_moved from to all) (on_ok r (λ e. e ∙ same) ok) (on_err r (ap rows) err) (moved_tree from to all (not_false (is_prefix from to) beside) held within (subst IsTree seen tree)) tree

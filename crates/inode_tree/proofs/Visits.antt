@@ -9,14 +9,14 @@ use Rattle.std.specs.Option.{option_map, option_to_list}
 use Rattle.hdfs_values.specs.Path.{is_path}
 use Rattle.namespace_rows.specs.declared.row.Row.{Row}
 use Rattle.namespace_rows.specs.Files.{told_length, holders, holder_of_file}
-use Rattle.flat_rows.specs.FileOutcome.{bytes_of}
+use Rattle.flat_rows.specs.FileOutcome.{file_bytes}
 use Rattle.flat_rows.specs.Outcome.{bytes_in}
 use Rattle.namespace_rows.specs.First.{first}
 use Rattle.namespace_rows.specs.Rows.{is_directory}
 use Rattle.flat_rows.specs.Changes.{are_paths}
 use Rattle.namespace_rows.proofs.Tests.{both}
-use Rattle.inode_nodes.specs.Node.{Node, flatten, rows, row_of, top_of, under, placed}
-use Rattle.inode_tree.specs.Visits.{told, directories, files, sum_told, row_found}
+use Rattle.inode_nodes.specs.Node.{Node, flatten, rows, row_of, top_of, under, row_placed}
+use Rattle.inode_tree.specs.Visits.{told_number, directories, files, sum_told, row_found}
 use Rattle.inode_tree.specs.declared.visit.Found.{Found}
 use Rattle.inode_nodes.proofs.Filters.{Entries, filter-map, append_rows}
 
@@ -59,32 +59,32 @@ module _ (p : Row → Bool) (same : (n : List ℕ) (row : Row) → p (under n ro
   pub first_next : (it new : Entries) (n : List ℕ) (b : Node) → it ≡ (n, b) ∷ new → first (filter p (rows b)) ≡ None → first (filter p (flatten new)) ≡ first (filter p (flatten it))
   first_next it new n b is none = sym (ap first (filter_entry it new n b is) ∙ first_none n (filter p (rows b)) (filter p (flatten new)) none)
 
-told_sum : (before here left : ℕ) → told (told (before + told here) + left) ≡ told (before + (here + left))
+told_sum : (before here left : ℕ) → told_number (told_number (before + told_number here) + left) ≡ told_number (before + (here + left))
 told_sum before here left = omega arith
 
-pub told_few : (n : ℕ) → told n < 2 ^ 64
+pub told_few : (n : ℕ) → told_number n < 2 ^ 64
 told_few n = omega arith
 
-pub told_itself : (n : ℕ) → n < 2 ^ 64 → told (n + 0) ≡ n
+pub told_itself : (n : ℕ) → n < 2 ^ 64 → told_number (n + 0) ≡ n
 told_itself n h = omega arith
 
 module _ (it new : Entries) (n : List ℕ) (b : Node) (is : it ≡ (n, b) ∷ new) where
-  pub directories_step : (before here after all : ℕ) → here ≡ told (directories (rows b)) → after ≡ told (before + here) → told (before + directories (flatten it)) ≡ all → told (after + directories (flatten new)) ≡ all
+  pub directories_step : (before here after all : ℕ) → here ≡ told_number (directories (rows b)) → after ≡ told_number (before + here) → told_number (before + directories (flatten it)) ≡ all → told_number (after + directories (flatten new)) ≡ all
   directories_step before here after all h a k =
-      ap (λ x. told (x + directories (flatten new))) (a ∙ ap (λ x. told (before + x)) h) ∙ told_sum before (directories (rows b)) (directories (flatten new))
-      ∙ ap (λ x. told (before + x)) (sym (count_entry is_directory (λ m row. refl) it new n b is)) ∙ k
+      ap (λ x. told_number (x + directories (flatten new))) (a ∙ ap (λ x. told_number (before + x)) h) ∙ told_sum before (directories (rows b)) (directories (flatten new))
+      ∙ ap (λ x. told_number (before + x)) (sym (count_entry is_directory (λ m row. refl) it new n b is)) ∙ k
 
-  pub files_step : (before here after all : ℕ) → here ≡ told (files (rows b)) → after ≡ told (before + here) → told (before + files (flatten it)) ≡ all → told (after + files (flatten new)) ≡ all
+  pub files_step : (before here after all : ℕ) → here ≡ told_number (files (rows b)) → after ≡ told_number (before + here) → told_number (before + files (flatten it)) ≡ all → told_number (after + files (flatten new)) ≡ all
   files_step before here after all h a k =
-      ap (λ x. told (x + files (flatten new))) (a ∙ ap (λ x. told (before + x)) h) ∙ told_sum before (files (rows b)) (files (flatten new))
-      ∙ ap (λ x. told (before + x)) (sym (count_entry (λ row. not (is_directory row)) (λ m row. refl) it new n b is)) ∙ k
+      ap (λ x. told_number (x + files (flatten new))) (a ∙ ap (λ x. told_number (before + x)) h) ∙ told_sum before (files (rows b)) (files (flatten new))
+      ∙ ap (λ x. told_number (before + x)) (sym (count_entry (λ row. not (is_directory row)) (λ m row. refl) it new n b is)) ∙ k
 
 -- the bytes of files
 
 module _ (f : Row → Row) (same : (row : Row) → (f row).file ≡ row.file) where
   pub bytes_map : (rs : List Row) → bytes_in (map f rs) ≡ bytes_in rs
   bytes_map [] = refl
-  bytes_map (r ∷ rs) = ap (λ file. bytes_of file + bytes_in (map f rs)) (same r) ∙ ap (λ k. bytes_of r.file + k) (bytes_map rs)
+  bytes_map (r ∷ rs) = ap (λ file. file_bytes file + bytes_in (map f rs)) (same r) ∙ ap (λ k. file_bytes r.file + k) (bytes_map rs)
 
 bytes_append : (xs ys : List Row) → bytes_in (xs ++ ys) ≡ bytes_in xs + bytes_in ys
 bytes_append [] ys = omega arith
@@ -165,26 +165,26 @@ none_found found o is none = sym is ∙ ap (option_map row_found) none
 
 -- rows with their paths
 
-placed_twice : (p : List (List ℕ)) (n : List ℕ) (xs : List Row) → map (placed p) (map (under n) xs) ≡ map (placed (p ++ n ∷ [])) xs
+placed_twice : (p : List (List ℕ)) (n : List ℕ) (xs : List Row) → map (row_placed p) (map (under n) xs) ≡ map (row_placed (p ++ n ∷ [])) xs
 placed_twice p n [] = refl
-placed_twice p n (r ∷ rs) = ap (λ q. row_of q (top_of r) ∷ map (placed p) (map (under n) rs)) (sym (append_assoc p (n ∷ []) r.path)) ∙ ap (λ t. placed (p ++ n ∷ []) r ∷ t) (placed_twice p n rs)
+placed_twice p n (r ∷ rs) = ap (λ q. row_of q (top_of r) ∷ map (row_placed p) (map (under n) rs)) (sym (append_assoc p (n ∷ []) r.path)) ∙ ap (λ t. row_placed (p ++ n ∷ []) r ∷ t) (placed_twice p n rs)
 
-placed_entry : (p : List (List ℕ)) (it new : Entries) (n : List ℕ) (b : Node) → it ≡ (n, b) ∷ new → map (placed p) (flatten it) ≡ map (placed (p ++ n ∷ [])) (rows b) ++ map (placed p) (flatten new)
+placed_entry : (p : List (List ℕ)) (it new : Entries) (n : List ℕ) (b : Node) → it ≡ (n, b) ∷ new → map (row_placed p) (flatten it) ≡ map (row_placed (p ++ n ∷ [])) (rows b) ++ map (row_placed p) (flatten new)
 placed_entry p it new n b is =
-    ap (λ (x : Entries). map (placed p) (flatten x)) is ∙ map-append (placed p) (map (under n) (rows b)) (flatten new) ∙ ap (λ l. l ++ map (placed p) (flatten new)) (placed_twice p n (rows b))
+    ap (λ (x : Entries). map (row_placed p) (flatten x)) is ∙ map-append (row_placed p) (map (under n) (rows b)) (flatten new) ∙ ap (λ l. l ++ map (row_placed p) (flatten new)) (placed_twice p n (rows b))
 
 paths_both : (xs ys : List Row) → are_paths (xs ++ ys) ≡ true → (are_paths xs ≡ true) × (are_paths ys ≡ true)
 paths_both xs ys h = both (are_paths xs) (are_paths ys) (sym (list_all-append (λ row. is_path row.path) xs ys) ∙ h)
 
-pub paths_here : (p q : List (List ℕ)) (it new : Entries) (n : List ℕ) (b : Node) → q ≡ p ++ n ∷ [] → it ≡ (n, b) ∷ new → are_paths (map (placed p) (flatten it)) ≡ true → are_paths (map (placed q) (rows b)) ≡ true
+pub paths_here : (p q : List (List ℕ)) (it new : Entries) (n : List ℕ) (b : Node) → q ≡ p ++ n ∷ [] → it ≡ (n, b) ∷ new → are_paths (map (row_placed p) (flatten it)) ≡ true → are_paths (map (row_placed q) (rows b)) ≡ true
 paths_here p q it new n b longer is h =
-    ap (λ x. are_paths (map (placed x) (rows b))) longer ∙ (paths_both (map (placed (p ++ n ∷ [])) (rows b)) (map (placed p) (flatten new)) (sym (ap are_paths (placed_entry p it new n b is)) ∙ h)).0
+    ap (λ x. are_paths (map (row_placed x) (rows b))) longer ∙ (paths_both (map (row_placed (p ++ n ∷ [])) (rows b)) (map (row_placed p) (flatten new)) (sym (ap are_paths (placed_entry p it new n b is)) ∙ h)).0
 
-pub paths_next : (p : List (List ℕ)) (it new : Entries) (n : List ℕ) (b : Node) → it ≡ (n, b) ∷ new → are_paths (map (placed p) (flatten it)) ≡ true → are_paths (map (placed p) (flatten new)) ≡ true
-paths_next p it new n b is h = (paths_both (map (placed (p ++ n ∷ [])) (rows b)) (map (placed p) (flatten new)) (sym (ap are_paths (placed_entry p it new n b is)) ∙ h)).1
+pub paths_next : (p : List (List ℕ)) (it new : Entries) (n : List ℕ) (b : Node) → it ≡ (n, b) ∷ new → are_paths (map (row_placed p) (flatten it)) ≡ true → are_paths (map (row_placed p) (flatten new)) ≡ true
+paths_next p it new n b is h = (paths_both (map (row_placed (p ++ n ∷ [])) (rows b)) (map (row_placed p) (flatten new)) (sym (ap are_paths (placed_entry p it new n b is)) ∙ h)).1
 
-pub added_next : (p q : List (List ℕ)) (it new : Entries) (n : List ℕ) (b : Node) (before after all : List Row) → q ≡ p ++ n ∷ [] → it ≡ (n, b) ∷ new → after ≡ before ++ map (placed q) (rows b) → before ++ map (placed p) (flatten it) ≡ all
-    → after ++ map (placed p) (flatten new) ≡ all
+pub added_next : (p q : List (List ℕ)) (it new : Entries) (n : List ℕ) (b : Node) (before after all : List Row) → q ≡ p ++ n ∷ [] → it ≡ (n, b) ∷ new → after ≡ before ++ map (row_placed q) (rows b) → before ++ map (row_placed p) (flatten it) ≡ all
+    → after ++ map (row_placed p) (flatten new) ≡ all
 added_next p q it new n b before after all longer is a h =
-    ap (λ l. l ++ map (placed p) (flatten new)) (a ∙ ap (λ x. before ++ map (placed x) (rows b)) longer) ∙ append_rows before (map (placed (p ++ n ∷ [])) (rows b)) (map (placed p) (flatten new))
+    ap (λ l. l ++ map (row_placed p) (flatten new)) (a ∙ ap (λ x. before ++ map (row_placed x) (rows b)) longer) ∙ append_rows before (map (row_placed (p ++ n ∷ [])) (rows b)) (map (row_placed p) (flatten new))
     ∙ ap (λ l. before ++ l) (sym (placed_entry p it new n b is)) ∙ h

@@ -12,8 +12,8 @@ use Rattle.inode_tree.specs.declared.visit.Counts.{Counts}
 use Rattle.inode_tree.specs.declared.visit.Found.{Found}
 
 -- the greatest number that a count tells stands for all above it
-abbrev pub told : ℕ → ℕ
-told number = min number (2 ^ 64 - 1)
+abbrev pub told_number : ℕ → ℕ
+told_number number = min number (2 ^ 64 - 1)
 
 abbrev pub directories : List Row → ℕ
 directories rows = length (filter is_directory rows)
@@ -26,7 +26,7 @@ abbrev pub sum_told : Option ℕ → Option ℕ → Option ℕ
 sum_told one other = option_and_then (λ length. option_and_then (λ more. told_length (length + more)) other) one
 
 abbrev pub counts_of : List Row → Counts
-counts_of rows = record { directories = told (directories rows); files = told (files rows); bytes = told_length (bytes_in rows) }
+counts_of rows = record { directories = told_number (directories rows); files = told_number (files rows); bytes = told_length (bytes_in rows) }
 
 -- a directory that doesn't grant a caller with these groups what is needed
 abbrev pub is_closed : List ℕ → List (List ℕ) → Rights → Row → Bool

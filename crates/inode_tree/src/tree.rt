@@ -9,7 +9,7 @@ ghost use Rattle.namespace_rows.specs.Files.{holders, blocks_in};
 ghost use Rattle.namespace_rows.specs.declared.row.Row.{Row};
 ghost use Rattle.namespace_rows.specs.declared.row.Change.TheVariants as change;
 ghost use Rattle.flat_rows.specs.Outcome.{is_alone, kind_of_new, with_new};
-ghost use Rattle.flat_rows.specs.Changes.{rows_under, without, moved_row, moved, rewritten, block_added, recovery_ended, recovers_nowhere_else, suits_change, are_paths, child_names};
+ghost use Rattle.flat_rows.specs.Changes.{rows_under, without, moved_row, with_rows_moved, row_rewritten, block_added, recovery_ended, recovers_nowhere_else, suits_change, are_paths, child_names};
 ghost use Rattle.namespace_rows.specs.First.{first};
 ghost use Rattle.inode_tree.specs.Visits.{counts_of, is_closed};
 ghost use Rattle.inode_nodes.specs.Node.{rows, row_of};
@@ -292,7 +292,7 @@ impl Tree {
         requires parent { IsTrue (has_parent to.now self.old) }
         requires beside { IsTrue (not (is_prefix from.now to.now)) }
         requires within { IsTrue (are_paths (map (moved_row from.now to.now) (rows_under from.now self.old))) }
-        ensures ok { OnOk result (self.new ≡ moved from.now to.now self.old) }
+        ensures ok { OnOk result (self.new ≡ with_rows_moved from.now to.now self.old) }
         ensures err { OnErr result (self.new ≡ self.old) }
     {
         let Some((first, rest)) = from.names().split_first() else {
@@ -307,7 +307,7 @@ impl Tree {
     /// Gives what stands at a path another part: an owner and a group, an access list, or what a file has. Takes no memory.
     pub fn rewrite(&mut self, path: &Path, change: Change)
         requires { IsTrue (suits_change change (row_at path.now self.old)) }
-        ensures { self.new ≡ rewritten path.now change self.old }
+        ensures { self.new ≡ row_rewritten path.now change self.old }
     {
         self.root.rewrite(path.names(), change);
     }
@@ -325,7 +325,7 @@ impl Tree {
 
     /// Takes the last block out of the file at a path, and so undoes `push_block`. Takes no memory.
     pub fn pop_block(&mut self, path: &Path)
-        ensures taken { self.new ≡ rewritten path.now change.LastTaken self.old }
+        ensures taken { self.new ≡ row_rewritten path.now change.LastTaken self.old }
         ensures undone { (block : ℕ) (rows : List Row) → self.old ≡ block_added path.now block rows → self.new ≡ rows }
     {
         self.root.rewrite(path.names(), Change::LastTaken);
@@ -334,8 +334,8 @@ impl Tree {
     /// Commits the length of a block of the file at a path, where that has the block. Behind `push_block` of another block that is
     /// the same as before it. Costs also the blocks behind that one; takes no memory (HDFS Architecture, "Data Replication").
     pub fn commit_block(&mut self, path: &Path, block: BlockId, bytes: u64)
-        ensures committed { self.new ≡ rewritten path.now (change.Committed block bytes) self.old }
-        ensures as_before { (added : ℕ) (rows : List Row) → (added == block) ≡ false → self.old ≡ block_added path.now added rows → self.new ≡ block_added path.now added (rewritten path.now (change.Committed block bytes) rows) }
+        ensures committed { self.new ≡ row_rewritten path.now (change.Committed block bytes) self.old }
+        ensures as_before { (added : ℕ) (rows : List Row) → (added == block) ≡ false → self.old ≡ block_added path.now added rows → self.new ≡ block_added path.now added (row_rewritten path.now (change.Committed block bytes) rows) }
     {
         self.root
             .rewrite(path.names(), Change::Committed(block, bytes));
@@ -346,7 +346,7 @@ impl Tree {
     /// memory.
     #[tactic(auto, using(crate::proofs::FileBlocks::all_ended))]
     pub fn end_recovery(&mut self, path: &Path, block: BlockId, bytes: u64)
-        ensures here { self.new ≡ rewritten path.now (change.Recovered block bytes) self.old }
+        ensures here { self.new ≡ row_rewritten path.now (change.Recovered block bytes) self.old }
         ensures all { IsTrue (recovers_nowhere_else path.now block self.old) → self.new ≡ recovery_ended block bytes self.old }
     {
         self.root

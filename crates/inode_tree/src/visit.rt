@@ -6,7 +6,7 @@ ghost use Rattle.namespace_rows.specs.Files as spec;
 ghost use Rattle.namespace_rows.specs.First.{first};
 ghost use Rattle.namespace_rows.specs.Namespace.{is_ascending};
 ghost use Rattle.flat_rows.specs.Changes.{are_paths, child_names};
-ghost use Rattle.inode_nodes.specs.Node.{rows, row_of, flatten, under, placed};
+ghost use Rattle.inode_nodes.specs.Node.{rows, row_of, flatten, under, row_placed};
 ghost use Rattle.inode_tree.specs.Visits.{counts_of, sum_told, is_closed, row_found};
 
 use acl_entries::acl::Acl;
@@ -151,8 +151,8 @@ pub fn push_rows(
     path: Path,
     found: &mut Vec<Row>,
 ) -> Result<(), AllocError>
-    requires { IsTrue (are_paths (map (placed path) (rows node.now))) }
-    ensures { OnOk result (found.new.items ≡ found.old.items ++ map (placed path) (rows node.now)) }
+    requires { IsTrue (are_paths (map (row_placed path) (rows node.now))) }
+    ensures { OnOk result (found.new.items ≡ found.old.items ++ map (row_placed path) (rows node.now)) }
 {
     match &node.held {
         Held::File(_) => {
@@ -173,8 +173,8 @@ fn push_rows_in(
     path: &Path,
     found: &mut Vec<Row>,
 ) -> Result<(), AllocError>
-    requires { IsTrue (are_paths (map (placed path.now) (flatten nodes.now.entries))) }
-    ensures { OnOk result (found.new.items ≡ found.old.items ++ map (placed path.now) (flatten nodes.now.entries)) }
+    requires { IsTrue (are_paths (map (row_placed path.now) (flatten nodes.now.entries))) }
+    ensures { OnOk result (found.new.items ≡ found.old.items ++ map (row_placed path.now) (flatten nodes.now.entries)) }
 {
     for (name, child) in nodes {
         let beneath = path_beneath(alloc, path, name)?;
@@ -233,7 +233,7 @@ impl Found {
     /// The row of the directory, where the search began at the path.
     pub fn into_row(self, alloc: Global, path: &[Name]) -> Result<Row, AllocError>
         requires { IsPath (path.now ++ (row_found self).path) }
-        ensures { IfOk result (λ row. row ≡ placed path.now (row_found self)) }
+        ensures { IfOk result (λ row. row ≡ row_placed path.now (row_found self)) }
     {
         let mut names = copies(alloc, path)?;
         push_reversed(&mut names, self.names)?;

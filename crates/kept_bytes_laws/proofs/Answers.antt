@@ -5,7 +5,7 @@ use Rattle.std.specs.List.{AllByRecursion}
 use Rattle.std.specs.Option.{option_map}
 use Rattle.block_records.specs.Numbers.{is_number, entry_at}
 use Rattle.block_records.proofs.Numbers.{number_is}
-use Rattle.block_recovery.specs.Plans.{PlanTable, plan_at, changed, new_plan, with_answer, with_decision, with_updated}
+use Rattle.block_recovery.specs.Plans.{PlanTable, plan_at, with_plan_changed, new_plan, with_answer, with_decision, with_updated}
 use Rattle.block_recovery.specs.declared.answer.Answer.{Answer}
 use Rattle.block_recovery.specs.declared.fault.PlanRefusal.{PlanRefusal}
 use Rattle.block_recovery.specs.declared.plan.Plan.{Plan}
@@ -18,7 +18,7 @@ use Rattle.node_calls.specs.declared.message.Message.{Message}
 use Rattle.node_calls.specs.declared.message.Message.TheVariants as message
 use Rattle.plan_steps.specs.PlanStep.{recover_of, answer_of, plan_refusal, left_unless, plans_after}
 use Rattle.cluster_trace.specs.Provenance.{call_of}
-use Rattle.cluster_trace.specs.Trace.{State, Happened, happened}
+use Rattle.cluster_trace.specs.Trace.{Cluster, Happened, event_happened}
 use Rattle.cluster_trace.specs.declared.event.Event.{Event}
 use Rattle.cluster_trace.proofs.Each.{some_is, never_some, each_in}
 use Rattle.fencing_laws.proofs.Behind.{set_there}
@@ -44,7 +44,7 @@ HadOrNow asked plans block stamp node answer = Had plans block stamp node answer
 
 -- a change that leaves the answers
 had_changed : (change : Plan → Plan) → ((own : Plan) → (change own).answers ≡ own.answers) → (block stamp b s node : ℕ) (plans : PlanTable) (own : Plan) (answer : Answer)
-    → plan_at b s (changed change block stamp plans) ≡ Some own → entry_at node own.answers ≡ Some answer → Had plans b s node answer
+    → plan_at b s (with_plan_changed change block stamp plans) ≡ Some own → entry_at node own.answers ≡ Some answer → Had plans b s node answer
 had_changed change keeps block stamp b s node plans own answer e there = by (is_number block b && is_number stamp s) (plan_at b s plans) refl (sym (plan_changed change block stamp b s plans) ∙ e)
   where
     by : (x : Bool) (found : Option Plan) → plan_at b s plans ≡ found → cond x (option_map change found) found ≡ Some own → Had plans b s node answer
@@ -56,7 +56,7 @@ had_changed change keeps block stamp b s node plans own answer e there = by (is_
     by false (Some old) at h = record { old = own; there = at ∙ h; had = there }
 
 answers_now : (from block stamp : ℕ) (state : ReplicaState) (count b s node : ℕ) (plans : PlanTable) (own : Plan) (answer : Answer)
-    → plan_at b s (changed (with_answer from (answer_of state count)) block stamp plans) ≡ Some own → entry_at node own.answers ≡ Some answer → HadOrNow (plan.Reply from block stamp state count) plans b s node answer
+    → plan_at b s (with_plan_changed (with_answer from (answer_of state count)) block stamp plans) ≡ Some own → entry_at node own.answers ≡ Some answer → HadOrNow (plan.Reply from block stamp state count) plans b s node answer
 answers_now from block stamp state count b s node plans own answer e there =
     by (is_number block b) refl (is_number stamp s) refl (plan_at b s plans) refl (sym (plan_changed (with_answer from (answer_of state count)) block stamp b s plans) ∙ e)
   where
@@ -132,11 +132,11 @@ module _ (block bytes : ℕ) (T : ℕ → Type 0) where
   abbrev pub AnswersTell : List (ℕ × PlanTable) → Type 0
   AnswersTell plans = (leader stamp node : ℕ) (own : Plan) (answer : Answer) → plan_at block stamp (tables_at leader plans) ≡ Some own → entry_at node own.answers ≡ Some answer → T node → bytes ≤ answer.length
 
-  pub event_tells : (state : State) (event : Event) → AllByRecursion MessageTells state.messages → AnswersTell state.plans → AnswersTell (happened state event).plans
+  pub event_tells : (state : Cluster) (event : Event) → AllByRecursion MessageTells state.messages → AnswersTell state.plans → AnswersTell (event_happened state event).plans
   event_tells state event messages before = by (does state event)
     where
       what : Happened
-      what = happened state event
+      what = event_happened state event
 
       one : (own : Leads state what) (leader stamp node : ℕ) (answer : Answer) → own.id ≡ leader → HadOrNow own.asked own.plans block stamp node answer → T node → bytes ≤ answer.length
       one own leader stamp node answer same (inl had) t =

@@ -22,16 +22,16 @@ use Rattle.node_calls.specs.declared.reply.NodeReply.{NodeReply}
 use Rattle.node_calls.specs.declared.reply.NodeReply.TheVariants as reply
 use Rattle.node_replies.specs.Asking.{asked_by, sends_copy}
 use Rattle.node_replies.specs.Sending.{call_reply}
-use Rattle.replicas.specs.ReplicaStep.{Blocks, nothing, held_at, refused_new, refused_where, replica_refusal, removal_refusal, placed, appended, finalized, promising, updated, removed, changed, changed_by, blocks_after}
+use Rattle.replicas.specs.ReplicaStep.{Replicas, nothing, held_at, refused_new_replica, refused_or_later, replica_refusal, removal_refusal, newly_held, with_bytes_appended, with_replica_finalized, with_promise, with_replica_recovered, with_no_replica, with_held_changed, held_changed_by, replicas_after}
 use Rattle.replicas.specs.declared.held.Held.{Held}
 use Rattle.replicas.specs.declared.replica.Replica.{Replica}
-use Rattle.datanode.specs.NodeStep.{Node, node_after, node_answer, presented_after, presented_answer, presented_by, told_by, removed_by, removal_told, clock_with, call_refusal, access_of}
+use Rattle.datanode.specs.NodeStep.{DataNode, node_after, node_answer, presented_after, presented_answer, presented_by, told_by, removed_by, removal_told, clock_with, call_refusal, access_of}
 use Rattle.datanode_laws.proofs.Nodes.{replica_passes}
 use Rattle.datanode_laws.proofs.Steps.{never, passed}
 use Rattle.fencing_laws.proofs.Behind.{set_there}
 
 -- a call that isn't refused is answered
-pub served_answer : (node : Node) (now : ℕ) (presented : Presented) (asked : TokenCall) → call_refusal node (clock_with node now) (asked_by node.id presented asked) asked ≡ None
+pub served_answer : (node : DataNode) (now : ℕ) (presented : Presented) (asked : TokenCall) → call_refusal node (clock_with node now) (asked_by node.id presented asked) asked ≡ None
     → (node_answer node now (Presenting presented asked)).result ≡ Ok (call_reply asked (held_at (asked_by node.id presented asked).block node.blocks))
 unfolding node_answer presented_answer
 served_answer node now presented asked e = ap (λ (refused : Option NodeRefusal). (told_by node (asked_by node.id presented asked) asked refused).result) e
@@ -53,14 +53,14 @@ module _ (q bytes : ℕ) (front : List ℕ) where
 
   -- ---- what holds of the block that a call changes
 
-  put_at : (block : ℕ) (new : Held) (blocks : Blocks) → (block ≡ q → Begins (held_at block blocks) → Begins new) → Begins (held_at q blocks) → Begins (held_at q (insert_entry nat_cmp blocks block new))
+  put_at : (block : ℕ) (new : Held) (blocks : Replicas) → (block ≡ q → Begins (held_at block blocks) → Begins new) → Begins (held_at q blocks) → Begins (held_at q (insert_entry nat_cmp blocks block new))
   put_at block new blocks h begins = subst (λ (found : Option Held). Begins (unwrap_or found nothing)) (sym (lookup_inserted block q new blocks)) (by (is_number q block) refl)
     where
       by : (b : Bool) → is_number q block ≡ b → Begins (unwrap_or (cond b (Some new) (entry_at q blocks)) nothing)
       by true at = let same : block ≡ q = sym (number_is q block at) in h same (subst (λ n. Begins (held_at n blocks)) (sym same) begins)
       by false at = begins
 
-  change_at : (block : ℕ) (f : Held → Held) (blocks : Blocks) → (block ≡ q → Begins (held_at block blocks) → Begins (f (held_at block blocks))) → Begins (held_at q blocks) → Begins (held_at q (changed f block blocks))
+  change_at : (block : ℕ) (f : Held → Held) (blocks : Replicas) → (block ≡ q → Begins (held_at block blocks) → Begins (f (held_at block blocks))) → Begins (held_at q blocks) → Begins (held_at q (with_held_changed f block blocks))
   change_at block f blocks h begins = by (entry_at block blocks) refl
     where
       one : (old : Held) → entry_at block blocks ≡ Some old → (b : Bool) → is_number block q ≡ b → Begins (unwrap_or (cond b (Some (f old)) (entry_at q blocks)) nothing)
@@ -70,22 +70,22 @@ module _ (q bytes : ℕ) (front : List ℕ) where
           subst (λ (held : Held). Begins (f held)) own (h same (subst (λ n. Begins (held_at n blocks)) (sym same) begins))
       one old e false at = begins
 
-      by : (found : Option Held) → entry_at block blocks ≡ found → Begins (held_at q (changed_by f block found blocks))
+      by : (found : Option Held) → entry_at block blocks ≡ found → Begins (held_at q (held_changed_by f block found blocks))
       by None e = begins
       by (Some old) e = subst (λ (found : Option Held). Begins (unwrap_or found nothing)) (sym (set_there block q old (f old) blocks e)) (one old e (is_number block q) refl)
 
   -- ---- each kind of call
 
   -- there is no other replica
-  no_new : (held new : Held) (later : Option ReplicaRefusal) → refused_new later held.replica ≡ None → Begins held → Begins new
+  no_new : (held new : Held) (later : Option ReplicaRefusal) → refused_new_replica later held.replica ≡ None → Begins held → Begins new
   no_new held new later h begins =
-      let refused : refused_new later (Some begins.replica) ≡ None = subst (λ (found : Option Replica). refused_new later found ≡ None) begins.there h in
+      let refused : refused_new_replica later (Some begins.replica) ≡ None = subst (λ (found : Option Replica). refused_new_replica later found ≡ None) begins.there h in
       absurd (never ReplicaExists refused)
 
-  appends : (more : List ℕ) (held : Held) → Begins held → Begins (appended more held)
+  appends : (more : List ℕ) (held : Held) → Begins held → Begins (with_bytes_appended more held)
   appends more held begins = record {
     replica = record begins.replica { bytes = begins.replica.bytes ++ more };
-    there = ap (λ (found : Option Replica). (appended more (record held { replica = found })).replica) begins.there;
+    there = ap (λ (found : Option Replica). (with_bytes_appended more (record held { replica = found })).replica) begins.there;
     enough = longer bytes (length begins.replica.bytes) (length more) (length (begins.replica.bytes ++ more)) begins.enough (length-append begins.replica.bytes more);
     first = take-append-le bytes begins.replica.bytes more begins.enough ∙ begins.first;
   }
@@ -93,15 +93,15 @@ module _ (q bytes : ℕ) (front : List ℕ) where
       longer : (a b c d : ℕ) → a ≤ b → d ≡ b + c → a ≤ d
       longer a b c d h e = omega (arith, h, e)
 
-  finalizes : (held : Held) → Begins held → Begins (finalized held)
+  finalizes : (held : Held) → Begins held → Begins (with_replica_finalized held)
   finalizes held begins = record {
     replica = record begins.replica { state = Finalized };
-    there = ap (λ (found : Option Replica). (finalized (record held { replica = found })).replica) begins.there;
+    there = ap (λ (found : Option Replica). (with_replica_finalized (record held { replica = found })).replica) begins.there;
     enough = begins.enough;
     first = begins.first;
   }
 
-  promises : (stamp : ℕ) (held : Held) → Begins held → Begins (promising stamp held)
+  promises : (stamp : ℕ) (held : Held) → Begins held → Begins (with_promise stamp held)
   promises stamp held begins = record { replica = begins.replica; there = begins.there; enough = begins.enough; first = begins.first }
 
   -- it isn't cut to more than it has
@@ -109,17 +109,17 @@ module _ (q bytes : ℕ) (front : List ℕ) where
   within limit stamp promised count replica h =
       ltb-false (length replica.bytes) count
       (passed (nat_lt (length replica.bytes) count) OutOfRange None
-      (passed (replica.stamp == stamp) NotWritable (refused_where (nat_lt (length replica.bytes) count) OutOfRange None)
-      (passed (not (stamp == promised)) (StampDiffers promised) (refused_where (replica.stamp == stamp) NotWritable (refused_where (nat_lt (length replica.bytes) count) OutOfRange None)) h).1).1).0
+      (passed (replica.stamp == stamp) NotWritable (refused_or_later (nat_lt (length replica.bytes) count) OutOfRange None)
+      (passed (not (stamp == promised)) (StampDiffers promised) (refused_or_later (replica.stamp == stamp) NotWritable (refused_or_later (nat_lt (length replica.bytes) count) OutOfRange None)) h).1).1).0
 
-  updates : (limit stamp count : ℕ) (held : Held) → replica_refusal limit (call.UpdateReplica count) stamp held ≡ None → bytes ≤ count → Begins held → Begins (updated stamp count held)
+  updates : (limit stamp count : ℕ) (held : Held) → replica_refusal limit (call.UpdateReplica count) stamp held ≡ None → bytes ≤ count → Begins held → Begins (with_replica_recovered stamp count held)
   updates limit stamp count held h low begins =
       let fits : count ≤ length begins.replica.bytes =
       within limit stamp held.promised count begins.replica
       (subst (λ (found : Option Replica). replica_refusal limit (call.UpdateReplica count) stamp (record { replica = found; promised = held.promised }) ≡ None) begins.there h) in
       record {
         replica = record { stamp = stamp; state = Finalized; bytes = take count begins.replica.bytes };
-        there = ap (λ (found : Option Replica). (updated stamp count (record held { replica = found })).replica) begins.there;
+        there = ap (λ (found : Option Replica). (with_replica_recovered stamp count (record held { replica = found })).replica) begins.there;
         enough = cut bytes count (length (take count begins.replica.bytes)) low (length-take-le count begins.replica.bytes fits);
         first = take-take bytes count begins.replica.bytes low ∙ begins.first;
       }
@@ -127,24 +127,24 @@ module _ (q bytes : ℕ) (front : List ℕ) where
       cut : (a b c : ℕ) → a ≤ b → c ≡ b → a ≤ c
       cut a b c h e = omega (arith, h, e)
 
-  called : (limit stamp block : ℕ) (asked : TokenCall) (blocks : Blocks) → replica_refusal limit asked stamp (held_at block blocks) ≡ None → ((count : ℕ) → asked ≡ call.UpdateReplica count → block ≡ q → bytes ≤ count)
-      → Begins (held_at q blocks) → Begins (held_at q (blocks_after asked stamp block blocks))
+  called : (limit stamp block : ℕ) (asked : TokenCall) (blocks : Replicas) → replica_refusal limit asked stamp (held_at block blocks) ≡ None → ((count : ℕ) → asked ≡ call.UpdateReplica count → block ≡ q → bytes ≤ count)
+      → Begins (held_at q blocks) → Begins (held_at q (replicas_after asked stamp block blocks))
   called limit stamp block (call.Begin next) blocks e h begins =
-      put_at block (placed stamp Writing []) blocks (λ same own. no_new (held_at block blocks) (placed stamp Writing []) (refused_where (nat_le stamp (held_at block blocks).promised) (StampDiffers (held_at block blocks).promised) None) e own) begins
-  called limit stamp block (call.Packet offset more next) blocks e h begins = change_at block (appended more) blocks (λ same own. appends more (held_at block blocks) own) begins
-  called limit stamp block (call.Finalize count next) blocks e h begins = change_at block finalized blocks (λ same own. finalizes (held_at block blocks) own) begins
+      put_at block (newly_held stamp Writing []) blocks (λ same own. no_new (held_at block blocks) (newly_held stamp Writing []) (refused_or_later (nat_le stamp (held_at block blocks).promised) (StampDiffers (held_at block blocks).promised) None) e own) begins
+  called limit stamp block (call.Packet offset more next) blocks e h begins = change_at block (with_bytes_appended more) blocks (λ same own. appends more (held_at block blocks) own) begins
+  called limit stamp block (call.Finalize count next) blocks e h begins = change_at block with_replica_finalized blocks (λ same own. finalizes (held_at block blocks) own) begins
   called limit stamp block (call.Read offset count) blocks e h begins = begins
-  called limit stamp block call.InitRecovery blocks e h begins = change_at block (promising stamp) blocks (λ same own. promises stamp (held_at block blocks) own) begins
-  called limit stamp block (call.UpdateReplica count) blocks e h begins = change_at block (updated stamp count) blocks (λ same own. updates limit stamp count (held_at block blocks) e (h count refl same) own) begins
+  called limit stamp block call.InitRecovery blocks e h begins = change_at block (with_promise stamp) blocks (λ same own. promises stamp (held_at block blocks) own) begins
+  called limit stamp block (call.UpdateReplica count) blocks e h begins = change_at block (with_replica_recovered stamp count) blocks (λ same own. updates limit stamp count (held_at block blocks) e (h count refl same) own) begins
   called limit stamp block (call.SendCopy to) blocks e h begins = begins
   called limit stamp block (call.TakeCopy copy) blocks e h begins =
-      put_at block (placed stamp Finalized copy) blocks
-      (λ same own. no_new (held_at block blocks) (placed stamp Finalized copy)
-      (refused_where (nat_lt stamp (held_at block blocks).promised) (StampDiffers (held_at block blocks).promised) (refused_where (nat_lt limit (length copy)) OutOfRange None)) e own) begins
+      put_at block (newly_held stamp Finalized copy) blocks
+      (λ same own. no_new (held_at block blocks) (newly_held stamp Finalized copy)
+      (refused_or_later (nat_lt stamp (held_at block blocks).promised) (StampDiffers (held_at block blocks).promised) (refused_or_later (nat_lt limit (length copy)) OutOfRange None)) e own) begins
 
   -- ---- a node
 
-  presented_keeps : (node : Node) (clock : ℕ) (own : Presented) (asked : TokenCall) → ((count : ℕ) → asked ≡ call.UpdateReplica count → own.block ≡ q → call_refusal node clock own asked ≡ None → bytes ≤ count)
+  presented_keeps : (node : DataNode) (clock : ℕ) (own : Presented) (asked : TokenCall) → ((count : ℕ) → asked ≡ call.UpdateReplica count → own.block ≡ q → call_refusal node clock own asked ≡ None → bytes ≤ count)
       → Begins (held_at q node.blocks) → Begins (held_at q (presented_after node clock own asked).blocks)
   unfolding presented_after
   presented_keeps node clock own asked h begins = by (call_refusal node clock own asked) refl
@@ -157,7 +157,7 @@ module _ (q bytes : ℕ) (front : List ℕ) where
           (λ count is same. h count is same e) begins
 
   -- where no recovery cuts the replica to less, and it isn't removed
-  pub node_keeps : (node : Node) (now : ℕ) (asked : NodeCall)
+  pub node_keeps : (node : DataNode) (now : ℕ) (asked : NodeCall)
       → ((presented : Presented) (count : ℕ) (told : NodeReply) → asked ≡ Presenting presented (call.UpdateReplica count) → presented.block ≡ q → (node_answer node now asked).result ≡ Ok told → bytes ≤ count)
       → ((stamp : ℕ) (told : NodeReply) → asked ≡ Invalidate q stamp → (node_answer node now asked).result ≡ Ok told → ⊥)
       → Begins (held_at q node.blocks) → Begins (held_at q (node_after node now asked).blocks)
@@ -172,5 +172,5 @@ module _ (q bytes : ℕ) (front : List ℕ) where
       by : (refused : Option ReplicaRefusal) → removal_refusal stamp (held_at block node.blocks).replica ≡ refused → Begins (held_at q (removed_by node block refused).blocks)
       by (Some refusal) e = begins
       by None e =
-          change_at block removed node.blocks
+          change_at block with_no_replica node.blocks
           (λ same own. absurd (k stamp reply.Removed (ap (λ (n : ℕ). Invalidate n stamp) same) (ap (λ (refused : Option ReplicaRefusal). (removal_told refused).result) e))) begins

@@ -13,7 +13,7 @@ use Rattle.node_calls.specs.declared.call.ReplicaState.TheVariants.{Finalized}
 use Rattle.node_calls.specs.declared.call.TokenCall.TheVariants as call
 use Rattle.node_calls.specs.declared.refusal.ReplicaRefusal.TheVariants.{NoReplica, StampDiffers, OutOfRange, NotWritable, OffsetGap}
 use Rattle.replicas.specs.ReplicaState.{is_writing}
-use Rattle.replicas.specs.ReplicaStep.{Blocks, nothing, held_at, refused_where, replica_refusal, placed, finalized, updated, changed, changed_by, blocks_after}
+use Rattle.replicas.specs.ReplicaStep.{Replicas, nothing, held_at, refused_or_later, replica_refusal, newly_held, with_replica_finalized, with_replica_recovered, with_held_changed, held_changed_by, replicas_after}
 use Rattle.replicas.specs.declared.held.Held.{Held}
 use Rattle.replicas.specs.declared.replica.Replica.{Replica}
 use Rattle.fencing_laws.proofs.Behind.{set_there}
@@ -27,16 +27,16 @@ pub record IsFinal (stamp count : ℕ) (held : Held) : Type 0 where
   pub long : length replica.bytes ≡ count
 
 -- what is changed of a block that has a replica
-changed_here : (block : ℕ) (change : Held → Held) (blocks : Blocks) (replica : Replica) → (held_at block blocks).replica ≡ Some replica → held_at block (changed change block blocks) ≡ change (held_at block blocks)
+changed_here : (block : ℕ) (change : Held → Held) (blocks : Replicas) (replica : Replica) → (held_at block blocks).replica ≡ Some replica → held_at block (with_held_changed change block blocks) ≡ change (held_at block blocks)
 changed_here block change blocks replica there = by (entry_at block blocks) refl there
   where
-    by : (found : Option Held) → entry_at block blocks ≡ found → (unwrap_or found nothing).replica ≡ Some replica → held_at block (changed_by change block found blocks) ≡ change (unwrap_or found nothing)
+    by : (found : Option Held) → entry_at block blocks ≡ found → (unwrap_or found nothing).replica ≡ Some replica → held_at block (held_changed_by change block found blocks) ≡ change (unwrap_or found nothing)
     by None e h = cc
     by (Some old) e h =
         ap (λ (found : Option Held). unwrap_or found nothing) (set_there block block old (change old) blocks e)
         ∙ ap (λ b. unwrap_or (cond b (Some (change old)) (entry_at block blocks)) nothing) (itself block)
 
-put_here : (block : ℕ) (new : Held) (blocks : Blocks) → held_at block (insert_entry nat_cmp blocks block new) ≡ new
+put_here : (block : ℕ) (new : Held) (blocks : Replicas) → held_at block (insert_entry nat_cmp blocks block new) ≡ new
 put_here block new blocks =
     ap (λ (found : Option Held). unwrap_or found nothing) (lookup_inserted block block new blocks)
     ∙ ap (λ b. unwrap_or (cond b (Some new) (entry_at block blocks)) nothing) (itself block)
@@ -52,17 +52,17 @@ updates limit stamp promised count (Some replica) e = (
   refl,
   ltb-false (length replica.bytes) count
       (passed (nat_lt (length replica.bytes) count) OutOfRange None
-      (passed (replica.stamp == stamp) NotWritable (refused_where (nat_lt (length replica.bytes) count) OutOfRange None)
-      (passed (not (stamp == promised)) (StampDiffers promised) (refused_where (replica.stamp == stamp) NotWritable (refused_where (nat_lt (length replica.bytes) count) OutOfRange None)) e).1).1).0,
+      (passed (replica.stamp == stamp) NotWritable (refused_or_later (nat_lt (length replica.bytes) count) OutOfRange None)
+      (passed (not (stamp == promised)) (StampDiffers promised) (refused_or_later (replica.stamp == stamp) NotWritable (refused_or_later (nat_lt (length replica.bytes) count) OutOfRange None)) e).1).1).0,
 )
 
-pub update_leaves : (limit stamp block count : ℕ) (blocks : Blocks) → replica_refusal limit (call.UpdateReplica count) stamp (held_at block blocks) ≡ None
-    → IsFinal stamp count (held_at block (blocks_after (call.UpdateReplica count) stamp block blocks))
+pub update_leaves : (limit stamp block count : ℕ) (blocks : Replicas) → replica_refusal limit (call.UpdateReplica count) stamp (held_at block blocks) ≡ None
+    → IsFinal stamp count (held_at block (replicas_after (call.UpdateReplica count) stamp block blocks))
 update_leaves limit stamp block count blocks e =
     let own = updates limit stamp (held_at block blocks).promised count (held_at block blocks).replica e in
-    subst (IsFinal stamp count) (sym (changed_here block (updated stamp count) blocks own.0 own.1)) (record {
+    subst (IsFinal stamp count) (sym (changed_here block (with_replica_recovered stamp count) blocks own.0 own.1)) (record {
       replica = record { stamp = stamp; state = Finalized; bytes = take count own.0.bytes };
-      there = ap (λ (found : Option Replica). (updated stamp count (record { replica = found; promised = (held_at block blocks).promised })).replica) own.1;
+      there = ap (λ (found : Option Replica). (with_replica_recovered stamp count (record { replica = found; promised = (held_at block blocks).promised })).replica) own.1;
       stamped = refl;
       done = refl;
       long = length-take-le count own.0.bytes own.2;
@@ -80,8 +80,8 @@ writes : (limit stamp promised count : ℕ) (next : List ℕ) (found : Option Re
     → Writes stamp count found
 writes limit stamp promised count next None e below = absurd (never NoReplica e)
 writes limit stamp promised count next (Some replica) e below =
-    let later = refused_where (not (count == length replica.bytes)) (OffsetGap (length replica.bytes)) None in
-    let first = passed (not (stamp == promised)) (StampDiffers promised) (refused_where (not (is_writing replica.state) || nat_lt replica.stamp promised) NotWritable later) e in
+    let later = refused_or_later (not (count == length replica.bytes)) (OffsetGap (length replica.bytes)) None in
+    let first = passed (not (stamp == promised)) (StampDiffers promised) (refused_or_later (not (is_writing replica.state) || nat_lt replica.stamp promised) NotWritable later) e in
     let second = passed (not (is_writing replica.state) || nat_lt replica.stamp promised) NotWritable later first.1 in
     let third = passed (not (count == length replica.bytes)) (OffsetGap (length replica.bytes)) None second.1 in
     let at : stamp ≡ promised = eqb-true stamp promised (not_so (stamp == promised) first.0) in
@@ -93,13 +93,13 @@ writes limit stamp promised count next (Some replica) e below =
     right true b h = cc
     right false b h = h
 
-pub write_leaves : (limit stamp block count : ℕ) (next : List ℕ) (blocks : Blocks) → replica_refusal limit (call.Finalize count next) stamp (held_at block blocks) ≡ None
-    → IsBelow (held_at block blocks).promised (held_at block blocks).replica → IsFinal stamp count (held_at block (blocks_after (call.Finalize count next) stamp block blocks))
+pub write_leaves : (limit stamp block count : ℕ) (next : List ℕ) (blocks : Replicas) → replica_refusal limit (call.Finalize count next) stamp (held_at block blocks) ≡ None
+    → IsBelow (held_at block blocks).promised (held_at block blocks).replica → IsFinal stamp count (held_at block (replicas_after (call.Finalize count next) stamp block blocks))
 write_leaves limit stamp block count next blocks e below =
     let own = writes limit stamp (held_at block blocks).promised count next (held_at block blocks).replica e below in
-    subst (IsFinal stamp count) (sym (changed_here block finalized blocks own.replica own.there)) (record {
+    subst (IsFinal stamp count) (sym (changed_here block with_replica_finalized blocks own.replica own.there)) (record {
       replica = record own.replica { state = Finalized };
-      there = ap (λ (found : Option Replica). (finalized (record { replica = found; promised = (held_at block blocks).promised })).replica) own.there;
+      there = ap (λ (found : Option Replica). (with_replica_finalized (record { replica = found; promised = (held_at block blocks).promised })).replica) own.there;
       stamped = own.stamped;
       done = refl;
       long = own.long;
@@ -107,7 +107,7 @@ write_leaves limit stamp block count next blocks e below =
 
 -- ---- a copy
 
-pub copy_leaves : (stamp block : ℕ) (bytes : List ℕ) (blocks : Blocks) → IsFinal stamp (length bytes) (held_at block (blocks_after (call.TakeCopy bytes) stamp block blocks))
+pub copy_leaves : (stamp block : ℕ) (bytes : List ℕ) (blocks : Replicas) → IsFinal stamp (length bytes) (held_at block (replicas_after (call.TakeCopy bytes) stamp block blocks))
 copy_leaves stamp block bytes blocks =
-    subst (IsFinal stamp (length bytes)) (sym (put_here block (placed stamp Finalized bytes) blocks))
+    subst (IsFinal stamp (length bytes)) (sym (put_here block (newly_held stamp Finalized bytes) blocks))
     (record { replica = record { stamp = stamp; state = Finalized; bytes = bytes }; there = refl; stamped = refl; done = refl; long = refl })

@@ -11,7 +11,7 @@ use Rattle.std.specs.declared.cmp.Ordering.{Ordering}
 use Rattle.std.specs.declared.cmp.Ordering.TheVariants.{Less, Equal, Greater}
 use Rattle.std.proofs.lemmas.Bool.{eqb-true, eq-eqb}
 use Rattle.block_records.specs.Numbers.{is_number, has_number, entry_at}
-use Rattle.block_records.specs.Reports.{agreeing, with_reports_of}
+use Rattle.block_records.specs.Reports.{agreeing_reports, with_reports_of}
 use Rattle.block_records.specs.declared.block_record.BlockRecord.{BlockRecord}
 use Rattle.block_records.specs.declared.last_block.LastBlock.{LastBlock}
 use Rattle.block_records.proofs.Numbers.{number_is}
@@ -19,7 +19,7 @@ use Rattle.block_recovery.specs.declared.decision.Decision.{Decision}
 use Rattle.block_recovery.specs.declared.plan.Plan.{Plan}
 use Rattle.block_recovery.proofs.Lookups.{lookup_inserted}
 use Rattle.block_effect_laws.specs.Laws.{AgreeOn}
-use Rattle.block_map.specs.BlockFacts.{block_of, committed_length}
+use Rattle.block_map.specs.BlockFacts.{known_block, committed_length}
 use Rattle.hdfs_values.specs.NodeId.{is_node_id, node_of}
 use Rattle.hdfs_values.specs.PathOrder.{same_path}
 use Rattle.hdfs_values.proofs.Nodes.{principal_read}
@@ -34,7 +34,7 @@ use Rattle.namespace_rows.specs.declared.file_row.FileBlock.{FileBlock}
 use Rattle.namespace_rows.specs.declared.row.Row.{Row}
 use Rattle.namespace_rows.specs.First.{first as front}
 use Rattle.namespace_rows.specs.Rows.{row_at}
-use Rattle.flat_rows.specs.BlockOutcome.{replication_at, added_to, located, located_with, blocks_of as blocks_in, blocks_at}
+use Rattle.flat_rows.specs.BlockOutcome.{replication_at, added_to, located_block, located_with, blocks_of_file as blocks_in, blocks_of_row}
 use Rattle.flat_rows.specs.Facts.{Facts}
 use Rattle.flat_rows.specs.FileOutcome.{holder_at}
 use Rattle.flat_rows.specs.NodeOutcome.{heartbeat_reply}
@@ -52,9 +52,9 @@ use Rattle.block_laws.proofs.Unrefused.{was_done}
 use Rattle.node_calls.specs.declared.message.Message.TheVariants as message
 use Rattle.replicas.specs.ReplicaStep.{held_at}
 use Rattle.replicas.specs.declared.held.Held.{Held}
-use Rattle.datanode.specs.NodeStep.{Node}
+use Rattle.datanode.specs.NodeStep.{DataNode}
 use Rattle.cluster_trace.specs.Provenance.{call_of}
-use Rattle.cluster_trace.specs.Trace.{State, Opening, Happened, new_node, with_new_node, entry_of, named, happened, left_by, after}
+use Rattle.cluster_trace.specs.Trace.{Cluster, ClusterOpening, Happened, new_node, with_new_node, entry_of, request_named, event_happened, left_by, after}
 use Rattle.cluster_trace.specs.declared.event.Event.{Event}
 use Rattle.cluster_trace.proofs.Each.{some_is, never_some, each_more, each_in}
 use Rattle.fencing_laws.specs.Fencing.{HasDecided}
@@ -112,41 +112,41 @@ module _ (P : ℕ → ℕ → Type 0) where
 
 -- ---- ids of DataNodes
 
-module _ (opening : Opening) (ids : HasNodeIds opening) where
-  start_valid : (id : ℕ) (numbers : List ℕ) (nodes : List (ℕ × Node)) → AllByRecursion (λ (n : ℕ). IsTrue (is_node_id n)) numbers → ((own : Node) → entry_at id nodes ≡ Some own → IsTrue (is_node_id id))
-      → (own : Node) → entry_at id (fold (with_new_node opening.name.config.replica_limit) nodes numbers) ≡ Some own → IsTrue (is_node_id id)
+module _ (opening : ClusterOpening) (ids : HasNodeIds opening) where
+  start_valid : (id : ℕ) (numbers : List ℕ) (nodes : List (ℕ × DataNode)) → AllByRecursion (λ (n : ℕ). IsTrue (is_node_id n)) numbers → ((own : DataNode) → entry_at id nodes ≡ Some own → IsTrue (is_node_id id))
+      → (own : DataNode) → entry_at id (fold (with_new_node opening.name.config.replica_limit) nodes numbers) ≡ Some own → IsTrue (is_node_id id)
   start_valid id [] nodes all before own there = before own there
   start_valid id (n ∷ numbers) nodes all before own there =
       start_valid id numbers (with_new_node opening.name.config.replica_limit nodes n) all.1
       (λ one e. by one (is_number id n) refl (sym (lookup_inserted n id (new_node opening.name.config.replica_limit n) nodes) ∙ e)) own there
     where
-      by : (one : Node) (b : Bool) → is_number id n ≡ b → cond b (Some (new_node opening.name.config.replica_limit n)) (entry_at id nodes) ≡ Some one → IsTrue (is_node_id id)
+      by : (one : DataNode) (b : Bool) → is_number id n ≡ b → cond b (Some (new_node opening.name.config.replica_limit n)) (entry_at id nodes) ≡ Some one → IsTrue (is_node_id id)
       by one true at h = subst (λ m. IsTrue (is_node_id m)) (sym (number_is id n at)) all.0
       by one false at h = before one h
 
-  valid : (events : List Event) (id : ℕ) (own : Node) → entry_at id (after opening events).nodes ≡ Some own → IsTrue (is_node_id id)
+  valid : (events : List Event) (id : ℕ) (own : DataNode) → entry_at id (after opening events).nodes ≡ Some own → IsTrue (is_node_id id)
   valid events id own there =
-      always_holds id (λ (one : Node). IsTrue (is_node_id id)) (λ one now asked h. h) opening events
+      always_holds id (λ (one : DataNode). IsTrue (is_node_id id)) (λ one now asked h. h) opening events
       (λ one e. start_valid id opening.nodes [] ids (λ other f. absurd (never_some other f)) one e) own there
 
   -- who has held a replica has such an id
   holder_valid : (events : List Event) (node block stamp count : ℕ) → HasHeld opening events node block stamp count → IsTrue (is_node_id node)
   holder_valid events node block stamp count h = by (entry_at node (after opening h.earlier).nodes) refl h.there
     where
-      by : (found : Option Node) → entry_at node (after opening h.earlier).nodes ≡ found → option_and_then (λ (held : Held). held.replica) (option_map (λ (own : Node). held_at block own.blocks) found) ≡ Some h.replica → IsTrue (is_node_id node)
+      by : (found : Option DataNode) → entry_at node (after opening h.earlier).nodes ≡ found → option_and_then (λ (held : Held). held.replica) (option_map (λ (own : DataNode). held_at block own.blocks) found) ≡ Some h.replica → IsTrue (is_node_id node)
       by None e there = absurd (never_some h.replica there)
       by (Some own) e there = valid h.earlier node own e
 
 -- ---- what is known of blocks
 
 -- each node that reported the block has held what it reported
-abbrev ReportsHeld : Opening → List Event → ℕ → BlockRecord → Type 0
+abbrev ReportsHeld : ClusterOpening → List Event → ℕ → BlockRecord → Type 0
 ReportsHeld opening events block own = AllByRecursion (λ (report : ℕ × ℕ). HasHeld opening events report.0 block own.stamp report.1) own.reports
 
-abbrev AreTrue : Opening → List Event → Type 0
+abbrev AreTrue : ClusterOpening → List Event → Type 0
 AreTrue opening events = OfEach (ReportsHeld opening events) (facts_in (after opening events)).known.blocks
 
-module _ (opening : Opening) (events : List Event) where
+module _ (opening : ClusterOpening) (events : List Event) where
   abbrev HeldAt : ℕ → ℕ → ℕ → ℕ → Type 0
   HeldAt block stamp node count = HasHeld opening events node block stamp count
 
@@ -159,8 +159,8 @@ module _ (opening : Opening) (events : List Event) where
     recovery = λ block stamp now own h. tt;
   }
 
-module _ (opening : Opening) (ids : HasNodeIds opening) (earlier : List Event) (event : Event) (before : AreTrue opening earlier) where
-  abbrev state : State
+module _ (opening : ClusterOpening) (ids : HasNodeIds opening) (earlier : List Event) (event : Event) (before : AreTrue opening earlier) where
+  abbrev state : Cluster
   state = after opening earlier
 
   true_later : OfEach (ReportsHeld opening (event ∷ earlier)) (facts_in (after opening earlier)).known.blocks
@@ -169,7 +169,7 @@ module _ (opening : Opening) (ids : HasNodeIds opening) (earlier : List Event) (
       (λ report h. held_later opening event earlier report.0 block own.stamp report.1 h) own.reports (before block own there)
 
   -- a request
-  module _ (own : Asks (after opening earlier) (happened (after opening earlier) event)) where
+  module _ (own : Asks (after opening earlier) (event_happened (after opening earlier) event)) where
     abbrev facts : Facts
     facts = facts_of (after opening earlier).opening (after opening earlier).entries (now_at (after opening earlier).entries own.request)
 
@@ -218,40 +218,40 @@ module _ (opening : Opening) (ids : HasNodeIds opening) (earlier : List Event) (
           reported = λ node replica block_record is sender same h.
               put_has (HeldAt opening (event ∷ earlier) replica.block block_record.stamp) node replica.length block_record.reports h (reported node replica block_record is sender same);
           recovered = λ recovery block_record is same h.
-              more_have (HeldAt opening (event ∷ earlier) recovery.block block_record.stamp) recovery.length recovery.nodes (agreeing recovery.length block_record.reports)
+              more_have (HeldAt opening (event ∷ earlier) recovery.block block_record.stamp) recovery.length recovery.nodes (agreeing_reports recovery.length block_record.reports)
               (λ node has. recovered node recovery block_record is same has)
               (kept_has (HeldAt opening (event ∷ earlier) recovery.block block_record.stamp) (λ report. report.1 == recovery.length) block_record.reports h);
         })
         (stands (after opening earlier).opening (after opening earlier).entries (leaders opening earlier).legal).sound.once true_later
 
-    true_asked : OfEach (ReportsHeld opening (event ∷ earlier)) (facts_in (left_by (after opening earlier) (named (after opening earlier) own.request))).known.blocks
+    true_asked : OfEach (ReportsHeld opening (event ∷ earlier)) (facts_in (left_by (after opening earlier) (request_named (after opening earlier) own.request))).known.blocks
     true_asked = records_by (entry_of (after opening earlier) own.request).verdict refl
 
   true_now : AreTrue opening (event ∷ earlier)
   true_now = by (does (after opening earlier) event)
     where
-      by : Does (after opening earlier) (call_of (after opening earlier) event) (happened (after opening earlier) event) → AreTrue opening (event ∷ earlier)
+      by : Does (after opening earlier) (call_of (after opening earlier) event) (event_happened (after opening earlier) event) → AreTrue opening (event ∷ earlier)
       by (inl own) = subst (λ (what : Happened). OfEach (ReportsHeld opening (event ∷ earlier)) (facts_in (left_by (after opening earlier) what)).known.blocks) (sym own.is) true_later
       by (inr (inl own)) = subst (λ (what : Happened). OfEach (ReportsHeld opening (event ∷ earlier)) (facts_in (left_by (after opening earlier) what)).known.blocks) (sym own.is) true_later
       by (inr (inr (inl own))) = subst (λ (what : Happened). OfEach (ReportsHeld opening (event ∷ earlier)) (facts_in (left_by (after opening earlier) what)).known.blocks) (sym own.is) true_later
       by (inr (inr (inr own))) = subst (λ (what : Happened). OfEach (ReportsHeld opening (event ∷ earlier)) (facts_in (left_by (after opening earlier) what)).known.blocks) (sym own.is) (true_asked own)
 
-all_true : (opening : Opening) → HasNodeIds opening → (events : List Event) → AreTrue opening events
+all_true : (opening : ClusterOpening) → HasNodeIds opening → (events : List Event) → AreTrue opening events
 all_true opening ids [] = λ block own there. cc
 all_true opening ids (event ∷ earlier) = true_now opening ids earlier event (all_true opening ids earlier)
 
 -- ---- what a reader is told
 
 -- it has held so many bytes, and these are the length
-record IsListed (opening : Opening) (events : List Event) (block stamp length node count : ℕ) : Type 0 where
+record IsListed (opening : ClusterOpening) (events : List Event) (block stamp length node count : ℕ) : Type 0 where
   held : HasHeld opening events node block stamp count
   same : count ≡ length
 
 -- each node that is listed with the block has held it
-abbrev Lists : Opening → List Event → LocatedBlock → Type 0
+abbrev Lists : ClusterOpening → List Event → LocatedBlock → Type 0
 Lists opening events listed = (node : ℕ) → has_number node listed.nodes ≡ true → HasHeld opening events node listed.block listed.stamp listed.length
 
-abbrev ListsHeld : Opening → List Event → Reply → Type 0
+abbrev ListsHeld : ClusterOpening → List Event → Reply → Type 0
 ListsHeld opening events (reply.Opened file) = AllByRecursion (Lists opening events) file.blocks
 ListsHeld opening events _ = ⊤
 
@@ -271,18 +271,18 @@ row_has P path (first ∷ rows) row all at = by (same_path path first.path) at (
     by true h rest = subst P (some_is first row h) all.0
     by false h rest = rest h
 
-module _ (opening : Opening) (events : List Event) (facts : Facts) (caller : List ℕ) (rows : List Row) (records : OfEach (ReportsHeld opening events) facts.blocks.known.blocks)
-    (agree : (block : ℕ) (own : BlockRecord) → block_of facts.blocks block ≡ Some own → AgreeOn own.committed own.reports) (lengths : LengthsAre facts.blocks rows) where
+module _ (opening : ClusterOpening) (events : List Event) (facts : Facts) (caller : List ℕ) (rows : List Row) (records : OfEach (ReportsHeld opening events) facts.blocks.known.blocks)
+    (agree : (block : ℕ) (own : BlockRecord) → known_block facts.blocks block ≡ Some own → AgreeOn own.committed own.reports) (lengths : LengthsAre facts.blocks rows) where
   abbrev IsTold : FileBlock → Type 0
   IsTold block = committed_length facts.blocks block.id ≡ block.committed
 
   located_is : (x y : LocatedBlock) → Some x ≡ Some y → x ≡ y
   located_is x y e = cc
 
-  lists : (block : FileBlock) (listed : LocatedBlock) → IsTold block → located facts.token caller facts.blocks block ≡ Some listed → Lists opening events listed
+  lists : (block : FileBlock) (listed : LocatedBlock) → IsTold block → located_block facts.token caller facts.blocks block ≡ Some listed → Lists opening events listed
   lists block listed told is = by block.committed refl is
     where
-      here : (length : ℕ) (own : BlockRecord) → block.committed ≡ Some length → block_of facts.blocks block.id ≡ Some own → Lists opening events (located_with facts.token caller block.id length own)
+      here : (length : ℕ) (own : BlockRecord) → block.committed ≡ Some length → known_block facts.blocks block.id ≡ Some own → Lists opening events (located_with facts.token caller block.id length own)
       here length own e there node has =
           let committed : own.committed ≡ Some length = ap (λ (found : Option BlockRecord). option_and_then (λ (one : BlockRecord). one.committed) found) (sym there) ∙ (told ∙ e) in
           let all : AgreeOn (Some length) own.reports = subst (λ c. AgreeOn c own.reports) committed (agree block.id own there) in
@@ -292,15 +292,15 @@ module _ (opening : Opening) (events : List Event) (facts : Facts) (caller : Lis
           (each_both (λ (report : ℕ × ℕ). HasHeld opening events report.0 block.id own.stamp report.1) (λ (report : ℕ × ℕ). report.1 ≡ length) own.reports (records block.id own there) all)) has in
           subst (λ count. HasHeld opening events node block.id own.stamp count) found.1.same found.1.held
 
-      by_record : (length : ℕ) → block.committed ≡ Some length → (found : Option BlockRecord) → block_of facts.blocks block.id ≡ found → option_map (located_with facts.token caller block.id length) found ≡ Some listed → Lists opening events listed
+      by_record : (length : ℕ) → block.committed ≡ Some length → (found : Option BlockRecord) → known_block facts.blocks block.id ≡ found → option_map (located_with facts.token caller block.id length) found ≡ Some listed → Lists opening events listed
       by_record length e None at h = absurd (never_some listed h)
       by_record length e (Some own) at h = subst (Lists opening events) (located_is (located_with facts.token caller block.id length own) listed h) (here length own e at)
 
-      by : (found : Option ℕ) → block.committed ≡ found → option_and_then (λ length. option_map (located_with facts.token caller block.id length) (block_of facts.blocks block.id)) found ≡ Some listed → Lists opening events listed
+      by : (found : Option ℕ) → block.committed ≡ found → option_and_then (λ length. option_map (located_with facts.token caller block.id length) (known_block facts.blocks block.id)) found ≡ Some listed → Lists opening events listed
       by None e h = absurd (never_some listed h)
-      by (Some length) e h = by_record length e (block_of facts.blocks block.id) refl h
+      by (Some length) e h = by_record length e (known_block facts.blocks block.id) refl h
 
-  told_at : (found : Option Row) (path : List (List ℕ)) → row_at path rows ≡ found → AllByRecursion IsTold (blocks_at found)
+  told_at : (found : Option Row) (path : List (List ℕ)) → row_at path rows ≡ found → AllByRecursion IsTold (blocks_of_row found)
   told_at None path e = tt
   told_at (Some row) path e = row_has (λ (one : Row). AllByRecursion IsTold (blocks_in one.file)) path rows row lengths e
 
@@ -335,7 +335,7 @@ module _ (opening : Opening) (events : List Event) (facts : Facts) (caller : Lis
   reply_lists (op.Append path) = append_lists (holder_at (row_at path rows)) (unfinished_at (row_at path rows))
   reply_lists (op.AddBlock path last) = added_lists last (replication_at (row_at path rows))
   reply_lists (op.Open path) =
-      each_found IsTold (Lists opening events) (located facts.token caller facts.blocks) lists (blocks_at (row_at path rows)) (told_at (row_at path rows) path refl)
+      each_found IsTold (Lists opening events) (located_block facts.token caller facts.blocks) lists (blocks_of_row (row_at path rows)) (told_at (row_at path rows) path refl)
   reply_lists (op.RollKey key) = serial_lists facts.next_serial
   reply_lists op.Heartbeat = heartbeat_lists (node_of caller)
   reply_lists _ = tt
@@ -354,13 +354,13 @@ entry_is first other entries e = cc
 pub listed_held : ListedNodesHeld
 listed_held opening earlier event entry file listed node ids entries opened i has = by (does (after opening earlier) event)
   where
-    state : State
+    state : Cluster
     state = after opening earlier
 
-    no_entry : (what : Happened) → happened (after opening earlier) event ≡ what → what.entries ≡ (after opening earlier).entries → HasHeld opening earlier node listed.block listed.stamp listed.length
+    no_entry : (what : Happened) → event_happened (after opening earlier) event ≡ what → what.entries ≡ (after opening earlier).entries → HasHeld opening earlier node listed.block listed.stamp listed.length
     no_entry what is same = absurd (never_longer entry (after opening earlier).entries (sym (ap (λ (w : Happened). w.entries) is ∙ same) ∙ entries))
 
-    by : Does state (call_of state event) (happened state event) → HasHeld opening earlier node listed.block listed.stamp listed.length
+    by : Does state (call_of state event) (event_happened state event) → HasHeld opening earlier node listed.block listed.stamp listed.length
     by (inl own) = no_entry _ own.is refl
     by (inr (inl own)) = no_entry _ own.is refl
     by (inr (inr (inl own))) = no_entry _ own.is refl

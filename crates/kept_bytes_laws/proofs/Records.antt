@@ -11,11 +11,11 @@ use Rattle.block_records.specs.declared.report.ReportVerdict.{ReportVerdict}
 use Rattle.block_records.specs.declared.report.ReportVerdict.TheVariants.{Superseded, Invalid, Valid}
 use Rattle.block_records.proofs.Numbers.{number_is}
 use Rattle.block_copies.specs.declared.transfer.Transfer.{Transfer}
-use Rattle.block_tables.specs.Changes.{changed, with_report, without_report, with_replication, with_length, with_recovery, with_recovered, with_hand_out, handed_out, without_blocks}
+use Rattle.block_tables.specs.Changes.{with_record_changed, with_report, without_report, with_replication, with_length, with_recovery, with_recovered, with_hand_out, with_hand_outs, without_blocks}
 use Rattle.recovery_queue.specs.declared.begun.BegunRecovery.{BegunRecovery}
-use Rattle.known_blocks.specs.Known.{Known, altered, added, new_record}
-use Rattle.block_map.specs.BlockFacts.{BlockFacts, block_of, newest_stamp, transfers_for}
-use Rattle.block_map.specs.BlockEffects.{replicated, committed_last, begun, recoveries_begun, beaten, without_report_at, reported_by}
+use Rattle.known_blocks.specs.Known.{KnownBlocks, with_block_changed, with_new_block, new_record}
+use Rattle.block_map.specs.BlockFacts.{Blocks, known_block, newest_stamp, transfers_for}
+use Rattle.block_map.specs.BlockEffects.{with_block_replication, committed_last, with_recovery_begun, recoveries_begun, with_node_heard, without_report_at, reported_by}
 use Rattle.block_effect_laws.proofs.Orders.{AreInOrder, taken_in_order}
 use Rattle.block_effect_laws.proofs.Looking.{added_at, changed_at, removed_at}
 use Rattle.hdfs_values.specs.NodeId.{node_of}
@@ -34,7 +34,7 @@ use Rattle.flat_rows.specs.Facts.{Facts}
 use Rattle.flat_rows.specs.FileOutcome.{holder_at}
 use Rattle.flat_rows.specs.Outcome.{reply_of, first_refusal}
 use Rattle.flat_rows.specs.Takeover.{unfinished_at, sought_blocks}
-use Rattle.history.specs.Blocks.{heard_of, reported_of, extended, ended, all_replicated, taken_over, blocks_after}
+use Rattle.history.specs.Blocks.{heard_of, reported_of, file_extended, file_ended, all_replicated, taken_over, blocks_after}
 use Rattle.block_laws.specs.Laws.{blocks_told}
 use Rattle.block_laws.proofs.Unrefused.{recovery_ran}
 use Rattle.cluster_trace.specs.Provenance.{IsIn}
@@ -49,7 +49,7 @@ module _ (P : ℕ → BlockRecord → Type 0) where
   abbrev pub OfEach : Table → Type 0
   OfEach table = (block : ℕ) (own : BlockRecord) → entry_at block table ≡ Some own → P block own
 
-  changed_has : (change : BlockRecord → BlockRecord) (block : ℕ) (table : Table) → ((own : BlockRecord) → entry_at block table ≡ Some own → P block own → P block (change own)) → OfEach table → OfEach (changed change block table)
+  changed_has : (change : BlockRecord → BlockRecord) (block : ℕ) (table : Table) → ((own : BlockRecord) → entry_at block table ≡ Some own → P block own → P block (change own)) → OfEach table → OfEach (with_record_changed change block table)
   changed_has change block table keeps all q own there = by (is_number block q) refl (sym (changed_at change block table q) ∙ there)
     where
       here : (found : Option BlockRecord) → entry_at block table ≡ found → option_map change found ≡ Some own → P block own
@@ -72,7 +72,7 @@ module _ (P : ℕ → BlockRecord → Type 0) where
   all_removed_have (block ∷ blocks) table up all =
       all_removed_have blocks (remove_entry (is_number block) table) (taken_in_order (is_number block) table up) (removed_has block table up all)
 
-  added_has : (known : Known) (targets : List ℕ) (replication : ℕ) → P known.next_block (new_record known.next_stamp targets replication) → OfEach known.blocks → OfEach (added known targets replication).blocks
+  added_has : (known : KnownBlocks) (targets : List ℕ) (replication : ℕ) → P known.next_block (new_record known.next_stamp targets replication) → OfEach known.blocks → OfEach (with_new_block known targets replication).blocks
   added_has known targets replication new all q own there = by (is_number known.next_block q) refl (sym (added_at known targets replication q) ∙ there)
     where
       made : BlockRecord
@@ -91,38 +91,38 @@ module _ (P : ℕ → BlockRecord → Type 0) where
     pub recovery : (block stamp now : ℕ) (own : BlockRecord) → P block own → P block (with_recovery stamp now own)
 
   module _ (stays : Stays) where
-    told_have : (now : ℕ) (blocks : List ℕ) (table : Table) → OfEach table → OfEach (handed_out now table blocks)
+    told_have : (now : ℕ) (blocks : List ℕ) (table : Table) → OfEach table → OfEach (with_hand_outs now table blocks)
     told_have now [] table all = all
     told_have now (block ∷ blocks) table all =
-        told_have now blocks (changed (with_hand_out now) block table) (changed_has (with_hand_out now) block table (λ own there h. stays.copied block now own h) all)
+        told_have now blocks (with_record_changed (with_hand_out now) block table) (changed_has (with_hand_out now) block table (λ own there h. stays.copied block now own h) all)
 
-    begun_has : (facts : BlockFacts) (block now : ℕ) → OfEach facts.known.blocks → OfEach (begun facts block now).known.blocks
+    begun_has : (facts : Blocks) (block now : ℕ) → OfEach facts.known.blocks → OfEach (with_recovery_begun facts block now).known.blocks
     begun_has facts block now all =
         changed_has (with_recovery facts.known.next_stamp now) block facts.known.blocks (λ own there h. stays.recovery block facts.known.next_stamp now own h) all
 
-    all_begun_have : (now : ℕ) (recoveries : List BegunRecovery) (facts : BlockFacts) → OfEach facts.known.blocks → OfEach (fold (λ left (own : BegunRecovery). begun left own.block now) facts recoveries).known.blocks
+    all_begun_have : (now : ℕ) (recoveries : List BegunRecovery) (facts : Blocks) → OfEach facts.known.blocks → OfEach (fold (λ left (own : BegunRecovery). with_recovery_begun left own.block now) facts recoveries).known.blocks
     all_begun_have now [] facts all = all
-    all_begun_have now (own ∷ recoveries) facts all = all_begun_have now recoveries (begun facts own.block now) (begun_has facts own.block now all)
+    all_begun_have now (own ∷ recoveries) facts all = all_begun_have now recoveries (with_recovery_begun facts own.block now) (begun_has facts own.block now all)
 
-    replicated_has : (replication : ℕ) (numbers : List ℕ) (facts : BlockFacts) → OfEach facts.known.blocks → OfEach (all_replicated replication numbers facts).known.blocks
+    replicated_has : (replication : ℕ) (numbers : List ℕ) (facts : Blocks) → OfEach facts.known.blocks → OfEach (all_replicated replication numbers facts).known.blocks
     replicated_has replication [] facts all = all
     replicated_has replication (block ∷ numbers) facts all =
-        replicated_has replication numbers (replicated facts block replication)
+        replicated_has replication numbers (with_block_replication facts block replication)
         (changed_has (with_replication replication) block facts.known.blocks (λ own there h. stays.replication block replication own h) all)
 
-    taken_has : (facts : BlockFacts) (holder : Option (List ℕ)) (block : Option ℕ) (now : ℕ) → OfEach facts.known.blocks → OfEach (taken_over holder block now facts).known.blocks
+    taken_has : (facts : Blocks) (holder : Option (List ℕ)) (block : Option ℕ) (now : ℕ) → OfEach facts.known.blocks → OfEach (taken_over holder block now facts).known.blocks
     taken_has facts None None now all = all
     taken_has facts (Some holder) None now all = all
     taken_has facts None (Some block) now all = all
     taken_has facts (Some holder) (Some block) now all = begun_has facts block now all
 
-    ended_has : (facts : BlockFacts) (last : Option LastBlock) → OfEach facts.known.blocks → OfEach (ended last facts).known.blocks
+    ended_has : (facts : Blocks) (last : Option LastBlock) → OfEach facts.known.blocks → OfEach (file_ended last facts).known.blocks
     ended_has facts None all = all
     ended_has facts (Some last) all = changed_has (with_length last.length) last.block facts.known.blocks (λ own there h. stays.committed last.block last.length own h) all
 
-    heard_has : (facts : BlockFacts) (node : Option ℕ) (now : ℕ) → OfEach facts.known.blocks → OfEach (heard_of node now facts).known.blocks
+    heard_has : (facts : Blocks) (node : Option ℕ) (now : ℕ) → OfEach facts.known.blocks → OfEach (heard_of node now facts).known.blocks
     heard_has facts None now all = all
-    heard_has facts (Some node) now all = told_have now (map (λ (transfer : Transfer). transfer.block) (transfers_for (beaten facts node now) now node)) facts.known.blocks all
+    heard_has facts (Some node) now all = told_have now (map (λ (transfer : Transfer). transfer.block) (transfers_for (with_node_heard facts node now) now node)) facts.known.blocks all
 
     module _ (facts : Facts) (caller : List ℕ) (rows : List Row) (users : Users) where
       -- and of what an operation tells of new blocks, reports and ends of recoveries
@@ -138,7 +138,7 @@ module _ (P : ℕ → BlockRecord → Type 0) where
 
       added_by : (last : Option LastBlock) (found : Option ℕ)
           → ((new : AddedBlock) (replication : ℕ) → IsIn new (blocks_told (added_to facts.token caller facts.blocks last facts.now found)) → P new.block (new_record new.stamp new.targets replication))
-          → OfEach before → OfEach (extended last facts.now found facts.blocks).known.blocks
+          → OfEach before → OfEach (file_extended last facts.now found facts.blocks).known.blocks
       added_by last None allowed all = all
       added_by None (Some replication) allowed all = added_has facts.blocks.known _ replication (allowed _ replication (inl refl)) all
       added_by (Some last) (Some replication) allowed all =
@@ -148,7 +148,7 @@ module _ (P : ℕ → BlockRecord → Type 0) where
       unreported_has None stamp node block all = all
       unreported_has (Some newest) stamp node block all = by (newest == stamp)
         where
-          by : (b : Bool) → OfEach (cond b (altered (without_report node) block facts.blocks.known) facts.blocks.known).blocks
+          by : (b : Bool) → OfEach (cond b (with_block_changed (without_report node) block facts.blocks.known) facts.blocks.known).blocks
           by true = changed_has (without_report node) block before (λ own there h. stays.unreported block node own h) all
           by false = all
 
@@ -167,19 +167,19 @@ module _ (P : ℕ → BlockRecord → Type 0) where
           → ((node : ℕ) (own : BlockRecord) → found ≡ Some node → own.stamp ≡ replica.stamp → P replica.block own → P replica.block (with_report node replica.length own))
           → OfEach before → OfEach (reported_of found replica facts.blocks).known.blocks
       reported_has None replica allowed all = all
-      reported_has (Some node) replica allowed all = by (verdict_by (block_of facts.blocks replica.block) replica.stamp replica.length) refl
+      reported_has (Some node) replica allowed all = by (verdict_by (known_block facts.blocks replica.block) replica.stamp replica.length) refl
         where
-          by : (verdict : ReportVerdict) → verdict_by (block_of facts.blocks replica.block) replica.stamp replica.length ≡ verdict
+          by : (verdict : ReportVerdict) → verdict_by (known_block facts.blocks replica.block) replica.stamp replica.length ≡ verdict
               → OfEach (reported_by verdict facts.blocks node replica.block replica.stamp replica.length).known.blocks
           by Superseded e = all
           by Invalid e = unreported_has (newest_stamp facts.blocks replica.block) replica.stamp node replica.block all
           by Valid e =
               changed_has (with_report node replica.length) replica.block before
-              (λ own there h. allowed node own refl (valid_stamp (block_of facts.blocks replica.block) own replica.stamp replica.length there e) h) all
+              (λ own there h. allowed node own refl (valid_stamp (known_block facts.blocks replica.block) own replica.stamp replica.length there e) h) all
 
       recovered_has : (recovery : RecoveredBlock) → first_refusal facts caller (op.CommitRecovery recovery) rows users ≡ None
           → ((own : BlockRecord) → own.stamp ≡ recovery.stamp → P recovery.block own → P recovery.block (with_recovered recovery.length recovery.nodes own))
-          → OfEach before → OfEach (changed (with_recovered recovery.length recovery.nodes) recovery.block before)
+          → OfEach before → OfEach (with_record_changed (with_recovered recovery.length recovery.nodes) recovery.block before)
       recovered_has recovery unrefused allowed all =
           let ran = recovery_ran facts caller recovery rows users unrefused in
           changed_has (with_recovered recovery.length recovery.nodes) recovery.block before

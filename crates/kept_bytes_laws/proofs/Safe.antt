@@ -5,7 +5,7 @@ use Rattle.std.specs.List.{AllByRecursion}
 use Rattle.std.specs.Map.{values_of}
 use Rattle.std.specs.Option.{is_some}
 use Rattle.block_records.specs.Numbers.{has_number, entry_at}
-use Rattle.block_laws.specs.Laws.{blocks_by, new_blocks}
+use Rattle.block_laws.specs.Laws.{blocks_given_by, new_blocks}
 use Rattle.block_recovery.specs.Decision.{least_of, finalized_of}
 use Rattle.block_recovery.specs.declared.decision.Decision.{Decision}
 use Rattle.block_recovery.specs.declared.plan.Plan.{Plan}
@@ -23,9 +23,9 @@ use Rattle.node_replies.specs.Sending.{call_reply}
 use Rattle.replicas.specs.ReplicaStep as held
 use Rattle.replicas.specs.ReplicaStep.{held_at}
 use Rattle.replicas.specs.declared.replica.Replica.{Replica}
-use Rattle.datanode.specs.NodeStep.{Node, node_answer, clock_with, call_refusal}
+use Rattle.datanode.specs.NodeStep.{DataNode, node_answer, clock_with, call_refusal}
 use Rattle.cluster_trace.specs.Provenance.{IsIn, call_of}
-use Rattle.cluster_trace.specs.Trace.{State, Opening, Happened, entry_of, happened, after}
+use Rattle.cluster_trace.specs.Trace.{Cluster, ClusterOpening, Happened, entry_of, event_happened, after}
 use Rattle.cluster_trace.specs.declared.event.Event.{Event}
 use Rattle.cluster_trace.proofs.Each.{some_is, each_append, in_append}
 use Rattle.fencing_laws.specs.Fencing.{Serves, HasDecided}
@@ -80,22 +80,22 @@ cut (x ∷ xs) (y ∷ ys) zs e = ap (λ (z : Event). z ∷ xs) (head_is x y (xs 
 
 -- ---- blocks that were added
 
-added_now : (state : State) (event : Event) (new : AddedBlock) → IsIn new (new_blocks state.entries) → IsIn new (new_blocks (happened state event).entries)
+added_now : (state : Cluster) (event : Event) (new : AddedBlock) → IsIn new (new_blocks state.entries) → IsIn new (new_blocks (event_happened state event).entries)
 added_now state event new i = by (does state event)
   where
-    by : Does state (call_of state event) (happened state event) → IsIn new (new_blocks (happened state event).entries)
+    by : Does state (call_of state event) (event_happened state event) → IsIn new (new_blocks (event_happened state event).entries)
     by (inl own) = subst (λ (what : Happened). IsIn new (new_blocks what.entries)) (sym own.is) i
     by (inr (inl own)) = subst (λ (what : Happened). IsIn new (new_blocks what.entries)) (sym own.is) i
     by (inr (inr (inl own))) = subst (λ (what : Happened). IsIn new (new_blocks what.entries)) (sym own.is) i
-    by (inr (inr (inr own))) = subst (λ (what : Happened). IsIn new (new_blocks what.entries)) (sym own.is) (in_append new (new_blocks state.entries) (blocks_by (entry_of state own.request).verdict) i)
+    by (inr (inr (inr own))) = subst (λ (what : Happened). IsIn new (new_blocks what.entries)) (sym own.is) (in_append new (new_blocks state.entries) (blocks_given_by (entry_of state own.request).verdict) i)
 
-added_later : (opening : Opening) (rest past : List Event) (new : AddedBlock) → IsIn new (new_blocks (after opening past).entries) → IsIn new (new_blocks (after opening (rest ++ past)).entries)
+added_later : (opening : ClusterOpening) (rest past : List Event) (new : AddedBlock) → IsIn new (new_blocks (after opening past).entries) → IsIn new (new_blocks (after opening (rest ++ past)).entries)
 added_later opening [] past new i = i
 added_later opening (event ∷ rest) past new i = added_now (after opening (rest ++ past)) event new (added_later opening rest past new i)
 
 -- ---- fronts of these events
 
-module _ (opening : Opening) (events : List Event) (new : AddedBlock) (bytes : ℕ) (added : IsAdded (after opening events) new) (held_since : IsAcknowledged opening events new bytes) where
+module _ (opening : ClusterOpening) (events : List Event) (new : AddedBlock) (bytes : ℕ) (added : IsAdded (after opening events) new) (held_since : IsAcknowledged opening events new bytes) where
   abbrev block : ℕ
   block = new.block
 
@@ -137,7 +137,7 @@ module _ (opening : Opening) (events : List Event) (new : AddedBlock) (bytes : �
   -- ---- one event more
 
   module _ (event : Event) (past rest : List Event) (e : events ≡ rest ++ event ∷ past) (safe : IsSafe past) where
-    abbrev state : State
+    abbrev state : Cluster
     state = after opening past
 
     before : events ≡ (rest ++ event ∷ []) ++ past
@@ -159,7 +159,7 @@ module _ (opening : Opening) (events : List Event) (new : AddedBlock) (bytes : �
         by (inr earlier) = absurd (own.4.not_recovered earlier.0 past event presented earlier.1 same serves)
 
     -- so it tells no less
-    tells : (own : Calls state (call_of state event) (happened state event)) (presented : Presented) (asked : TokenCall) → own.called ≡ Presenting presented asked
+    tells : (own : Calls state (call_of state event) (event_happened state event)) (presented : Presented) (asked : TokenCall) → own.called ≡ Presenting presented asked
         → call_refusal own.node (clock_with own.node own.now) (asked_by own.node.id presented asked) asked ≡ None → asked ≡ call.InitRecovery → (asked_by own.node.id presented asked).block ≡ block → T own.node.id
         → bytes ≤ length (held.own (held_at (asked_by own.node.id presented asked).block own.node.blocks)).bytes
     tells own presented asked is allowed init same t =
@@ -173,11 +173,11 @@ module _ (opening : Opening) (events : List Event) (new : AddedBlock) (bytes : �
         } in
         let has = held_before own.node.id t presented (sym (asked_block own.node.id presented asked) ∙ same) serves in
         let node_is : has.own ≡ own.node = some_is has.own own.node (sym has.there ∙ (ap (λ n. entry_at n state.nodes) at_id ∙ own.there)) in
-        let begins : Begins block bytes (held_since own.node.id t).2 (held_at block own.node.blocks) = subst (λ (one : Node). Begins block bytes (held_since own.node.id t).2 (held_at block one.blocks)) node_is has.begins in
+        let begins : Begins block bytes (held_since own.node.id t).2 (held_at block own.node.blocks) = subst (λ (one : DataNode). Begins block bytes (held_since own.node.id t).2 (held_at block one.blocks)) node_is has.begins in
         subst (λ n. bytes ≤ length (held.own (held_at n own.node.blocks)).bytes) (sym same)
         (subst (λ (found : Option Replica). bytes ≤ length (unwrap_or found (record { stamp = 0; state = Writing; bytes = [] })).bytes) (sym begins.there) begins.enough)
 
-    sent : AllByRecursion (MessageTells block bytes T) (happened state event).sent
+    sent : AllByRecursion (MessageTells block bytes T) (event_happened state event).sent
     sent =
         event_sends (MessageTells block bytes T) state event
         (λ own presented asked is allowed. record {
@@ -213,7 +213,7 @@ module _ (opening : Opening) (events : List Event) (new : AddedBlock) (bytes : �
 
     safe_now : IsSafe (event ∷ past)
     safe_now = record {
-      replies = each_append (MessageTells block bytes T) state.messages (happened state event).sent safe.replies sent;
+      replies = each_append (MessageTells block bytes T) state.messages (event_happened state event).sent safe.replies sent;
       answers = event_tells block bytes T state event safe.replies safe.answers;
       kept = still;
     }
@@ -247,7 +247,7 @@ updates_keep opening later earlier event new bytes node count presented added si
     updated_enough opening events new bytes added since (later ++ event ∷ []) earlier event node count presented is (all_safe opening events new bytes added since earlier (later ++ event ∷ []) is) same serves
 
 -- from the event on at which a target held the bytes
-module _ (opening : Opening) (since earlier events : List Event) (new : AddedBlock) (node bytes : ℕ) (front : List ℕ) (added : IsAdded (after opening events) new) (acknowledged : IsAcknowledged opening events new bytes)
+module _ (opening : ClusterOpening) (since earlier events : List Event) (new : AddedBlock) (node bytes : ℕ) (front : List ℕ) (added : IsAdded (after opening events) new) (acknowledged : IsAcknowledged opening events new bytes)
     (is : events ≡ since ++ earlier) (holds : HoldsFrom opening since earlier new node bytes front) where
   kept_since : (part rest : List Event) → since ≡ rest ++ part → HasFront (after opening (part ++ earlier)) node new.block bytes front
   kept_since [] rest e = has_front (after opening earlier) node new.block bytes front holds.replica holds.there holds.enough holds.begins

@@ -32,12 +32,12 @@ use Rattle.node_replies.specs.Asking.{asked_by}
 use Rattle.node_replies.specs.Sending.{call_sends, forward, report, to_primary}
 use Rattle.replicas.specs.ReplicaStep.{own, held_at, removal_refusal}
 use Rattle.replicas.specs.declared.held.Held.{Held}
-use Rattle.datanode.specs.NodeStep.{Node, node_answer, presented_answer, told_by, removal_told, clock_with, call_refusal, copying}
-use Rattle.plan_steps.specs.PlanStep.{plan_refusal, plan_there, decided, committed, presenting, to_each, plan_sends, told_unless, plan_answer}
+use Rattle.datanode.specs.NodeStep.{DataNode, node_answer, presented_answer, told_by, removal_told, clock_with, call_refusal, copy_call}
+use Rattle.plan_steps.specs.PlanStep.{plan_refusal, plan_there, decision_there, commit_there, presented_by_leader, to_each, plan_sends, told_unless, plan_answer}
 use Rattle.cluster_trace.specs.DataCall.{DataCall, as_message}
 use Rattle.cluster_trace.specs.DataCall as outside
 use Rattle.cluster_trace.specs.Provenance.{CallAt, IsIn, call_brought, call_of}
-use Rattle.cluster_trace.specs.Trace.{State, Happened, lost, entry_of, recover_message, removal_message, copy_message, command_messages, told_messages, sent_by, entry_messages, named, called_at, led_at, delivered, message_at, is_from_outside, reporting, committing, happened}
+use Rattle.cluster_trace.specs.Trace.{Cluster, Happened, event_lost, entry_of, recover_message, removal_message, copy_message, command_messages, told_messages, sent_by, entry_messages, request_named, called_at, led_at, message_delivered, message_at, is_from_outside, report_request, commit_request, event_happened}
 use Rattle.cluster_trace.specs.declared.event.Event.{Event}
 use Rattle.cluster_trace.specs.declared.event.Event.TheVariants.{Name, Deliver, Data}
 use Rattle.cluster_trace.specs.declared.outcome.ClusterRefusal.{ClusterRefusal}
@@ -76,7 +76,7 @@ module _ (Q : Message → Type 0) where
   sends_all node presented (call.SendCopy to) held h = (h.asks to (Presenting presented (call.TakeCopy (own held).bytes)), tt)
   sends_all node presented (call.TakeCopy bytes) held h = (h.stored bytes refl, tt)
 
-  presented_all : (node : Node) (clock : ℕ) (presented : Presented) (asked : TokenCall)
+  presented_all : (node : DataNode) (clock : ℕ) (presented : Presented) (asked : TokenCall)
       → (call_refusal node clock presented asked ≡ None → NodeSends node.id presented asked (held_at presented.block node.blocks)) → AllByRecursion Q (presented_answer node clock presented asked).messages
   unfolding presented_answer
   presented_all node clock presented asked h = by (call_refusal node clock presented asked) h
@@ -86,12 +86,12 @@ module _ (Q : Message → Type 0) where
       by None h = sends_all node.id presented asked (held_at presented.block node.blocks) (h refl)
 
   -- by the node, at a moment
-  abbrev pub NodeMay : Node → ℕ → NodeCall → Type 0
+  abbrev pub NodeMay : DataNode → ℕ → NodeCall → Type 0
   NodeMay node now called = (presented : Presented) (asked : TokenCall) → called ≡ Presenting presented asked
       → call_refusal node (clock_with node now) (asked_by node.id presented asked) asked ≡ None
       → NodeSends node.id (asked_by node.id presented asked) asked (held_at (asked_by node.id presented asked).block node.blocks)
 
-  answer_all : (node : Node) (now : ℕ) (called : NodeCall) → NodeMay node now called → AllByRecursion Q (node_answer node now called).messages
+  answer_all : (node : DataNode) (now : ℕ) (called : NodeCall) → NodeMay node now called → AllByRecursion Q (node_answer node now called).messages
   unfolding node_answer
   answer_all node now (Presenting presented asked) h = presented_all node (clock_with node now) (asked_by node.id presented asked) asked (λ allowed. h presented asked refl allowed)
   answer_all node now (Keys update) h = tt
@@ -106,17 +106,17 @@ module _ (Q : Message → Type 0) where
   pub record PlanSends (leader : ℕ) (asked : PlanCall) (plans : PlanTable) : Type 0 where
     pub asks : (to : ℕ) (next : NodeCall) → Q (message.Node to next)
     pub commit : (block stamp : ℕ) → asked ≡ plan.Commit block stamp
-        → Q (message.CommitRecovery leader block stamp (committed (plan_there block stamp plans)).length (committed (plan_there block stamp plans)).nodes)
+        → Q (message.CommitRecovery leader block stamp (commit_there (plan_there block stamp plans)).length (commit_there (plan_there block stamp plans)).nodes)
 
   each_sent : (presented : Presented) (asked : TokenCall) (nodes : List ℕ) → ((to : ℕ) (next : NodeCall) → Q (message.Node to next)) → AllByRecursion Q (to_each presented asked nodes)
   each_sent presented asked nodes h = each_map Q (λ (node : ℕ). message.Node node (Presenting presented asked)) (λ (node : ℕ). h node (Presenting presented asked)) nodes
 
   plan_sends_all : (leader : ℕ) (asked : PlanCall) (plans : PlanTable) → PlanSends leader asked plans → AllByRecursion Q (plan_sends leader asked plans)
-  plan_sends_all leader (plan.Recover block stamp nodes token) plans h = each_sent (presenting leader block stamp token) call.InitRecovery nodes h.asks
+  plan_sends_all leader (plan.Recover block stamp nodes token) plans h = each_sent (presented_by_leader leader block stamp token) call.InitRecovery nodes h.asks
   plan_sends_all leader (plan.Reply node block stamp state bytes) plans h = tt
   plan_sends_all leader (plan.Decide block stamp) plans h =
       let own = plan_there block stamp plans in
-      each_sent (presenting leader block stamp own.token) (call.UpdateReplica (decided own).length) (decided own).nodes h.asks
+      each_sent (presented_by_leader leader block stamp own.token) (call.UpdateReplica (decision_there own).length) (decision_there own).nodes h.asks
   plan_sends_all leader (plan.Updated node block stamp) plans h = tt
   plan_sends_all leader (plan.Commit block stamp) plans h = (h.commit block stamp refl, tt)
 
@@ -137,7 +137,7 @@ module _ (Q : Message → Type 0) where
         (each_map Q (recover_message node) (order node) commands.recoveries)
         (each_append Q (map (removal_message node) commands.removals) (map (copy_message node) commands.copies)
         (each_map Q (removal_message node) (λ (own : Removal). asks node (Invalidate own.block own.stamp)) commands.removals)
-        (each_map Q (copy_message node) (λ (own : CopyOrder). asks node (copying node own.block own.stamp own.token own.target)) commands.copies)),
+        (each_map Q (copy_message node) (λ (own : CopyOrder). asks node (copy_call node own.block own.stamp own.token own.target)) commands.copies)),
   )
 
   told_all : (caller : Option ℕ) (told : Reply) → ((to : ℕ) (next : NodeCall) → Q (message.Node to next)) → ((to : ℕ) (order : Recover) → Q (recover_message to order)) → AllByRecursion Q (told_messages caller told)
@@ -149,17 +149,17 @@ module _ (Q : Message → Type 0) where
   verdict_all caller (Denied denial) asks order = tt
   verdict_all caller (Refused refusal) asks order = tt
 
-  pub entry_sends : (state : State) (request : Request) → ((to : ℕ) (next : NodeCall) → Q (message.Node to next)) → ((to : ℕ) (order : Recover) → Q (recover_message to order)) → AllByRecursion Q (entry_messages (entry_of state request))
+  pub entry_sends : (state : Cluster) (request : Request) → ((to : ℕ) (next : NodeCall) → Q (message.Node to next)) → ((to : ℕ) (order : Recover) → Q (recover_message to order)) → AllByRecursion Q (entry_messages (entry_of state request))
   entry_sends state request asks order = verdict_all (node_of request.caller) (entry_of state request).verdict asks order
 
 -- ---- what an event does
 
 -- it calls a DataNode
-pub record Calls (state : State) (found : Option CallAt) (what : Happened) : Type 0 where
+pub record Calls (state : Cluster) (found : Option CallAt) (what : Happened) : Type 0 where
   pub id : ℕ
   pub now : ℕ
   pub called : NodeCall
-  pub node : Node
+  pub node : DataNode
   pub asks : found ≡ Some (record { node = id; now = now; call = called })
   pub there : entry_at id state.nodes ≡ Some node
   pub is : what ≡ called_at state id now called (Some node)
@@ -173,7 +173,7 @@ is_driven (plan.Updated node block stamp) = false
 is_driven (plan.Commit block stamp) = true
 
 -- it calls one that leads a recovery
-pub record Leads (state : State) (what : Happened) : Type 0 where
+pub record Leads (state : Cluster) (what : Happened) : Type 0 where
   pub id : ℕ
   pub asked : PlanCall
   pub plans : PlanTable
@@ -182,34 +182,34 @@ pub record Leads (state : State) (what : Happened) : Type 0 where
   pub is : what ≡ led_at state id asked (Some plans)
 
 -- it asks the NameNode, and reports and ends of recoveries come with messages
-pub record Asks (state : State) (what : Happened) : Type 0 where
+pub record Asks (state : Cluster) (what : Happened) : Type 0 where
   pub request : Request
-  pub is : what ≡ named state request
+  pub is : what ≡ request_named state request
   pub commit : (recovery : RecoveredBlock) → request.op ≡ op.CommitRecovery recovery
       → (leader : ℕ) × IsIn (message.CommitRecovery leader recovery.block recovery.stamp recovery.length recovery.nodes) state.messages
   pub report : (replica : ReportedReplica) → request.op ≡ op.Reported replica
       → (node : ℕ) × (request.caller ≡ node_principal node) × IsIn (message.Reported node replica.block replica.stamp replica.length) state.messages
 
 -- it does nothing
-pub record Nothing (state : State) (what : Happened) : Type 0 where
+pub record Nothing (state : Cluster) (what : Happened) : Type 0 where
   pub refusal : ClusterRefusal
-  pub is : what ≡ lost state refusal
+  pub is : what ≡ event_lost state refusal
 
-abbrev pub Does : State → Option CallAt → Happened → Type 0
+abbrev pub Does : Cluster → Option CallAt → Happened → Type 0
 Does state found what = Nothing state what ⊎ (Calls state found what ⊎ (Leads state what ⊎ Asks state what))
 
-called_does : (state : State) (id now : ℕ) (called : NodeCall) (found : Option Node) → entry_at id state.nodes ≡ found
+called_does : (state : Cluster) (id now : ℕ) (called : NodeCall) (found : Option DataNode) → entry_at id state.nodes ≡ found
     → Does state (Some (record { node = id; now = now; call = called })) (called_at state id now called found)
 called_does state id now called None e = inl (record { refusal = NoNode; is = refl })
 called_does state id now called (Some node) e = inr (inl (record { id = id; now = now; called = called; node = node; asks = refl; there = e; is = refl }))
 
-led_does : (state : State) (found_call : Option CallAt) (id : ℕ) (asked : PlanCall) (found : Option PlanTable) → entry_at id state.plans ≡ found → (is_driven asked ≡ false → IsIn (message.Plan id asked) state.messages)
+led_does : (state : Cluster) (found_call : Option CallAt) (id : ℕ) (asked : PlanCall) (found : Option PlanTable) → entry_at id state.plans ≡ found → (is_driven asked ≡ false → IsIn (message.Plan id asked) state.messages)
     → Does state found_call (led_at state id asked found)
 led_does state found_call id asked None e brought = inl (record { refusal = NoNode; is = refl })
 led_does state found_call id asked (Some plans) e brought = inr (inr (inl (record { id = id; asked = asked; plans = plans; there = e; brought = brought; is = refl })))
 
 -- what a message brings
-pub record Brings (state : State) (found : Option Message) : Type 0 where
+pub record Brings (state : Cluster) (found : Option Message) : Type 0 where
   pub plan : (id : ℕ) (asked : PlanCall) → found ≡ Some (message.Plan id asked) → is_driven asked ≡ false → IsIn (message.Plan id asked) state.messages
   pub report : (node block stamp bytes : ℕ) → found ≡ Some (message.Reported node block stamp bytes) → IsIn (message.Reported node block stamp bytes) state.messages
   pub commit : (leader block stamp bytes : ℕ) (nodes : List ℕ) → found ≡ Some (message.CommitRecovery leader block stamp bytes nodes) → IsIn (message.CommitRecovery leader block stamp bytes nodes) state.messages
@@ -226,14 +226,14 @@ no_report a b e = cc
 no_commit : (a : ReportedReplica) (b : RecoveredBlock) → op.Reported a ≡ op.CommitRecovery b → ⊥
 no_commit a b e = cc
 
-delivered_does : (state : State) (now : ℕ) (found : Option Message) → Brings state found → Does state (call_brought now found) (delivered state now found)
+delivered_does : (state : Cluster) (now : ℕ) (found : Option Message) → Brings state found → Does state (call_brought now found) (message_delivered state now found)
 delivered_does state now None brings = inl (record { refusal = NoMessage; is = refl })
 delivered_does state now (Some (message.Node node asked)) brings = called_does state node now asked (entry_at node state.nodes) refl
 delivered_does state now (Some (message.Plan node asked)) brings = led_does state None node asked (entry_at node state.plans) refl (brings.plan node asked refl)
 delivered_does state now (Some (message.Reported node block stamp bytes)) brings =
     let made : ReportedReplica = record { block = block; stamp = stamp; length = bytes } in
     inr (inr (inr (record {
-      request = reporting node now block stamp bytes;
+      request = report_request node now block stamp bytes;
       is = refl;
       commit = λ recovery e. absurd (no_commit made recovery e);
       report = λ replica e. (node, refl, subst (λ (own : ReportedReplica). IsIn (message.Reported node own.block own.stamp own.length) state.messages) (replica_is made replica e) (brings.report node block stamp bytes refl));
@@ -241,7 +241,7 @@ delivered_does state now (Some (message.Reported node block stamp bytes)) brings
 delivered_does state now (Some (message.CommitRecovery leader block stamp bytes nodes)) brings =
     let made : RecoveredBlock = record { block = block; stamp = stamp; length = bytes; nodes = nodes } in
     inr (inr (inr (record {
-      request = committing leader now block stamp bytes nodes;
+      request = commit_request leader now block stamp bytes nodes;
       is = refl;
       commit = λ recovery e. (leader, subst (λ (own : RecoveredBlock). IsIn (message.CommitRecovery leader own.block own.stamp own.length own.nodes) state.messages) (recovery_is made recovery e) (brings.commit leader block stamp bytes nodes refl));
       report = λ replica e. absurd (no_report made replica e);
@@ -256,21 +256,21 @@ no_plan node id asked call e = cc
 undriven : (asked call : PlanCall) → is_driven asked ≡ true → asked ≡ call → is_driven call ≡ false → ⊥
 undriven asked call h e k = let both : is_driven asked ≡ is_driven call = ap is_driven e in cc
 
-call_brings : (state : State) (node : ℕ) (asked : NodeCall) → Brings state (Some (message.Node node asked))
+call_brings : (state : Cluster) (node : ℕ) (asked : NodeCall) → Brings state (Some (message.Node node asked))
 call_brings state node asked = record {
   plan = λ id call e d. absurd (no_plan node id asked call e);
   report = λ from block stamp bytes e. cc;
   commit = λ leader block stamp bytes nodes e. cc;
 }
 
-drive_brings : (state : State) (node : ℕ) (asked : PlanCall) → is_driven asked ≡ true → Brings state (Some (message.Plan node asked))
+drive_brings : (state : Cluster) (node : ℕ) (asked : PlanCall) → is_driven asked ≡ true → Brings state (Some (message.Plan node asked))
 drive_brings state node asked driven = record {
   plan = λ id call e d. absurd (undriven asked call driven (plan_is node id asked call e) d);
   report = λ from block stamp bytes e. cc;
   commit = λ leader block stamp bytes nodes e. cc;
 }
 
-outside_brings : (state : State) (node : ℕ) (asked : DataCall) → Brings state (Some (as_message node asked))
+outside_brings : (state : Cluster) (node : ℕ) (asked : DataCall) → Brings state (Some (as_message node asked))
 outside_brings state node (outside.BeginWrite presented next) = call_brings state node (Presenting presented (call.Begin next))
 outside_brings state node (outside.Packet presented offset bytes next) = call_brings state node (Presenting presented (call.Packet offset bytes next))
 outside_brings state node (outside.Finalize presented count next) = call_brings state node (Presenting presented (call.Finalize count next))
@@ -278,7 +278,7 @@ outside_brings state node (outside.Read presented offset count) = call_brings st
 outside_brings state node (outside.Decide block stamp) = drive_brings state node (plan.Decide block stamp) refl
 outside_brings state node (outside.Commit block stamp) = drive_brings state node (plan.Commit block stamp) refl
 
-request_does : (state : State) (request : Request) (from : Bool) → is_from_outside request.op ≡ from → Does state None (cond from (named state request) (lost state NotFromOutside))
+request_does : (state : Cluster) (request : Request) (from : Bool) → is_from_outside request.op ≡ from → Does state None (cond from (request_named state request) (event_lost state NotFromOutside))
 request_does state request true from = inr (inr (inr (record {
   request = request;
   is = refl;
@@ -290,7 +290,7 @@ request_does state request true from = inr (inr (inr (record {
     differ e = cc
 request_does state request false from = inl (record { refusal = NotFromOutside; is = refl })
 
-pub does : (state : State) (event : Event) → Does state (call_of state event) (happened state event)
+pub does : (state : Cluster) (event : Event) → Does state (call_of state event) (event_happened state event)
 does state (Name request) = request_does state request (is_from_outside request.op) refl
 does state (Deliver number now) = delivered_does state now (message_at number state.messages) (record {
   plan = λ id asked e d. at_in state.messages number (message.Plan id asked) e;
@@ -301,14 +301,14 @@ does state (Data node now asked) = delivered_does state now (Some (as_message no
 
 -- ---- all that it sends
 
-pub event_sends : (Q : Message → Type 0) (state : State) (event : Event)
-    → ((own : Calls state (call_of state event) (happened state event)) → NodeMay Q own.node own.now own.called)
-    → ((own : Leads state (happened state event)) → plan_refusal own.asked own.plans ≡ None → PlanSends Q own.id own.asked own.plans)
-    → ((own : Asks state (happened state event)) → AllByRecursion Q (entry_messages (entry_of state own.request)))
-    → AllByRecursion Q (happened state event).sent
+pub event_sends : (Q : Message → Type 0) (state : Cluster) (event : Event)
+    → ((own : Calls state (call_of state event) (event_happened state event)) → NodeMay Q own.node own.now own.called)
+    → ((own : Leads state (event_happened state event)) → plan_refusal own.asked own.plans ≡ None → PlanSends Q own.id own.asked own.plans)
+    → ((own : Asks state (event_happened state event)) → AllByRecursion Q (entry_messages (entry_of state own.request)))
+    → AllByRecursion Q (event_happened state event).sent
 event_sends Q state event nodes plans names = by (does state event)
   where
-    by : Does state (call_of state event) (happened state event) → AllByRecursion Q (happened state event).sent
+    by : Does state (call_of state event) (event_happened state event) → AllByRecursion Q (event_happened state event).sent
     by (inl own) = subst (λ (what : Happened). AllByRecursion Q what.sent) (sym own.is) tt
     by (inr (inl own)) = subst (λ (what : Happened). AllByRecursion Q what.sent) (sym own.is) (answer_all Q own.node own.now own.called (nodes own))
     by (inr (inr (inl own))) = subst (λ (what : Happened). AllByRecursion Q what.sent) (sym own.is) (plan_answer_all Q own.id own.asked own.plans (plans own))

@@ -6,7 +6,7 @@ use Rattle.std.specs.List.{AllByRecursion, list_any}
 use Rattle.std.specs.Option.{option_and_then}
 use Rattle.block_records.specs.Numbers.{is_number, entry_at}
 use Rattle.block_records.proofs.Numbers.{number_is}
-use Rattle.block_recovery.specs.Plans.{PlanTable, plan_at, changed, new_plan, with_answer, with_decision, with_updated}
+use Rattle.block_recovery.specs.Plans.{PlanTable, plan_at, with_plan_changed, new_plan, with_answer, with_decision, with_updated}
 use Rattle.block_recovery.specs.declared.decision.Decision.{Decision}
 use Rattle.block_recovery.specs.declared.fault.PlanRefusal.{PlanRefusal}
 use Rattle.block_recovery.specs.declared.plan.Plan.{Plan}
@@ -29,12 +29,12 @@ use Rattle.node_calls.specs.declared.refusal.NodeRefusal.{NodeRefusal}
 use Rattle.node_replies.specs.Asking.{asked_by, sends_copy}
 use Rattle.node_replies.specs.Sending.{call_reply}
 use Rattle.hdfs_values.specs.NodeId.{node_principal}
-use Rattle.replicas.specs.ReplicaStep.{held_at, replica_refusal, blocks_after}
+use Rattle.replicas.specs.ReplicaStep.{held_at, replica_refusal, replicas_after}
 use Rattle.replicas.specs.declared.held.Held.{Held}
-use Rattle.datanode.specs.NodeStep.{Node, node_after, node_answer, presented_after, presented_by, clock_with, call_refusal, access_of}
+use Rattle.datanode.specs.NodeStep.{DataNode, node_after, node_answer, presented_after, presented_by, clock_with, call_refusal, access_of}
 use Rattle.plan_steps.specs.PlanStep.{recover_of, answer_of, plan_refusal, left_unless, plans_after}
 use Rattle.cluster_trace.specs.Provenance.{call_of}
-use Rattle.cluster_trace.specs.Trace.{State, Opening, Happened, happened, after}
+use Rattle.cluster_trace.specs.Trace.{Cluster, ClusterOpening, Happened, event_happened, after}
 use Rattle.cluster_trace.specs.declared.event.Event.{Event}
 use Rattle.cluster_trace.proofs.Each.{some_is, never_some, each_append, each_more, each_in}
 use Rattle.fencing_laws.specs.Fencing.{plan_in, Serves, HasDecided}
@@ -51,7 +51,7 @@ use Rattle.kept_bytes_laws.proofs.Since.{served_at, answered_at, ids_stand}
 
 -- ---- what was held
 
-pub held_later : (opening : Opening) (event : Event) (events : List Event) (node block stamp count : ℕ) → HasHeld opening events node block stamp count → HasHeld opening (event ∷ events) node block stamp count
+pub held_later : (opening : ClusterOpening) (event : Event) (events : List Event) (node block stamp count : ℕ) → HasHeld opening events node block stamp count → HasHeld opening (event ∷ events) node block stamp count
 held_later opening event events node block stamp count h = record {
   later = event ∷ h.later;
   earlier = h.earlier;
@@ -63,14 +63,14 @@ held_later opening event events node block stamp count h = record {
   long = h.long;
 }
 
-held_now : (opening : Opening) (events : List Event) (id block stamp count : ℕ) (own : Node) → entry_at id (after opening events).nodes ≡ Some own → IsFinal stamp count (held_at block own.blocks)
+held_now : (opening : ClusterOpening) (events : List Event) (id block stamp count : ℕ) (own : DataNode) → entry_at id (after opening events).nodes ≡ Some own → IsFinal stamp count (held_at block own.blocks)
     → HasHeld opening events id block stamp count
 held_now opening events id block stamp count own there final = record {
   later = [];
   earlier = events;
   all = refl;
   replica = final.replica;
-  there = ap (λ (found : Option Node). option_and_then (λ (held : Held). held.replica) (option_map (λ (one : Node). held_at block one.blocks) found)) there ∙ final.there;
+  there = ap (λ (found : Option DataNode). option_and_then (λ (held : Held). held.replica) (option_map (λ (one : DataNode). held_at block one.blocks) found)) there ∙ final.there;
   stamped = final.stamped;
   finalized = final.done;
   long = final.long;
@@ -78,8 +78,8 @@ held_now opening events id block stamp count own there final = record {
 
 -- ---- a call that is served
 
-pub blocks_left : (node : Node) (now : ℕ) (presented : Presented) (asked : TokenCall) → call_refusal node (clock_with node now) (asked_by node.id presented asked) asked ≡ None
-    → (node_after node now (Presenting presented asked)).blocks ≡ blocks_after asked (asked_by node.id presented asked).stamp (asked_by node.id presented asked).block node.blocks
+pub blocks_left : (node : DataNode) (now : ℕ) (presented : Presented) (asked : TokenCall) → call_refusal node (clock_with node now) (asked_by node.id presented asked) asked ≡ None
+    → (node_after node now (Presenting presented asked)).blocks ≡ replicas_after asked (asked_by node.id presented asked).stamp (asked_by node.id presented asked).block node.blocks
 unfolding node_after presented_after
 blocks_left node now presented asked e = ap (λ (refused : Option NodeRefusal). (presented_by node (clock_with node now) (asked_by node.id presented asked) asked refused).blocks) e
 
@@ -93,25 +93,25 @@ asked_stamp id presented asked = same_stamp (sends_copy asked) presented (node_p
 -- ---- messages
 
 -- the node has had the replica that a plan has it updated to
-abbrev pub UpdatedTells : Opening → List Event → ℕ → ℕ → ℕ → Type 0
+abbrev pub UpdatedTells : ClusterOpening → List Event → ℕ → ℕ → ℕ → Type 0
 UpdatedTells opening events node block stamp =
     (leader : ℕ) × (decision : Decision) × HasDecided (after opening events) leader block stamp decision × HasHeld opening events node block stamp decision.length
 
-abbrev pub PlanTells : Opening → List Event → PlanCall → Type 0
+abbrev pub PlanTells : ClusterOpening → List Event → PlanCall → Type 0
 PlanTells opening events (plan.Recover block stamp nodes token) = ⊤
 PlanTells opening events (plan.Reply node block stamp state count) = ⊤
 PlanTells opening events (plan.Decide block stamp) = ⊤
 PlanTells opening events (plan.Updated node block stamp) = UpdatedTells opening events node block stamp
 PlanTells opening events (plan.Commit block stamp) = ⊤
 
-abbrev pub TellsHeld : Opening → List Event → Message → Type 0
+abbrev pub TellsHeld : ClusterOpening → List Event → Message → Type 0
 TellsHeld opening events (message.Node to asked) = ⊤
 TellsHeld opening events (message.Plan to asked) = PlanTells opening events asked
 TellsHeld opening events (message.Reported node block stamp count) = HasHeld opening events node block stamp count
 TellsHeld opening events (message.CommitRecovery leader block stamp count nodes) = ⊤
 
-module _ (opening : Opening) (event : Event) (earlier : List Event) where
-  abbrev state : State
+module _ (opening : ClusterOpening) (event : Event) (earlier : List Event) where
+  abbrev state : Cluster
   state = after opening earlier
 
   plan_later : (asked : PlanCall) → PlanTells opening earlier asked → PlanTells opening (event ∷ earlier) asked
@@ -128,7 +128,7 @@ module _ (opening : Opening) (event : Event) (earlier : List Event) where
   message_later (message.Reported node block stamp count) h = held_later opening event earlier node block stamp count h
   message_later (message.CommitRecovery leader block stamp count nodes) h = tt
 
-  module _ (own : Calls (after opening earlier) (call_of (after opening earlier) event) (happened (after opening earlier) event)) (presented : Presented) (asked : TokenCall) (is : own.called ≡ Presenting presented asked)
+  module _ (own : Calls (after opening earlier) (call_of (after opening earlier) event) (event_happened (after opening earlier) event)) (presented : Presented) (asked : TokenCall) (is : own.called ≡ Presenting presented asked)
       (allowed : call_refusal own.node (clock_with own.node own.now) (asked_by own.node.id presented asked) asked ≡ None) where
     abbrev with_token : Presented
     with_token = asked_by own.node.id presented asked
@@ -144,10 +144,10 @@ module _ (opening : Opening) (event : Event) (earlier : List Event) where
     at_id : own.id ≡ own.node.id
     at_id = sym (ids_stand opening earlier own.id own.node own.there)
 
-    left : (node_after own.node own.now own.called).blocks ≡ blocks_after asked with_token.stamp with_token.block own.node.blocks
+    left : (node_after own.node own.now own.called).blocks ≡ replicas_after asked with_token.stamp with_token.block own.node.blocks
     left = ap (λ (c : NodeCall). (node_after own.node own.now c).blocks) is ∙ blocks_left own.node own.now presented asked allowed
 
-    now_held : (count : ℕ) → IsFinal with_token.stamp count (held_at with_token.block (blocks_after asked with_token.stamp with_token.block own.node.blocks))
+    now_held : (count : ℕ) → IsFinal with_token.stamp count (held_at with_token.block (replicas_after asked with_token.stamp with_token.block own.node.blocks))
         → HasHeld opening (event ∷ earlier) own.node.id with_token.block with_token.stamp count
     now_held count final =
         subst (λ n. HasHeld opening (event ∷ earlier) n with_token.block with_token.stamp count) at_id
@@ -157,7 +157,7 @@ module _ (opening : Opening) (event : Event) (earlier : List Event) where
     finalizes : (count : ℕ) (next : List ℕ) → asked ≡ call.Finalize count next → HasHeld opening (event ∷ earlier) own.node.id with_token.block with_token.stamp count
     finalizes count next e =
         now_held count
-        (subst (λ (c : TokenCall). IsFinal with_token.stamp count (held_at with_token.block (blocks_after c with_token.stamp with_token.block own.node.blocks))) (sym e)
+        (subst (λ (c : TokenCall). IsFinal with_token.stamp count (held_at with_token.block (replicas_after c with_token.stamp with_token.block own.node.blocks))) (sym e)
         (write_leaves own.node.limit with_token.stamp with_token.block count next own.node.blocks
         (subst (λ (c : TokenCall). replica_refusal own.node.limit c with_token.stamp (held_at with_token.block own.node.blocks) ≡ None) e passes)
         (all_below opening earlier own.id own.node own.there with_token.block)))
@@ -165,14 +165,14 @@ module _ (opening : Opening) (event : Event) (earlier : List Event) where
     recovers : (count : ℕ) → asked ≡ call.UpdateReplica count → HasHeld opening (event ∷ earlier) own.node.id with_token.block with_token.stamp count
     recovers count e =
         now_held count
-        (subst (λ (c : TokenCall). IsFinal with_token.stamp count (held_at with_token.block (blocks_after c with_token.stamp with_token.block own.node.blocks))) (sym e)
+        (subst (λ (c : TokenCall). IsFinal with_token.stamp count (held_at with_token.block (replicas_after c with_token.stamp with_token.block own.node.blocks))) (sym e)
         (update_leaves own.node.limit with_token.stamp with_token.block count own.node.blocks
         (subst (λ (c : TokenCall). replica_refusal own.node.limit c with_token.stamp (held_at with_token.block own.node.blocks) ≡ None) e passes)))
 
     stores : (bytes : List ℕ) → asked ≡ call.TakeCopy bytes → HasHeld opening (event ∷ earlier) own.node.id with_token.block with_token.stamp (length bytes)
     stores bytes e =
         now_held (length bytes)
-        (subst (λ (c : TokenCall). IsFinal with_token.stamp (length bytes) (held_at with_token.block (blocks_after c with_token.stamp with_token.block own.node.blocks))) (sym e)
+        (subst (λ (c : TokenCall). IsFinal with_token.stamp (length bytes) (held_at with_token.block (replicas_after c with_token.stamp with_token.block own.node.blocks))) (sym e)
         (copy_leaves with_token.stamp with_token.block bytes own.node.blocks))
 
     -- which a plan decided
@@ -196,7 +196,7 @@ module _ (opening : Opening) (event : Event) (earlier : List Event) where
           held,
         )
 
-  sent : AllByRecursion (TellsHeld opening (event ∷ earlier)) (happened (after opening earlier) event).sent
+  sent : AllByRecursion (TellsHeld opening (event ∷ earlier)) (event_happened (after opening earlier) event).sent
   sent =
       event_sends (TellsHeld opening (event ∷ earlier)) (after opening earlier) event
       (λ own presented asked is allowed. record {
@@ -210,10 +210,10 @@ module _ (opening : Opening) (event : Event) (earlier : List Event) where
       (λ own allowed. record { asks = λ to next. tt; commit = λ b stamp at. tt })
       (λ own. entry_sends (TellsHeld opening (event ∷ earlier)) (after opening earlier) own.request (λ to next. tt) (λ to (order : Recover). tt))
 
-pub all_told : (opening : Opening) (events : List Event) → AllByRecursion (TellsHeld opening events) (after opening events).messages
+pub all_told : (opening : ClusterOpening) (events : List Event) → AllByRecursion (TellsHeld opening events) (after opening events).messages
 all_told opening [] = tt
 all_told opening (event ∷ earlier) =
-    each_append (TellsHeld opening (event ∷ earlier)) (after opening earlier).messages (happened (after opening earlier) event).sent
+    each_append (TellsHeld opening (event ∷ earlier)) (after opening earlier).messages (event_happened (after opening earlier) event).sent
     (each_more (TellsHeld opening earlier) (TellsHeld opening (event ∷ earlier)) (message_later opening event earlier) (after opening earlier).messages (all_told opening earlier)) (sent opening event earlier)
 
 -- ---- one call of a DataNode that leads
@@ -228,7 +228,7 @@ abbrev pub HadOrNow : PlanCall → PlanTable → ℕ → ℕ → ℕ → Type 0
 HadOrNow asked plans block stamp node = Had plans block stamp node ⊎ (asked ≡ plan.Updated node block stamp)
 
 had_changed : (change : Plan → Plan) → ((own : Plan) → (change own).updated ≡ own.updated) → (block stamp b s node : ℕ) (plans : PlanTable) (own : Plan)
-    → plan_at b s (changed change block stamp plans) ≡ Some own → list_any (is_number node) own.updated ≡ true → Had plans b s node
+    → plan_at b s (with_plan_changed change block stamp plans) ≡ Some own → list_any (is_number node) own.updated ≡ true → Had plans b s node
 had_changed change keeps block stamp b s node plans own e noted = by (is_number block b && is_number stamp s) (plan_at b s plans) refl (sym (plan_changed change block stamp b s plans) ∙ e)
   where
     by : (x : Bool) (found : Option Plan) → plan_at b s plans ≡ found → cond x (option_map change found) found ≡ Some own → Had plans b s node
@@ -239,7 +239,7 @@ had_changed change keeps block stamp b s node plans own e noted = by (is_number 
     by false None at h = absurd (never_some own h)
     by false (Some old) at h = record { old = own; there = at ∙ h; noted = noted }
 
-noted_now : (from block stamp b s node : ℕ) (plans : PlanTable) (own : Plan) → plan_at b s (changed (with_updated from) block stamp plans) ≡ Some own → list_any (is_number node) own.updated ≡ true
+noted_now : (from block stamp b s node : ℕ) (plans : PlanTable) (own : Plan) → plan_at b s (with_plan_changed (with_updated from) block stamp plans) ≡ Some own → list_any (is_number node) own.updated ≡ true
     → HadOrNow (plan.Updated from block stamp) plans b s node
 noted_now from block stamp b s node plans own e noted =
     by (is_number block b) refl (is_number stamp s) refl (plan_at b s plans) refl (sym (plan_changed (with_updated from) block stamp b s plans) ∙ e)
@@ -289,12 +289,12 @@ had_or_now asked plans b s node own e noted = by (plan_refusal asked plans) e
 -- ---- plans
 
 -- each node that a plan noted has had a replica as the plan decided
-abbrev pub NotedHeld : Opening → List Event → Type 0
+abbrev pub NotedHeld : ClusterOpening → List Event → Type 0
 NotedHeld opening events = (leader block stamp node : ℕ) (own : Plan) → plan_in (after opening events) leader block stamp ≡ Some own → list_any (is_number node) own.updated ≡ true
     → (decision : Decision) × (own.decision ≡ Some decision) × HasHeld opening events node block stamp decision.length
 
-module _ (opening : Opening) (event : Event) (earlier : List Event) (before : NotedHeld opening earlier) where
-  abbrev behind : State
+module _ (opening : ClusterOpening) (event : Event) (earlier : List Event) (before : NotedHeld opening earlier) where
+  abbrev behind : Cluster
   behind = after opening earlier
 
   abbrev Result : ℕ → ℕ → ℕ → Plan → Type 0
@@ -324,23 +324,23 @@ module _ (opening : Opening) (event : Event) (earlier : List Event) (before : No
   noted_by : NotedHeld opening (event ∷ earlier)
   noted_by leader block stamp node own now noted = by (does (after opening earlier) event)
     where
-      same_plans : (what : Happened) → happened (after opening earlier) event ≡ what → what.plans ≡ behind.plans → Result block stamp node own
+      same_plans : (what : Happened) → event_happened (after opening earlier) event ≡ what → what.plans ≡ behind.plans → Result block stamp node own
       same_plans what is same =
           old_noted leader block stamp node own own now (ap (λ (plans : List (ℕ × PlanTable)). plan_at block stamp (table_at leader plans)) (sym (ap (λ (w : Happened). w.plans) is ∙ same)) ∙ now) noted
 
-      led : (one : Leads behind (happened (after opening earlier) event)) → one.id ≡ leader → HadOrNow one.asked one.plans block stamp node → Result block stamp node own
+      led : (one : Leads behind (event_happened (after opening earlier) event)) → one.id ≡ leader → HadOrNow one.asked one.plans block stamp node → Result block stamp node own
       led one at (inl had) =
           old_noted leader block stamp node own had.old now (ap (λ n. plan_at block stamp (table_at n behind.plans)) (sym at) ∙ (ap (λ (found : Option PlanTable). plan_at block stamp (unwrap_or found [])) one.there ∙ had.there)) had.noted
       led one at (inr asks) =
           let told : PlanTells opening earlier one.asked = each_in (TellsHeld opening earlier) behind.messages (message.Plan one.id one.asked) (all_told opening earlier) (one.brought (ap is_driven asks)) in
           new_noted leader block stamp node own now (subst (PlanTells opening earlier) asks told)
 
-      at_leader : (one : Leads behind (happened (after opening earlier) event)) (b : Bool) → is_number one.id leader ≡ b
+      at_leader : (one : Leads behind (event_happened (after opening earlier) event)) (b : Bool) → is_number one.id leader ≡ b
           → plan_at block stamp (unwrap_or (cond b (Some (plans_after one.asked one.plans)) (entry_at leader behind.plans)) []) ≡ Some own → Result block stamp node own
       at_leader one true at h = led one (number_is one.id leader at) (had_or_now one.asked one.plans block stamp node own h noted)
       at_leader one false at h = old_noted leader block stamp node own own now h noted
 
-      by : Does behind (call_of behind event) (happened (after opening earlier) event) → Result block stamp node own
+      by : Does behind (call_of behind event) (event_happened (after opening earlier) event) → Result block stamp node own
       by (inl one) = same_plans _ one.is refl
       by (inr (inl one)) = same_plans _ one.is refl
       by (inr (inr (inl one))) =
@@ -349,6 +349,6 @@ module _ (opening : Opening) (event : Event) (earlier : List Event) (before : No
           ∙ ap (λ (o : Option PlanTable). plan_at block stamp (unwrap_or o [])) (set_there one.id leader one.plans (plans_after one.asked one.plans) behind.plans one.there)) ∙ now)
       by (inr (inr (inr one))) = same_plans _ one.is refl
 
-pub all_noted_held : (opening : Opening) (events : List Event) → NotedHeld opening events
+pub all_noted_held : (opening : ClusterOpening) (events : List Event) → NotedHeld opening events
 all_noted_held opening [] = λ leader block stamp node own there noted. absurd (all_ordered opening [] leader block stamp own there).is
 all_noted_held opening (event ∷ earlier) = noted_by opening event earlier (all_noted_held opening earlier)

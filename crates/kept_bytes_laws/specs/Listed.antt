@@ -13,12 +13,12 @@ use Rattle.history.specs.declared.entry.HistoryEntry.{HistoryEntry}
 use Rattle.node_calls.specs.declared.call.ReplicaState.TheVariants.{Finalized}
 use Rattle.replicas.specs.declared.replica.Replica.{Replica}
 use Rattle.cluster_trace.specs.Provenance.{IsIn}
-use Rattle.cluster_trace.specs.Trace.{Opening, happened, after}
+use Rattle.cluster_trace.specs.Trace.{ClusterOpening, event_happened, after}
 use Rattle.cluster_trace.specs.declared.event.Event.{Event}
 use Rattle.kept_bytes_laws.specs.KeptBytes.{replica_in}
 
 -- behind some of these events the DataNode had a finalized replica of the block, of this stamp and with so many bytes
-pub record HasHeld (opening : Opening) (events : List Event) (node block stamp count : ℕ) : Type 0 where
+pub record HasHeld (opening : ClusterOpening) (events : List Event) (node block stamp count : ℕ) : Type 0 where
   pub later : List Event
   pub earlier : List Event
   pub all : events ≡ later ++ earlier
@@ -29,11 +29,11 @@ pub record HasHeld (opening : Opening) (events : List Event) (node block stamp c
   pub long : length replica.bytes ≡ count
 
 -- a cluster opens with the ids of DataNodes
-abbrev pub HasNodeIds : Opening → Type 0
+abbrev pub HasNodeIds : ClusterOpening → Type 0
 HasNodeIds opening = AllByRecursion (λ (id : ℕ). IsTrue (is_node_id id)) opening.nodes
 
 -- at this event a file is opened
 abbrev pub ListedNodesHeld : Type 0
-ListedNodesHeld = (opening : Opening) (earlier : List Event) (event : Event) (entry : HistoryEntry) (file : OpenedFile) (listed : LocatedBlock) (node : ℕ)
-    → HasNodeIds opening → (happened (after opening earlier) event).entries ≡ entry ∷ (after opening earlier).entries → entry.verdict ≡ Done (reply.Opened file)
+ListedNodesHeld = (opening : ClusterOpening) (earlier : List Event) (event : Event) (entry : HistoryEntry) (file : OpenedFile) (listed : LocatedBlock) (node : ℕ)
+    → HasNodeIds opening → (event_happened (after opening earlier) event).entries ≡ entry ∷ (after opening earlier).entries → entry.verdict ≡ Done (reply.Opened file)
     → IsIn listed file.blocks → has_number node listed.nodes ≡ true → HasHeld opening earlier node listed.block listed.stamp listed.length

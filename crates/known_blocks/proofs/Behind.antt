@@ -9,9 +9,9 @@ use Rattle.std.specs.declared.cmp.Ordering.TheVariants.{Less, Equal, Greater}
 use Rattle.block_records.specs.Numbers.{is_number, entry_at}
 use Rattle.block_records.specs.declared.block_record.BlockRecord.{BlockRecord}
 use Rattle.block_records.proofs.Numbers.{number_is}
-use Rattle.block_tables.specs.Changes.{changed, changed_by}
+use Rattle.block_tables.specs.Changes.{with_record_changed, changed_by}
 use Rattle.known_blocks.specs.Kept.{AreBelow}
-use Rattle.known_blocks.specs.Known.{Known, block_of, altered, added, new_record}
+use Rattle.known_blocks.specs.Known.{KnownBlocks, block_of, with_block_changed, with_new_block, new_record}
 
 -- the next number is another than that of a block that is known
 pub is_another : (block next : ℕ) (table : List (ℕ × BlockRecord)) → AreBelow table next → is_some (entry_at block table) ≡ true → is_number block next ≡ false
@@ -67,7 +67,7 @@ module _ (block next : ℕ) (own : BlockRecord) (another : is_number block next 
           ∙ sym (ap (λ b. insert_entry nat_cmp (cond b ((entry.0, new) ∷ table) (entry ∷ rest)) next own) (as_next entry.0 is)))
       by Greater is more = later (is_number block entry.0) is more
 
-  pub changed_behind : (change : BlockRecord → BlockRecord) (table : List (ℕ × BlockRecord)) → changed change block (insert_entry nat_cmp table next own) ≡ insert_entry nat_cmp (changed change block table) next own
+  pub changed_behind : (change : BlockRecord → BlockRecord) (table : List (ℕ × BlockRecord)) → with_record_changed change block (insert_entry nat_cmp table next own) ≡ insert_entry nat_cmp (with_record_changed change block table) next own
   changed_behind change table = ap (λ found. changed_by change block found (insert_entry nat_cmp table next own)) (same_entry table) ∙ by (entry_at block table)
     where
       by : (found : Option BlockRecord) → changed_by change block found (insert_entry nat_cmp table next own) ≡ insert_entry nat_cmp (changed_by change block found table) next own
@@ -76,11 +76,11 @@ module _ (block next : ℕ) (own : BlockRecord) (another : is_number block next 
 
 -- ---- the same of all that is known
 
-module _ (known : Known) (block : ℕ) (below : AreBelow known.blocks known.next_block) (there : is_some (block_of known block) ≡ true) (targets : List ℕ) (replication : ℕ) where
-  pub same_block : block_of (added known targets replication) block ≡ block_of known block
+module _ (known : KnownBlocks) (block : ℕ) (below : AreBelow known.blocks known.next_block) (there : is_some (block_of known block) ≡ true) (targets : List ℕ) (replication : ℕ) where
+  pub same_block : block_of (with_new_block known targets replication) block ≡ block_of known block
   same_block = same_entry block known.next_block (new_record known.next_stamp targets replication) (is_another block known.next_block known.blocks below there) known.blocks
 
-  pub altered_behind : (change : BlockRecord → BlockRecord) → altered change block (added known targets replication) ≡ added (altered change block known) targets replication
+  pub altered_behind : (change : BlockRecord → BlockRecord) → with_block_changed change block (with_new_block known targets replication) ≡ with_new_block (with_block_changed change block known) targets replication
   altered_behind change =
-      ap (λ blocks. record (added known targets replication) { blocks = blocks })
+      ap (λ blocks. record (with_new_block known targets replication) { blocks = blocks })
       (changed_behind block known.next_block (new_record known.next_stamp targets replication) (is_another block known.next_block known.blocks below there) change known.blocks)

@@ -4,7 +4,7 @@ use Rattle.std.specs.Map.{set_value, remove_entry}
 use Rattle.std.specs.Option.{is_some}
 use Rattle.std.specs.Result.{OnOk, OnErr}
 use Rattle.block_records.specs.Numbers.{is_number, entry_at}
-use Rattle.block_tables.specs.Changes.{changed, changed_by, with_hand_out, handed_out}
+use Rattle.block_tables.specs.Changes.{with_record_changed, changed_by, with_hand_out, with_hand_outs}
 use Rattle.known_blocks.specs.Kept.{AreBelow}
 use Rattle.block_records.specs.declared.block_record.BlockRecord.{BlockRecord}
 use Rattle.block_records.proofs.Numbers.{number_is}
@@ -29,12 +29,12 @@ some_changed : (change : BlockRecord → BlockRecord) (block q : ℕ) (table : L
 some_changed change block q table None = refl
 some_changed change block q table (Some own) = some_set block q table (change own)
 
-pub below_changed : (change : BlockRecord → BlockRecord) (block next : ℕ) (table new : List (ℕ × BlockRecord)) → new ≡ changed change block table → AreBelow table next → AreBelow new next
+pub below_changed : (change : BlockRecord → BlockRecord) (block next : ℕ) (table new : List (ℕ × BlockRecord)) → new ≡ with_record_changed change block table → AreBelow table next → AreBelow new next
 below_changed change block next table new is below q there =
     below q (sym (ap (λ t. is_some (entry_at q t)) is ∙ some_changed change block q table (entry_at block table)) ∙ there)
 
 pub below_where_done : {E : Type 0} (r : Result (Unit {0}) E) (change : BlockRecord → BlockRecord) (block next : ℕ) (table new : List (ℕ × BlockRecord))
-    → OnOk r (new ≡ changed change block table) → OnErr r (new ≡ table) → AreBelow table next → AreBelow new next
+    → OnOk r (new ≡ with_record_changed change block table) → OnErr r (new ≡ table) → AreBelow table next → AreBelow new next
 below_where_done (Ok u) change block next table new ok err below = below_changed change block next table new ok below
 below_where_done (Err e) change block next table new ok err below = λ q there. below q (ap (λ t. is_some (entry_at q t)) (sym err) ∙ there)
 
@@ -68,11 +68,11 @@ some_removed block q (entry ∷ table) there = by (is_number block entry.0) ther
 pub below_removed : (block next : ℕ) (table new : List (ℕ × BlockRecord)) → new ≡ remove_entry (is_number block) table → AreBelow table next → AreBelow new next
 below_removed block next table new is below q there = below q (some_removed block q table (sym (ap (λ t. is_some (entry_at q t)) is) ∙ there))
 
-pub below_handed : (now : ℕ) (blocks : List ℕ) (next : ℕ) (table new : List (ℕ × BlockRecord)) → new ≡ handed_out now table blocks → AreBelow table next → AreBelow new next
+pub below_handed : (now : ℕ) (blocks : List ℕ) (next : ℕ) (table new : List (ℕ × BlockRecord)) → new ≡ with_hand_outs now table blocks → AreBelow table next → AreBelow new next
 below_handed now [] next table new is below q there = below q (sym (ap (λ t. is_some (entry_at q t)) is) ∙ there)
 below_handed now (block ∷ blocks) next table new is below q there =
-    below_handed now blocks next (changed (with_hand_out now) block table) new is
-    (below_changed (with_hand_out now) block next table (changed (with_hand_out now) block table) refl below) q there
+    below_handed now blocks next (with_record_changed (with_hand_out now) block table) new is
+    (below_changed (with_hand_out now) block next table (with_record_changed (with_hand_out now) block table) refl below) q there
 
 pub below_same : (next : ℕ) (table new : List (ℕ × BlockRecord)) → new ≡ table → AreBelow table next → AreBelow new next
 below_same next table new is below = λ q there. below q (sym (ap (λ t. is_some (entry_at q t)) is) ∙ there)

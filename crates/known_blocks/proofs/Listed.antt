@@ -15,7 +15,7 @@ use Rattle.block_records.specs.Numbers.{is_number, entry_at}
 use Rattle.block_records.specs.declared.block_record.BlockRecord.{BlockRecord}
 use Rattle.block_records.proofs.Ascending.{same_ascending, kept_ascending}
 use Rattle.block_records.proofs.Numbers.{number_is}
-use Rattle.block_tables.specs.Changes.{changed, changed_by, with_recovery, with_recovered, with_hand_out, handed_out}
+use Rattle.block_tables.specs.Changes.{with_record_changed, changed_by, with_recovery, with_recovered, with_hand_out, with_hand_outs}
 use Rattle.block_tables.proofs.Held.{has_entry}
 use Rattle.scarce_blocks.proofs.Stays.{put_at, others_stay}
 use Rattle.known_blocks.specs.Kept.{AreListed, is_recovering_by}
@@ -36,7 +36,7 @@ recovering_still change block q table (Some own) there still = ap is_recovering_
 -- ---- what stays listed
 
 -- a change of a block that leaves its recovery alone
-pub listed_still : (change : BlockRecord → BlockRecord) (block : ℕ) (table new : List (ℕ × BlockRecord)) (running : List ℕ) → new ≡ changed change block table
+pub listed_still : (change : BlockRecord → BlockRecord) (block : ℕ) (table new : List (ℕ × BlockRecord)) (running : List ℕ) → new ≡ with_record_changed change block table
     → ((own : BlockRecord) → is_some (change own).recovering ≡ is_some own.recovering) → AreListed table running → AreListed new running
 listed_still change block table new running is still law q recovers =
     law q (sym (ap (λ t. is_recovering_by (entry_at q t)) is ∙ recovering_still change block q table (entry_at block table) refl still) ∙ recovers)
@@ -45,16 +45,16 @@ pub listed_alike : (table new : List (ℕ × BlockRecord)) (running : List ℕ) 
 listed_alike table new running is law q recovers = law q (sym (ap (λ t. is_recovering_by (entry_at q t)) is) ∙ recovers)
 
 pub listed_where_done : {E : Type 0} (r : Result (Unit {0}) E) (change : BlockRecord → BlockRecord) (block : ℕ) (table new : List (ℕ × BlockRecord)) (running : List ℕ)
-    → OnOk r (new ≡ changed change block table) → OnErr r (new ≡ table) → ((own : BlockRecord) → is_some (change own).recovering ≡ is_some own.recovering)
+    → OnOk r (new ≡ with_record_changed change block table) → OnErr r (new ≡ table) → ((own : BlockRecord) → is_some (change own).recovering ≡ is_some own.recovering)
     → AreListed table running → AreListed new running
 listed_where_done (Ok u) change block table new running ok err still law = listed_still change block table new running ok still law
 listed_where_done (Err e) change block table new running ok err still law = listed_alike table new running err law
 
-pub listed_handed : (now : ℕ) (blocks : List ℕ) (table new : List (ℕ × BlockRecord)) (running : List ℕ) → new ≡ handed_out now table blocks → AreListed table running → AreListed new running
+pub listed_handed : (now : ℕ) (blocks : List ℕ) (table new : List (ℕ × BlockRecord)) (running : List ℕ) → new ≡ with_hand_outs now table blocks → AreListed table running → AreListed new running
 listed_handed now [] table new running is law = listed_alike table new running is law
 listed_handed now (block ∷ blocks) table new running is law =
-    listed_handed now blocks (changed (with_hand_out now) block table) new running is
-    (listed_still (with_hand_out now) block table (changed (with_hand_out now) block table) running refl (λ own. refl) law)
+    listed_handed now blocks (with_record_changed (with_hand_out now) block table) new running is
+    (listed_still (with_hand_out now) block table (with_record_changed (with_hand_out now) block table) running refl (λ own. refl) law)
 
 -- a new block isn't being recovered
 pub listed_new : (block : ℕ) (own : BlockRecord) (table new : List (ℕ × BlockRecord)) (running : List ℕ) → ((q : ℕ) → entry_at q new ≡ cond (is_number block q) (Some own) (entry_at q table))
@@ -74,7 +74,7 @@ listed_more block table running more put law q recovers = put q ∙ by (is_numbe
     by true = refl
     by false = law q recovers
 
-pub listed_begun : (stamp now block : ℕ) (table new : List (ℕ × BlockRecord)) (running more : List ℕ) → new ≡ changed (with_recovery stamp now) block table
+pub listed_begun : (stamp now block : ℕ) (table new : List (ℕ × BlockRecord)) (running more : List ℕ) → new ≡ with_record_changed (with_recovery stamp now) block table
     → ((q : ℕ) → list_any (is_number q) more ≡ cond (is_number block q) true (list_any (is_number q) running)) → AreListed table running → AreListed new more
 listed_begun stamp now block table new running more is put law q recovers = put q ∙ by (is_number block q) refl
   where
@@ -107,7 +107,7 @@ ended length nodes block q table None there at = ap (λ n. is_recovering_by (ent
 ended length nodes block q table (Some own) there at =
     ap is_recovering_by (put_at block q table own (with_recovered length nodes own) there ∙ ap (λ b. cond b (Some (with_recovered length nodes own)) (entry_at q table)) at)
 
-pub listed_ended : (length : ℕ) (nodes : List ℕ) (block : ℕ) (table new : List (ℕ × BlockRecord)) (running less : List ℕ) → new ≡ changed (with_recovered length nodes) block table
+pub listed_ended : (length : ℕ) (nodes : List ℕ) (block : ℕ) (table new : List (ℕ × BlockRecord)) (running less : List ℕ) → new ≡ with_record_changed (with_recovered length nodes) block table
     → ((q : ℕ) → list_any (is_number q) less ≡ cond (is_number block q) false (list_any (is_number q) running)) → AreListed table running → AreListed new less
 listed_ended length nodes block table new running less is taken law =
     listed_less block table new running less taken

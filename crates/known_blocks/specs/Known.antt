@@ -9,17 +9,17 @@ use Rattle.block_records.specs.declared.block_record.BlockRecord.{BlockRecord}
 use Rattle.block_records.specs.declared.fault.BlockRefusal.{BlockRefusal}
 use Rattle.block_records.specs.declared.fault.BlockRefusal.TheVariants.{Spent}
 use Rattle.block_records.specs.declared.fault.Counter.TheVariants.{BlockId, Stamp}
-use Rattle.block_tables.specs.Changes.{changed, with_recovery, handed_out, without_blocks}
+use Rattle.block_tables.specs.Changes.{with_record_changed, with_recovery, with_hand_outs, without_blocks}
 use Rattle.recovery_queue.specs.declared.begun.BegunRecovery.{BegunRecovery}
 
-pub record Known : Type 0 where
+pub record KnownBlocks : Type 0 where
   -- the numbers that are given next
   pub next_block : ℕ
   pub next_stamp : ℕ
   -- the blocks that were given and not deleted since, by their numbers
   pub blocks : List (ℕ × BlockRecord)
 
-abbrev pub block_of : Known → ℕ → Option BlockRecord
+abbrev pub block_of : KnownBlocks → ℕ → Option BlockRecord
 block_of known block = entry_at block known.blocks
 
 -- ---- recoveries that run
@@ -34,8 +34,8 @@ is_due_by retry now None = false
 is_due_by retry now (Some own) = is_due retry now own.recovering
 
 -- the blocks whose recovery did, by their numbers
-abbrev pub due_recoveries : Known → ℕ → ℕ → List ℕ
-due_recoveries known retry now = keys_of (filter (λ entry. is_due retry now entry.1.recovering) known.blocks)
+abbrev pub due_blocks : KnownBlocks → ℕ → ℕ → List ℕ
+due_blocks known retry now = keys_of (filter (λ entry. is_due retry now entry.1.recovering) known.blocks)
 
 -- ---- refusals
 
@@ -43,18 +43,18 @@ due_recoveries known retry now = keys_of (filter (λ entry. is_due retry now ent
 abbrev pub is_spent : ℕ → Bool
 is_spent next = next == 18446744073709551615
 
-abbrev pub refused_new_stamp : Known → Option BlockRefusal
+abbrev pub refused_new_stamp : KnownBlocks → Option BlockRefusal
 refused_new_stamp known = if is_spent known.next_stamp then Some (Spent Stamp) else None
 
-abbrev pub refused_new_block : Known → Option BlockRefusal
+abbrev pub refused_new_block : KnownBlocks → Option BlockRefusal
 refused_new_block known = if is_spent known.next_block then Some (Spent BlockId) else refused_new_stamp known
 
 -- ---- recoveries that begin
 
 -- of these blocks, each with the node that is to lead its recovery, those for which stamps are left, from this number on
-abbrev pub stamped : ℕ → List (ℕ × ℕ) → List BegunRecovery
-stamped next [] = []
-stamped next (led ∷ more) = if is_spent next then [] else (record { block = led.0; stamp = next; primary = led.1 } ∷ stamped (next + 1) more)
+abbrev pub with_stamps : ℕ → List (ℕ × ℕ) → List BegunRecovery
+with_stamps next [] = []
+with_stamps next (led ∷ more) = if is_spent next then [] else (record { block = led.0; stamp = next; primary = led.1 } ∷ with_stamps (next + 1) more)
 
 -- ---- effects
 
@@ -62,37 +62,37 @@ stamped next (led ∷ more) = if is_spent next then [] else (record { block = le
 abbrev pub new_record : ℕ → List ℕ → ℕ → BlockRecord
 new_record stamp targets replication = record { stamp = stamp; committed = None; replication = replication; expected = targets; reports = []; recovering = None; handed_out = None }
 
-abbrev pub added : Known → List ℕ → ℕ → Known
-added known targets replication = record known {
+abbrev pub with_new_block : KnownBlocks → List ℕ → ℕ → KnownBlocks
+with_new_block known targets replication = record known {
   next_block = known.next_block + 1;
   next_stamp = known.next_stamp + 1;
   blocks = insert_entry nat_cmp known.blocks known.next_block (new_record known.next_stamp targets replication);
 }
 
 -- what is known of one block changes
-abbrev pub altered : (BlockRecord → BlockRecord) → ℕ → Known → Known
-altered change block known = record known { blocks = changed change block known.blocks }
+abbrev pub with_block_changed : (BlockRecord → BlockRecord) → ℕ → KnownBlocks → KnownBlocks
+with_block_changed change block known = record known { blocks = with_record_changed change block known.blocks }
 
-abbrev pub removed : Known → ℕ → Known
-removed known block = record known { blocks = remove_entry (is_number block) known.blocks }
+abbrev pub without_block : KnownBlocks → ℕ → KnownBlocks
+without_block known block = record known { blocks = remove_entry (is_number block) known.blocks }
 
-abbrev pub all_removed : Known → List ℕ → Known
-all_removed known blocks = record known { blocks = without_blocks known.blocks blocks }
+abbrev pub without_each_block : KnownBlocks → List ℕ → KnownBlocks
+without_each_block known blocks = record known { blocks = without_blocks known.blocks blocks }
 
 -- a recovery of the block begins now, under the next stamp
-abbrev pub begun : Known → ℕ → ℕ → Known
-begun known block now = record known {
+abbrev pub with_next_recovery : KnownBlocks → ℕ → ℕ → KnownBlocks
+with_next_recovery known block now = record known {
   next_stamp = known.next_stamp + 1;
-  blocks = changed (with_recovery known.next_stamp now) block known.blocks;
+  blocks = with_record_changed (with_recovery known.next_stamp now) block known.blocks;
 }
 
 -- recoveries of these blocks begin now, under the stamps that they have, which are the next ones
-abbrev pub all_begun : Known → List BegunRecovery → ℕ → Known
-all_begun known recoveries now = record known {
+abbrev pub with_next_recoveries : KnownBlocks → List BegunRecovery → ℕ → KnownBlocks
+with_next_recoveries known recoveries now = record known {
   next_stamp = known.next_stamp + length recoveries;
-  blocks = fold (λ left own. changed (with_recovery own.stamp now) own.block left) known.blocks recoveries;
+  blocks = fold (λ left own. with_record_changed (with_recovery own.stamp now) own.block left) known.blocks recoveries;
 }
 
 -- nodes were told now to copy these blocks
-abbrev pub told : Known → List ℕ → ℕ → Known
-told known blocks now = record known { blocks = handed_out now known.blocks blocks }
+abbrev pub with_copies_told : KnownBlocks → List ℕ → ℕ → KnownBlocks
+with_copies_told known blocks now = record known { blocks = with_hand_outs now known.blocks blocks }

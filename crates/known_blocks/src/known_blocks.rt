@@ -7,9 +7,9 @@ ghost use Rattle.std.specs.Ordering.{nat_cmp};
 ghost use Rattle.block_records.specs.Marks.{with_marks};
 ghost use Rattle.block_records.specs.Reports.{others_of};
 ghost use Rattle.block_placement.specs.Placement.{targets};
-ghost use Rattle.block_tables.specs.Changes.{changed, with_report, without_report, with_replication, with_length, with_recovery, with_recovered};
+ghost use Rattle.block_tables.specs.Changes.{with_record_changed, with_report, without_report, with_replication, with_length, with_recovery, with_recovered};
 ghost use Rattle.block_tables.specs.Kept.{load};
-ghost use Rattle.scarce_blocks.specs.Scarce.{Covers};
+ghost use Rattle.scarce_blocks.specs.Scarce.{CoversLacking};
 ghost use Rattle.recovery_queue.specs.Queue.{put, all_put};
 ghost use Rattle.known_blocks.specs.Kept.{is_begun};
 ghost use Rattle.known_blocks.specs.Known as spec;
@@ -44,10 +44,10 @@ pub struct KnownBlocks {
 }
 
 impl Model for KnownBlocks {
-    ghost use Rattle.known_blocks.specs.Known.{Known};
+    ghost use Rattle.known_blocks.specs.Known.{KnownBlocks};
     ghost use Rattle.known_blocks.specs.Kept.{AreBelow, AreListed};
 
-    ghost Value = { Known };
+    ghost Value = { KnownBlocks };
 
     ghost view = { λ known. record { next_block = known.next_block; next_stamp = known.next_stamp; blocks = known.table } };
 
@@ -60,7 +60,7 @@ fn stamped(
     first: u64,
     led: &[(BlockId, NodeId)],
 ) -> Result<Vec<BegunRecovery>, AllocError>
-    ensures { IfOk result (λ begun. begun.items ≡ spec.stamped first led.now) }
+    ensures { IfOk result (λ begun. begun.items ≡ spec.with_stamps first led.now) }
 {
     let mut begun = Vec::new(alloc);
     let mut next = first;
@@ -91,7 +91,7 @@ fn list_each(running: &mut BlockSet, begun: &[BegunRecovery]) -> Result<(), Allo
 
 // Begins recoveries of blocks, under the stamps that they have. Takes no memory.
 fn begin_each(table: &mut WatchedTable, begun: &[BegunRecovery], now: Moment)
-    ensures { table.new ≡ fold (λ left own. changed (with_recovery own.stamp now) own.block left) table.old begun.now }
+    ensures { table.new ≡ fold (λ left own. with_record_changed (with_recovery own.stamp now) own.block left) table.old begun.now }
 {
     for own in begun {
         table.begin_recovery(own.block, own.stamp, now);
@@ -128,7 +128,7 @@ impl KnownBlocks {
     /// # Errors
     /// Out of memory.
     pub fn candidates(&self, node: NodeId, live: &NodeSet) -> Result<Vec<BlockId>, AllocError>
-        ensures covers { IfOk result (λ blocks. Covers self.now.blocks live.now node blocks.items) }
+        ensures covers { IfOk result (λ blocks. CoversLacking self.now.blocks live.now node blocks.items) }
         ensures ascending { IfOk result (λ blocks. IsStrictlySortedBy nat_cmp blocks.items) }
         ensures known { IsStrictlySortedBy nat_cmp (keys_of self.now.blocks) }
     {
@@ -159,7 +159,7 @@ impl KnownBlocks {
         count: usize,
     ) -> Result<NodeSet, AllocError>
         requires { 0 < count }
-        ensures { IfOk result (λ chosen. chosen ≡ targets (load (spec.altered (with_length last.length) last.block self.now).blocks) count nodes.now) }
+        ensures { IfOk result (λ chosen. chosen ≡ targets (load (spec.with_block_changed (with_length last.length) last.block self.now).blocks) count nodes.now) }
     {
         self.table
             .targets_behind(self.alloc, nodes, count, last.block, last.length)
@@ -202,7 +202,7 @@ impl KnownBlocks {
     /// # Errors
     /// Out of memory.
     pub fn due_recoveries(&self, retry: u32, now: Moment) -> Result<Vec<BlockId>, AllocError>
-        ensures { IfOk result (λ blocks. blocks.items ≡ spec.due_recoveries self.now retry now) }
+        ensures { IfOk result (λ blocks. blocks.items ≡ spec.due_blocks self.now retry now) }
     {
         // its contract tells that the ids ascend
         let _count = self.table.len();
@@ -268,7 +268,7 @@ impl KnownBlocks {
         more: Vec<Mark>,
     ) -> Result<(), AllocError>
         requires { spec.refused_new_block self.old ≡ None }
-        ensures added { OnOk result (self.new ≡ spec.added self.old targets replication) }
+        ensures added { OnOk result (self.new ≡ spec.with_new_block self.old targets replication) }
         ensures marked { OnOk result (marks.new ≡ with_marks marks.old more.items) }
         ensures err { OnErr result ((self.new ≡ self.old) × (marks.new ≡ marks.old)) }
     {
@@ -306,7 +306,7 @@ impl KnownBlocks {
         requires numbers { spec.refused_new_block self.old ≡ None }
         requires known { is_some (spec.block_of self.old last.block) ≡ true }
         requires others { IfSome (spec.block_of self.old last.block) (λ own. others.now ≡ others_of last.length own.reports) }
-        ensures added { OnOk result (self.new ≡ spec.added (spec.altered (with_length last.length) last.block self.old) targets replication) }
+        ensures added { OnOk result (self.new ≡ spec.with_new_block (spec.with_block_changed (with_length last.length) last.block self.old) targets replication) }
         ensures marked { OnOk result (marks.new ≡ with_marks marks.old more.items) }
         ensures err { OnErr result ((self.new ≡ self.old) × (marks.new ≡ marks.old)) }
     {
@@ -319,7 +319,7 @@ impl KnownBlocks {
 
     /// Makes a block known no more. Costs a look-up for each node that was to hold it or reported it, and takes no memory.
     pub fn remove(&mut self, block: BlockId)
-        ensures { self.new ≡ spec.removed self.old block }
+        ensures { self.new ≡ spec.without_block self.old block }
     {
         self.table.remove(block);
         self.running.remove(block);
@@ -327,7 +327,7 @@ impl KnownBlocks {
 
     /// Makes blocks known no more. Costs as `remove` for each of them.
     pub fn remove_all(&mut self, blocks: &[BlockId])
-        ensures { self.new ≡ spec.all_removed self.old blocks.now }
+        ensures { self.new ≡ spec.without_each_block self.old blocks.now }
     {
         for block in blocks {
             self.remove(*block);
@@ -338,7 +338,7 @@ impl KnownBlocks {
 
     /// Gives a block another replication; nothing changes where the block isn't known. Costs a look-up, and takes no memory.
     pub fn set_replication(&mut self, block: BlockId, replication: Repl)
-        ensures { self.new ≡ spec.altered (with_replication replication) block self.old }
+        ensures { self.new ≡ spec.with_block_changed (with_replication replication) block self.old }
     {
         self.table.set_replication(block, replication);
     }
@@ -349,7 +349,7 @@ impl KnownBlocks {
     /// # Errors
     /// Out of memory. Nothing has changed then.
     pub fn hold(&mut self, block: BlockId, node: NodeId, bytes: u64) -> Result<(), AllocError>
-        ensures ok { OnOk result (self.new ≡ spec.altered (with_report node bytes) block self.old) }
+        ensures ok { OnOk result (self.new ≡ spec.with_block_changed (with_report node bytes) block self.old) }
         ensures err { OnErr result (self.new ≡ self.old) }
     {
         self.table.hold(block, node, bytes)
@@ -357,7 +357,7 @@ impl KnownBlocks {
 
     /// Ends a node's report of a block. Costs a look-up of the block, and one among its nodes, and takes no memory.
     pub fn end_report(&mut self, block: BlockId, node: NodeId)
-        ensures { self.new ≡ spec.altered (without_report node) block self.old }
+        ensures { self.new ≡ spec.with_block_changed (without_report node) block self.old }
     {
         self.table.end_report(block, node);
     }
@@ -366,7 +366,7 @@ impl KnownBlocks {
     /// Costs a look-up for each of them, and takes no memory.
     pub fn commit(&mut self, block: BlockId, bytes: u64, others: &[NodeId])
         requires { IfSome (spec.block_of self.old block) (λ own. others.now ≡ others_of bytes own.reports) }
-        ensures { self.new ≡ spec.altered (with_length bytes) block self.old }
+        ensures { self.new ≡ spec.with_block_changed (with_length bytes) block self.old }
     {
         self.table.commit(block, bytes, others);
     }
@@ -385,7 +385,7 @@ impl KnownBlocks {
     ) -> Result<Stamp, AllocError>
         requires { spec.refused_new_stamp self.old ≡ None }
         ensures given { IfOk result (λ stamp. stamp ≡ self.old.next_stamp) }
-        ensures begun { OnOk result (self.new ≡ spec.begun self.old block now) }
+        ensures begun { OnOk result (self.new ≡ spec.with_next_recovery self.old block now) }
         ensures queued { OnOk result (queue.new ≡ put queue.old block primary) }
         ensures err { OnErr result ((self.new ≡ self.old) × (queue.new ≡ queue.old)) }
     {
@@ -403,7 +403,7 @@ impl KnownBlocks {
     /// # Errors
     /// Out of memory.
     pub fn stamped(&self, led: &[(BlockId, NodeId)]) -> Result<Vec<BegunRecovery>, AllocError>
-        ensures { IfOk result (λ begun. begun.items ≡ spec.stamped self.now.next_stamp led.now) }
+        ensures { IfOk result (λ begun. begun.items ≡ spec.with_stamps self.now.next_stamp led.now) }
     {
         stamped(self.alloc, self.next_stamp, led)
     }
@@ -419,8 +419,8 @@ impl KnownBlocks {
         now: Moment,
         queue: &mut RecoveryQueue,
     ) -> Result<(), AllocError>
-        requires { (led : List (ℕ × ℕ)) × (begun.now ≡ spec.stamped self.old.next_stamp led) }
-        ensures begun { OnOk result (self.new ≡ spec.all_begun self.old begun.now now) }
+        requires { (led : List (ℕ × ℕ)) × (begun.now ≡ spec.with_stamps self.old.next_stamp led) }
+        ensures begun { OnOk result (self.new ≡ spec.with_next_recoveries self.old begun.now now) }
         ensures queued { OnOk result (queue.new ≡ all_put queue.old begun.now) }
         ensures err { OnErr result ((self.new ≡ self.old) × (queue.new ≡ queue.old)) }
     {
@@ -445,7 +445,7 @@ impl KnownBlocks {
         marks: &mut Marks,
         more: Vec<Mark>,
     ) -> Result<(), AllocError>
-        ensures ok { OnOk result (self.new ≡ spec.altered (with_recovered bytes nodes) block self.old) }
+        ensures ok { OnOk result (self.new ≡ spec.with_block_changed (with_recovered bytes nodes) block self.old) }
         ensures marked { OnOk result (marks.new ≡ with_marks marks.old more.items) }
         ensures err { OnErr result ((self.new ≡ self.old) × (marks.new ≡ marks.old)) }
     {
@@ -457,7 +457,7 @@ impl KnownBlocks {
 
     /// Notes that nodes are told now to copy these blocks. Costs a look-up for each, and takes no memory.
     pub fn hand_out(&mut self, blocks: &[BlockId], now: Moment)
-        ensures { self.new ≡ spec.told self.old blocks.now now }
+        ensures { self.new ≡ spec.with_copies_told self.old blocks.now now }
     {
         self.table.hand_out(blocks, now);
     }

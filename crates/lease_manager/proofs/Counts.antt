@@ -6,7 +6,7 @@ use Rattle.std.specs.Option.{IsSome, is_some}
 use Rattle.std.proofs.lemmas.Map.{lookup-set_value}
 use Rattle.hdfs_values.specs.Text.{same}
 use Rattle.hdfs_values.proofs.Texts.{same_is, same_self, same_symm}
-use Rattle.lease_manager.specs.Writers.{count_of, HasRoom}
+use Rattle.lease_manager.specs.Writers.{count_of, CanCountOneMore}
 
 same_laws : IsEquivalence same
 same_laws = record { refl = same_self; symm = same_symm; congr = λ x y z p. ap (λ w. same w z) (same_is x y p) }
@@ -53,7 +53,7 @@ counted_new before after false none is = ap (λ found. unwrap_or found 0) is
 
 -- ---- the map before and after a call, as it is seen
 
-pub set_more : (old inside new : List (List ℕ × ℕ)) (client other : List ℕ) (n m : ℕ) → inside ≡ old → n ≡ count_of old client → m ≡ n + 1 → new ≡ set_value (same client) inside m → HasRoom old client
+pub set_more : (old inside new : List (List ℕ × ℕ)) (client other : List ℕ) (n m : ℕ) → inside ≡ old → n ≡ count_of old client → m ≡ n + 1 → new ≡ set_value (same client) inside m → CanCountOneMore old client
     → count_of new other ≡ cond (same client other) (count_of old client + 1) (count_of old other)
 set_more old inside new client other n m seen is more made room =
     ap (λ es. count_of es other) (made ∙ (ap (λ es. set_value (same client) es m) seen ∙ ap (set_value (same client) old) (more ∙ ap (λ k. k + 1) is)))

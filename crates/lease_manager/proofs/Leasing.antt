@@ -7,7 +7,7 @@ use Rattle.hdfs_values.specs.Text.{same}
 use Rattle.hdfs_values.proofs.Texts.{same_is, same_symm}
 use Rattle.lease_manager.specs.Leases.{renewals_without, renewals_with}
 use Rattle.lease_manager.specs.declared.writers.Writers.{Writers}
-use Rattle.lease_manager.specs.Writers.{count_of, moment_of, IsLeased, renewed_at}
+use Rattle.lease_manager.specs.Writers.{count_of, renewal_moment_of, IsLeased, renewed_at}
 use Rattle.lease_manager.proofs.Moments.{moment_released, moment_renewed}
 
 more : (n : ℕ) → nat_lt 0 (n + 1) ≡ true
@@ -19,20 +19,20 @@ CountsOne n old new client = (other : List ℕ) → count_of new.files other ≡
 pub leased_open : (old new : Writers) (client : List ℕ) (now : ℕ) (last : List ℕ → Option ℕ) → new.leases.renewals ≡ renewals_with client now old.leases.renewals
     → ((other : List ℕ) → count_of new.files other ≡ cond (same client other) (count_of old.files client + 1) (count_of old.files other)) → IsLeased last old → IsLeased (renewed_at client now last) new
 leased_open old new client now last renewals counts leased other =
-    ap (λ rs. moment_of rs other) renewals ∙ (moment_renewed client now old.leases.renewals other
+    ap (λ rs. renewal_moment_of rs other) renewals ∙ (moment_renewed client now old.leases.renewals other
     ∙ (by (same client other) ∙ ap (λ n. cond (nat_lt 0 n) (renewed_at client now last other) None) (sym (counts other))))
   where
-    by : (b : Bool) → cond b (Some now) (moment_of old.leases.renewals other) ≡ cond (nat_lt 0 (cond b (count_of old.files client + 1) (count_of old.files other))) (cond b (Some now) (last other)) None
+    by : (b : Bool) → cond b (Some now) (renewal_moment_of old.leases.renewals other) ≡ cond (nat_lt 0 (cond b (count_of old.files client + 1) (count_of old.files other))) (cond b (Some now) (last other)) None
     by true = ap (λ c. cond c (Some now) None) (sym (more (count_of old.files client)))
     by false = leased other
 
 pub leased_renew : (old new : Writers) (client : List ℕ) (now : ℕ) (last : List ℕ → Option ℕ) → new.leases.renewals ≡ renewals_with client now old.leases.renewals → new.files ≡ old.files
     → 0 < count_of old.files client → IsLeased last old → IsLeased (renewed_at client now last) new
 leased_renew old new client now last renewals files some leased other =
-    ap (λ rs. moment_of rs other) renewals ∙ (moment_renewed client now old.leases.renewals other
+    ap (λ rs. renewal_moment_of rs other) renewals ∙ (moment_renewed client now old.leases.renewals other
     ∙ (by (same client other) refl ∙ ap (λ fs. cond (nat_lt 0 (count_of fs other)) (renewed_at client now last other) None) (sym files)))
   where
-    by : (b : Bool) → same client other ≡ b → cond b (Some now) (moment_of old.leases.renewals other) ≡ cond (nat_lt 0 (count_of old.files other)) (cond b (Some now) (last other)) None
+    by : (b : Bool) → same client other ≡ b → cond b (Some now) (renewal_moment_of old.leases.renewals other) ≡ cond (nat_lt 0 (count_of old.files other)) (cond b (Some now) (last other)) None
     by true at = ap (λ c. cond c (Some now) None) (sym (lt-ltb 0 (count_of old.files client) some)) ∙ ap (λ who. cond (nat_lt 0 (count_of old.files who)) (Some now) None) (same_is client other at)
     by false at = leased other
 
@@ -43,7 +43,7 @@ less n h = lt-ltb 0 n (omega (arith, h))
 pub leased_kept : (old new : Writers) (client : List ℕ) (last : List ℕ → Option ℕ) → new.leases.renewals ≡ old.leases.renewals
     → ((other : List ℕ) → count_of new.files other ≡ cond (same client other) (count_of old.files client - 1) (count_of old.files other)) → 0 < count_of old.files client - 1 → IsLeased last old → IsLeased last new
 leased_kept old new client last renewals counts some leased other =
-    ap (λ rs. moment_of rs other) renewals ∙ (leased other ∙ (by (same client other) refl ∙ ap (λ n. cond (nat_lt 0 n) (last other) None) (sym (counts other))))
+    ap (λ rs. renewal_moment_of rs other) renewals ∙ (leased other ∙ (by (same client other) refl ∙ ap (λ n. cond (nat_lt 0 n) (last other) None) (sym (counts other))))
   where
     by : (b : Bool) → same client other ≡ b → cond (nat_lt 0 (count_of old.files other)) (last other) None ≡ cond (nat_lt 0 (cond b (count_of old.files client - 1) (count_of old.files other))) (last other) None
     by true at =
@@ -61,10 +61,10 @@ none_left n h = ap (nat_lt 0) (zero_is n h)
 pub leased_ended : (old new : Writers) (client : List ℕ) (last : List ℕ → Option ℕ) → new.leases.renewals ≡ renewals_without client old.leases.renewals
     → ((other : List ℕ) → count_of new.files other ≡ cond (same client other) (count_of old.files client - 1) (count_of old.files other)) → count_of old.files client - 1 ≤ 0 → IsLeased last old → IsLeased last new
 leased_ended old new client last renewals counts none leased other =
-    ap (λ rs. moment_of rs other) renewals ∙ (moment_released client old.leases.renewals other
+    ap (λ rs. renewal_moment_of rs other) renewals ∙ (moment_released client old.leases.renewals other
     ∙ (by (same client other) ∙ ap (λ n. cond (nat_lt 0 n) (last other) None) (sym (counts other))))
   where
-    by : (b : Bool) → cond b None (moment_of old.leases.renewals other) ≡ cond (nat_lt 0 (cond b (count_of old.files client - 1) (count_of old.files other))) (last other) None
+    by : (b : Bool) → cond b None (renewal_moment_of old.leases.renewals other) ≡ cond (nat_lt 0 (cond b (count_of old.files client - 1) (count_of old.files other))) (last other) None
     by true = ap (λ c. cond c (last other) None) (sym (none_left (count_of old.files client - 1) none))
     by false = leased other
 

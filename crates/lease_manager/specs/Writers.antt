@@ -10,17 +10,17 @@ abbrev pub count_of : List (List ℕ × ℕ) → List ℕ → ℕ
 count_of counts client = unwrap_or (lookup (same client) counts) 0
 
 -- one more can be counted
-pub record HasRoom (counts : List (List ℕ × ℕ)) (client : List ℕ) : Type 0 where
+pub record CanCountOneMore (counts : List (List ℕ × ℕ)) (client : List ℕ) : Type 0 where
   pub known : IsSome (lookup (same client) counts)
   pub fits : count_of counts client < 2 ^ 64 - 1
 
 -- when a client last renewed its lease, where it has one
-abbrev pub moment_of : List Renewal → List ℕ → Option ℕ
-moment_of renewals client = option_map (λ renewal. renewal.moment) (renewal_of client renewals)
+abbrev pub renewal_moment_of : List Renewal → List ℕ → Option ℕ
+renewal_moment_of renewals client = option_map (λ renewal. renewal.moment) (renewal_of client renewals)
 
 -- a client that has a file open has a lease, of its last renewal, and no other has one
 abbrev pub IsLeased : (List ℕ → Option ℕ) → Writers → Type 0
-IsLeased last writers = (client : List ℕ) → moment_of writers.leases.renewals client ≡ (if nat_lt 0 (count_of writers.files client) then last client else None)
+IsLeased last writers = (client : List ℕ) → renewal_moment_of writers.leases.renewals client ≡ (if nat_lt 0 (count_of writers.files client) then last client else None)
 
 -- last renewals, but that this client has renewed now
 abbrev pub renewed_at : List ℕ → ℕ → (List ℕ → Option ℕ) → List ℕ → Option ℕ

@@ -1,7 +1,7 @@
 ghost use Rattle.std.specs.Prelude.{◌≡◌, ◌+◌, ◌-◌, ℕ, [], List, if◌then◌else◌, OnOk};
 ghost use Rattle.std.specs.Map.{set_value};
 ghost use Rattle.hdfs_values.specs.Text.{same};
-ghost use Rattle.lease_manager.specs.Writers.{count_of, HasRoom};
+ghost use Rattle.lease_manager.specs.Writers.{count_of, CanCountOneMore};
 
 use hdfs_values::who::Who;
 use std::alloc::{AllocError, Global};
@@ -58,7 +58,7 @@ impl OpenFiles {
     /// Out of memory, and where the number can't grow.
     pub fn make_room(&mut self, client: &Who) -> Result<(), AllocError>
         ensures counts { (other : List ℕ) → count_of self.new other ≡ count_of self.old other }
-        ensures room { OnOk result (HasRoom self.new client.now) }
+        ensures room { OnOk result (CanCountOneMore self.new client.now) }
     {
         if self.count(client) == u64::MAX {
             return Err(AllocError);
@@ -72,7 +72,7 @@ impl OpenFiles {
 
     /// Counts one more open file of a client, for which there is room. Takes no memory.
     pub fn add(&mut self, client: &Who)
-        requires { HasRoom self.old client.now }
+        requires { CanCountOneMore self.old client.now }
         ensures { (other : List ℕ) → count_of self.new other ≡ (if same client.now other then count_of self.old client.now + 1 else count_of self.old other) }
     {
         let count = self.count(client);

@@ -3,7 +3,7 @@ use Rattle.std.proofs.Common.{◌≡◌, ℕ, ◌+◌, ◌≤◌, nat_lt, max, [
 use Rattle.std.proofs.lemmas.List.{reverse-append, length-reverse}
 use Rattle.hdfs_types.specs.declared.op.Request.{Request}
 use Rattle.lease_manager.specs.Leases.{Leases, latest_moment}
-use Rattle.lease_manager.specs.Writers.{moment_of}
+use Rattle.lease_manager.specs.Writers.{renewal_moment_of}
 use Rattle.flat_rows.specs.declared.verdict.Verdict.{Verdict}
 use Rattle.flat_rows.specs.Facts.{Facts}
 use Rattle.flat_rows.specs.Outcome.{Step, step}
@@ -17,7 +17,7 @@ use Rattle.history.specs.Grants.{rows_granted, ledger_of}
 use Rattle.history.specs.State.{facts_with, rows_of, blocks_of, users_of, rows_by, users_by}
 use Rattle.history.specs.LegalHistory.{IsLegal, verdict_of}
 use Rattle.name_core.specs.declared.namenode.NameCore.TheInside.{Inside}
-use Rattle.name_core.specs.NameCore.{Steps, entry_of}
+use Rattle.name_core.specs.NameCore.{Steps, entry_for}
 use Rattle.name_core.specs.Kept.{IsKept, core_of, entries_of, opening_of}
 use Rattle.file_effects.specs.Effected.{IsExact, renewed_where}
 use Rattle.namesystem.specs.Performed.{IsUndone, facts_in}
@@ -133,7 +133,7 @@ kept_undone a b k opening history clock ledger undone =
           (record {
             files = λ client. undone.writers.files client ∙ k.exact.files client;
             leased = λ client.
-                ap (λ (l : Leases). moment_of l.renewals client) leases
+                ap (λ (l : Leases). renewal_moment_of l.renewals client) leases
                 ∙ (k.exact.leased client ∙ ap (λ n. cond (nat_lt 0 n) (last_renewal (entries_of a) client) None) (sym (undone.writers.files client)));
           }));
       limits = ap (λ (l : Leases). l.limits) leases ∙ (k.limits ∙ ap (λ (o : Opening). limits_of o.config) (sym opening));
@@ -146,9 +146,9 @@ steps_is a b e n pass index r v told k h is to =
     let place : n ≡ length (entries_of a) + 1 = sym (ap (λ (x : HistoryEntry). x.place) is) ∙ (h.place ∙ ap (λ m. m + 1) (sym (length-reverse a.history.items))) in
     let verdict : v ≡ verdict_of (opening_of a) (entries_of a) r =
     sym (ap (λ (x : HistoryEntry). x.verdict) is) ∙ (verdict_is a b e k h ∙ ap (λ (x : HistoryEntry). verdict_of (opening_of a) (entries_of a) x.request) is) in
-    let made : e ≡ entry_of (core_of a) pass index r =
+    let made : e ≡ entry_for (core_of a) pass index r =
     is ∙ (ap (λ m. record { place = m; pass = pass; index = index; request = r; verdict = v }) place ∙ ap (λ w. record { place = length (entries_of a) + 1; pass = pass; index = index; request = r; verdict = w }) verdict) in
-    let entries : entries_of b ≡ entry_of (core_of a) pass index r ∷ entries_of a = entries_more a b e h ∙ ap (λ x. x ∷ entries_of a) made in
+    let entries : entries_of b ≡ entry_for (core_of a) pass index r ∷ entries_of a = entries_more a b e h ∙ ap (λ x. x ∷ entries_of a) made in
     record {
       new_is = ap (λ (s : Opening). record { opening = s; entries = entries_of b }) h.opening ∙ ap (λ l. record { opening = opening_of a; entries = l }) entries;
       answer_is = to ∙ (ap (λ m. record { place = m; request = r; verdict = v }) place ∙ ap (λ w. record { place = length (entries_of a) + 1; request = r; verdict = w }) verdict);

@@ -7,7 +7,7 @@ use Rattle.history.specs.ClockAndLease.{last_renewal}
 use Rattle.history.specs.Grants.{rows_granted}
 use Rattle.name_core.specs.declared.namenode.NameCore.TheInside.{Inside}
 use Rattle.namesystem.specs.declared.told.Told.{Told}
-use Rattle.name_core.specs.NameCore.{Steps, stepped}
+use Rattle.name_core.specs.NameCore.{Steps, with_next_entry}
 use Rattle.name_core.specs.Kept.{IsKept, core_of, entries_of, opening_of}
 use Rattle.namesystem.specs.Performed.{IsPerformed}
 use Rattle.name_core.proofs.Keeping.{Adds, steps_is}
@@ -21,7 +21,7 @@ adds_of a b kept r n pass index verdict is opening history clock performed limit
     (λ h. record { opening = opening; history = h; clock = clock; stepped = performed.stepped; ring = performed.ring; blocks = performed.blocks; ledger = entered; exact = performed.exact; limits = limits; latest = late; place = place }) history
 
 -- one entry more
-pub appended : (a b : Inside) (r : Request) (n pass index : ℕ) (verdict : Verdict) → IsKept a → Adds a b (record { place = n; pass = pass; index = index; request = r; verdict = verdict }) → core_of b ≡ stepped (core_of a) pass index r
+pub appended : (a b : Inside) (r : Request) (n pass index : ℕ) (verdict : Verdict) → IsKept a → Adds a b (record { place = n; pass = pass; index = index; request = r; verdict = verdict }) → core_of b ≡ with_next_entry (core_of a) pass index r
 appended a b r n pass index verdict k adds = (steps_is a b _ n pass index r verdict (record { place = n; request = r; verdict = verdict }) k adds refl refl).new_is
 
 -- and the answer is that entry's

@@ -12,21 +12,21 @@ pub record NameCore : Type 0 where
   pub entries : List HistoryEntry
 
 -- the entry of a request: it has the next place, and the verdict that the entries before it give
-abbrev pub entry_of : NameCore → ℕ → ℕ → Request → HistoryEntry
-entry_of core pass index request =
+abbrev pub entry_for : NameCore → ℕ → ℕ → Request → HistoryEntry
+entry_for core pass index request =
     record { place = length core.entries + 1; pass = pass; index = index; request = request; verdict = verdict_of core.opening core.entries request }
 
-abbrev pub stepped : NameCore → ℕ → ℕ → Request → NameCore
-stepped core pass index request = record { opening = core.opening; entries = entry_of core pass index request ∷ core.entries }
+abbrev pub with_next_entry : NameCore → ℕ → ℕ → Request → NameCore
+with_next_entry core pass index request = record { opening = core.opening; entries = entry_for core pass index request ∷ core.entries }
 
 -- what is answered from an entry
-abbrev pub answer_of : HistoryEntry → Answer
-answer_of entry = record { place = entry.place; request = entry.request; verdict = entry.verdict }
+abbrev pub answer_from : HistoryEntry → Answer
+answer_from entry = record { place = entry.place; request = entry.request; verdict = entry.verdict }
 
 -- one entry more, and the answer is that entry's
 pub record Steps (old : NameCore) (pass index : ℕ) (request : Request) (answer : Answer) (new : NameCore) : Type 0 where
-  pub new_is : new ≡ stepped old pass index request
-  pub answer_is : answer ≡ answer_of (entry_of old pass index request)
+  pub new_is : new ≡ with_next_entry old pass index request
+  pub answer_is : answer ≡ answer_from (entry_for old pass index request)
 
 -- the verdict that a step would have, and as place the number of entries
 abbrev pub Looks : NameCore → Request → Answer → Type 0

@@ -6,7 +6,7 @@ ghost use Rattle.history.specs.LegalHistory.{IsLegal};
 ghost use Rattle.history.specs.State.{blocks_of};
 ghost use Rattle.history.specs.Grants.{ledger_of};
 ghost use Rattle.history.specs.State.{rows_of, users_of};
-ghost use Rattle.name_core.specs.NameCore.{Steps, Looks, stepped};
+ghost use Rattle.name_core.specs.NameCore.{Steps, Looks, with_next_entry};
 
 use block_map::blocks::Blocks;
 use block_tokens::ring::KeyRing;
@@ -305,7 +305,7 @@ impl NameCore {
     /// # Errors
     /// Out of memory. Nothing has changed then, and there is no entry.
     pub fn append(&mut self, pass: u64, index: u64, request: Request) -> Result<(), AllocError>
-        ensures ok { OnOk result (self.new ≡ stepped self.old pass index request) }
+        ensures ok { OnOk result (self.new ≡ with_next_entry self.old pass index request) }
         ensures err { OnErr result (self.new ≡ self.old) }
     {
         let clock = self.clock.later(request.moment);

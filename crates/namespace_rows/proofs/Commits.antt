@@ -4,7 +4,7 @@ use Rattle.std.proofs.lemmas.Bool.{eq-eqb, eqb-true}
 use Rattle.std.specs.Prelude.{slice_get, slice_set}
 use Rattle.std.specs.List.{list_any}
 use Rattle.namespace_rows.specs.declared.file_row.FileBlock.{FileBlock}
-use Rattle.namespace_rows.specs.Files.{IsLastPlace, are_distinct, has_id, with_length, committed_in}
+use Rattle.namespace_rows.specs.Files.{IsLastPlace, are_distinct, has_id, with_length_where, committed_in}
 use Rattle.namespace_rows.proofs.Tests.{both, or_left, or_right, and_false}
 
 next : (i : ℕ) → suc i + 1 ≡ suc (i + 1)
@@ -25,7 +25,7 @@ module _ (id bytes : ℕ) where
   none_committed [] h = refl
   none_committed (b ∷ bs) h =
       let parts = none_left (has_id id b) (list_any (has_id id) bs) h in
-      ap (λ l. b ∷ l) (none_committed bs parts.1) ∙ ap (λ t. with_length (t && not (list_any (has_id id) bs)) bytes b ∷ committed_in id bytes bs) (sym parts.0)
+      ap (λ l. b ∷ l) (none_committed bs parts.1) ∙ ap (λ t. with_length_where (t && not (list_any (has_id id) bs)) bytes b ∷ committed_in id bytes bs) (sym parts.0)
 
   found_any : (blocks : List FileBlock) (i : ℕ) → i < length blocks → ((block : FileBlock) → slice_get blocks i ≡ Some block → block.id ≡ id) → list_any (has_id id) blocks ≡ true
   found_any [] i within h = absurd (omega (arith, within))
@@ -34,13 +34,13 @@ module _ (id bytes : ℕ) where
 
   last_committed : (blocks : List FileBlock) (i : ℕ) → i < length blocks → ((block : FileBlock) → slice_get blocks i ≡ Some block → block.id ≡ id) → list_any (has_id id) (drop (i + 1) blocks) ≡ false → slice_set blocks i committed ≡ committed_in id bytes blocks
   last_committed [] i within h behind = absurd (omega (arith, within))
-  last_committed (b ∷ bs) zero within h behind = here (h b refl) ∙ ap (λ t. with_length (t && not (list_any (has_id id) bs)) bytes b ∷ committed_in id bytes bs) (sym (same_number b.id id (h b refl)))
+  last_committed (b ∷ bs) zero within h behind = here (h b refl) ∙ ap (λ t. with_length_where (t && not (list_any (has_id id) bs)) bytes b ∷ committed_in id bytes bs) (sym (same_number b.id id (h b refl)))
     where
-      here : b.id ≡ id → committed ∷ bs ≡ with_length (not (list_any (has_id id) bs)) bytes b ∷ committed_in id bytes bs
-      here e = ap (λ k. record { id = k; committed = Some bytes } ∷ bs) (sym e) ∙ ap (λ l. with_length true bytes b ∷ l) (none_committed bs behind) ∙ ap (λ t. with_length (not t) bytes b ∷ committed_in id bytes bs) (sym behind)
+      here : b.id ≡ id → committed ∷ bs ≡ with_length_where (not (list_any (has_id id) bs)) bytes b ∷ committed_in id bytes bs
+      here e = ap (λ k. record { id = k; committed = Some bytes } ∷ bs) (sym e) ∙ ap (λ l. with_length_where true bytes b ∷ l) (none_committed bs behind) ∙ ap (λ t. with_length_where (not t) bytes b ∷ committed_in id bytes bs) (sym behind)
   last_committed (b ∷ bs) (suc i) within h behind =
       ap (λ l. b ∷ l) (last_committed bs i (omega (arith, within)) h (ap (λ k. list_any (has_id id) (drop k (b ∷ bs))) (sym (next i)) ∙ behind))
-      ∙ ap (λ t. with_length t bytes b ∷ committed_in id bytes bs) (sym (ap (λ t. has_id id b && not t) (found_any bs i (omega (arith, within)) h) ∙ and_false (has_id id b)))
+      ∙ ap (λ t. with_length_where t bytes b ∷ committed_in id bytes bs) (sym (ap (λ t. has_id id b && not t) (found_any bs i (omega (arith, within)) h) ∙ and_false (has_id id b)))
 
   pub place_committed : (blocks : List FileBlock) (place : ℕ) → IsLastPlace id blocks place → slice_set blocks place committed ≡ committed_in id bytes blocks
   place_committed blocks place last = last_committed blocks place last.within last.here last.behind
@@ -48,7 +48,7 @@ module _ (id bytes : ℕ) where
 -- laws of it
 
 module _ (id bytes : ℕ) where
-  length_id : (here : Bool) (b : FileBlock) → (with_length here bytes b).id ≡ b.id
+  length_id : (here : Bool) (b : FileBlock) → (with_length_where here bytes b).id ≡ b.id
   length_id true b = refl
   length_id false b = refl
 
@@ -59,11 +59,11 @@ module _ (id bytes : ℕ) where
       ap (λ n. n ∷ map (λ block. block.id) (committed_in id bytes bs)) (length_id (has_id id b && not (list_any (has_id id) bs)) b) ∙ ap (λ l. b.id ∷ l) (committed_ids bs)
 
   -- where no two have one id, each one with this id has the length
-  pub committed_each : (blocks : List FileBlock) → are_distinct blocks ≡ true → committed_in id bytes blocks ≡ map (λ block. with_length (has_id id block) bytes block) blocks
+  pub committed_each : (blocks : List FileBlock) → are_distinct blocks ≡ true → committed_in id bytes blocks ≡ map (λ block. with_length_where (has_id id block) bytes block) blocks
   committed_each [] h = refl
   committed_each (b ∷ bs) h =
       let hs = both (not (list_any (has_id b.id) bs)) (are_distinct bs) h in
-      ap (λ t. with_length t bytes b ∷ committed_in id bytes bs) (by (has_id id b) refl hs.0) ∙ ap (λ l. with_length (has_id id b) bytes b ∷ l) (committed_each bs hs.1)
+      ap (λ t. with_length_where t bytes b ∷ committed_in id bytes bs) (by (has_id id b) refl hs.0) ∙ ap (λ l. with_length_where (has_id id b) bytes b ∷ l) (committed_each bs hs.1)
     where
       by : (t : Bool) → has_id id b ≡ t → not (list_any (has_id b.id) bs) ≡ true → (t && not (list_any (has_id id) bs)) ≡ t
       by true e alone = ap (λ n. not (list_any (has_id n) bs)) (sym (eqb-true b.id id e)) ∙ alone
@@ -71,9 +71,9 @@ module _ (id bytes : ℕ) where
 
   -- a block behind, with another id, stays as it is
   pub committed_before : (blocks : List FileBlock) (new : FileBlock) → has_id id new ≡ false → committed_in id bytes (blocks ++ new ∷ []) ≡ committed_in id bytes blocks ++ new ∷ []
-  committed_before [] new other = ap (λ t. with_length (t && true) bytes new ∷ []) other
+  committed_before [] new other = ap (λ t. with_length_where (t && true) bytes new ∷ []) other
   committed_before (b ∷ bs) new other =
-      ap (λ t. with_length (has_id id b && not t) bytes b ∷ committed_in id bytes (bs ++ new ∷ [])) (unseen bs) ∙ ap (λ l. with_length (has_id id b && not (list_any (has_id id) bs)) bytes b ∷ l) (committed_before bs new other)
+      ap (λ t. with_length_where (has_id id b && not t) bytes b ∷ committed_in id bytes (bs ++ new ∷ [])) (unseen bs) ∙ ap (λ l. with_length_where (has_id id b && not (list_any (has_id id) bs)) bytes b ∷ l) (committed_before bs new other)
     where
       unseen : (xs : List FileBlock) → list_any (has_id id) (xs ++ new ∷ []) ≡ list_any (has_id id) xs
       unseen [] = ap (λ t. t || false) other

@@ -7,7 +7,7 @@ use Rattle.std.proofs.lemmas.List.Folds.{list_any-append}
 use Rattle.hdfs_values.specs.Path.{is_prefix}
 use Rattle.hdfs_values.specs.PathOrder.{path_cmp, same_path, paths_total}
 use Rattle.namespace_rows.specs.declared.row.Row.{Row}
-use Rattle.namespace_rows.specs.Rows.{is_directory, is_before, is_beyond, replaced, with_sub_tree}
+use Rattle.namespace_rows.specs.Rows.{is_directory, is_before, is_beyond, rows_replaced, with_sub_tree}
 use Rattle.namespace_rows.specs.Namespace.{IsNamespace, is_ascending, is_before_all, is_child, has_parent, is_root, is_rooted, have_parents, suits_kind, is_sub_tree, fits}
 use Rattle.namespace_rows.proofs.Tests.{both, and, or_left, or_right, all_imp, all_both, all_append, all_filtered, all_kept, any_parted}
 use Rattle.namespace_rows.proofs.PathOrders.{less_is, greater_is, starts_upto, tied_starts, less_upto, greater_back, beyond_starts, child_starts, child_apart, same_path_is}
@@ -81,7 +81,7 @@ module _ (path : List (List ℕ)) where
     abbrev above : List Row
     above = filter (is_beyond path) rows
 
-    pub replaced_ascending : is_ascending rows ≡ true → is_ascending block ≡ true → list_all (λ row. is_prefix path row.path) block ≡ true → is_ascending (replaced path block rows) ≡ true
+    pub replaced_ascending : is_ascending rows ≡ true → is_ascending block ≡ true → list_all (λ row. is_prefix path row.path) block ≡ true → is_ascending (rows_replaced path block rows) ≡ true
     replaced_ascending up own inside =
         let beyond = all_filtered (is_beyond path) rows in
         let rest = ascending_append block above own (ascending_filter (is_beyond path) rows up)
@@ -95,39 +95,39 @@ module _ (path : List (List ℕ)) where
     around false true c h = refl
     around false false c h = h
 
-    parted : (q : Row → Bool) → (list_any q below || list_any q above) ≡ true → list_any q (replaced path block rows) ≡ true
+    parted : (q : Row → Bool) → (list_any q below || list_any q above) ≡ true → list_any q (rows_replaced path block rows) ≡ true
     parted q h =
         list_any-append q below (block ++ above) ∙ ap (λ b. list_any q below || b) (list_any-append q block above) ∙ around (list_any q below) (list_any q block) (list_any q above) h
 
     -- a parent that isn't at or beneath the path is still there
-    parent_kept : (p : List (List ℕ)) → ((a : List (List ℕ)) → is_child p a ≡ true → is_prefix path a ≡ false) → has_parent p rows ≡ true → has_parent p (replaced path block rows) ≡ true
+    parent_kept : (p : List (List ℕ)) → ((a : List (List ℕ)) → is_child p a ≡ true → is_prefix path a ≡ false) → has_parent p rows ≡ true → has_parent p (rows_replaced path block rows) ≡ true
     parent_kept p apart h = parted (λ a. is_child p a.path && is_directory a) (any_parted (is_before path) (is_beyond path) (λ a. is_child p a.path && is_directory a)
         (λ a held. kept_where_apart a (apart a.path (both (is_child p a.path) (is_directory a) held).0)) rows h)
 
-    in_block : (q : Row → Bool) → list_any q block ≡ true → list_any q (replaced path block rows) ≡ true
+    in_block : (q : Row → Bool) → list_any q block ≡ true → list_any q (rows_replaced path block rows) ≡ true
     in_block q h = list_any-append q below (block ++ above) ∙ or_right (list_any q below) _ (list_any-append q block above ∙ or_left _ _ h)
 
-    held_apart : (row : Row) → is_prefix path row.path ≡ false → (is_root row.path || has_parent row.path rows) ≡ true → (is_root row.path || has_parent row.path (replaced path block rows)) ≡ true
+    held_apart : (row : Row) → is_prefix path row.path ≡ false → (is_root row.path || has_parent row.path rows) ≡ true → (is_root row.path || has_parent row.path (rows_replaced path block rows)) ≡ true
     held_apart row apart h = by_root (is_root row.path) h
       where
         up : (a : List (List ℕ)) (b : Bool) → is_prefix path a ≡ b → is_child row.path a ≡ true → b ≡ false
         up a true s c = sym (child_starts row.path a path c s) ∙ apart
         up a false s c = refl
 
-        by_root : (b : Bool) → (b || has_parent row.path rows) ≡ true → (b || has_parent row.path (replaced path block rows)) ≡ true
+        by_root : (b : Bool) → (b || has_parent row.path rows) ≡ true → (b || has_parent row.path (rows_replaced path block rows)) ≡ true
         by_root true k = refl
         by_root false k = parent_kept row.path (λ a c. up a (is_prefix path a) refl c) k
 
-    held_inside : has_parent path rows ≡ true → (row : Row) → (same_path path row.path || has_parent row.path block) ≡ true → (is_root row.path || has_parent row.path (replaced path block rows)) ≡ true
+    held_inside : has_parent path rows ≡ true → (row : Row) → (same_path path row.path || has_parent row.path block) ≡ true → (is_root row.path || has_parent row.path (rows_replaced path block rows)) ≡ true
     held_inside top row h = by_top (same_path path row.path) refl h
       where
-        by_top : (b : Bool) → same_path path row.path ≡ b → (b || has_parent row.path block) ≡ true → (is_root row.path || has_parent row.path (replaced path block rows)) ≡ true
-        by_top true e k = or_right (is_root row.path) _ (ap (λ p. has_parent p (replaced path block rows)) (sym (same_path_is path row.path e)) ∙ parent_kept path (λ a c. child_apart path a c) top)
+        by_top : (b : Bool) → same_path path row.path ≡ b → (b || has_parent row.path block) ≡ true → (is_root row.path || has_parent row.path (rows_replaced path block rows)) ≡ true
+        by_top true e k = or_right (is_root row.path) _ (ap (λ p. has_parent p (rows_replaced path block rows)) (sym (same_path_is path row.path e)) ∙ parent_kept path (λ a c. child_apart path a c) top)
         by_top false e k = or_right (is_root row.path) _ (in_block (λ a. is_child row.path a.path && is_directory a) k)
 
-    pub replaced_held : have_parents rows rows ≡ true → has_parent path rows ≡ true → list_all (λ row. same_path path row.path || has_parent row.path block) block ≡ true → have_parents (replaced path block rows) (replaced path block rows) ≡ true
+    pub replaced_held : have_parents rows rows ≡ true → has_parent path rows ≡ true → list_all (λ row. same_path path row.path || has_parent row.path block) block ≡ true → have_parents (rows_replaced path block rows) (rows_replaced path block rows) ≡ true
     replaced_held held top inner =
-        let all : List Row = replaced path block rows in
+        let all : List Row = rows_replaced path block rows in
         let apart_held : (row : Row) → (not (is_prefix path row.path) && (is_root row.path || has_parent row.path rows)) ≡ true → (is_root row.path || has_parent row.path all) ≡ true =
         λ row h. let parts = both (not (is_prefix path row.path)) _ h in held_apart row (not_true _ parts.0) parts.1 in
         let side : (p : Row → Bool) → ((row : Row) → p row ≡ true → is_prefix path row.path ≡ false) → list_all (λ row. is_root row.path || has_parent row.path all) (filter p rows) ≡ true =
@@ -147,7 +147,7 @@ root_is : (p : List (List ℕ)) → is_root p ≡ true → p ≡ []
 root_is [] h = refl
 root_is (n ∷ ns) h = cc
 
-pub replaced_rooted : (path : List (List ℕ)) (rows block : List Row) → is_rooted rows ≡ true → has_parent path rows ≡ true → is_rooted (replaced path block rows) ≡ true
+pub replaced_rooted : (path : List (List ℕ)) (rows block : List Row) → is_rooted rows ≡ true → has_parent path rows ≡ true → is_rooted (rows_replaced path block rows) ≡ true
 replaced_rooted path [] block h top = cc
 replaced_rooted [] (root ∷ rows) block h top = absurd (differ (sym top ∙ no_parent_of_root (root ∷ rows)))
   where
@@ -157,7 +157,7 @@ replaced_rooted (n ∷ ns) (root ∷ rows) block h top =
     let first : is_before (n ∷ ns) root ≡ true = ap (λ p. is_gt (path_cmp (n ∷ ns) p)) (root_is root.path (both (is_root root.path) (is_directory root) h).0) in
     ap (λ b. is_rooted (cond b (root ∷ filter (is_before (n ∷ ns)) rows) (filter (is_before (n ∷ ns)) rows) ++ (block ++ filter (is_beyond (n ∷ ns)) (root ∷ rows)))) first ∙ h
 
-pub replaced_suits : (path : List (List ℕ)) (rows block : List Row) → list_all suits_kind rows ≡ true → list_all suits_kind block ≡ true → list_all suits_kind (replaced path block rows) ≡ true
+pub replaced_suits : (path : List (List ℕ)) (rows block : List Row) → list_all suits_kind rows ≡ true → list_all suits_kind block ≡ true → list_all suits_kind (rows_replaced path block rows) ≡ true
 replaced_suits path rows block h k =
     all_append suits_kind (filter (is_before path) rows) (block ++ filter (is_beyond path) rows) (all_kept (is_before path) suits_kind rows h)
     (all_append suits_kind block (filter (is_beyond path) rows) k (all_kept (is_beyond path) suits_kind rows h))

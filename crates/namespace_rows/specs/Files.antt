@@ -26,8 +26,8 @@ abbrev pub if_uncommitted : FileBlock → Option ℕ
 if_uncommitted block = if is_some block.committed then None else Some block.id
 
 -- the last block, where its length isn't committed
-abbrev pub unfinished : List FileBlock → Option ℕ
-unfinished blocks = option_and_then if_uncommitted (last_of blocks)
+abbrev pub unfinished_block : List FileBlock → Option ℕ
+unfinished_block blocks = option_and_then if_uncommitted (last_of blocks)
 
 -- a new file, open for a client to write
 abbrev pub new_file : ℕ → List ℕ → FileRow
@@ -36,8 +36,8 @@ new_file replication client = record { replication = replication; blocks = []; s
 abbrev pub with_state : FileState → FileRow → FileRow
 with_state state file = record file { state = state }
 
-abbrev pub with_replication : ℕ → FileRow → FileRow
-with_replication replication file = record file { replication = replication }
+abbrev pub with_file_replication : ℕ → FileRow → FileRow
+with_file_replication replication file = record file { replication = replication }
 
 -- What a file's blocks are (HDFS Architecture, "Data Replication": a file is a sequence of blocks).
 
@@ -81,13 +81,13 @@ pub record IsLastPlace (id : ℕ) (blocks : List FileBlock) (place : ℕ) : Type
   pub here : (block : FileBlock) → slice_get blocks place ≡ Some block → block.id ≡ id
   pub behind : list_any (has_id id) (drop (place + 1) blocks) ≡ false
 
-abbrev pub with_length : Bool → ℕ → FileBlock → FileBlock
-with_length here bytes block = if here then record block { committed = Some bytes } else block
+abbrev pub with_length_where : Bool → ℕ → FileBlock → FileBlock
+with_length_where here bytes block = if here then record block { committed = Some bytes } else block
 
 -- the block with this id has this length committed; if several had that id, it would be the last of them
 abbrev pub committed_in : ℕ → ℕ → List FileBlock → List FileBlock
 committed_in id bytes [] = []
-committed_in id bytes (block ∷ blocks) = with_length (has_id id block && not (list_any (has_id id) blocks)) bytes block ∷ committed_in id bytes blocks
+committed_in id bytes (block ∷ blocks) = with_length_where (has_id id block && not (list_any (has_id id) blocks)) bytes block ∷ committed_in id bytes blocks
 
 abbrev pub committed_at : ℕ → ℕ → FileRow → FileRow
 committed_at id bytes file = record file { blocks = committed_in id bytes file.blocks }

@@ -88,10 +88,10 @@ abbrev pub is_beyond : List (List ℕ) → Row → Bool
 is_beyond path row = is_lt (path_cmp path row.path) && not (is_prefix path row.path)
 
 -- the rows in which these stand at and beneath the path
-abbrev pub replaced : List (List ℕ) → List Row → List Row → List Row
-replaced path block rows = filter (is_before path) rows ++ (block ++ filter (is_beyond path) rows)
+abbrev pub rows_replaced : List (List ℕ) → List Row → List Row → List Row
+rows_replaced path block rows = filter (is_before path) rows ++ (block ++ filter (is_beyond path) rows)
 
 -- the rows with those of a new sub-tree, the first of which is its top
 abbrev pub with_sub_tree : List Row → List Row → List Row
 with_sub_tree rows [] = rows
-with_sub_tree rows (top ∷ beneath) = replaced top.path (top ∷ beneath) rows
+with_sub_tree rows (top ∷ beneath) = rows_replaced top.path (top ∷ beneath) rows

@@ -76,7 +76,7 @@ impl FileBlocks {
 
     /// The last block, where its length isn't committed.
     pub fn unfinished(&self) -> Option<BlockId>
-        ensures { result ≡ spec.unfinished self.now }
+        ensures { result ≡ spec.unfinished_block self.now }
     {
         let last = self.list.last()?;
         if last.committed.is_some() {
@@ -118,7 +118,7 @@ impl FileBlocks {
     /// nearly always the last; takes no memory.
     pub fn commit(&mut self, id: BlockId, bytes: u64)
         ensures last { self.new ≡ spec.committed_in id bytes self.old }
-        ensures each { IsTrue (spec.are_distinct self.old) → self.new ≡ map (λ block. spec.with_length (spec.has_id id block) bytes block) self.old }
+        ensures each { IsTrue (spec.are_distinct self.old) → self.new ≡ map (λ block. spec.with_length_where (spec.has_id id block) bytes block) self.old }
     {
         if let Some(place) = place_of(&self.list, id) {
             self.list[place] = FileBlock {

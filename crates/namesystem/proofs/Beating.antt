@@ -6,7 +6,7 @@ use Rattle.hdfs_types.specs.declared.op.Op.TheVariants as op
 use Rattle.hdfs_types.specs.declared.replica.ReportedReplica.{ReportedReplica}
 use Rattle.hdfs_types.specs.declared.reply.Reply.{Reply}
 use Rattle.hdfs_types.specs.declared.reply.Reply.TheVariants as reply
-use Rattle.block_map.specs.BlockFacts.{BlockFacts}
+use Rattle.block_map.specs.BlockFacts.{Blocks}
 use Rattle.flat_rows.specs.declared.verdict.Verdict.TheVariants.{Done, Denied}
 use Rattle.flat_rows.specs.Denial as denied
 use Rattle.flat_rows.specs.Decision.{decision}
@@ -19,11 +19,11 @@ use Rattle.namesystem.specs.Told.{may_change}
 use Rattle.namesystem.specs.Performed.{IsPerformed, facts_in}
 use Rattle.namesystem.proofs.Performing.{changing, performed_not_done}
 
-abbrev with_blocks : Namesystem → BlockFacts → Namesystem
+abbrev with_blocks : Namesystem → Blocks → Namesystem
 with_blocks old blocks = record old { blocks = blocks }
 
 module _ (last : List ℕ → Option ℕ) (now : ℕ) (caller : List ℕ) (old : Namesystem) (exact : IsExact last old.tree old.writers) where
-  pub done_beat : (heard : Option ℕ) (told : Reply) (blocks : BlockFacts) → decision old.tree old.users caller op.Heartbeat ≡ None → heard ≡ node_of caller
+  pub done_beat : (heard : Option ℕ) (told : Reply) (blocks : Blocks) → decision old.tree old.users caller op.Heartbeat ≡ None → heard ≡ node_of caller
       → told ≡ heartbeat_reply (facts_in last now old) caller heard → may_change (Done told) ≡ true → blocks ≡ heard_of heard now old.blocks
       → IsPerformed last now caller op.Heartbeat old (Done told) (with_blocks old blocks)
   done_beat heard told blocks granted is answer change left =
@@ -37,7 +37,7 @@ module _ (last : List ℕ → Option ℕ) (now : ℕ) (caller : List ℕ) (old :
         unchanged = changing old (with_blocks old blocks) (Done told) (Done told) refl change;
       }
 
-  pub done_report : (heard : Option ℕ) (replica : ReportedReplica) (blocks : BlockFacts) → decision old.tree old.users caller (op.Reported replica) ≡ None → heard ≡ node_of caller
+  pub done_report : (heard : Option ℕ) (replica : ReportedReplica) (blocks : Blocks) → decision old.tree old.users caller (op.Reported replica) ≡ None → heard ≡ node_of caller
       → blocks ≡ reported_of heard replica old.blocks → IsPerformed last now caller (op.Reported replica) old (Done reply.Empty) (with_blocks old blocks)
   done_report heard replica blocks granted is left =
       record {

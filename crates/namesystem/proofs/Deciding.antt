@@ -8,7 +8,7 @@ use Rattle.namespace_rows.specs.declared.row.Row.{Row}
 use Rattle.flat_rows.specs.declared.verdict.Verdict as answer
 use Rattle.namespace_rows.specs.Rows.{row_at}
 use Rattle.flat_rows.specs.FileOutcome.{directory_there, of_file, refused_write}
-use Rattle.flat_rows.specs.BlockOutcome.{refused_last, refused_end}
+use Rattle.flat_rows.specs.BlockOutcome.{refused_unless_last, refused_end}
 use Rattle.flat_rows.specs.Facts.{Facts}
 use Rattle.flat_rows.proofs.AnyFacts.{no_facts}
 use Rattle.flat_rows.specs.Outcome.{step, first_some, beneath_file, nothing_at}
@@ -36,6 +36,6 @@ fifth (Some a) b c d e f h = cc
 -- where a request to close a file is done, the map of blocks doesn't refuse it
 pub reported_end : (facts : Facts) (rows : List Row) (users : Users) (caller : List ℕ) (what : Op) (verdict : answer.Verdict) → verdict ≡ (step facts rows users caller what).verdict → is_done verdict ≡ true → refused_end_of what facts.blocks ≡ None
 reported_end facts rows users caller (op.Complete path last) verdict is done =
-    fifth (beneath_file path rows) (nothing_at (row_at path rows)) (directory_there (row_at path rows)) (of_file (refused_write caller) (row_at path rows)) (of_file (refused_last last) (row_at path rows)) (refused_end facts.blocks last)
+    fifth (beneath_file path rows) (nothing_at (row_at path rows)) (directory_there (row_at path rows)) (of_file (refused_write caller) (row_at path rows)) (of_file (refused_unless_last last) (row_at path rows)) (refused_end facts.blocks last)
     (done_free facts rows users caller (op.Complete path last) (ap is_done (sym is) ∙ done)).free
 reported_end facts rows users caller _ verdict is done = refl

@@ -7,12 +7,12 @@ use Rattle.hdfs_types.specs.declared.op.Op.TheVariants as op
 use Rattle.hdfs_types.specs.declared.replica.RecoveredBlock.{RecoveredBlock}
 use Rattle.hdfs_types.specs.declared.reply.Refusal.{Refusal}
 use Rattle.hdfs_types.specs.declared.reply.Reply.TheVariants as reply
-use Rattle.block_map.specs.BlockFacts.{BlockFacts, refused_recovered}
+use Rattle.block_map.specs.BlockFacts.{Blocks, refused_recovered}
 use Rattle.namespace_rows.specs.declared.file_row.FileRow.{FileRow}
 use Rattle.namespace_rows.specs.declared.row.Row.{Row}
 use Rattle.namespace_rows.specs.Files.{committed_at, recovered_at, state_recovers, with_state, holder_of, holder_of_file, is_client, open_files}
 use Rattle.flat_rows.specs.BlockOutcome.{refused_by}
-use Rattle.flat_rows.specs.Changes.{edited, recovery_ended}
+use Rattle.flat_rows.specs.Changes.{file_edited, recovery_ended}
 use Rattle.flat_rows.specs.Decision.{decision}
 use Rattle.flat_rows.specs.Facts.{Facts}
 use Rattle.flat_rows.specs.Outcome.{step, denied_or_outcome, refused_or_done}
@@ -29,7 +29,7 @@ use Rattle.namesystem.specs.Performed.{IsPerformed, facts_in}
 use Rattle.namesystem.proofs.Performing.{changing, performed_done, performed_not_done}
 
 -- a file in a recovery is open for nobody, neither before its end nor behind it
-still_open : (client : List ℕ) (block bytes : ℕ) (row : Row) → opens client (edited (recovered_at block bytes) row) ≡ opens client row
+still_open : (client : List ℕ) (block bytes : ℕ) (row : Row) → opens client (file_edited (recovered_at block bytes) row) ≡ opens client row
 still_open client block bytes row = by row.file
   where
     by_state : (file : FileRow) (state : FileState) → file.state ≡ state → is_client client (holder_of (recovered_at block bytes file).state) ≡ is_client client (holder_of file.state)
@@ -48,7 +48,7 @@ still_open client block bytes row = by row.file
 exact_ended : (last : List ℕ → Option ℕ) (block bytes : ℕ) (rows left : List Row) (writers : Writers) → left ≡ recovery_ended block bytes rows → IsExact last rows writers → IsExact last left writers
 exact_ended last block bytes rows left writers made exact =
     record {
-      files = λ client. exact.files client ∙ (sym (count_map (opens client) (edited (recovered_at block bytes)) (still_open client block bytes) rows) ∙ ap (λ rs. length (open_files client rs)) (sym made));
+      files = λ client. exact.files client ∙ (sym (count_map (opens client) (file_edited (recovered_at block bytes)) (still_open client block bytes) rows) ∙ ap (λ rs. length (open_files client rs)) (sym made));
       leased = exact.leased;
     }
 
@@ -65,7 +65,7 @@ module _ (last : List ℕ → Option ℕ) (now : ℕ) (caller : List ℕ) (own :
   done_is None h = refl
   done_is (Some refusal) h = cc
 
-  pub performed_end : (verdict : Verdict) (tree : List Row) (blocks : BlockFacts) → verdict ≡ verdict_on_end old.blocks own → (is_done verdict ≡ true → IsEnded own old.tree old.blocks tree blocks)
+  pub performed_end : (verdict : Verdict) (tree : List Row) (blocks : Blocks) → verdict ≡ verdict_on_end old.blocks own → (is_done verdict ≡ true → IsEnded own old.tree old.blocks tree blocks)
       → (is_done verdict ≡ false → (tree ≡ old.tree) × (blocks ≡ old.blocks)) → IsPerformed last now caller (op.CommitRecovery own) old verdict (record old { tree = tree; blocks = blocks })
   performed_end verdict tree blocks told done undone = by (is_done verdict) refl
     where

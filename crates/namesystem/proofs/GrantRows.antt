@@ -20,18 +20,18 @@ use Rattle.hdfs_types.specs.declared.verb.Write.TheVariants as write
 use Rattle.principals.specs.Users.{Users}
 use Rattle.namespace_rows.specs.declared.row.Row.{Row}
 use Rattle.namespace_rows.specs.Rows.{row_at}
-use Rattle.block_tokens.specs.Ring.{Ring}
+use Rattle.block_tokens.specs.Ring.{KeyRing}
 use Rattle.grant_ledger.specs.declared.ledger.LedgerRow.{LedgerRow}
 use Rattle.flat_rows.specs.declared.verdict.Verdict.{Verdict}
 use Rattle.flat_rows.specs.declared.verdict.Verdict.TheVariants.{Done, Denied, Refused}
 use Rattle.flat_rows.specs.Denial as denied
 use Rattle.flat_rows.specs.Decision.{decision}
 use Rattle.flat_rows.specs.Facts.{Facts}
-use Rattle.block_map.specs.BlockFacts.{BlockFacts}
+use Rattle.block_map.specs.BlockFacts.{Blocks}
 use Rattle.flat_rows.specs.FileOutcome.{holder_at}
 use Rattle.flat_rows.specs.Takeover.{appended_reply, unfinished_at}
 use Rattle.flat_rows.specs.Outcome.{step, first_refusal, denied_or_outcome, refused_or_done, reply_of, status_of, acl_status_of, serial_reply}
-use Rattle.history.specs.Grants.{granted_by, rows_granted, row_of}
+use Rattle.history.specs.Grants.{granted_by, rows_granted, ledger_row}
 use Rattle.namesystem.specs.Told.{is_list, is_told_before}
 
 abbrev pub is_grant : Op → Bool
@@ -46,13 +46,13 @@ none_granted (op.Open path) told h = cc
 none_granted op.Heartbeat told h = cc
 none_granted _ told h = refl
 
-pub no_rows : (place : ℕ) (ring : Ring) (now : ℕ) (caller : List ℕ) (what : Op) (verdict : Verdict) → is_grant what ≡ false → rows_granted place ring now caller what verdict ≡ []
-no_rows place ring now caller what (Done told) h = ap (map (row_of place ring now caller)) (none_granted what told h)
+pub no_rows : (place : ℕ) (ring : KeyRing) (now : ℕ) (caller : List ℕ) (what : Op) (verdict : Verdict) → is_grant what ≡ false → rows_granted place ring now caller what verdict ≡ []
+no_rows place ring now caller what (Done told) h = ap (map (ledger_row place ring now caller)) (none_granted what told h)
 no_rows place ring now caller what (Denied denial) h = refl
 no_rows place ring now caller what (Refused refusal) h = refl
 
 -- so the ledger stays
-pub ledger_stays : {E : Type 0} (result : Result Verdict E) (ledger : List LedgerRow) (place : ℕ) (ring : Ring) (now : ℕ) (caller : List ℕ) (what : Op) → is_grant what ≡ false
+pub ledger_stays : {E : Type 0} (result : Result Verdict E) (ledger : List LedgerRow) (place : ℕ) (ring : KeyRing) (now : ℕ) (caller : List ℕ) (what : Op) → is_grant what ≡ false
     → IfOk result (λ verdict. ledger ≡ ledger ++ rows_granted place ring now caller what verdict)
 ledger_stays (Ok verdict) ledger place ring now caller what h = sym (ap (λ rows. ledger ++ rows) (no_rows place ring now caller what verdict h) ∙ append-nil ledger)
 ledger_stays (Err error) ledger place ring now caller what h = tt
@@ -87,7 +87,7 @@ acl_no_list : (at : Option Row) → is_list (acl_status_of at) ≡ false
 acl_no_list None = refl
 acl_no_list (Some row) = refl
 
-appended_no_list : (blocks : BlockFacts) (holder : Option (List ℕ)) (block : Option ℕ) → is_list (appended_reply blocks holder block) ≡ false
+appended_no_list : (blocks : Blocks) (holder : Option (List ℕ)) (block : Option ℕ) → is_list (appended_reply blocks holder block) ≡ false
 appended_no_list blocks None block = refl
 appended_no_list blocks (Some holder) None = refl
 appended_no_list blocks (Some holder) (Some block) = refl

@@ -20,8 +20,8 @@ use Rattle.flat_rows.specs.Facts.{Facts}
 use Rattle.flat_rows.specs.Outcome.{step, reply_of}
 use Rattle.flat_rows.proofs.Keeping.{kept_open}
 use Rattle.history.specs.ClockAndLease.{renews}
-use Rattle.block_tokens.specs.Ring.{Ring}
-use Rattle.block_map.specs.BlockFacts.{BlockFacts}
+use Rattle.block_tokens.specs.Ring.{KeyRing}
+use Rattle.block_map.specs.BlockFacts.{Blocks}
 use Rattle.history.specs.Keys.{ring_by}
 use Rattle.history.specs.Blocks.{blocks_by}
 use Rattle.lease_manager.specs.declared.writers.Writers.{Writers}
@@ -62,21 +62,21 @@ is_roll (op.RollKey key) = true
 is_roll _ = false
 
 -- none is a roll of the keys
-pub keys_stay : (what : Op) (verdict : Verdict) (now : ℕ) (ring : Ring) → keeps_leases what ≡ true → ring_by what verdict now ring ≡ ring
+pub keys_stay : (what : Op) (verdict : Verdict) (now : ℕ) (ring : KeyRing) → keeps_leases what ≡ true → ring_by what verdict now ring ≡ ring
 keys_stay what (Denied denial) now ring h = refl
 keys_stay what (Refused refusal) now ring h = refl
 keys_stay (op.RollKey key) (Done told) now ring h = cc
 keys_stay _ (Done told) now ring h = refl
 
 -- nor is one that isn't a roll
-pub keys_stay_unrolled : (what : Op) (verdict : Verdict) (now : ℕ) (ring : Ring) → is_roll what ≡ false → ring_by what verdict now ring ≡ ring
+pub keys_stay_unrolled : (what : Op) (verdict : Verdict) (now : ℕ) (ring : KeyRing) → is_roll what ≡ false → ring_by what verdict now ring ≡ ring
 keys_stay_unrolled what (Denied denial) now ring h = refl
 keys_stay_unrolled what (Refused refusal) now ring h = refl
 keys_stay_unrolled (op.RollKey key) (Done told) now ring h = cc
 keys_stay_unrolled _ (Done told) now ring h = refl
 
 -- none changes what is known of blocks
-pub blocks_stay : (facts : Facts) (what : Op) (caller : List ℕ) (verdict : Verdict) (rows : List Row) (blocks : BlockFacts) → keeps_leases what ≡ true → blocks_by facts what caller verdict rows blocks ≡ blocks
+pub blocks_stay : (facts : Facts) (what : Op) (caller : List ℕ) (verdict : Verdict) (rows : List Row) (blocks : Blocks) → keeps_leases what ≡ true → blocks_by facts what caller verdict rows blocks ≡ blocks
 blocks_stay facts what caller (Denied denial) rows blocks h = refl
 blocks_stay facts what caller (Refused refusal) rows blocks h = refl
 blocks_stay facts (op.Create path mode replication over) caller (Done told) rows blocks h = cc

@@ -24,15 +24,15 @@ use Rattle.namespace_rows.specs.Files.{open_files, has_open_file}
 use Rattle.namespace_rows.specs.Rows.{row_at}
 use Rattle.namespace_rows.specs.Namespace.{IsNamespace}
 use Rattle.flat_rows.specs.Facts.{Facts}
-use Rattle.flat_rows.specs.Changes.{rewritten}
+use Rattle.flat_rows.specs.Changes.{row_rewritten}
 use Rattle.flat_rows.specs.BlockOutcome.{ids_at}
 use Rattle.flat_rows.specs.Outcome.{Step, step, first_refusal, denied_or_outcome, refused_or_done, refused_where, reply_of, rows_after, users_after}
 use Rattle.flat_rows.proofs.Keeping.{kept_replication}
 use Rattle.flat_rows.proofs.Blocks.{ids_stay}
 use Rattle.history.specs.ClockAndLease.{renews, lease_in}
 use Rattle.flat_rows.specs.Verdicts.{is_done}
-use Rattle.block_tokens.specs.Ring.{Ring}
-use Rattle.block_map.specs.BlockFacts.{BlockFacts}
+use Rattle.block_tokens.specs.Ring.{KeyRing}
+use Rattle.block_map.specs.BlockFacts.{Blocks}
 use Rattle.history.specs.Keys.{ring_by}
 use Rattle.history.specs.Blocks.{blocks_by, blocks_after, all_replicated}
 use Rattle.history.specs.State.{rows_by, users_by}
@@ -40,7 +40,7 @@ use Rattle.history.proofs.OpenFiles.{any_counted}
 use Rattle.flat_rows.proofs.AnyFacts.{no_facts}
 use Rattle.namesystem.specs.declared.namesystem.Namesystem.{Namesystem}
 use Rattle.lease_manager.specs.declared.writers.Writers.{Writers}
-use Rattle.lease_manager.specs.Writers.{count_of, moment_of, IsLeased, renewed_at}
+use Rattle.lease_manager.specs.Writers.{count_of, renewal_moment_of, IsLeased, renewed_at}
 use Rattle.namesystem.specs.Told.{may_change}
 use Rattle.file_effects.specs.Effected.{IsExact, IsEffected, renewed_where}
 use Rattle.namesystem.specs.Performed.{IsPerformed, IsUndone, facts_in}
@@ -70,7 +70,7 @@ step_of done verdict rows users p q r =
 pub has_counted : (last : List ℕ → Option ℕ) (rows : List Row) (writers : Writers) (client : List ℕ) → IsExact last rows writers → has_open_file client rows ≡ nat_lt 0 (count_of writers.files client)
 has_counted last rows writers client exact = any_counted client rows ∙ ap (nat_lt 0) (sym (exact.files client))
 
-pub lease_is : (last : List ℕ → Option ℕ) (rows : List Row) (writers : Writers) (client : List ℕ) → IsExact last rows writers → lease_in last rows client ≡ moment_of writers.leases.renewals client
+pub lease_is : (last : List ℕ → Option ℕ) (rows : List Row) (writers : Writers) (client : List ℕ) → IsExact last rows writers → lease_in last rows client ≡ renewal_moment_of writers.leases.renewals client
 lease_is last rows writers client exact = ap (λ b. cond b (last client) None) (has_counted last rows writers client exact) ∙ sym (exact.leased client)
 
 -- ---- what is done, and what isn't
@@ -101,12 +101,12 @@ not_done_same what caller facts (Done told) rows users h = cc
 not_done_same what caller facts (Denied denial) rows users h = (refl, refl, refl)
 not_done_same what caller facts (Refused refusal) rows users h = (refl, refl, refl)
 
-not_done_keys : (what : Op) (verdict : Verdict) (now : ℕ) (ring : Ring) → is_done verdict ≡ false → ring_by what verdict now ring ≡ ring
+not_done_keys : (what : Op) (verdict : Verdict) (now : ℕ) (ring : KeyRing) → is_done verdict ≡ false → ring_by what verdict now ring ≡ ring
 not_done_keys what (Done told) now ring h = cc
 not_done_keys what (Denied denial) now ring h = refl
 not_done_keys what (Refused refusal) now ring h = refl
 
-not_done_blocks : (facts : Facts) (what : Op) (caller : List ℕ) (verdict : Verdict) (rows : List Row) (blocks : BlockFacts) → is_done verdict ≡ false → blocks_by facts what caller verdict rows blocks ≡ blocks
+not_done_blocks : (facts : Facts) (what : Op) (caller : List ℕ) (verdict : Verdict) (rows : List Row) (blocks : Blocks) → is_done verdict ≡ false → blocks_by facts what caller verdict rows blocks ≡ blocks
 not_done_blocks facts what caller (Done told) rows blocks h = cc
 not_done_blocks facts what caller (Denied denial) rows blocks h = refl
 not_done_blocks facts what caller (Refused refusal) rows blocks h = refl
@@ -299,7 +299,7 @@ performed_replication last now caller path replication old new verdict namespace
     let what = op.SetReplication path replication in
     let judged : verdict ≡ (step facts old.tree old.users caller what).verdict = ap (λ (s : Step). s.verdict) (applied facts) in
     let granted = done_free facts old.tree old.users caller what (ap is_done (sym judged) ∙ done) in
-    let tree : new.tree ≡ rewritten path (change.Replication replication) old.tree =
+    let tree : new.tree ≡ row_rewritten path (change.Replication replication) old.tree =
     ap (λ (s : Step). s.rows) (applied facts) ∙ (stepped_rows facts old.tree old.users caller what ∙ ap (λ v. rows_by facts what caller v old.tree) granted.told) in
     performed_done last now caller what old new verdict judged done refl refl tree users ring
     (blocks ∙ ap (λ ids. all_replicated replication ids old.blocks) (ap (λ rows. ids_at (row_at path rows)) tree ∙ ids_stay path replication old.tree))

@@ -4,7 +4,7 @@ use Rattle.hdfs_types.specs.declared.op.Op.TheVariants as op
 use Rattle.hdfs_types.specs.declared.reply.Counter.TheVariants.{Serial}
 use Rattle.hdfs_types.specs.declared.reply.Refusal.TheVariants.{Spent}
 use Rattle.hdfs_types.specs.declared.reply.Reply.TheVariants as reply
-use Rattle.block_tokens.specs.Ring.{Ring, next_serial, ring_after_roll}
+use Rattle.block_tokens.specs.Ring.{KeyRing, next_serial, ring_after_roll}
 use Rattle.principals.specs.Users.{Users}
 use Rattle.namespace_rows.specs.declared.row.Row.{Row}
 use Rattle.flat_rows.specs.declared.verdict.Verdict.TheVariants.{Done, Denied, Refused}
@@ -30,7 +30,7 @@ rolled_is : (facts : Facts) (next : Option ℕ) (rows : List Row) (users : Users
 rolled_is facts None rows users caller key granted = ap (denied_or_outcome (with_next facts None) rows users caller (op.RollKey key)) granted
 rolled_is facts (Some serial) rows users caller key granted = ap (denied_or_outcome (with_next facts (Some serial)) rows users caller (op.RollKey key)) granted
 
-abbrev with_ring : Namesystem → Ring → Namesystem
+abbrev with_ring : Namesystem → KeyRing → Namesystem
 with_ring old ring = record old { ring = ring }
 
 module _ (last : List ℕ → Option ℕ) (now : ℕ) (caller key : List ℕ) (old : Namesystem) (exact : IsExact last old.tree old.writers) where
@@ -40,7 +40,7 @@ module _ (last : List ℕ → Option ℕ) (now : ℕ) (caller key : List ℕ) (o
       let facts = facts_in last now old in
       sym (rolled_is facts next old.tree old.users caller key granted) ∙ ap (λ n. step (with_next facts n) old.tree old.users caller (op.RollKey key)) is
 
-  pub done_roll : (ring : Ring) (serial : ℕ) → decision old.tree old.users caller (op.RollKey key) ≡ None → Some serial ≡ next_serial old.ring.serial → ring ≡ ring_after_roll old.ring key now
+  pub done_roll : (ring : KeyRing) (serial : ℕ) → decision old.tree old.users caller (op.RollKey key) ≡ None → Some serial ≡ next_serial old.ring.serial → ring ≡ ring_after_roll old.ring key now
       → IsPerformed last now caller (op.RollKey key) old (Done (reply.Serial serial)) (with_ring old ring)
   done_roll ring serial granted next is =
       record {
@@ -51,7 +51,7 @@ module _ (last : List ℕ → Option ℕ) (now : ℕ) (caller key : List ℕ) (o
         unchanged = changing old (with_ring old ring) (Done (reply.Serial serial)) (Done (reply.Serial serial)) refl refl;
       }
 
-  pub spent_roll : (ring : Ring) → decision old.tree old.users caller (op.RollKey key) ≡ None → next_serial old.ring.serial ≡ None → ring ≡ old.ring
+  pub spent_roll : (ring : KeyRing) → decision old.tree old.users caller (op.RollKey key) ≡ None → next_serial old.ring.serial ≡ None → ring ≡ old.ring
       → IsPerformed last now caller (op.RollKey key) old (Refused (Spent Serial)) (with_ring old ring)
   spent_roll ring granted none is =
       record {

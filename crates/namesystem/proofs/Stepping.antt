@@ -2,8 +2,8 @@
 use Rattle.std.proofs.Common.{◌≡◌, ℕ, List, Option, Some, None, refl, ap, ◌∙◌}
 use Rattle.hdfs_types.specs.declared.op.Op.{Op}
 use Rattle.hdfs_types.specs.declared.reply.Refusal.{Refusal}
-use Rattle.block_tokens.specs.Ring.{Ring}
-use Rattle.block_map.specs.BlockFacts.{BlockFacts}
+use Rattle.block_tokens.specs.Ring.{KeyRing}
+use Rattle.block_map.specs.BlockFacts.{Blocks}
 use Rattle.lease_manager.specs.Leases.{Limits}
 use Rattle.principals.specs.Users.{Users}
 use Rattle.namespace_rows.specs.declared.row.Row.{Row}
@@ -35,7 +35,7 @@ module _ (facts : Facts) (rows : List Row) (users : Users) (caller : List ℕ) (
   stepped_users = (by_denial (decision rows users caller op)).users_are
 
 -- the same facts of leases, keys and blocks
-pub same_facts : (l m : Limits) (n k : ℕ) (last : List ℕ → Option ℕ) (rows others : List Row) (ring other : Ring) (blocks known : BlockFacts) → l ≡ m → n ≡ k → rows ≡ others → ring ≡ other → blocks ≡ known
+pub same_facts : (l m : Limits) (n k : ℕ) (last : List ℕ → Option ℕ) (rows others : List Row) (ring other : KeyRing) (blocks known : Blocks) → l ≡ m → n ≡ k → rows ≡ others → ring ≡ other → blocks ≡ known
     → facts_with l n (lease_in last rows) ring blocks ≡ facts_with m k (lease_in last others) other known
 same_facts l m n k last rows others ring other blocks known p q r w z =
     ap (λ x. facts_with x n (lease_in last rows) ring blocks) p

@@ -6,8 +6,8 @@ use Rattle.hdfs_values.specs.Text.{same}
 use Rattle.hdfs_types.specs.declared.op.Op.TheVariants as op
 use Rattle.hdfs_types.specs.declared.reply.Expired.{Expired}
 use Rattle.hdfs_types.specs.declared.reply.Reply.TheVariants as reply
-use Rattle.block_map.specs.BlockFacts.{BlockFacts}
-use Rattle.block_map.specs.BlockEffects.{recoveries_begun, all_begun}
+use Rattle.block_map.specs.BlockFacts.{Blocks}
+use Rattle.block_map.specs.BlockEffects.{recoveries_begun, with_recoveries_begun}
 use Rattle.recovery_queue.specs.declared.begun.BegunRecovery.{BegunRecovery}
 use Rattle.lease_manager.specs.Leases.{renewals_past_hard, clients}
 use Rattle.lease_manager.specs.declared.writers.Writers.{Writers}
@@ -19,11 +19,11 @@ use Rattle.flat_rows.specs.Denial as denied
 use Rattle.flat_rows.specs.Decision.{decision}
 use Rattle.flat_rows.specs.Facts.{Facts}
 use Rattle.flat_rows.specs.Outcome.{step, denied_or_outcome}
-use Rattle.flat_rows.specs.Takeover.{sought_of, is_overdue, taken_row, expired_files, begun_in, ticked, sought_blocks}
+use Rattle.flat_rows.specs.Takeover.{sought_of, is_overdue, taken_row, expired_files, begun_in, row_ticked, sought_blocks}
 use Rattle.history.specs.ClockAndLease.{renews, is_past_hard, state_at}
 use Rattle.namesystem.specs.declared.namesystem.Namesystem.{Namesystem}
 use Rattle.file_effects.specs.Effected.{IsExact, renewed_where}
-use Rattle.file_takeovers.specs.Expiry.{is_among, blocks_of, closed_of, IsExpired}
+use Rattle.file_takeovers.specs.Expiry.{is_among, blocks_to_recover, closed_of, IsExpired}
 use Rattle.file_takeovers.proofs.Expiring.{among_is}
 use Rattle.namesystem.specs.Performed.{IsPerformed, facts_in}
 use Rattle.namesystem.proofs.Performing.{step_of, lease_is, changing, performed_not_done}
@@ -34,7 +34,7 @@ module _ (facts : Facts) (rows : List Row) where
   files_of is_past = filter_map (λ row. sought_of is_past (is_overdue facts) row.file) rows
 
   abbrev begun_of : (List ℕ → Bool) → List BegunRecovery
-  begun_of is_past = recoveries_begun facts.blocks (blocks_of (files_of is_past)) facts.now
+  begun_of is_past = recoveries_begun facts.blocks (blocks_to_recover (files_of is_past)) facts.now
 
   abbrev told_of : (List ℕ → Bool) → Expired
   told_of is_past = record { closed = length (closed_of (files_of is_past)); recovering = length (begun_of is_past) }
@@ -42,10 +42,10 @@ module _ (facts : Facts) (rows : List Row) where
   abbrev rows_by : (List ℕ → Bool) → List Row
   rows_by is_past = map (λ row. taken_row (begun_of is_past) facts.now (sought_of is_past (is_overdue facts) row.file) row) rows
 
-  abbrev blocks_by_all : (List ℕ → Bool) → BlockFacts
-  blocks_by_all is_past = all_begun facts.blocks (blocks_of (files_of is_past)) facts.now
+  abbrev blocks_by_all : (List ℕ → Bool) → Blocks
+  blocks_by_all is_past = with_recoveries_begun facts.blocks (blocks_to_recover (files_of is_past)) facts.now
 
-pub performed_tick : (last : List ℕ → Option ℕ) (now : ℕ) (caller : List ℕ) (old : Namesystem) (tree : List Row) (blocks : BlockFacts) (writers : Writers) (expired : Expired) (past : List (List ℕ)) → decision old.tree old.users caller op.Tick ≡ None
+pub performed_tick : (last : List ℕ → Option ℕ) (now : ℕ) (caller : List ℕ) (old : Namesystem) (tree : List Row) (blocks : Blocks) (writers : Writers) (expired : Expired) (past : List (List ℕ)) → decision old.tree old.users caller op.Tick ≡ None
     → past ≡ clients (renewals_past_hard old.writers.leases.limits now old.writers.leases.renewals) → IsDistinct same (clients old.writers.leases.renewals)
     → IsExpired last (record { past = past; retry = old.blocks.retry; now = now }) old.tree old.blocks expired tree blocks writers → IsExact last old.tree old.writers
     → IsPerformed last now caller op.Tick old (Done (reply.Expired expired)) (record old { tree = tree; blocks = blocks; writers = writers })

@@ -9,7 +9,7 @@ use Rattle.history.specs.Keys.{ring_by}
 use Rattle.history.specs.Blocks.{blocks_by}
 use Rattle.history.specs.State.{facts_with}
 use Rattle.lease_manager.specs.Writers.{IsAlike}
-use Rattle.block_map.specs.BlockFacts.{BlockFacts}
+use Rattle.block_map.specs.BlockFacts.{Blocks}
 use Rattle.namespace_rows.specs.declared.row.Row.{Row}
 use Rattle.file_effects.specs.Effected.{IsExact, renewed_where}
 use Rattle.file_takeovers.specs.Expiry.{AreDue}
@@ -23,7 +23,7 @@ facts_in last now system = facts_with system.writers.leases.limits now (lease_in
 
 -- what is known of recoveries: the files whose recovery is overdue are no more than the blocks whose recovery is, and no two files recover
 -- the same block
-pub record KnowsRecoveries (now : ℕ) (rows : List Row) (blocks : BlockFacts) : Type 0 where
+pub record KnowsRecoveries (now : ℕ) (rows : List Row) (blocks : Blocks) : Type 0 where
   pub due : AreDue now rows blocks
   pub once : (block : ℕ) → RecoversOnce block rows
 

@@ -11,7 +11,7 @@ ghost use Rattle.history.specs.Grants.{rows_granted};
 ghost use Rattle.flat_rows.specs.Verdicts.{is_done};
 ghost use Rattle.lease_manager.specs.Leases as lease;
 ghost use Rattle.lease_manager.specs.Leases.{latest_moment};
-ghost use Rattle.lease_manager.specs.Writers.{moment_of};
+ghost use Rattle.lease_manager.specs.Writers.{renewal_moment_of};
 ghost use Rattle.file_effects.specs.Effected.{IsExact, IsFree, refused_end_of};
 ghost use Rattle.file_takeovers.specs.Recovered.{RecoversOnce};
 ghost use Rattle.namesystem.specs.Performed.{IsPerformed, IsUndone, KnowsRecoveries, facts_in};
@@ -208,7 +208,7 @@ fn perform_renewal(
 
 /// Whether a client's lease is live. Takes no memory.
 fn is_live(writers: &Writers, client: &Who, now: Moment) -> bool
-    ensures { result ≡ spec.is_live (spec.state_at writers.now.leases.limits now (moment_of writers.now.leases.renewals client.now)) }
+    ensures { result ≡ spec.is_lease_live (spec.state_at writers.now.leases.limits now (renewal_moment_of writers.now.leases.renewals client.now)) }
 {
     matches!(writers.leases.state(client, now), Some(LeaseState::Live))
 }

@@ -13,7 +13,7 @@ use Rattle.block_records.specs.declared.mark.Mark.{Mark}
 use Rattle.block_placement.specs.Placement.{targets}
 use Rattle.block_tables.specs.Changes.{with_length}
 use Rattle.block_tables.specs.Kept.{load}
-use Rattle.known_blocks.specs.Known.{Known, block_of, altered, refused_new_block}
+use Rattle.known_blocks.specs.Known.{KnownBlocks, block_of, with_block_changed, refused_new_block}
 use Rattle.block_records.specs.declared.last_block.LastBlock.{LastBlock}
 use Rattle.new_blocks.specs.declared.behind.NewBlock.{NewBlock}
 
@@ -29,23 +29,23 @@ marks_of_others block length (Some own) = marks_of (others_of length own.reports
 
 -- ---- the last block, if one is named
 
-abbrev pub with_last : Option LastBlock → Known → Known
-with_last None known = known
-with_last (Some last) known = altered (with_length last.length) last.block known
+abbrev pub with_last_length : Option LastBlock → KnownBlocks → KnownBlocks
+with_last_length None known = known
+with_last_length (Some last) known = with_block_changed (with_length last.length) last.block known
 
 -- the nodes that reported another length of it are to remove their replicas
-abbrev pub marks_behind : Option LastBlock → Known → List Mark
+abbrev pub marks_behind : Option LastBlock → KnownBlocks → List Mark
 marks_behind None known = []
 marks_behind (Some last) known = marks_of_others last.block last.length (block_of known last.block)
 
 -- ---- the new block
 
 -- of these nodes so many that have the fewest blocks then
-abbrev pub targets_behind : Option LastBlock → Known → ℕ → List ℕ → List ℕ
-targets_behind last known count live = targets (load (with_last last known).blocks) count live
+abbrev pub targets_behind : Option LastBlock → KnownBlocks → ℕ → List ℕ → List ℕ
+targets_behind last known count live = targets (load (with_last_length last known).blocks) count live
 
-abbrev pub given_behind : Option LastBlock → Known → ℕ → List ℕ → NewBlock
-given_behind last known count live = record { block = known.next_block; stamp = known.next_stamp; targets = targets_behind last known count live }
+abbrev pub new_block_behind : Option LastBlock → KnownBlocks → ℕ → List ℕ → NewBlock
+new_block_behind last known count live = record { block = known.next_block; stamp = known.next_stamp; targets = targets_behind last known count live }
 
 -- ---- refusals
 
@@ -57,18 +57,18 @@ reports_by (Some own) = own.reports
 abbrev pub refused_length : Option BlockRecord → ℕ → Option BlockRefusal
 refused_length found length = if is_reported (reports_by found) length then None else Some NotYetReplicated
 
-abbrev pub refused_last : Option LastBlock → Known → Option BlockRefusal
-refused_last None known = None
-refused_last (Some last) known = refused_length (block_of known last.block) last.length
+abbrev pub refused_last_length : Option LastBlock → KnownBlocks → Option BlockRefusal
+refused_last_length None known = None
+refused_last_length (Some last) known = refused_length (block_of known last.block) last.length
 
 -- a node has to be live
-abbrev pub refused_without : List ℕ → Option BlockRefusal
-refused_without [] = Some TooFewNodes
-refused_without (node ∷ nodes) = None
+abbrev pub refused_without_nodes : List ℕ → Option BlockRefusal
+refused_without_nodes [] = Some TooFewNodes
+refused_without_nodes (node ∷ nodes) = None
 
 -- in this order
-abbrev pub refused_behind : Option LastBlock → Known → List ℕ → Option BlockRefusal
-refused_behind last known live = option_or (refused_last last known) (option_or (refused_without live) (refused_new_block known))
+abbrev pub refused_block_behind : Option LastBlock → KnownBlocks → List ℕ → Option BlockRefusal
+refused_block_behind last known live = option_or (refused_last_length last known) (option_or (refused_without_nodes live) (refused_new_block known))
 
 -- a call that is refused says why; out of memory may come in the place of any other answer
 abbrev pub IsFaultOf : Option BlockRefusal → BlockFault → Type 0

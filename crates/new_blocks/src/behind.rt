@@ -1,7 +1,7 @@
 ghost use Rattle.std.specs.Prelude.{◌≡◌, None, Some, true, is_some, OnOk, OnErr, IfOk, IfErr, IfSome};
 ghost use Rattle.block_records.specs.Marks.{with_marks};
 ghost use Rattle.block_records.specs.Reports.{others_of};
-ghost use Rattle.known_blocks.specs.Known.{block_of, added, altered, refused_new_block};
+ghost use Rattle.known_blocks.specs.Known.{block_of, with_new_block, with_block_changed, refused_new_block};
 ghost use Rattle.block_tables.specs.Changes.{with_length};
 ghost use Rattle.new_blocks.specs.Behind as spec;
 
@@ -61,8 +61,8 @@ fn check_last(known: &KnownBlocks, last: LastBlock) -> Result<(), BlockRefusal>
 
 // Whether one of these nodes is there, and numbers for a new block.
 fn check_new(known: &KnownBlocks, live: &NodeSet) -> Result<(), BlockRefusal>
-    ensures ok { OnOk result (spec.refused_behind None known.now live.now ≡ None) }
-    ensures err { IfErr result (λ refusal. spec.refused_behind None known.now live.now ≡ Some refusal) }
+    ensures ok { OnOk result (spec.refused_block_behind None known.now live.now ≡ None) }
+    ensures err { IfErr result (λ refusal. spec.refused_block_behind None known.now live.now ≡ Some refusal) }
 {
     if live.as_slice().is_empty() {
         return Err(BlockRefusal::TooFewNodes);
@@ -72,8 +72,8 @@ fn check_new(known: &KnownBlocks, live: &NodeSet) -> Result<(), BlockRefusal>
 
 // Whether a new block can be added.
 fn check(known: &KnownBlocks, live: &NodeSet, last: &Option<LastBlock>) -> Result<(), BlockRefusal>
-    ensures ok { OnOk result (spec.refused_behind last.now known.now live.now ≡ None) }
-    ensures err { IfErr result (λ refusal. spec.refused_behind last.now known.now live.now ≡ Some refusal) }
+    ensures ok { OnOk result (spec.refused_block_behind last.now known.now live.now ≡ None) }
+    ensures err { IfErr result (λ refusal. spec.refused_block_behind last.now known.now live.now ≡ Some refusal) }
 {
     if let Some(last) = last {
         if let Err(refusal) = check_last(known, *last) {
@@ -141,9 +141,9 @@ pub fn plan_behind(
     last: &Option<LastBlock>,
     replication: Repl,
 ) -> Result<NewBlock, BlockFault>
-    ensures allowed { OnOk result (spec.refused_behind last.now known.now live.now ≡ None) }
-    ensures given { IfOk result (λ new. new ≡ spec.given_behind last.now known.now replication live.now) }
-    ensures fault { IfErr result (spec.IsFaultOf (spec.refused_behind last.now known.now live.now)) }
+    ensures allowed { OnOk result (spec.refused_block_behind last.now known.now live.now ≡ None) }
+    ensures given { IfOk result (λ new. new ≡ spec.new_block_behind last.now known.now replication live.now) }
+    ensures fault { IfErr result (spec.IsFaultOf (spec.refused_block_behind last.now known.now live.now)) }
 {
     if let Err(refusal) = check(known, live, last) {
         return Err(BlockFault::Refused(refusal));
@@ -168,7 +168,7 @@ pub fn commit(
     last: &LastBlock,
 ) -> Result<(), BlockFault>
     ensures reported { OnOk result (spec.refused_length (block_of known.old last.now.block) last.now.length ≡ None) }
-    ensures ok { OnOk result (known.new ≡ altered (with_length last.now.length) last.now.block known.old) }
+    ensures ok { OnOk result (known.new ≡ with_block_changed (with_length last.now.length) last.now.block known.old) }
     ensures marked { OnOk result (marks.new ≡ with_marks marks.old (spec.marks_of_others last.now.block last.now.length (block_of known.old last.now.block))) }
     ensures fault { IfErr result (spec.IsFaultOf (spec.refused_length (block_of known.old last.now.block) last.now.length)) }
     ensures err { OnErr result ((known.new ≡ known.old) × (marks.new ≡ marks.old)) }
@@ -194,7 +194,7 @@ fn add_next(
 ) -> Result<(), AllocError>
     requires numbers { refused_new_block known.old ≡ None }
     requires known { is_some (block_of known.old last.now.block) ≡ true }
-    ensures added { OnOk result (known.new ≡ added (altered (with_length last.now.length) last.now.block known.old) targets replication) }
+    ensures added { OnOk result (known.new ≡ with_new_block (with_block_changed (with_length last.now.length) last.now.block known.old) targets replication) }
     ensures marked { OnOk result (marks.new ≡ with_marks marks.old (spec.marks_of_others last.now.block last.now.length (block_of known.old last.now.block))) }
     ensures err { OnErr result ((known.new ≡ known.old) × (marks.new ≡ marks.old)) }
 {
@@ -219,8 +219,8 @@ pub fn add_planned(
     replication: Repl,
 ) -> Result<(), AllocError>
     requires numbers { refused_new_block known.old ≡ None }
-    requires last { spec.refused_last last.now known.old ≡ None }
-    ensures added { OnOk result (known.new ≡ added (spec.with_last last.now known.old) targets replication) }
+    requires last { spec.refused_last_length last.now known.old ≡ None }
+    ensures added { OnOk result (known.new ≡ with_new_block (spec.with_last_length last.now known.old) targets replication) }
     ensures marked { OnOk result (marks.new ≡ with_marks marks.old (spec.marks_behind last.now known.old)) }
     ensures err { OnErr result ((known.new ≡ known.old) × (marks.new ≡ marks.old)) }
 {

@@ -2,7 +2,7 @@ ghost use Rattle.std.specs.Prelude.{◌≡◌, ◌++◌, map, IsTrue, IfOk, OnOk
 ghost use Rattle.permission_specs.specs.Modes.{is_modes, modes};
 ghost use Rattle.block_tokens.specs.Ring.{update_of};
 ghost use Rattle.flat_rows.specs.NodeOutcome.{recover_command, removal_of, copy_command, commands_of};
-ghost use Rattle.history.specs.Grants.{row_of, granted_with};
+ghost use Rattle.history.specs.Grants.{ledger_row, granted_with};
 ghost use Rattle.node_commands.specs.Granted.{tokens_of, recovery_row, copy_row};
 
 use bitflags::Flags;
@@ -40,7 +40,7 @@ pub fn granted_row(
     granted: Modes,
 ) -> Result<LedgerRow, AllocError>
     requires { IsTrue (is_modes granted.0) }
-    ensures { IfOk result (λ row. row ≡ row_of place ring.now now principal.now (record { block = block; modes = granted })) }
+    ensures { IfOk result (λ row. row ≡ ledger_row place ring.now now principal.now (record { block = block; modes = granted })) }
 {
     let grant = ring.issue(alloc, now, principal, block, granted)?;
     Ok(LedgerRow { place, grant })
@@ -146,7 +146,7 @@ pub fn granted_commands(
     told: &Instructions,
 ) -> Result<GrantedCommands, AllocError>
     ensures commands { IfOk result (λ granted. granted.commands ≡ commands_of (update_of ring.now now) (tokens_of ring.now now) principal.now told.now.recoveries told.now.removals told.now.copies) }
-    ensures rows { IfOk result (λ granted. granted.rows.items ≡ map (row_of place ring.now now principal.now) (granted_with granted.commands)) }
+    ensures rows { IfOk result (λ granted. granted.rows.items ≡ map (ledger_row place ring.now now principal.now) (granted_with granted.commands)) }
 {
     let mut rows = Vec::new(alloc);
     let keys = ring.update(alloc, now)?;

@@ -7,11 +7,11 @@ use Rattle.std.specs.Option.{option_map}
 use Rattle.block_records.specs.declared.block_record.BlockRecord.{BlockRecord}
 use Rattle.block_records.specs.declared.mark.Mark.{Mark}
 use Rattle.block_records.specs.Marks.{marks_for}
-use Rattle.block_copies.specs.Copies.{transfers_for}
+use Rattle.block_copies.specs.Copies.{transfers_of}
 use Rattle.block_copies.specs.declared.transfer.HandOut.{HandOut}
 use Rattle.block_copies.specs.declared.transfer.Transfer.{Transfer}
 use Rattle.recovery_queue.specs.Queue.{led_by}
-use Rattle.known_blocks.specs.Known.{Known, block_of}
+use Rattle.known_blocks.specs.Known.{KnownBlocks, block_of}
 use Rattle.node_orders.specs.declared.recovery.Recovery.{Recovery}
 
 pub record Instructions : Type 0 where
@@ -27,15 +27,15 @@ abbrev pub recovery_by : ℕ → Option BlockRecord → Option Recovery
 recovery_by block found = option_map (λ (own : BlockRecord). record { block = block; stamp = own.stamp; nodes = own.expected }) found
 
 -- the recoveries that a node is to lead, by block
-abbrev pub recoveries_for : Known → List (ℕ × ℕ) → ℕ → List Recovery
-recoveries_for known queue node = filter_map (λ block. recovery_by block (block_of known block)) (led_by node queue)
+abbrev pub recoveries_to_lead : KnownBlocks → List (ℕ × ℕ) → ℕ → List Recovery
+recoveries_to_lead known queue node = filter_map (λ block. recovery_by block (block_of known block)) (led_by node queue)
 
-abbrev pub orders_for : Known → List (ℕ × ℕ) → List Mark → HandOut → ℕ → Instructions
+abbrev pub orders_for : KnownBlocks → List (ℕ × ℕ) → List Mark → HandOut → ℕ → Instructions
 orders_for known queue marks at node = record {
-  recoveries = recoveries_for known queue node;
+  recoveries = recoveries_to_lead known queue node;
   removals = marks_for node marks;
-  copies = transfers_for known.blocks at node;
+  copies = transfers_of known.blocks at node;
 }
 
-abbrev pub copied : List Transfer → List ℕ
-copied copies = map (λ copy. copy.block) copies
+abbrev pub copied_blocks : List Transfer → List ℕ
+copied_blocks copies = map (λ copy. copy.block) copies

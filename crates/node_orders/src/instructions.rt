@@ -86,7 +86,7 @@ fn recoveries_for(
     queue: &RecoveryQueue,
     node: NodeId,
 ) -> Result<Vec<Recovery>, AllocError>
-    ensures { IfOk result (λ told. told.items ≡ orders.recoveries_for known.now queue.now node) }
+    ensures { IfOk result (λ told. told.items ≡ orders.recoveries_to_lead known.now queue.now node) }
 {
     let blocks = queue.led(alloc, node)?;
     recoveries_of(alloc, known, &blocks)
@@ -118,7 +118,7 @@ pub fn orders_for(
 
 /// Notes that these copies are told now. Costs a look-up for each, and takes no memory.
 pub fn note_copies(known: &mut KnownBlocks, copies: &[Transfer], now: Moment)
-    ensures { known.new ≡ spec.told known.old (orders.copied copies.now) now }
+    ensures { known.new ≡ spec.with_copies_told known.old (orders.copied_blocks copies.now) now }
 {
     for copy in copies {
         known.hand_out(&[copy.block], now);
@@ -136,8 +136,8 @@ pub fn hand_out(
     told: &Instructions,
 )
     requires { told.now.removals ≡ marks_for node marks.old }
-    ensures known { known.new ≡ spec.told known.old (orders.copied told.now.copies) now }
-    ensures queue { queue.new ≡ queued.told queue.old node }
+    ensures known { known.new ≡ spec.with_copies_told known.old (orders.copied_blocks told.now.copies) now }
+    ensures queue { queue.new ≡ queued.without_led_by queue.old node }
     ensures marks { marks.new ≡ marks_but node marks.old }
 {
     queue.forget_led(node);

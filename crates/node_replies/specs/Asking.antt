@@ -26,15 +26,15 @@ abbrev pub asked_by : ℕ → Presented → TokenCall → Presented
 asked_by node presented asked = if sends_copy asked then record presented { caller = node_principal node } else presented
 
 -- to read or to write
-abbrev pub mode_of : TokenCall → Modes
-mode_of (call.Begin next) = modes 2
-mode_of (call.Packet offset bytes next) = modes 2
-mode_of (call.Finalize count next) = modes 2
-mode_of (call.Read offset count) = modes 1
-mode_of call.InitRecovery = modes 2
-mode_of (call.UpdateReplica count) = modes 2
-mode_of (call.SendCopy to) = modes 1
-mode_of (call.TakeCopy bytes) = modes 2
+abbrev pub modes_of_call : TokenCall → Modes
+modes_of_call (call.Begin next) = modes 2
+modes_of_call (call.Packet offset bytes next) = modes 2
+modes_of_call (call.Finalize count next) = modes 2
+modes_of_call (call.Read offset count) = modes 1
+modes_of_call call.InitRecovery = modes 2
+modes_of_call (call.UpdateReplica count) = modes 2
+modes_of_call (call.SendCopy to) = modes 1
+modes_of_call (call.TakeCopy bytes) = modes 2
 
 -- what is noted down: of a packet and of a read where it begins, of all others 0
 abbrev pub recorded_offset : TokenCall → ℕ
@@ -64,7 +64,7 @@ record_of node moment presented asked held = record {
   moment = moment;
   caller = presented.caller;
   block = presented.block;
-  mode = mode_of asked;
+  mode = modes_of_call asked;
   offset = recorded_offset asked;
   length = recorded_length asked held;
   token = presented.token;

@@ -25,7 +25,7 @@ pub fn sends_copy(call: &TokenCall) -> bool
 
 /// Which access a call needs: to read or to write (HADOOP-4359). Takes no memory.
 pub fn mode_of(call: &TokenCall) -> Modes
-    ensures { result ≡ spec.mode_of call.now }
+    ensures { result ≡ spec.modes_of_call call.now }
 {
     match call {
         TokenCall::Begin(_) => Modes::WRITE,

@@ -13,7 +13,7 @@ use Rattle.permission_specs.specs.declared.entry.EntryKind.{EntryKind}
 use Rattle.permission_specs.specs.declared.entry.Scope.{Scope}
 use Rattle.acl_entries.specs.declared.entry_list.NamedEntry.{NamedEntry}
 use Rattle.acl_entries.specs.Acl.{ascend, grant_rights, are_rights}
-use Rattle.partial_acl.specs.AclChange.{with_entry, with_each, is_for, with_name, named_in, granted_by}
+use Rattle.partial_acl.specs.AclChange.{with_entry, with_each, is_entry_for, with_name, named_in, rights_granted}
 use Rattle.partial_acl.proofs.Tests.{both, and}
 
 -- ---- where an entry is put
@@ -198,14 +198,14 @@ module _ (p : NamedEntry → Bool) (xs left all : List NamedEntry) (i : ℕ) (e 
 -- the entries for names of a spec, one entry of the spec after another
 named_one : (scope : Scope) (kind : EntryKind) (e : Entry) (es : List Entry) (entries : List NamedEntry)
     → with_each entries (named_in scope kind (e ∷ es)) ≡ with_each (with_each entries (named_in scope kind (e ∷ []))) (named_in scope kind es)
-named_one scope kind e es entries = by (is_for scope kind e) (with_name e)
+named_one scope kind e es entries = by (is_entry_for scope kind e) (with_name e)
   where
-    by : (b : Bool) (named : Option NamedEntry) → with_each entries (filter_map with_name (cond b (e ∷ filter (is_for scope kind) es) (filter (is_for scope kind) es)))
+    by : (b : Bool) (named : Option NamedEntry) → with_each entries (filter_map with_name (cond b (e ∷ filter (is_entry_for scope kind) es) (filter (is_entry_for scope kind) es)))
         ≡ with_each (with_each entries (filter_map with_name (cond b (e ∷ []) []))) (named_in scope kind es)
     by false named = refl
     by true named = named_too (with_name e)
       where
-        named_too : (named : Option NamedEntry) → with_each entries (cons_option named (filter_map with_name (filter (is_for scope kind) es)))
+        named_too : (named : Option NamedEntry) → with_each entries (cons_option named (filter_map with_name (filter (is_entry_for scope kind) es)))
             ≡ with_each (with_each entries (cons_option named [])) (named_in scope kind es)
         named_too None = refl
         named_too (Some new) = refl
@@ -220,18 +220,18 @@ too_many entries others all many is = omega (arith, with_each_grows entries othe
 
 -- an entry of a name, among those that a spec has for names
 pub names_one : (scope : Scope) (kind : EntryKind) (name : List ℕ) (spec : List Entry)
-    → list_any (λ e. is_for scope kind e && option_map_or (λ own. same own name) e.name false) spec ≡ list_any (λ other. same other.name name) (named_in scope kind spec)
+    → list_any (λ e. is_entry_for scope kind e && option_map_or (λ own. same own name) e.name false) spec ≡ list_any (λ other. same other.name name) (named_in scope kind spec)
 names_one scope kind name [] = refl
-names_one scope kind name (e ∷ es) = by (is_for scope kind e) (names_one scope kind name es)
+names_one scope kind name (e ∷ es) = by (is_entry_for scope kind e) (names_one scope kind name es)
   where
-    named : (own : Option (List ℕ)) → list_any (λ e. is_for scope kind e && option_map_or (λ own. same own name) e.name false) es ≡ list_any (λ other. same other.name name) (named_in scope kind es)
-        → (option_map_or (λ own. same own name) own false || list_any (λ e. is_for scope kind e && option_map_or (λ own. same own name) e.name false) es)
-        ≡ list_any (λ other. same other.name name) (cons_option (option_map (λ own. record { name = own; rights = granted_by e }) own) (named_in scope kind es))
+    named : (own : Option (List ℕ)) → list_any (λ e. is_entry_for scope kind e && option_map_or (λ own. same own name) e.name false) es ≡ list_any (λ other. same other.name name) (named_in scope kind es)
+        → (option_map_or (λ own. same own name) own false || list_any (λ e. is_entry_for scope kind e && option_map_or (λ own. same own name) e.name false) es)
+        ≡ list_any (λ other. same other.name name) (cons_option (option_map (λ own. record { name = own; rights = rights_granted e }) own) (named_in scope kind es))
     named None others = others
     named (Some own) others = ap (λ b. same own name || b) others
 
-    by : (b : Bool) → list_any (λ e. is_for scope kind e && option_map_or (λ own. same own name) e.name false) es ≡ list_any (λ other. same other.name name) (named_in scope kind es)
-        → ((b && option_map_or (λ own. same own name) e.name false) || list_any (λ e. is_for scope kind e && option_map_or (λ own. same own name) e.name false) es)
-        ≡ list_any (λ other. same other.name name) (filter_map with_name (cond b (e ∷ filter (is_for scope kind) es) (filter (is_for scope kind) es)))
+    by : (b : Bool) → list_any (λ e. is_entry_for scope kind e && option_map_or (λ own. same own name) e.name false) es ≡ list_any (λ other. same other.name name) (named_in scope kind es)
+        → ((b && option_map_or (λ own. same own name) e.name false) || list_any (λ e. is_entry_for scope kind e && option_map_or (λ own. same own name) e.name false) es)
+        ≡ list_any (λ other. same other.name name) (filter_map with_name (cond b (e ∷ filter (is_entry_for scope kind) es) (filter (is_entry_for scope kind) es)))
     by true others = named e.name others
     by false others = others

@@ -37,22 +37,22 @@ abbrev pub has_base : Scope → EntryKind → List Entry → Bool
 has_base scope kind spec = list_any (is_base_of scope kind) spec
 
 -- the rights that an entry grants: rights have three bits, and any further ones grant nothing
-abbrev pub granted_by : Entry → Rights
-granted_by entry = rights (entry.rights.0 % 8)
+abbrev pub rights_granted : Entry → Rights
+rights_granted entry = rights (entry.rights.0 % 8)
 
 -- the rights that this entry grants
 abbrev pub base_rights : Scope → EntryKind → List Entry → Option Rights
-base_rights scope kind spec = option_map granted_by (find (is_base_of scope kind) spec)
+base_rights scope kind spec = option_map rights_granted (find (is_base_of scope kind) spec)
 
-abbrev pub is_for : Scope → EntryKind → Entry → Bool
-is_for scope kind entry = same_scope entry.scope scope && same_kind entry.kind kind
+abbrev pub is_entry_for : Scope → EntryKind → Entry → Bool
+is_entry_for scope kind entry = same_scope entry.scope scope && same_kind entry.kind kind
 
 abbrev pub with_name : Entry → Option NamedEntry
-with_name entry = option_map (λ name. record { name = name; rights = granted_by entry }) entry.name
+with_name entry = option_map (λ name. record { name = name; rights = rights_granted entry }) entry.name
 
 -- its entries for named users, or for named groups
 abbrev pub named_in : Scope → EntryKind → List Entry → List NamedEntry
-named_in scope kind spec = filter_map with_name (filter (is_for scope kind) spec)
+named_in scope kind spec = filter_map with_name (filter (is_entry_for scope kind) spec)
 
 -- it has an entry in the scope
 abbrev pub touches : Scope → List Entry → Bool

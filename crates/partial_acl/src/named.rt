@@ -104,7 +104,7 @@ pub fn put_each(
 
 /// Whether a spec has an entry of this name, in the scope and of the kind.
 fn names(name: &Who, scope: Scope, kind: EntryKind, spec: &[Entry]) -> bool
-    ensures { result ≡ list_any (λ entry. definition.is_for scope kind entry && option_map_or (λ own. same own name.now) entry.name false) spec.now }
+    ensures { result ≡ list_any (λ entry. definition.is_entry_for scope kind entry && option_map_or (λ own. same own name.now) entry.name false) spec.now }
 {
     spec.iter().any(|entry| is_for(entry, scope, kind) && is_named(entry, name))
 }

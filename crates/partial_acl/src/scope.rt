@@ -23,7 +23,7 @@ fn is_of_kind(entry: &Entry, kind: EntryKind) -> bool
 
 /// Whether an entry stands in a scope and is of a kind, with or without a name.
 pub fn is_for(entry: &Entry, scope: Scope, kind: EntryKind) -> bool
-    ensures { result ≡ definition.is_for scope kind entry.now }
+    ensures { result ≡ definition.is_entry_for scope kind entry.now }
 {
     is_in(entry, scope) && is_of_kind(entry, kind)
 }
@@ -51,7 +51,7 @@ pub fn has_base(scope: Scope, kind: EntryKind, spec: &[Entry]) -> bool
 
 /// What an entry grants.
 pub fn granted_by(entry: &Entry) -> Rights
-    ensures { result ≡ definition.granted_by entry.now }
+    ensures { result ≡ definition.rights_granted entry.now }
 {
     Rights::of_low_bits(u16::from(entry.rights.bits()))
 }

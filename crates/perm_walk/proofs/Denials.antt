@@ -17,12 +17,12 @@ use Rattle.namespace_rows.specs.Rows.{is_directory, directories_above, directori
 use Rattle.namespace_rows.specs.Judgement.{judgement}
 use Rattle.flat_rows.specs.Denial.{Denial, denial_at}
 use Rattle.required_rights.specs.RequiredRights.{Demand}
-use Rattle.flat_rows.specs.Decision.{Ask, ask_at, asks_of, holds, denial_of}
+use Rattle.flat_rows.specs.Decision.{Ask, ask_at, asks_of, condition_holds, denial_of}
 use Rattle.required_rights.specs.Demands.{IsDemand, suits_role}
 use Rattle.namespace_rows.proofs.PathOrders.{same_path_is}
 use Rattle.namespace_rows.proofs.Tests.{both}
 use Rattle.perm_walk.specs.declared.reach.Reach.{Reach}
-use Rattle.perm_walk.specs.Closed.{is_closed, first_closed}
+use Rattle.perm_walk.specs.Closed.{denies, first_closed}
 use Rattle.perm_walk.specs.Reached.{IsReach}
 use Rattle.perm_walk.specs.Walked.{IsTraversal}
 
@@ -45,7 +45,7 @@ module _ (caller : Caller) (plain : caller.is_superuser ≡ false) (asked : bits
   first_denied (row ∷ rows) = ap (λ d. option_or d (first_answer (denial_of caller) (asks rows))) (one row) ∙ by (judgement row caller.name caller.groups asked).granted refl (first_denied rows)
     where
       by : (granted : Bool) → (judgement row caller.name caller.groups asked).granted ≡ granted → first_answer (denial_of caller) (asks rows) ≡ option_and_then denied (first_closed asked caller rows)
-          → option_or (denied row) (first_answer (denial_of caller) (asks rows)) ≡ option_and_then denied (first (cond (not granted) (row ∷ filter (is_closed asked caller) rows) (filter (is_closed asked caller) rows)))
+          → option_or (denied row) (first_answer (denial_of caller) (asks rows)) ≡ option_and_then denied (first (cond (not granted) (row ∷ filter (denies asked caller) rows) (filter (denies asked caller) rows)))
       by true h rest = ap (λ d. option_or d (first_answer (denial_of caller) (asks rows))) (met row h) ∙ rest
       by false h rest = rw h refl
 
@@ -106,7 +106,7 @@ final_role Node _ suits other = cc
 pub is_of_final : (demand : Demand) → IsDemand demand → ((asked : bits.Rights) → demand.need ≡ Rights asked → ⊥) → demand.role ≡ Final
 is_of_final demand is other = final_role demand.need demand.role (both (is_path demand.path) (suits_role demand.need demand.role) is).1 other
 
-pub asks_of_final : (demand : Demand) (rows : List Row) → demand.role ≡ Final → holds demand.condition demand.path rows ≡ true
+pub asks_of_final : (demand : Demand) (rows : List Row) → demand.role ≡ Final → condition_holds demand.condition demand.path rows ≡ true
     → asks_of rows demand ≡ map (ask_at rows demand.need) (option_to_list (row_at demand.path rows))
 asks_of_final demand rows role held = rw (held, role) refl
 
@@ -158,5 +158,5 @@ two_passes p q r (row ∷ rows) = by (r row) (p row) refl refl (two_passes p q r
 
 -- the first closed directory of a sub-tree
 pub closed_first : (caller : Caller) (asked : bits.Rights) (path : List (List ℕ)) (all : List Row)
-    → first (filter (λ row. is_directory row && is_closed asked caller row) (filter (λ row. is_prefix path row.path) all)) ≡ first_closed asked caller (directories_beneath path all)
-closed_first caller asked path all = ap first (two_passes is_directory (is_closed asked caller) (λ row. is_prefix path row.path) all)
+    → first (filter (λ row. is_directory row && denies asked caller row) (filter (λ row. is_prefix path row.path) all)) ≡ first_closed asked caller (directories_beneath path all)
+closed_first caller asked path all = ap first (two_passes is_directory (denies asked caller) (λ row. is_prefix path row.path) all)

@@ -11,7 +11,7 @@ use Rattle.hdfs_types.specs.declared.reply.ObjectKind.TheVariants.{Directory}
 use Rattle.namespace_rows.specs.declared.row.Row.{Row}
 use Rattle.namespace_rows.specs.First.{first}
 use Rattle.namespace_rows.specs.Rows.{is_directory, if_directory, row_at, directory_of, ancestor, file_above}
-use Rattle.inode_nodes.specs.Node.{Node, Top, rows, row_of, under, placed}
+use Rattle.inode_nodes.specs.Node.{Node, Top, rows, row_of, under, row_placed}
 use Rattle.inode_nodes.specs.Part.{Splits, IsPart}
 use Rattle.inode_nodes.proofs.Filters.{self, standing, standing-splits}
 use Rattle.inode_nodes.proofs.Parts.{placed_top}
@@ -31,9 +31,9 @@ file_over path row = is_beneath path row.path && not (is_directory row)
 pub file_over-splits : (n : List ℕ) (ns : List (List ℕ)) → Splits (file_over (n ∷ ns)) (file_over ns) n false false
 file_over-splits n ns = record { lows = λ m r h. rw h refl; highs = λ m r h. rw h refl; here = λ r. rw (self n) refl }
 
-pub placed_onward : (front : List (List ℕ)) (n : List ℕ) (rs : List Row) → map (placed front) (map (under n) rs) ≡ map (placed (front ++ n ∷ [])) rs
+pub placed_onward : (front : List (List ℕ)) (n : List ℕ) (rs : List Row) → map (row_placed front) (map (under n) rs) ≡ map (row_placed (front ++ n ∷ [])) rs
 placed_onward front n [] = refl
-placed_onward front n (r ∷ rs) = rw (← append_assoc front (n ∷ []) r.path) (ap (λ t. placed (front ++ n ∷ []) r ∷ t) (placed_onward front n rs))
+placed_onward front n (r ∷ rs) = rw (← append_assoc front (n ∷ []) r.path) (ap (λ t. row_placed (front ++ n ∷ []) r ∷ t) (placed_onward front n rs))
 
 -- the parent of a longer path
 parent_of_longer : (front : List (List ℕ)) (n : List ℕ) (ns : List (List ℕ)) → parent_of (front ++ n ∷ ns) ≡ Some (front ++ take (length ns) (n ∷ ns))
@@ -44,11 +44,11 @@ parent_of_longer (m ∷ front) n ns =
 
 -- what is known of the rows with the front of a path passed, the last component above included
 pub record Passed (path : List (List ℕ)) (all : List Row) (front rest : List (List ℕ)) (b : Node) (above : Option Row) : Type 0 where
-  pub stands : (names : List (List ℕ)) → filter (standing (front ++ names)) all ≡ map (placed front) (filter (standing names) (rows b))
+  pub stands : (names : List (List ℕ)) → filter (standing (front ++ names)) all ≡ map (row_placed front) (filter (standing names) (rows b))
   pub held : above ≡ directory_of front all
-  pub at : filter (standing path) all ≡ map (placed front) (filter (standing rest) (rows b))
-  pub over : last_or None (filter (over path) all) ≡ last_or above (map (placed front) (filter (over rest) (rows b)))
-  pub file : filter (file_over path) all ≡ map (placed front) (filter (file_over rest) (rows b))
+  pub at : filter (standing path) all ≡ map (row_placed front) (filter (standing rest) (rows b))
+  pub over : last_or None (filter (over path) all) ≡ last_or above (map (row_placed front) (filter (over rest) (rows b)))
+  pub file : filter (file_over path) all ≡ map (row_placed front) (filter (file_over rest) (rows b))
 
 pub passed_none : (path : List (List ℕ)) (b : Node) → Passed path (rows b) [] path b None
 passed_none path b = record {
@@ -72,18 +72,18 @@ pub passed_one : (path : List (List ℕ)) (all : List Row) (front : List (List �
 passed_one path all front n ns b c above p part dir = record {
   stands = λ names.
       ap (λ q. filter (standing q) all) (append_assoc front (n ∷ []) names) ∙ p.stands (n ∷ names)
-      ∙ ap (map (placed front)) (part.seen (standing (n ∷ names)) (standing names) (standing-splits n names)) ∙ placed_onward front n (filter (standing names) (rows c));
+      ∙ ap (map (row_placed front)) (part.seen (standing (n ∷ names)) (standing names) (standing-splits n names)) ∙ placed_onward front n (filter (standing names) (rows c));
   held =
       sym (ap (λ o. if_directory (option_and_then (λ row. row_at row all) o)) (parent_of_longer front n [] ∙ ap Some (append-nil front))
       ∙ ap if_directory (passed_here path all front (n ∷ ns) b above p) ∙ ap (λ d. cond d (Some (row_of front b.top)) None) (directory_top front b.top dir));
-  at = p.at ∙ ap (map (placed front)) (part.seen (standing (n ∷ ns)) (standing ns) (standing-splits n ns)) ∙ placed_onward front n (filter (standing ns) (rows c));
+  at = p.at ∙ ap (map (row_placed front)) (part.seen (standing (n ∷ ns)) (standing ns) (standing-splits n ns)) ∙ placed_onward front n (filter (standing ns) (rows c));
   over =
-      p.over ∙ ap (λ l. last_or above (placed front (row_of [] b.top) ∷ map (placed front) l)) (part.seen (over (n ∷ ns)) (over ns) (over-splits n ns))
-      ∙ ap (λ l. last_or (Some (placed front (row_of [] b.top))) l) (placed_onward front n (filter (over ns) (rows c)))
-      ∙ ap (λ q. last_or (Some (row_of q b.top)) (map (placed (front ++ n ∷ [])) (filter (over ns) (rows c)))) (append-nil front);
+      p.over ∙ ap (λ l. last_or above (row_placed front (row_of [] b.top) ∷ map (row_placed front) l)) (part.seen (over (n ∷ ns)) (over ns) (over-splits n ns))
+      ∙ ap (λ l. last_or (Some (row_placed front (row_of [] b.top))) l) (placed_onward front n (filter (over ns) (rows c)))
+      ∙ ap (λ q. last_or (Some (row_of q b.top)) (map (row_placed (front ++ n ∷ [])) (filter (over ns) (rows c)))) (append-nil front);
   file =
-      p.file ∙ ap (λ d. map (placed front) (cond (not d) (row_of [] b.top ∷ filter (file_over (n ∷ ns)) b.beneath) (filter (file_over (n ∷ ns)) b.beneath))) (directory_top [] b.top dir)
-      ∙ ap (map (placed front)) (part.seen (file_over (n ∷ ns)) (file_over ns) (file_over-splits n ns)) ∙ placed_onward front n (filter (file_over ns) (rows c));
+      p.file ∙ ap (λ d. map (row_placed front) (cond (not d) (row_of [] b.top ∷ filter (file_over (n ∷ ns)) b.beneath) (filter (file_over (n ∷ ns)) b.beneath))) (directory_top [] b.top dir)
+      ∙ ap (map (row_placed front)) (part.seen (file_over (n ∷ ns)) (file_over ns) (file_over-splits n ns)) ∙ placed_onward front n (filter (file_over ns) (rows c));
 }
 
 abbrev pub is_nil : List (List ℕ) → Bool
@@ -104,21 +104,21 @@ module _ (path : List (List ℕ)) (all : List Row) (front : List (List ℕ)) (b 
   no_file_over (r ∷ rs) = no_file_over rs
 
   pub ends_beneath : Passed path all front [] b above → above ≡ ancestor path all
-  ends_beneath p = sym (p.over ∙ ap (λ l. last_or above (map (placed front) l)) (nothing_over (rows b)))
+  ends_beneath p = sym (p.over ∙ ap (λ l. last_or above (map (row_placed front) l)) (nothing_over (rows b)))
 
   pub ends_held : Passed path all front [] b above → front ≡ path → above ≡ directory_of path all
   ends_held p is = p.held ∙ ap (λ q. directory_of q all) is
 
   pub ends_clear : Passed path all front [] b above → None ≡ file_above path all
-  ends_clear p = sym (ap first (p.file ∙ ap (map (placed front)) (no_file_over (rows b))))
+  ends_clear p = sym (ap first (p.file ∙ ap (map (row_placed front)) (no_file_over (rows b))))
 
   -- where nothing has the next name
   module _ (n : List ℕ) (ns : List (List ℕ)) (p : Passed path all front (n ∷ ns) b above) (part : IsPart n b.beneath None) where
     pub stops_missing : None ≡ row_at path all
-    stops_missing = sym (ap first (p.at ∙ ap (map (placed front)) (part.seen (standing (n ∷ ns)) (standing ns) (standing-splits n ns))))
+    stops_missing = sym (ap first (p.at ∙ ap (map (row_placed front)) (part.seen (standing (n ∷ ns)) (standing ns) (standing-splits n ns))))
 
     nothing_there : (names : List (List ℕ)) → row_at (front ++ n ∷ names) all ≡ None
-    nothing_there names = ap first (p.stands (n ∷ names) ∙ ap (map (placed front)) (part.seen (standing (n ∷ names)) (standing names) (standing-splits n names)))
+    nothing_there names = ap first (p.stands (n ∷ names) ∙ ap (map (row_placed front)) (part.seen (standing (n ∷ names)) (standing names) (standing-splits n names)))
 
     -- the last component is the directory that holds the path where this is the path's last name
     pub stops_held : (last : Bool) → last ≡ is_nil ns → front ++ n ∷ ns ≡ path → cond last (if_directory (Some (row_of front b.top))) None ≡ directory_of path all
@@ -132,15 +132,15 @@ module _ (path : List (List ℕ)) (all : List Row) (front : List (List ℕ)) (b 
 
     pub stops_beneath : Some (row_of front b.top) ≡ ancestor path all
     stops_beneath =
-        sym (p.over ∙ ap (λ l. last_or above (placed front (row_of [] b.top) ∷ map (placed front) l)) (part.seen (over (n ∷ ns)) (over ns) (over-splits n ns)) ∙ ap (λ q. Some (row_of q b.top)) (append-nil front))
+        sym (p.over ∙ ap (λ l. last_or above (row_placed front (row_of [] b.top) ∷ map (row_placed front) l)) (part.seen (over (n ∷ ns)) (over ns) (over-splits n ns)) ∙ ap (λ q. Some (row_of q b.top)) (append-nil front))
 
-    by_kind : (d : Bool) → is_directory (row_of front b.top) ≡ d → first (map (placed front) (cond (not d) (row_of [] b.top ∷ []) [])) ≡ cond d None (Some (row_of front b.top))
+    by_kind : (d : Bool) → is_directory (row_of front b.top) ≡ d → first (map (row_placed front) (cond (not d) (row_of [] b.top ∷ []) [])) ≡ cond d None (Some (row_of front b.top))
     by_kind true e = refl
     by_kind false e = ap (λ q. Some (row_of q b.top)) (append-nil front)
 
     pub stops_at_file : if_file (row_of front b.top) ≡ file_above path all
     stops_at_file =
-        sym (ap first p.file ∙ ap (λ l. first (map (placed front) (cond (not (is_directory (row_of [] b.top))) (row_of [] b.top ∷ l) l))) (part.seen (file_over (n ∷ ns)) (file_over ns) (file_over-splits n ns)) ∙ by_kind (is_directory (row_of front b.top)) refl)
+        sym (ap first p.file ∙ ap (λ l. first (map (row_placed front) (cond (not (is_directory (row_of [] b.top))) (row_of [] b.top ∷ l) l))) (part.seen (file_over (n ∷ ns)) (file_over ns) (file_over-splits n ns)) ∙ by_kind (is_directory (row_of front b.top)) refl)
 
 -- the same by the number of names passed
 

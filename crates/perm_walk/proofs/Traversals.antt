@@ -8,7 +8,7 @@ use Rattle.principals.specs.Users.{Caller}
 use Rattle.namespace_rows.specs.declared.row.Row.{Row}
 use Rattle.namespace_rows.specs.First.{first}
 use Rattle.namespace_rows.specs.Rows.{is_directory, directories_above}
-use Rattle.inode_nodes.specs.Node.{Node, rows, row_of, under, placed}
+use Rattle.inode_nodes.specs.Node.{Node, rows, row_of, under, row_placed}
 use Rattle.inode_nodes.specs.Part.{Splits, IsPart}
 use Rattle.inode_nodes.proofs.Filters.{self, filter-map}
 use Rattle.inode_nodes.proofs.Parts.{placed_top}
@@ -41,7 +41,7 @@ module _ (asked : Option Rights) (caller : Caller) where
 
   -- the shut directories above a path, with its front passed
   abbrev pub Left : List (List ℕ) → List Row → List (List ℕ) → List (List ℕ) → Node → Type 0
-  Left path all front rest b = shut (directories_above path all) ≡ map (placed front) (shut (filter (directory_over rest) (rows b)))
+  Left path all front rest b = shut (directories_above path all) ≡ map (row_placed front) (shut (filter (directory_over rest) (rows b)))
 
   pub left_none : (path : List (List ℕ)) (b : Node) → Left path (rows b) [] path b
   left_none path b = sym (placed_top (shut (filter (directory_over path) (rows b))))
@@ -64,18 +64,18 @@ module _ (asked : Option Rights) (caller : Caller) where
 
     pub left_next : (n : List ℕ) (ns : List (List ℕ)) (c : Node) → Left path all front (n ∷ ns) b → (is_directory top && is_shut asked caller top) ≡ false → IsPart n b.beneath (Some c) → Left path all (front ++ n ∷ []) ns c
     left_next n ns c h lets part =
-        h ∙ ap (map (placed front)) (passed_top n ns lets ∙ ap shut (part.seen (directory_over (n ∷ ns)) (directory_over ns) (directory_over-splits n ns))
+        h ∙ ap (map (row_placed front)) (passed_top n ns lets ∙ ap shut (part.seen (directory_over (n ∷ ns)) (directory_over ns) (directory_over-splits n ns))
         ∙ filter-map (is_shut asked caller) (is_shut asked caller) (under n) (shut_under n) (filter (directory_over ns) (rows c)))
         ∙ placed_onward front n (shut (filter (directory_over ns) (rows c)))
 
     pub none_left : (n : List ℕ) (ns : List (List ℕ)) → Left path all front (n ∷ ns) b → (is_directory top && is_shut asked caller top) ≡ false → IsPart n b.beneath None → None ≡ first_shut asked caller (directories_above path all)
     none_left n ns h lets part =
-        sym (ap first (h ∙ ap (map (placed front)) (passed_top n ns lets ∙ ap shut (part.seen (directory_over (n ∷ ns)) (directory_over ns) (directory_over-splits n ns)))))
+        sym (ap first (h ∙ ap (map (row_placed front)) (passed_top n ns lets ∙ ap shut (part.seen (directory_over (n ∷ ns)) (directory_over ns) (directory_over-splits n ns)))))
 
     pub left_end : Left path all front [] b → None ≡ first_shut asked caller (directories_above path all)
-    left_end h = sym (ap first (h ∙ ap (λ l. map (placed front) (shut l)) (none_over (rows b))))
+    left_end h = sym (ap first (h ∙ ap (λ l. map (row_placed front) (shut l)) (none_over (rows b))))
 
-    first_top : (d c : Bool) (rs : List Row) → is_shut asked caller top ≡ c → (d && c) ≡ true → first (map (placed front) (shut (cond d (top ∷ rs) rs))) ≡ Some (placed front top)
+    first_top : (d c : Bool) (rs : List Row) → is_shut asked caller top ≡ c → (d && c) ≡ true → first (map (row_placed front) (shut (cond d (top ∷ rs) rs))) ≡ Some (row_placed front top)
     first_top true true rs e h = rw e refl
     first_top true false rs e h = cc
     first_top false c rs e h = cc

@@ -34,13 +34,13 @@ pub record IsDescent (rows : List Row) (descent : Descent) : Type 0 where
   pub known : IfSome descent.reach (IsReach descent.path.now rows)
 
 -- no need fails, and the path leads there
-pub record IsGranted (path : List (List ℕ)) (rows : List Row) (caller : Caller) (needs : List Demand) (reach : Reach) : Type 0 where
+pub record IsGrantedReach (path : List (List ℕ)) (rows : List Row) (caller : Caller) (needs : List Demand) (reach : Reach) : Type 0 where
   pub granted : denial_among rows caller needs ≡ None
   pub leads : IsReach path rows reach
 
 abbrev pub IsWalked : List (List ℕ) → List Row → Caller → List Demand → Walked → Type 0
 IsWalked path rows caller needs (one.Denied denial) = denial_among rows caller needs ≡ Some denial
-IsWalked path rows caller needs (one.Reached reach) = IsGranted path rows caller needs reach
+IsWalked path rows caller needs (one.Reached reach) = IsGrantedReach path rows caller needs reach
 
 -- the same for two paths
 pub record AreGranted (from to : List (List ℕ)) (rows : List Row) (caller : Caller) (needs : List Demand) (first second : Reach) : Type 0 where

@@ -2,7 +2,7 @@ ghost use Rattle.std.specs.Prelude.{◌≡◌, ℕ, List, false, map, unwrap_or,
 ghost use Rattle.std.specs.Option.{option_to_list, option_copied, option_map, option_and_then};
 ghost use Rattle.hdfs_values.specs.Path.{IsPath};
 ghost use Rattle.namespace_rows.specs.declared.row.Row.{Row};
-ghost use Rattle.flat_rows.specs.Denial.{deciding, denial_at};
+ghost use Rattle.flat_rows.specs.Denial.{need_decided, denial_at};
 ghost use Rattle.namespace_rows.specs.First.{first_answer};
 ghost use Rattle.namespace_rows.specs.Rows as rows_spec;
 ghost use Rattle.flat_rows.specs.Decision as spec;
@@ -96,7 +96,7 @@ fn if_closed(
 
 /// Whether the condition of a need holds on a path that leads so far.
 fn holds(condition: &Condition, reach: &Reach<'_>) -> bool
-    ensures { (path : List (List ℕ)) → (rows : List Row) → IsReach path rows reach.now → result ≡ spec.holds condition.now path rows }
+    ensures { (path : List (List ℕ)) → (rows : List Row) → IsReach path rows reach.now → result ≡ spec.condition_holds condition.now path rows }
 {
     match condition {
         Condition::Always => true,
@@ -144,7 +144,7 @@ fn first_closed_in_role(
 /// Whether a need is met at a component, for a caller who is no superuser; `above` is the owner of the directory that holds
 /// it.
 fn is_met(need: &Need, component: &Component, above: &Who, caller: &Caller) -> bool
-    ensures { result ≡ (deciding need.now component.now above.now caller.now.name caller.now.groups).granted }
+    ensures { result ≡ (need_decided need.now component.now above.now caller.now.name caller.now.groups).granted }
 {
     let inode = component.inode();
     match need {

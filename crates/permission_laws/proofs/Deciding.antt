@@ -16,7 +16,7 @@ use Rattle.namespace_rows.proofs.Tests.{both, and}
 use Rattle.namespace_rows.proofs.PathOrders.{same_path_is}
 use Rattle.required_rights.specs.declared.need.Need.{Need}
 use Rattle.required_rights.specs.RequiredRights.{Demand}
-use Rattle.flat_rows.specs.Denial.{Denial, deciding, denial_at}
+use Rattle.flat_rows.specs.Denial.{Denial, need_decided, denial_at}
 use Rattle.flat_rows.specs.Decision.{Ask, ask_at, asks_of, denial_of, denial_among}
 use Rattle.flat_rows.proofs.Firsts.{first_passes, first_found}
 
@@ -82,11 +82,11 @@ module _ (caller : Caller) where
   first_met rows demand demands h = none_append (asks_of rows demand) (flat_map (asks_of rows) demands) h
 
   abbrev pub meets : Need → List ℕ → Row → Bool
-  meets need above row = (deciding need row above caller.name caller.groups).granted
+  meets need above row = (need_decided need row above caller.name caller.groups).granted
 
   module _ (plain : caller.is_superuser ≡ false) where
     abbrev denied_there : Ask → Denial
-    denied_there ask = record { need = ask.need; by = (deciding ask.need ask.row ask.above caller.name caller.groups).by; row = ask.row; caller = caller.name; groups = caller.groups }
+    denied_there ask = record { need = ask.need; by = (need_decided ask.need ask.row ask.above caller.name caller.groups).by; row = ask.row; caller = caller.name; groups = caller.groups }
 
     pub met : (ask : Ask) → denial_of caller ask ≡ None → meets ask.need ask.above ask.row ≡ true
     met ask h = by (meets ask.need ask.above ask.row) (ap (λ s. cond s None (denial_at ask.need ask.row ask.above caller.name caller.groups)) (sym plain) ∙ h)

@@ -27,7 +27,7 @@ use Rattle.namespace_rows.proofs.Namespaces.{namespace_tests, ascending_filter}
 use Rattle.namespace_rows.proofs.PathOrders.{same_path_is}
 use Rattle.namespace_rows.proofs.Tests.{both, and}
 use Rattle.flat_rows.specs.BlockOutcome.{last_committed, with_block_at, ended_at}
-use Rattle.flat_rows.specs.Changes.{without, moved, moved_row, rows_under, changed, edited, rewritten, block_added}
+use Rattle.flat_rows.specs.Changes.{without, with_rows_moved, moved_row, rows_under, with_change, file_edited, row_rewritten, block_added}
 use Rattle.flat_rows.specs.FileOutcome.{directory_there, file_there, holder_at}
 use Rattle.flat_rows.specs.Takeover.{unfinished_at, state_after_append}
 use Rattle.flat_rows.specs.Facts.{Facts}
@@ -233,11 +233,11 @@ module _ (other path : List (List ℕ)) (given : Row → Row) (paths : (row : Ro
       stays row e = ap (λ b. cond b (given row) row) (ap (same_path path) (sym (same_path_is other row.path e)) ∙ same_back other path (left_false (same_path other path) false apart))
 
 module _ (rows : List Row) (other : List (List ℕ)) where
-  pub rewritten_elsewhere : (path : List (List ℕ)) (given : Change) → (same_path other path || false) ≡ false → row_at other (rewritten path given rows) ≡ row_at other rows
-  rewritten_elsewhere path given apart = given_elsewhere other path (changed given) (changed_path given) rows apart
+  pub rewritten_elsewhere : (path : List (List ℕ)) (given : Change) → (same_path other path || false) ≡ false → row_at other (row_rewritten path given rows) ≡ row_at other rows
+  rewritten_elsewhere path given apart = given_elsewhere other path (with_change given) (changed_path given) rows apart
 
   added_elsewhere : (path : List (List ℕ)) (block : ℕ) → (same_path other path || false) ≡ false → row_at other (block_added path block rows) ≡ row_at other rows
-  added_elsewhere path block apart = given_elsewhere other path (edited (with_block block)) (λ row. refl) rows apart
+  added_elsewhere path block apart = given_elsewhere other path (file_edited (with_block block)) (λ row. refl) rows apart
 
   committed_elsewhere : (path : List (List ℕ)) (last : Option LastBlock) → (same_path other path || false) ≡ false → row_at other (last_committed path last rows) ≡ row_at other rows
   committed_elsewhere path None apart = refl
@@ -249,7 +249,7 @@ module _ (rows : List Row) (other path : List (List ℕ)) (last : Option LastBlo
   with_block_elsewhere block = committed_elsewhere (block_added path block rows) other path last apart ∙ added_elsewhere rows other path block apart
 
   ended_elsewhere : row_at other (ended_at path last rows) ≡ row_at other rows
-  ended_elsewhere = committed_elsewhere (rewritten path (change.State Closed) rows) other path last apart ∙ rewritten_elsewhere rows other path (change.State Closed) apart
+  ended_elsewhere = committed_elsewhere (row_rewritten path (change.State Closed) rows) other path last apart ∙ rewritten_elsewhere rows other path (change.State Closed) apart
 
 module _ (rows : List Row) (other : List (List ℕ)) where
   mode_elsewhere : (path : List (List ℕ)) (mode : ℕ) (o : Option Row) → (same_path other path || false) ≡ false → row_at other (with_mode_at path mode o rows) ≡ row_at other rows
@@ -278,10 +278,10 @@ module _ (rows : List Row) (other : List (List ℕ)) where
   moved_in_place from to [] = refl
   moved_in_place from to (row ∷ some) = and _ _ (front_inside to (drop (length from) row.path)) (moved_in_place from to some)
 
-  pub moved_beside : (from to : List (List ℕ)) → is_prefix to other ≡ false → row_at other (moved from to rows) ≡ row_at other (without from rows)
+  pub moved_beside : (from to : List (List ℕ)) → is_prefix to other ≡ false → row_at other (with_rows_moved from to rows) ≡ row_at other (without from rows)
   moved_beside from to apart = at_replaced other to (map (moved_row from to) (rows_under from rows)) (without from rows) apart (moved_in_place from to (rows_under from rows))
 
-  pub moved_away : (from to : List (List ℕ)) → is_prefix from other ≡ true → is_prefix to other ≡ false → row_at other (moved from to rows) ≡ None
+  pub moved_away : (from to : List (List ℕ)) → is_prefix from other ≡ true → is_prefix to other ≡ false → row_at other (with_rows_moved from to rows) ≡ None
   moved_away from to inside apart = moved_beside from to apart ∙ without_there from inside
 
   module _ (facts : Facts) (users : Users) (name : List ℕ) (namespace : IsNamespace rows) where
@@ -347,7 +347,7 @@ dropped : (from names : List (List ℕ)) → drop (length from) (from ++ names) 
 dropped [] names = refl
 dropped (n ∷ ns) names = dropped ns names
 
-pub moved_there : (from to names : List (List ℕ)) (rows : List Row) (row : Row) → row_at (from ++ names) rows ≡ Some row → row_at (to ++ names) (moved from to rows) ≡ Some (record row { path = to ++ names })
+pub moved_there : (from to names : List (List ℕ)) (rows : List Row) (row : Row) → row_at (from ++ names) rows ≡ Some row → row_at (to ++ names) (with_rows_moved from to rows) ≡ Some (record row { path = to ++ names })
 moved_there from to names rows row there =
     at_new (to ++ names) to (map (moved_row from to) (rows_under from rows)) (without from rows) (front_inside to names)
     ∙ at_moved from to names rows

@@ -29,15 +29,15 @@ use Rattle.namespace_rows.specs.Rows.{is_directory, row_at, is_none, is_missing,
 use Rattle.namespace_rows.proofs.Namespaces.{namespace_tests}
 use Rattle.namespace_rows.proofs.Tests.{and, both}
 use Rattle.required_rights.specs.declared.need.Need.TheVariants.{Rights, Sticky, Owner, Member, Superuser, Node}
-use Rattle.required_rights.specs.RequiredRights.{Demand, traversal, strict_traversal, sticky_bit, creation, write_above, removal, access, overwriting, over_demands, listing, sub_tree, ownership, giving_away, membership, owner_demands, group_demands, administration, node_principal}
+use Rattle.required_rights.specs.RequiredRights.{Demand, traversal, strict_traversal, sticky_bit, creation, write_above, removal, access, overwriting, over_demands, listing, sub_tree, ownership, giving_away, membership, owner_demands, group_demands, administration, node_identity}
 use Rattle.flat_rows.specs.Denial.{Denial}
-use Rattle.flat_rows.specs.Decision.{ask_at, asks_of, denial_of, denial_among, decision, ranked}
+use Rattle.flat_rows.specs.Decision.{ask_at, asks_of, denial_of, denial_among, decision, without_rank_where}
 use Rattle.flat_rows.specs.FileOutcome.{directory_there, if_some_file, of_file, refused_by_state, refused_write, holder_at}
-use Rattle.flat_rows.specs.BlockOutcome.{refused_last, refused_new, refused_end}
+use Rattle.flat_rows.specs.BlockOutcome.{refused_unless_last, refused_new, refused_end}
 use Rattle.flat_rows.specs.Facts.{Facts}
 use Rattle.flat_rows.specs.Outcome.{beneath_file, nothing_at, first_some, first_refusal}
 use Rattle.flat_rows.proofs.Firsts.{first_passes}
-use Rattle.permission_laws.specs.Attempt.{taken, managed, made, altered, written, administers}
+use Rattle.permission_laws.specs.Attempt.{taken_path, managed_path, made_path, altered_path, written_path, administers}
 use Rattle.permission_laws.proofs.Deciding.{or_none, path_of_row, of_standing, first_met, each_met, one_met}
 
 pub unless : (b x : Bool) → (b ≡ false → x ≡ true) → (b || x) ≡ true
@@ -104,7 +104,7 @@ module _ (rows : List Row) (users : Users) (name : List ℕ) where
   abbrev at_delete : List (List ℕ) → List Demand
   at_delete path = removal path ∷ sub_tree (rights 7) path ∷ []
 
-  pub sticky_held : (what : Op) (path : List (List ℕ)) (row directory : Row) → decision rows users name what ≡ None → taken what ≡ Some path → row_at path rows ≡ Some row
+  pub sticky_held : (what : Op) (path : List (List ℕ)) (row directory : Row) → decision rows users name what ≡ None → taken_path what ≡ Some path → row_at path rows ≡ Some row
       → directory_of path rows ≡ Some directory → directory.acl.sticky ≡ true → (is_super users name || (same name row.owner || same name directory.owner)) ≡ true
   sticky_held (op.Delete top recursive) path row directory h t at held sticky = unless _ _ (λ plain.
       let is : top ≡ path = the_same top path t in
@@ -118,7 +118,7 @@ module _ (rows : List Row) (users : Users) (name : List ℕ) where
       sticky_met plain from row directory (first_met who rows (sticky_bit from) rest both.1).0 (ap (λ p. row_at p rows) is ∙ at) (ap (λ p. directory_of p rows) is ∙ held) sticky)
   sticky_held _ path row directory h t at held sticky = cc
 
-  pub parent_held : (what : Op) (path : List (List ℕ)) (directory : Row) → decision rows users name what ≡ None → taken what ≡ Some path → directory_of path rows ≡ Some directory
+  pub parent_held : (what : Op) (path : List (List ℕ)) (directory : Row) → decision rows users name what ≡ None → taken_path what ≡ Some path → directory_of path rows ≡ Some directory
       → (is_super users name || has (rights 2) directory) ≡ true
   parent_held (op.Delete top recursive) path directory h t held = unless _ _ (λ plain.
       let past = first_met who rows (traversal top) (sticky_bit top ∷ at_delete top) h in
@@ -146,7 +146,7 @@ module _ (rows : List Row) (users : Users) (name : List ℕ) where
       let past = first_met who rows (strict_traversal path) (ownership path ∷ others) h in
       ownership_met plain path row (first_met who rows (ownership path) others past.1).0 at)
 
-  pub managed_held : (what : Op) (path : List (List ℕ)) (row : Row) → decision rows users name what ≡ None → managed what ≡ Some path → row_at path rows ≡ Some row
+  pub managed_held : (what : Op) (path : List (List ℕ)) (row : Row) → decision rows users name what ≡ None → managed_path what ≡ Some path → row_at path rows ≡ Some row
       → (is_super users name || same name row.owner) ≡ true
   managed_held (op.SetMode top mode) path row h t at = owner_held top row [] h (ap (λ p. row_at p rows) (the_same top path t) ∙ at)
   managed_held (op.SetOwner top owner group) path row h t at = owner_held top row (owner_demands top owner ++ group_demands top group) h (ap (λ p. row_at p rows) (the_same top path t) ∙ at)
@@ -202,11 +202,11 @@ module _ (rows : List Row) (users : Users) (name : List ℕ) where
 
   -- ---- DataNodes
 
-  node_met : IsNamespace rows → denial_among rows (ranked true who) (node_principal ∷ []) ≡ None → is_some (node_of name) ≡ true
+  node_met : IsNamespace rows → denial_among rows (without_rank_where true who) (node_identity ∷ []) ≡ None → is_some (node_of name) ≡ true
   node_met namespace h =
       let root = root_stands rows (namespace_tests rows namespace).rooted in
-      one_met (ranked true who) refl rows Node root.0
-      (ap (λ r. first_answer (denial_of (ranked true who)) (map (ask_at rows Node) (option_to_list r))) (sym root.1) ∙ (first_met (ranked true who) rows node_principal [] h).0)
+      one_met (without_rank_where true who) refl rows Node root.0
+      (ap (λ r. first_answer (denial_of (without_rank_where true who)) (map (ask_at rows Node) (option_to_list r))) (sym root.1) ∙ (first_met (without_rank_where true who) rows node_identity [] h).0)
 
   pub node_held : IsNamespace rows → (what : Op) → decision rows users name what ≡ None → is_for_nodes what ≡ true → is_some (node_of name) ≡ true
   node_held namespace op.Heartbeat h t = node_met namespace h
@@ -230,7 +230,7 @@ module _ (rows : List Row) (users : Users) (name : List ℕ) where
   above_met : is_super users name ≡ false → (path : List (List ℕ)) (above : Row) → Met (write_above path) → ancestor path rows ≡ Some above → has (rights 2) above ≡ true
   above_met plain path above h at = where_met plain (rights 2) true above (ancestor path rows) at refl h
 
-  pub made_held : (what : Op) (path : List (List ℕ)) (above : Row) → decision rows users name what ≡ None → made what ≡ Some path → row_at path rows ≡ None → ancestor path rows ≡ Some above
+  pub made_held : (what : Op) (path : List (List ℕ)) (above : Row) → decision rows users name what ≡ None → made_path what ≡ Some path → row_at path rows ≡ None → ancestor path rows ≡ Some above
       → (is_super users name || has (rights 2) above) ≡ true
   made_held (op.Mkdirs top mode) path above h t missing at = unless _ _ (λ plain.
       let is : top ≡ path = the_same top path t in
@@ -254,7 +254,7 @@ module _ (rows : List Row) (users : Users) (name : List ℕ) where
   pub opened_held : (path : List (List ℕ)) (file : Row) → decision rows users name (op.Open path) ≡ None → row_at path rows ≡ Some file → (is_super users name || has (rights 4) file) ≡ true
   opened_held path file h at = accessed path (rights 4) file h at
 
-  pub altered_held : (what : Op) (path : List (List ℕ)) (file : Row) → decision rows users name what ≡ None → altered what ≡ Some path → row_at path rows ≡ Some file → is_directory file ≡ false
+  pub altered_held : (what : Op) (path : List (List ℕ)) (file : Row) → decision rows users name what ≡ None → altered_path what ≡ Some path → row_at path rows ≡ Some file → is_directory file ≡ false
       → (is_super users name || has (rights 2) file) ≡ true
   altered_held (op.Append top) path file h t at kind = accessed top (rights 2) file h (ap (λ p. row_at p rows) (the_same top path t) ∙ at)
   altered_held (op.SetReplication top replication) path file h t at kind = accessed top (rights 2) file h (ap (λ p. row_at p rows) (the_same top path t) ∙ at)
@@ -308,9 +308,9 @@ module _ (name : List ℕ) where
         let d = or_none (of_file (refused_write name) at) (first_some rest) c.1 in
         writer_at at (λ row is. first_passes (λ r. same_path path r.path) suits_kind rows row (namespace_tests rows namespace).suit is) b.0 c.0 d.0
 
-    pub writer_held : (what : Op) (path : List (List ℕ)) → first_refusal facts name what rows users ≡ None → written what ≡ Some path → holder_at (row_at path rows) ≡ Some name
+    pub writer_held : (what : Op) (path : List (List ℕ)) → first_refusal facts name what rows users ≡ None → written_path what ≡ Some path → holder_at (row_at path rows) ≡ Some name
     writer_held (op.AddBlock top last) path h t =
-        ap (λ p. holder_at (row_at p rows)) (sym (the_same top path t)) ∙ fourth top (of_file (refused_last last) (row_at top rows) ∷ refused_new facts.blocks last facts.now ∷ []) h
+        ap (λ p. holder_at (row_at p rows)) (sym (the_same top path t)) ∙ fourth top (of_file (refused_unless_last last) (row_at top rows) ∷ refused_new facts.blocks last facts.now ∷ []) h
     writer_held (op.Complete top last) path h t =
-        ap (λ p. holder_at (row_at p rows)) (sym (the_same top path t)) ∙ fourth top (of_file (refused_last last) (row_at top rows) ∷ refused_end facts.blocks last ∷ []) h
+        ap (λ p. holder_at (row_at p rows)) (sym (the_same top path t)) ∙ fourth top (of_file (refused_unless_last last) (row_at top rows) ∷ refused_end facts.blocks last ∷ []) h
     writer_held _ path h t = cc

@@ -16,9 +16,9 @@ use Rattle.namespace_rows.specs.declared.row.Change.TheVariants as change
 use Rattle.namespace_rows.specs.Rows.{row_at}
 use Rattle.namespace_rows.specs.Files.{with_block, recovered_at}
 use Rattle.flat_rows.specs.BlockOutcome.{last_committed, with_block_at, ended_at}
-use Rattle.flat_rows.specs.Changes.{changed, edited, rewritten, block_added}
+use Rattle.flat_rows.specs.Changes.{with_change, file_edited, row_rewritten, block_added}
 use Rattle.flat_rows.specs.FileOutcome.{holder_at}
-use Rattle.flat_rows.specs.Takeover.{unfinished_at, state_after_append, sought_in, begun_in, ticked}
+use Rattle.flat_rows.specs.Takeover.{unfinished_at, state_after_append, sought_in, begun_in, row_ticked}
 use Rattle.flat_rows.proofs.Takeovers.{taken_edits}
 use Rattle.flat_rows.specs.Facts.{Facts}
 use Rattle.flat_rows.specs.Outcome.{rows_after, with_mode_at, with_owner_at, with_acl_at, with_list_at}
@@ -80,17 +80,17 @@ both_alone path rows next after p q = record {
 
 committed_alone : (path top : List (List ℕ)) (last : Option LastBlock) (rows : List Row) → FilesAlone path rows (last_committed top last rows)
 committed_alone path top None rows = same_files path rows
-committed_alone path top (Some last) rows = edited_alone path rows _ (edits_one top (changed (change.Committed last.block last.length)) (λ row. refl))
+committed_alone path top (Some last) rows = edited_alone path rows _ (edits_one top (with_change (change.Committed last.block last.length)) (λ row. refl))
 
 added_alone : (path top : List (List ℕ)) (last : Option LastBlock) (block : ℕ) (rows : List Row) → FilesAlone path rows (with_block_at top last block rows)
 added_alone path top last block rows =
     both_alone path rows (block_added top block rows) (with_block_at top last block rows)
-    (edited_alone path rows _ (edits_one top (edited (with_block block)) (λ row. refl))) (committed_alone path top last (block_added top block rows))
+    (edited_alone path rows _ (edits_one top (file_edited (with_block block)) (λ row. refl))) (committed_alone path top last (block_added top block rows))
 
 ended_alone : (path top : List (List ℕ)) (last : Option LastBlock) (rows : List Row) → FilesAlone path rows (ended_at top last rows)
 ended_alone path top last rows =
-    both_alone path rows (rewritten top (change.State Closed) rows) (ended_at top last rows)
-    (edited_alone path rows _ (edits_one top (changed (change.State Closed)) (λ row. refl))) (committed_alone path top last (rewritten top (change.State Closed) rows))
+    both_alone path rows (row_rewritten top (change.State Closed) rows) (ended_at top last rows)
+    (edited_alone path rows _ (edits_one top (with_change (change.State Closed)) (λ row. refl))) (committed_alone path top last (row_rewritten top (change.State Closed) rows))
 
 -- ---- any part
 
@@ -104,21 +104,21 @@ module _ (rows : List Row) (path : List (List ℕ)) (row later : Row) (there : r
   same_row : (part : Row → Row → Row) → ((r : Row) → part r r ≡ r) → row_at path rows ≡ Some later → part row later ≡ row
   same_row part same after = ap (part row) (one later row (sym after ∙ there)) ∙ same row
 
-  where_same : (part : Row → Row → Row) (top : List (List ℕ)) (given : Change) → ((r : Row) → (changed given r).path ≡ r.path) → ((r : Row) → part r (changed given r) ≡ r) → ((r : Row) → part r r ≡ r)
-      → row_at path (rewritten top given rows) ≡ Some later → part row later ≡ row
-  where_same part top given paths same itself after = mapped part (λ r. cond (same_path top r.path) (changed given r) r) keeps stays after
+  where_same : (part : Row → Row → Row) (top : List (List ℕ)) (given : Change) → ((r : Row) → (with_change given r).path ≡ r.path) → ((r : Row) → part r (with_change given r) ≡ r) → ((r : Row) → part r r ≡ r)
+      → row_at path (row_rewritten top given rows) ≡ Some later → part row later ≡ row
+  where_same part top given paths same itself after = mapped part (λ r. cond (same_path top r.path) (with_change given r) r) keeps stays after
     where
-      keeps : (r : Row) → (cond (same_path top r.path) (changed given r) r).path ≡ r.path
+      keeps : (r : Row) → (cond (same_path top r.path) (with_change given r) r).path ≡ r.path
       keeps r = by (same_path top r.path)
         where
-          by : (b : Bool) → (cond b (changed given r) r).path ≡ r.path
+          by : (b : Bool) → (cond b (with_change given r) r).path ≡ r.path
           by true = paths r
           by false = refl
 
-      stays : (r : Row) → part r (cond (same_path top r.path) (changed given r) r) ≡ r
+      stays : (r : Row) → part r (cond (same_path top r.path) (with_change given r) r) ≡ r
       stays r = by (same_path top r.path)
         where
-          by : (b : Bool) → part r (cond b (changed given r) r) ≡ r
+          by : (b : Bool) → part r (cond b (with_change given r) r) ≡ r
           by true = same r
           by false = itself r
 
@@ -129,11 +129,11 @@ module _ (rows : List Row) (path : List (List ℕ)) (row later : Row) (there : r
     files_alone (op.Complete top last) h after = (ended_alone path top last rows).alone row later there after
     files_alone (op.SetReplication top replication) h after = where_same with_file_of top (change.Replication replication) (λ r. refl) (λ r. refl) (λ r. refl) after
     files_alone op.Tick h after =
-        (edited_alone path rows (ticked facts (begun_in facts rows)) (λ r. taken_edits (begun_in facts rows) facts.now (sought_in facts r) r)).alone row later there after
-    files_alone (op.CommitRecovery own) h after = (edited_alone path rows (edited (recovered_at own.block own.length)) (λ r. refl)).alone row later there after
+        (edited_alone path rows (row_ticked facts (begun_in facts rows)) (λ r. taken_edits (begun_in facts rows) facts.now (sought_in facts r) r)).alone row later there after
+    files_alone (op.CommitRecovery own) h after = (edited_alone path rows (file_edited (recovered_at own.block own.length)) (λ r. refl)).alone row later there after
     files_alone _ h after = cc
 
-    list_given : (top : List (List ℕ)) (acl : Acl) → row_at path (rewritten top (change.List acl) rows) ≡ Some later → with_list_of row later ≡ row
+    list_given : (top : List (List ℕ)) (acl : Acl) → row_at path (row_rewritten top (change.List acl) rows) ≡ Some later → with_list_of row later ≡ row
     list_given top acl after = where_same with_list_of top (change.List acl) (λ r. refl) (λ r. refl) (λ r. refl) after
 
     pub lists_alone : (what : Op) → is_about_lists what ≡ true → row_at path (rows_after facts what name rows) ≡ Some later → with_list_of row later ≡ row

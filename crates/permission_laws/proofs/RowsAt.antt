@@ -10,7 +10,7 @@ use Rattle.hdfs_values.specs.Path.{is_prefix, is_beneath}
 use Rattle.hdfs_values.specs.PathOrder.{path_cmp, same_path}
 use Rattle.namespace_rows.specs.declared.row.Row.{Row}
 use Rattle.namespace_rows.specs.First.{first}
-use Rattle.namespace_rows.specs.Rows.{row_at, is_before, is_beyond, replaced}
+use Rattle.namespace_rows.specs.Rows.{row_at, is_before, is_beyond, rows_replaced}
 use Rattle.namespace_rows.specs.Namespace.{is_ascending, is_before_all}
 use Rattle.namespace_rows.proofs.Tests.{both, and, and_false}
 use Rattle.namespace_rows.proofs.PathOrders.{less_is, starts_upto, tied_starts, same_path_is}
@@ -89,7 +89,7 @@ module _ (path : List (List ℕ)) where
   right_none (Some row) = refl
 
   module _ (top : List (List ℕ)) (block rows : List Row) where
-    three : row_at path (replaced top block rows) ≡ option_or (row_at path (filter (is_before top) rows)) (option_or (row_at path block) (row_at path (filter (is_beyond top) rows)))
+    three : row_at path (rows_replaced top block rows) ≡ option_or (row_at path (filter (is_before top) rows)) (option_or (row_at path block) (row_at path (filter (is_beyond top) rows)))
     three =
         at_append (filter (is_before top) rows) (block ++ filter (is_beyond top) rows)
         ∙ ap (λ o. option_or (row_at path (filter (is_before top) rows)) o) (at_append block (filter (is_beyond top) rows))
@@ -101,12 +101,12 @@ module _ (path : List (List ℕ)) where
     of_path row e = sym (same_path_is path row.path e)
 
     -- beside the place
-    pub at_replaced : is_prefix top path ≡ false → list_all (λ row. is_prefix top row.path) block ≡ true → row_at path (replaced top block rows) ≡ row_at path rows
+    pub at_replaced : is_prefix top path ≡ false → list_all (λ row. is_prefix top row.path) block ≡ true → row_at path (rows_replaced top block rows) ≡ row_at path rows
     at_replaced apart inside =
         let mid : row_at path block ≡ None = at_absent (λ row. is_prefix top row.path) block inside (λ row e. ap (is_prefix top) (of_path row e) ∙ apart) in
         by (path_cmp top path) refl mid
       where
-        by : (o : Ordering) → path_cmp top path ≡ o → row_at path block ≡ None → row_at path (replaced top block rows) ≡ row_at path rows
+        by : (o : Ordering) → path_cmp top path ≡ o → row_at path block ≡ None → row_at path (rows_replaced top block rows) ≡ row_at path rows
         by Less e mid =
             let low : row_at path (filter (is_before top) rows) ≡ None = at_dropped (is_before top) rows (λ row k. ap (λ p. is_gt (path_cmp top p)) (of_path row k) ∙ ap is_gt e) in
             let high : row_at path (filter (is_beyond top) rows) ≡ row_at path rows =
@@ -127,7 +127,7 @@ module _ (path : List (List ℕ)) where
             ∙ right_none (row_at path rows)
 
     -- in the place
-    pub at_new : is_prefix top path ≡ true → row_at path (replaced top block rows) ≡ row_at path block
+    pub at_new : is_prefix top path ≡ true → row_at path (rows_replaced top block rows) ≡ row_at path block
     at_new within =
         let low : row_at path (filter (is_before top) rows) ≡ None = at_dropped (is_before top) rows (λ row k. ap (λ p. is_gt (path_cmp top p)) (of_path row k) ∙ starts_upto top path within) in
         let high : row_at path (filter (is_beyond top) rows) ≡ None =

@@ -14,7 +14,7 @@ use Rattle.namespace_rows.specs.Namespace.{is_ascending, is_before_all}
 use Rattle.namespace_rows.proofs.Tests.{both, and, or_left, or_right, all_imp}
 use Rattle.namespace_rows.proofs.PathOrders.{less_is}
 use Rattle.required_rights.specs.declared.need.Need.{Need}
-use Rattle.flat_rows.specs.Denial.{Denial, denial_at, deciding}
+use Rattle.flat_rows.specs.Denial.{Denial, denial_at, need_decided}
 use Rattle.flat_rows.specs.Decision.{Ask, ask_at, denial_of}
 use Rattle.flat_rows.proofs.Changes.{same_self}
 use Rattle.permission_laws.proofs.Deciding.{meets, met}
@@ -72,7 +72,7 @@ module _ (caller : Caller) where
   one x y e = cc
 
   abbrev denied_there : Ask → Denial
-  denied_there ask = record { need = ask.need; by = (deciding ask.need ask.row ask.above caller.name caller.groups).by; row = ask.row; caller = caller.name; groups = caller.groups }
+  denied_there ask = record { need = ask.need; by = (need_decided ask.need ask.row ask.above caller.name caller.groups).by; row = ask.row; caller = caller.name; groups = caller.groups }
 
   pub denied_at : (ask : Ask) (denial : Denial) → denial_of caller ask ≡ Some denial → DeniedAt ask denial
   denied_at ask denial h = by_super caller.is_superuser refl h

@@ -20,9 +20,9 @@ use Rattle.namespace_rows.proofs.PathOrders.{same_path_is}
 use Rattle.namespace_rows.proofs.Tests.{both, and, and_false, or_left, or_right, all_filtered}
 use Rattle.required_rights.specs.declared.need.Need.TheVariants.{Rights, Node}
 use Rattle.required_rights.specs.declared.demand.Role.TheVariants.{Ancestor, Parent, Final}
-use Rattle.required_rights.specs.RequiredRights.{Demand, traversal, strict_traversal, sticky_bit, creation, write_above, removal, access, overwriting, over_demands, listing, sub_tree, ownership, giving_away, membership, administration, node_principal, owner_demands, group_demands, required_rights}
+use Rattle.required_rights.specs.RequiredRights.{Demand, traversal, strict_traversal, sticky_bit, creation, write_above, removal, access, overwriting, over_demands, listing, sub_tree, ownership, giving_away, membership, administration, node_identity, owner_demands, group_demands, required_rights}
 use Rattle.flat_rows.specs.Denial.{Denial}
-use Rattle.flat_rows.specs.Decision.{asks_of, denial_among, rows_in_role, holds, ranked, asking}
+use Rattle.flat_rows.specs.Decision.{asks_of, denial_among, rows_in_role, condition_holds, without_rank_where, asking_caller}
 use Rattle.flat_rows.proofs.NewDirectories.{starts_self, ancestor_above}
 use Rattle.permission_laws.specs.Attempt.{paths_of}
 use Rattle.permission_laws.proofs.Deciding.{path_of_row, of_standing, each_met}
@@ -107,9 +107,9 @@ module _ (rows : List Row) (namespace : IsNamespace rows) (users : Users) (name 
 
   near : (demand : Demand) → Open demand.path → list_all (λ r. is_prefix r.path demand.path) (rows_in_role demand.role demand.path rows) ≡ true → (denial : Denial) → Found demand denial → Open denial.row.path
   near demand free inside denial h directory at up =
-      let some = cond (holds demand.condition demand.path rows) (rows_in_role demand.role demand.path rows) [] in
+      let some = cond (condition_holds demand.condition demand.path rows) (rows_in_role demand.role demand.path rows) [] in
       let front : is_prefix denial.row.path demand.path ≡ true =
-      denied_among who rows demand.need (λ r. is_prefix r.path demand.path) some denial h (all_cond (λ r. is_prefix r.path demand.path) (rows_in_role demand.role demand.path rows) (holds demand.condition demand.path rows) inside) in
+      denied_among who rows demand.need (λ r. is_prefix r.path demand.path) some denial h (all_cond (λ r. is_prefix r.path demand.path) (rows_in_role demand.role demand.path rows) (condition_holds demand.condition demand.path rows) inside) in
       free directory at (above_front demand.path denial.row.path directory.path front up)
 
   final_inside : (path : List (List ℕ)) → list_all (λ r. is_prefix r.path path) (rows_in_role Final path rows) ≡ true
@@ -201,20 +201,20 @@ module _ (rows : List Row) (namespace : IsNamespace rows) (users : Users) (name 
   rootless : (directory : Row) → is_beneath [] directory.path ≡ true → closed directory ≡ false
   rootless directory up = cc
 
-  nodes_reached : (denial : Denial) → denial_among rows (ranked true who) (node_principal ∷ []) ≡ Some denial → Open denial.row.path
-  nodes_reached denial h directory at up = by (found_in (ranked true who) (asks_of rows node_principal)) refl (parted (ranked true who) (asks_of rows node_principal) [] denial h)
+  nodes_reached : (denial : Denial) → denial_among rows (without_rank_where true who) (node_identity ∷ []) ≡ Some denial → Open denial.row.path
+  nodes_reached denial h directory at up = by (found_in (without_rank_where true who) (asks_of rows node_identity)) refl (parted (without_rank_where true who) (asks_of rows node_identity) [] denial h)
     where
-      by : (o : Option Denial) → found_in (ranked true who) (asks_of rows node_principal) ≡ o → Parted (ranked true who) (asks_of rows node_principal) [] denial o → closed directory ≡ false
+      by : (o : Option Denial) → found_in (without_rank_where true who) (asks_of rows node_identity) ≡ o → Parted (without_rank_where true who) (asks_of rows node_identity) [] denial o → closed directory ≡ false
       by None e parts = absurd (none_is_none (parts.behind_it refl))
       by (Some other) e parts =
-          let front = denied_among (ranked true who) rows Node (λ r. is_prefix r.path []) (rows_in_role Final [] rows) denial (e ∙ ap (λ d. Some d) (parts.in_front other refl)) (final_inside []) in
+          let front = denied_among (without_rank_where true who) rows Node (λ r. is_prefix r.path []) (rows_in_role Final [] rows) denial (e ∙ ap (λ d. Some d) (parts.in_front other refl)) (final_inside []) in
           rootless directory (above_front [] denial.row.path directory.path front up)
 
   overwritten : (path : List (List ℕ)) (over : Bool) → Open path → Reached (over_demands path over)
   overwritten path true free = after (overwriting path) [] (near (overwriting path) free (final_inside path)) (λ h. nothing)
   overwritten path false free = nothing
 
-  pub reached : (what : Op) (denial : Denial) → denial_among rows (asking users name what) (required_rights what) ≡ Some denial → Open denial.row.path
+  pub reached : (what : Op) (denial : Denial) → denial_among rows (asking_caller users name what) (required_rights what) ≡ Some denial → Open denial.row.path
   reached (op.Mkdirs path mode) = along path (creation path ∷ []) (λ free. after (creation path) [] (near (creation path) free (ancestor_inside path)) (λ h. nothing))
   reached (op.Stat path) = along path [] (λ free. nothing)
   reached (op.List path) = along path (listing path ∷ []) (λ free. after (listing path) [] (near (listing path) free (final_inside path)) (λ h. nothing))
@@ -359,7 +359,7 @@ module _ (rows : List Row) (namespace : IsNamespace rows) (users : Users) (name 
         let same = one_path top demands path n up in
         record { denial = same.denial; decided = same.decided; stands_there = same.stands_there; shut = same.shut; above = same.above; on_way = same.on_way }
 
-    pub turned : (what : Op) (path : List (List ℕ)) → list_any (same_path path) (paths_of what) ≡ true → is_beneath path directory.path ≡ true → Turned (asking users name what) (required_rights what) (paths_of what) path directory
+    pub turned : (what : Op) (path : List (List ℕ)) → list_any (same_path path) (paths_of what) ≡ true → is_beneath path directory.path ≡ true → Turned (asking_caller users name what) (required_rights what) (paths_of what) path directory
     turned (op.Mkdirs top mode) path n up = one_path top (creation top ∷ []) path n up
     turned (op.Stat top) path n up = one_path top [] path n up
     turned (op.List top) path n up = one_path top (listing top ∷ []) path n up

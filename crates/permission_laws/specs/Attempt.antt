@@ -27,30 +27,30 @@ pub record Attempt : Type 0 where
 
 -- ---- what comes of it
 
-abbrev pub ending : Attempt → Step
-ending attempt = step attempt.facts attempt.rows attempt.users attempt.caller attempt.op
+abbrev pub attempt_step : Attempt → Step
+attempt_step attempt = step attempt.facts attempt.rows attempt.users attempt.caller attempt.op
 
 abbrev pub IsDone : Attempt → Type 0
-IsDone attempt = is_done (ending attempt).verdict ≡ true
+IsDone attempt = is_done (attempt_step attempt).verdict ≡ true
 
 -- what stands at a path before the attempt, and what after it
-abbrev pub before : Attempt → List (List ℕ) → Option Row
-before attempt path = row_at path attempt.rows
+abbrev pub row_before : Attempt → List (List ℕ) → Option Row
+row_before attempt path = row_at path attempt.rows
 
-abbrev pub after : Attempt → List (List ℕ) → Option Row
-after attempt path = row_at path (ending attempt).rows
+abbrev pub row_after : Attempt → List (List ℕ) → Option Row
+row_after attempt path = row_at path (attempt_step attempt).rows
 
 -- the directory that stands right above a path
-pub record Holds (attempt : Attempt) (directory : Row) (path : List (List ℕ)) : Type 0 where
-  pub stands : before attempt directory.path ≡ Some directory
+pub record IsRightAbove (attempt : Attempt) (directory : Row) (path : List (List ℕ)) : Type 0 where
+  pub stands : row_before attempt directory.path ≡ Some directory
   pub kind : is_directory directory ≡ true
   pub child : is_child path directory.path ≡ true
 
 -- the last component above a path that stands
 pub record IsLastAbove (attempt : Attempt) (above : Row) (path : List (List ℕ)) : Type 0 where
-  pub stands : before attempt above.path ≡ Some above
+  pub stands : row_before attempt above.path ≡ Some above
   pub above_path : is_beneath path above.path ≡ true
-  pub last : (other : Row) → before attempt other.path ≡ Some other → is_beneath path other.path ≡ true → is_prefix other.path above.path ≡ true
+  pub last : (other : Row) → row_before attempt other.path ≡ Some other → is_beneath path other.path ≡ true → is_prefix other.path above.path ≡ true
 
 -- ---- what the caller may do
 
@@ -65,8 +65,8 @@ abbrev pub owns : Attempt → Row → Bool
 owns attempt row = same attempt.caller row.owner
 
 -- a directory that the caller can't traverse
-abbrev pub is_closed : Attempt → Row → Bool
-is_closed attempt row = is_directory row && not (may 1 attempt row)
+abbrev pub is_impassable : Attempt → Row → Bool
+is_impassable attempt row = is_directory row && not (may 1 attempt row)
 
 -- ---- what it is about
 
@@ -102,31 +102,31 @@ abbrev pub is_above_another : List (List ℕ) → List (List ℕ) → Op → Boo
 is_above_another above path op = list_any (λ named. not (same_path named path) && is_beneath named above) (paths_of op)
 
 -- the path that an operation takes away from where it stands, with all that is beneath it
-abbrev pub taken : Op → Option (List (List ℕ))
-taken (op.Delete path recursive) = Some path
-taken (op.Rename from to) = Some from
-taken _ = None
+abbrev pub taken_path : Op → Option (List (List ℕ))
+taken_path (op.Delete path recursive) = Some path
+taken_path (op.Rename from to) = Some from
+taken_path _ = None
 
 -- the path whose mode, access list, owner or group an operation changes
-abbrev pub managed : Op → Option (List (List ℕ))
-managed (op.SetMode path mode) = Some path
-managed (op.SetOwner path owner group) = Some path
-managed (op.SetAcl path change) = Some path
-managed _ = None
+abbrev pub managed_path : Op → Option (List (List ℕ))
+managed_path (op.SetMode path mode) = Some path
+managed_path (op.SetOwner path owner group) = Some path
+managed_path (op.SetAcl path change) = Some path
+managed_path _ = None
 
 -- the path at which an operation makes something, or to which it moves it
-abbrev pub made : Op → Option (List (List ℕ))
-made (op.Mkdirs path mode) = Some path
-made (op.Create path mode replication over) = Some path
-made (op.Rename from to) = Some to
-made _ = None
+abbrev pub made_path : Op → Option (List (List ℕ))
+made_path (op.Mkdirs path mode) = Some path
+made_path (op.Create path mode replication over) = Some path
+made_path (op.Rename from to) = Some to
+made_path _ = None
 
 -- the file whose content, replication or writer an operation changes, also one that it replaces
-abbrev pub altered : Op → Option (List (List ℕ))
-altered (op.Append path) = Some path
-altered (op.SetReplication path replication) = Some path
-altered (op.Create path mode replication true) = Some path
-altered _ = None
+abbrev pub altered_path : Op → Option (List (List ℕ))
+altered_path (op.Append path) = Some path
+altered_path (op.SetReplication path replication) = Some path
+altered_path (op.Create path mode replication true) = Some path
+altered_path _ = None
 
 -- an operation on what stands is about files' own parts: their replication, their blocks and who writes them
 abbrev pub is_about_files : Op → Bool
@@ -158,10 +158,10 @@ administers op.Tick = true
 administers _ = false
 
 -- the file that a writer goes on with or ends
-abbrev pub written : Op → Option (List (List ℕ))
-written (op.AddBlock path last) = Some path
-written (op.Complete path last) = Some path
-written _ = None
+abbrev pub written_path : Op → Option (List (List ℕ))
+written_path (op.AddBlock path last) = Some path
+written_path (op.Complete path last) = Some path
+written_path _ = None
 
 -- what stands at a path is an operation's own matter: the path is named, or beneath one that something is taken from or moved to. A
 -- tick is about all files, and the end of a recovery names a block, which any may have.

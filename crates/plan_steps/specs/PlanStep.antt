@@ -15,7 +15,7 @@ use Rattle.node_calls.specs.declared.call.TokenCall.TheVariants as call
 use Rattle.node_calls.specs.declared.message.Message.{Message}
 use Rattle.node_calls.specs.declared.message.Message.TheVariants as message
 use Rattle.node_calls.specs.declared.presented.Presented.{Presented}
-use Rattle.block_recovery.specs.Plans.{PlanTable, plan_at, changed, refused_begin, begun, refused_reply, with_answer, refused_decide, decision_for, with_decision, refused_updated, with_updated, refused_commit, commit_of}
+use Rattle.block_recovery.specs.Plans.{PlanTable, plan_at, with_plan_changed, refused_begin, with_plan_begun, refused_reply, with_answer, refused_decide, decision_for, with_decision, refused_updated, with_updated, refused_plan_commit, commit_of}
 use Rattle.block_recovery.specs.declared.answer.Answer.{Answer}
 use Rattle.block_recovery.specs.declared.decision.Commit.{Commit}
 use Rattle.block_recovery.specs.declared.decision.Decision.{Decision}
@@ -35,7 +35,7 @@ plan_refusal (plan.Recover block stamp nodes token) plans = refused_begin (recov
 plan_refusal (plan.Reply node block stamp state bytes) plans = refused_reply node (plan_at block stamp plans)
 plan_refusal (plan.Decide block stamp) plans = refused_decide (plan_at block stamp plans)
 plan_refusal (plan.Updated node block stamp) plans = refused_updated node (plan_at block stamp plans)
-plan_refusal (plan.Commit block stamp) plans = refused_commit (plan_at block stamp plans)
+plan_refusal (plan.Commit block stamp) plans = refused_plan_commit (plan_at block stamp plans)
 
 -- ---- what is left of the plans
 
@@ -48,10 +48,10 @@ answer_of state bytes = record { length = bytes; finalized = is_finalized state 
 
 -- by a call that isn't refused
 abbrev pub plans_with : PlanCall → PlanTable → PlanTable
-plans_with (plan.Recover block stamp nodes token) plans = begun (recover_of block stamp nodes token) plans
-plans_with (plan.Reply node block stamp state bytes) plans = changed (with_answer node (answer_of state bytes)) block stamp plans
-plans_with (plan.Decide block stamp) plans = changed with_decision block stamp plans
-plans_with (plan.Updated node block stamp) plans = changed (with_updated node) block stamp plans
+plans_with (plan.Recover block stamp nodes token) plans = with_plan_begun (recover_of block stamp nodes token) plans
+plans_with (plan.Reply node block stamp state bytes) plans = with_plan_changed (with_answer node (answer_of state bytes)) block stamp plans
+plans_with (plan.Decide block stamp) plans = with_plan_changed with_decision block stamp plans
+plans_with (plan.Updated node block stamp) plans = with_plan_changed (with_updated node) block stamp plans
 plans_with (plan.Commit block stamp) plans = plans
 
 abbrev pub left_unless : PlanCall → PlanTable → Option PlanRefusal → PlanTable
@@ -74,38 +74,38 @@ plan_there block stamp plans = unwrap_or (plan_at block stamp plans) no_plan
 abbrev pub no_decision : Decision
 no_decision = record { length = 0; nodes = [] }
 
-abbrev pub decided : Plan → Decision
-decided own = unwrap_or (decision_for own) no_decision
+abbrev pub decision_there : Plan → Decision
+decision_there own = unwrap_or (decision_for own) no_decision
 
 abbrev pub no_commit : Commit
 no_commit = record { length = 0; nodes = [] }
 
-abbrev pub committed : Plan → Commit
-committed own = unwrap_or (commit_of own) no_commit
+abbrev pub commit_there : Plan → Commit
+commit_there own = unwrap_or (commit_of own) no_commit
 
 abbrev pub plan_reply : PlanCall → PlanTable → PlanReply
 plan_reply (plan.Recover block stamp nodes token) plans = reply.Asked (length nodes)
 plan_reply (plan.Reply node block stamp state bytes) plans = reply.Noted
-plan_reply (plan.Decide block stamp) plans = reply.Decided (decided (plan_there block stamp plans))
+plan_reply (plan.Decide block stamp) plans = reply.Decided (decision_there (plan_there block stamp plans))
 plan_reply (plan.Updated node block stamp) plans = reply.Noted
-plan_reply (plan.Commit block stamp) plans = reply.Committed (committed (plan_there block stamp plans)).length
+plan_reply (plan.Commit block stamp) plans = reply.Committed (commit_there (plan_there block stamp plans)).length
 
 -- the leading node asks in its own name, and presents the token of the plan
-abbrev pub presenting : ℕ → ℕ → ℕ → List ℕ → Presented
-presenting leader block stamp token = record { caller = node_principal leader; block = block; stamp = stamp; token = token }
+abbrev pub presented_by_leader : ℕ → ℕ → ℕ → List ℕ → Presented
+presented_by_leader leader block stamp token = record { caller = node_principal leader; block = block; stamp = stamp; token = token }
 
 abbrev pub to_each : Presented → TokenCall → List ℕ → List Message
 to_each presented asked nodes = map (λ node. message.Node node (Presenting presented asked)) nodes
 
 abbrev pub plan_sends : ℕ → PlanCall → PlanTable → List Message
-plan_sends leader (plan.Recover block stamp nodes token) plans = to_each (presenting leader block stamp token) call.InitRecovery nodes
+plan_sends leader (plan.Recover block stamp nodes token) plans = to_each (presented_by_leader leader block stamp token) call.InitRecovery nodes
 plan_sends leader (plan.Reply node block stamp state bytes) plans = []
 plan_sends leader (plan.Decide block stamp) plans =
     let own = plan_there block stamp plans in
-    to_each (presenting leader block stamp own.token) (call.UpdateReplica (decided own).length) (decided own).nodes
+    to_each (presented_by_leader leader block stamp own.token) (call.UpdateReplica (decision_there own).length) (decision_there own).nodes
 plan_sends leader (plan.Updated node block stamp) plans = []
 plan_sends leader (plan.Commit block stamp) plans =
-    let own = committed (plan_there block stamp plans) in
+    let own = commit_there (plan_there block stamp plans) in
     message.CommitRecovery leader block stamp own.length own.nodes ∷ []
 
 -- a refusal sends nothing

@@ -19,7 +19,7 @@ pub(crate) fn presenting(
     stamp: Stamp,
     token: &TokenBytes,
 ) -> Result<Presented, AllocError>
-    ensures { IfOk result (λ presented. presented ≡ spec.presenting leader block stamp token.now) }
+    ensures { IfOk result (λ presented. presented ≡ spec.presented_by_leader leader block stamp token.now) }
 {
     Ok(Presented {
         caller: principal_of(alloc, leader)?,

@@ -5,10 +5,10 @@ use Rattle.std.proofs.lemmas.Option.{get_or_from_slice_get}
 use Rattle.history.specs.declared.entry.HistoryEntry.{HistoryEntry}
 use Rattle.history.specs.declared.entry.Answer.{Answer}
 use Rattle.receipt_checks.specs.declared.pair.Pair.{Pair}
-use Rattle.receipt_checks.specs.Agreement.{IsPlaced, entry_at, bound_of}
+use Rattle.receipt_checks.specs.Agreement.{IsPlaced, entry_at_place, bound_of}
 use Rattle.receipt_checks.specs.Placing.{PlacedAt, PassPlaced}
 
-pub at_place : (history : List HistoryEntry) (place : ℕ) → 0 < place → slice_get history (place - 1) ≡ entry_at history place
+pub at_place : (history : List HistoryEntry) (place : ℕ) → 0 < place → slice_get history (place - 1) ≡ entry_at_place history place
 at_place history zero less = absurd (none less)
   where
     none : 0 < 0 → ⊥

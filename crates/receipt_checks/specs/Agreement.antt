@@ -20,14 +20,14 @@ pub record Claims : Type 0 where
 -- ---- what the requests alone give
 
 -- the history that the requests of these entries give by the rules, whatever verdicts and places the entries state; the newest first
-abbrev pub replayed : Opening → List HistoryEntry → List HistoryEntry
-replayed opening [] = []
-replayed opening (entry ∷ earlier) =
-    record { place = length (replayed opening earlier) + 1; pass = entry.pass; index = entry.index; request = entry.request; verdict = verdict_of opening (replayed opening earlier) entry.request } ∷ replayed opening earlier
+abbrev pub replayed_history : Opening → List HistoryEntry → List HistoryEntry
+replayed_history opening [] = []
+replayed_history opening (entry ∷ earlier) =
+    record { place = length (replayed_history opening earlier) + 1; pass = entry.pass; index = entry.index; request = entry.request; verdict = verdict_of opening (replayed_history opening earlier) entry.request } ∷ replayed_history opening earlier
 
 -- what the requests of so many entries at the front give
 abbrev pub given_by : Opening → List HistoryEntry → ℕ → List HistoryEntry
-given_by opening history count = replayed opening (reverse (take count history))
+given_by opening history count = replayed_history opening (reverse (take count history))
 
 -- ---- one receipt: a kept answer, by the number of its pass and the number of those before it in its pass
 
@@ -40,12 +40,12 @@ bound_of begun answers zero = begun
 bound_of begun answers (suc before) = option_map_or (λ answer. answer.place) (slice_get answers before) begun
 
 -- places are counted from 1
-abbrev pub entry_at : List HistoryEntry → ℕ → Option HistoryEntry
-entry_at history zero = None
-entry_at history (suc before) = slice_get history before
+abbrev pub entry_at_place : List HistoryEntry → ℕ → Option HistoryEntry
+entry_at_place history zero = None
+entry_at_place history (suc before) = slice_get history before
 
 -- the entry has the receipt's pass, index, request and verdict
-pub record Gives (pass index : ℕ) (answer : Answer) (entry : HistoryEntry) : Type 0 where
+pub record MatchesReceipt (pass index : ℕ) (answer : Answer) (entry : HistoryEntry) : Type 0 where
   pub pass_is : entry.pass ≡ pass
   pub index_is : entry.index ≡ index
   pub request_is : entry.request ≡ answer.request
@@ -53,7 +53,7 @@ pub record Gives (pass index : ℕ) (answer : Answer) (entry : HistoryEntry) : T
 
 -- a receipt of a changing request stands behind its bound, where the entry at its place gives it
 abbrev pub ChangeStands : List HistoryEntry → ℕ → ℕ → ℕ → Answer → Type 0
-ChangeStands history bound pass index answer = (bound < answer.place) × IsSomeAnd (entry_at history answer.place) (Gives pass index answer)
+ChangeStands history bound pass index answer = (bound < answer.place) × IsSomeAnd (entry_at_place history answer.place) (MatchesReceipt pass index answer)
 
 -- a look's receipt rests on an entry of the history, and on none before its bound
 abbrev pub LookRests : List HistoryEntry → ℕ → Answer → Type 0
@@ -64,8 +64,8 @@ pub record IsPlaced (history : List HistoryEntry) (bound pass index : ℕ) (answ
   pub look : is_look answer.request.op ≡ true → LookRests history bound answer
 
 -- a look's verdict is the one that the rules give behind the entries that it rests on
-abbrev pub IsTold : Opening → List HistoryEntry → Answer → Type 0
-IsTold opening history answer =
+abbrev pub IsLookRight : Opening → List HistoryEntry → Answer → Type 0
+IsLookRight opening history answer =
     is_look answer.request.op ≡ true → answer.place ≤ length history → answer.verdict ≡ verdict_of opening (given_by opening history answer.place) answer.request
 
 -- ---- one entry, by the number of those before it
@@ -88,8 +88,8 @@ abbrev pub Placed : ℕ → List HistoryEntry → List (List Answer) → ℕ →
 Placed begun history passes pass index = (answers : List Answer) (answer : Answer)
     → slice_get passes pass ≡ Some answers → slice_get answers index ≡ Some answer → IsPlaced history (bound_of begun answers index) pass index answer
 
-abbrev pub Told : Opening → List HistoryEntry → List (List Answer) → ℕ → ℕ → Type 0
-Told opening history passes pass index = ForSome (receipt_of passes pass index) (IsTold opening history)
+abbrev pub IsReceiptRight : Opening → List HistoryEntry → List (List Answer) → ℕ → ℕ → Type 0
+IsReceiptRight opening history passes pass index = ForSome (receipt_of passes pass index) (IsLookRight opening history)
 
 -- each entry since the passes began that names it has its receipt
 abbrev pub Received : ℕ → List HistoryEntry → List (List Answer) → ℕ → ℕ → Type 0
@@ -107,7 +107,7 @@ Opened begun history pass index = (before : ℕ) (entry : HistoryEntry) → slic
 
 pub record Agrees (claims : Claims) (pass index : ℕ) : Type 0 where
   pub placed : Placed (length claims.begun) claims.history claims.passes pass index
-  pub told : Told claims.opening claims.history claims.passes pass index
+  pub told : IsReceiptRight claims.opening claims.history claims.passes pass index
   pub received : Received (length claims.begun) claims.history claims.passes pass index
   pub legal : Legal claims.opening (length claims.begun) claims.history pass index
   pub opened : Opened claims.begun claims.history pass index

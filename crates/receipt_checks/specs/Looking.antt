@@ -8,7 +8,7 @@ use Rattle.history.specs.declared.entry.Answer.{Answer}
 use Rattle.history.specs.Config.{Opening}
 use Rattle.history.specs.LegalHistory.{verdict_of}
 use Rattle.receipt_checks.specs.declared.pair.Pair.{Pair}
-use Rattle.receipt_checks.specs.Agreement.{receipt_of, Legal, Told}
+use Rattle.receipt_checks.specs.Agreement.{receipt_of, Legal, IsReceiptRight}
 
 abbrev pub is_pair : ℕ → ℕ → Pair → Bool
 is_pair pass index pair = pair.pass == pass && pair.index == index
@@ -48,4 +48,4 @@ IsLegalBehind opening entries entry = (entry.place ≡ length entries + 1) × (e
 -- what a replay tells of a pair
 pub record Replayed (opening : Opening) (begun : ℕ) (history : List HistoryEntry) (passes : List (List Answer)) (pass index : ℕ) : Type 0 where
   pub legal : Legal opening begun history pass index
-  pub told : Told opening history passes pass index
+  pub told : IsReceiptRight opening history passes pass index

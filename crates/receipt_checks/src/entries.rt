@@ -1,6 +1,6 @@
 ghost use Rattle.std.specs.Prelude.{◌≡◌, Some, slice_get};
 ghost use Rattle.std.specs.Bool.{Decides};
-ghost use Rattle.receipt_checks.specs.Agreement.{Gives, IsReceived, Received, Finds};
+ghost use Rattle.receipt_checks.specs.Agreement.{MatchesReceipt, IsReceived, Received, Finds};
 
 use crate::pair::Pair;
 use crate::receipts::{Receipts, receipt_of};
@@ -42,7 +42,7 @@ pub fn stands_at(history: &[HistoryEntry], before: usize, entry: &HistoryEntry) 
 
 /// Whether an entry gives a receipt. Takes no memory.
 pub fn gives(pass: u64, index: u64, answer: &Answer, entry: &HistoryEntry) -> bool
-    ensures { Decides result (Gives pass index answer.now entry.now) }
+    ensures { Decides result (MatchesReceipt pass index answer.now entry.now) }
 {
     entry.pass == pass
         && entry.index == index

@@ -1,7 +1,7 @@
 ghost use Rattle.std.specs.Prelude.{◌≡◌, ◌≤◌, ◌<◌, ℕ, Some, slice_get, length, true};
 ghost use Rattle.std.specs.Bool.{Decides};
 ghost use Rattle.std.specs.Option.{IsSomeAnd, option_copied};
-ghost use Rattle.receipt_checks.specs.Agreement.{Placed, IsPlaced, ChangeStands, LookRests, Gives, Finds, bound_of, entry_at};
+ghost use Rattle.receipt_checks.specs.Agreement.{Placed, IsPlaced, ChangeStands, LookRests, MatchesReceipt, Finds, bound_of, entry_at_place};
 ghost use Rattle.receipt_checks.specs.Placing.{PassPlaced};
 
 use crate::entries::gives;
@@ -19,7 +19,7 @@ fn entry_behind(history: &[HistoryEntry], before: usize) -> Option<&HistoryEntry
 
 // The entry at a place, where there is one.
 fn entry_at(history: &[HistoryEntry], place: u64) -> Option<&HistoryEntry>
-    ensures { option_copied result ≡ entry_at history.now place }
+    ensures { option_copied result ≡ entry_at_place history.now place }
 {
     if place == 0 {
         return None;
@@ -29,7 +29,7 @@ fn entry_at(history: &[HistoryEntry], place: u64) -> Option<&HistoryEntry>
 
 // Whether the entry at a receipt's place gives it.
 fn is_given(history: &[HistoryEntry], pass: u64, index: u64, answer: &Answer) -> bool
-    ensures { Decides result (IsSomeAnd (entry_at history.now answer.now.place) (Gives pass index answer.now)) }
+    ensures { Decides result (IsSomeAnd (entry_at_place history.now answer.now.place) (MatchesReceipt pass index answer.now)) }
 {
     match entry_at(history, answer.place) {
         Some(entry) => gives(pass, index, answer, entry),

@@ -14,7 +14,7 @@ use Rattle.block_records.proofs.Ascending.{same_ascending, kept_ascending}
 use Rattle.block_records.proofs.Numbers.{number_is}
 use Rattle.block_index.specs.Relation.{relates, blocks_at}
 use Rattle.block_index.proofs.Indexing.{Puts, Relates, indexed, step, start}
-use Rattle.recovery_queue.specs.Queue.{leads, led_by, told, forgotten, without_each, is_led, IsIndexed}
+use Rattle.recovery_queue.specs.Queue.{leads, led_by, without_led_by, without_recovery, without_each, is_led, IsQueueIndexed}
 
 -- ---- numbers
 
@@ -38,25 +38,25 @@ nowhere false = refl
 
 -- ---- one block
 
-module _ (old new : List (ℕ × ℕ)) (index : List (ℕ × List ℕ)) (block : ℕ) (law : IsIndexed old index) where
+module _ (old new : List (ℕ × ℕ)) (index : List (ℕ × List ℕ)) (block : ℕ) (law : IsQueueIndexed old index) where
   was : (found : Option ℕ) → entry_at block old ≡ found → (n b : ℕ) → relates index n b ≡ cond (is_number block b) (is_led n found) (relates index n b)
   was found is n b = start is_led old index block law n b ∙ ap (λ (o : Option ℕ). cond (is_number block b) (is_led n o) (relates index n b)) is
 
   -- a block that didn't wait waits for a primary
-  pub put_new : (after : List (ℕ × List ℕ)) (primary : ℕ) → Puts block (Some primary) old new → Relates true block (is_number primary) index after → entry_at block old ≡ None → IsIndexed new after
+  pub put_new : (after : List (ℕ × List ℕ)) (primary : ℕ) → Puts block (Some primary) old new → Relates true block (is_number primary) index after → entry_at block old ≡ None → IsQueueIndexed new after
   put_new after primary put change none =
       indexed is_led old new index after block (Some primary) law put
       (step true block (is_number primary) (λ n. false) (is_number primary) index index after (was None none) change (λ n. here_alone (is_number primary n)))
 
   -- it waited for this primary already
-  pub put_same : (after : List (ℕ × List ℕ)) (primary : ℕ) → Puts block (Some primary) old new → Relates true block (is_number primary) index after → entry_at block old ≡ Some primary → IsIndexed new after
+  pub put_same : (after : List (ℕ × List ℕ)) (primary : ℕ) → Puts block (Some primary) old new → Relates true block (is_number primary) index after → entry_at block old ≡ Some primary → IsQueueIndexed new after
   put_same after primary put change some =
       indexed is_led old new index after block (Some primary) law put
       (step true block (is_number primary) (is_number primary) (is_number primary) index index after (was (Some primary) some) change (λ n. here_too (is_number primary n)))
 
   -- it waited for another
   pub put_over : (mid after : List (ℕ × List ℕ)) (primary older : ℕ) → Puts block (Some primary) old new → Relates true block (is_number primary) index mid → Relates false block (is_number older) mid after
-      → entry_at block old ≡ Some older → (older ≡ primary → ⊥) → IsIndexed new after
+      → entry_at block old ≡ Some older → (older ≡ primary → ⊥) → IsQueueIndexed new after
   put_over mid after primary older put on off some other =
       indexed is_led old new index after block (Some primary) law put
       (step false block (is_number older) (λ n. cond (is_number primary n) true (is_number older n)) (is_number primary) index mid after
@@ -70,7 +70,7 @@ module _ (old new : List (ℕ × ℕ)) (index : List (ℕ × List ℕ)) (block :
       by n false p false q = refl
 
   -- a block that didn't wait doesn't again
-  pub put_undone : (mid after : List (ℕ × List ℕ)) (primary : ℕ) → Relates true block (is_number primary) index mid → Relates false block (is_number primary) mid after → entry_at block old ≡ None → IsIndexed old after
+  pub put_undone : (mid after : List (ℕ × List ℕ)) (primary : ℕ) → Relates true block (is_number primary) index mid → Relates false block (is_number primary) mid after → entry_at block old ≡ None → IsQueueIndexed old after
   put_undone mid after primary on off none =
       indexed is_led old old index after block None law (λ q. same q (is_number block q) refl)
       (step false block (is_number primary) (is_number primary) (λ n. false) index mid after
@@ -81,12 +81,12 @@ module _ (old new : List (ℕ × ℕ)) (index : List (ℕ × List ℕ)) (block :
       same q false at = refl
 
   -- a block waits no more
-  pub forgotten_one : (after : List (ℕ × List ℕ)) (primary : ℕ) → Puts block None old new → Relates false block (is_number primary) index after → entry_at block old ≡ Some primary → IsIndexed new after
+  pub forgotten_one : (after : List (ℕ × List ℕ)) (primary : ℕ) → Puts block None old new → Relates false block (is_number primary) index after → entry_at block old ≡ Some primary → IsQueueIndexed new after
   forgotten_one after primary put change some =
       indexed is_led old new index after block None law put
       (step false block (is_number primary) (is_number primary) (λ n. false) index index after (was (Some primary) some) change (λ n. nowhere (is_number primary n)))
 
-  pub forgotten_none : Puts block None old new → entry_at block old ≡ None → IsIndexed new index
+  pub forgotten_none : Puts block None old new → entry_at block old ≡ None → IsQueueIndexed new index
   forgotten_none put none = indexed is_led old new index index block None law put (was None none)
 
 -- ---- all blocks of a primary
@@ -108,7 +108,7 @@ led node (Some primary) = by (is_number primary node)
     by false = refl
 
 -- the index has them, in order
-pub led_blocks : (queue : List (ℕ × ℕ)) (index : List (ℕ × List ℕ)) (node : ℕ) → IsIndexed queue index → IsStrictlySortedBy nat_cmp (keys_of queue) → IsStrictlySortedBy nat_cmp (blocks_at index node) → blocks_at index node ≡ led_by node queue
+pub led_blocks : (queue : List (ℕ × ℕ)) (index : List (ℕ × List ℕ)) (node : ℕ) → IsQueueIndexed queue index → IsStrictlySortedBy nat_cmp (keys_of queue) → IsStrictlySortedBy nat_cmp (blocks_at index node) → blocks_at index node ≡ led_by node queue
 led_blocks queue index node law up own =
     same_ascending (blocks_at index node) (led_by node queue) own (kept_ascending (leads node) queue up)
     (λ q. law node q ∙ sym (has_entry q (filter (leads node) queue)
@@ -116,8 +116,8 @@ led_blocks queue index node law up own =
     ∙ led node (entry_at q queue))))
 
 -- what is left of the index where they are told
-pub told_indexed : (queue : List (ℕ × ℕ)) (index after : List (ℕ × List ℕ)) (node : ℕ) → IsIndexed queue index → IsStrictlySortedBy nat_cmp (keys_of queue)
-    → ((n b : ℕ) → relates after n b ≡ cond (is_number node n) false (relates index n b)) → IsIndexed (told queue node) after
+pub told_indexed : (queue : List (ℕ × ℕ)) (index after : List (ℕ × List ℕ)) (node : ℕ) → IsQueueIndexed queue index → IsStrictlySortedBy nat_cmp (keys_of queue)
+    → ((n b : ℕ) → relates after n b ≡ cond (is_number node n) false (relates index n b)) → IsQueueIndexed (without_led_by queue node) after
 told_indexed queue index after node law up cleared n b =
     cleared n b
     ∙ (ap (cond (is_number node n) false) (law n b)
@@ -146,7 +146,7 @@ level x y h = sym (nat_cmp_is y x Equal (sym (number_is x y h)))
 later_stays : (entry : ℕ × ℕ) (queue : List (ℕ × ℕ)) (gone : List ℕ) → AllByRecursion (λ block. nat_cmp entry.0 block ≡ Less) gone → without_each (entry ∷ queue) gone ≡ entry ∷ without_each queue gone
 later_stays entry queue [] h = refl
 later_stays entry queue (block ∷ gone) h =
-    ap (λ b. without_each (cond b queue (entry ∷ forgotten queue block)) gone) (apart (is_number block entry.0) refl) ∙ later_stays entry (forgotten queue block) gone h.1
+    ap (λ b. without_each (cond b queue (entry ∷ without_recovery queue block)) gone) (apart (is_number block entry.0) refl) ∙ later_stays entry (without_recovery queue block) gone h.1
   where
     differ : Less ≡ Equal → ⊥
     differ e = cc
@@ -163,7 +163,7 @@ kept_all P test (entry ∷ queue) h = by (test entry) (kept_all P test queue h.1
     by true rest = (h.0, rest)
     by false rest = rest
 
-pub taken_out : (node : ℕ) (queue : List (ℕ × ℕ)) → IsStrictlySortedBy nat_cmp (keys_of queue) → without_each queue (led_by node queue) ≡ told queue node
+pub taken_out : (node : ℕ) (queue : List (ℕ × ℕ)) → IsStrictlySortedBy nat_cmp (keys_of queue) → without_each queue (led_by node queue) ≡ without_led_by queue node
 taken_out node [] up = refl
 taken_out node (entry ∷ queue) up = by (leads node entry) (taken_out node queue (sorted_tail nat_cmp entry.0 (keys_of queue) up))
   where
@@ -173,6 +173,6 @@ taken_out node (entry ∷ queue) up = by (leads node entry) (taken_out node queu
     others : AllByRecursion (λ block. nat_cmp entry.0 block ≡ Less) gone
     others = kept_all (λ block. nat_cmp entry.0 block ≡ Less) (leads node) queue (sorted_head nat_cmp entry.0 (keys_of queue) up)
 
-    by : (b : Bool) → without_each queue gone ≡ told queue node → without_each (entry ∷ queue) (keys_of (cond b (entry ∷ filter (leads node) queue) (filter (leads node) queue))) ≡ cond (not b) (entry ∷ told queue node) (told queue node)
-    by true rest = ap (λ b. without_each (cond b queue (entry ∷ forgotten queue entry.0)) gone) (itself entry.0) ∙ rest
+    by : (b : Bool) → without_each queue gone ≡ without_led_by queue node → without_each (entry ∷ queue) (keys_of (cond b (entry ∷ filter (leads node) queue) (filter (leads node) queue))) ≡ cond (not b) (entry ∷ without_led_by queue node) (without_led_by queue node)
+    by true rest = ap (λ b. without_each (cond b queue (entry ∷ without_recovery queue entry.0)) gone) (itself entry.0) ∙ rest
     by false rest = later_stays entry queue gone others ∙ ap (λ l. entry ∷ l) rest

@@ -16,11 +16,11 @@ put queue block primary = insert_entry nat_cmp queue block primary
 abbrev pub all_put : List (ℕ × ℕ) → List BegunRecovery → List (ℕ × ℕ)
 all_put queue begun = fold (λ left own. put left own.block own.primary) queue begun
 
-abbrev pub forgotten : List (ℕ × ℕ) → ℕ → List (ℕ × ℕ)
-forgotten queue block = remove_entry (is_number block) queue
+abbrev pub without_recovery : List (ℕ × ℕ) → ℕ → List (ℕ × ℕ)
+without_recovery queue block = remove_entry (is_number block) queue
 
 abbrev pub without_each : List (ℕ × ℕ) → List ℕ → List (ℕ × ℕ)
-without_each queue blocks = fold forgotten queue blocks
+without_each queue blocks = fold without_recovery queue blocks
 
 -- a node is to lead a recovery
 abbrev pub leads : ℕ → ℕ × ℕ → Bool
@@ -31,8 +31,8 @@ abbrev pub led_by : ℕ → List (ℕ × ℕ) → List ℕ
 led_by node queue = keys_of (filter (leads node) queue)
 
 -- the node was told of them
-abbrev pub told : List (ℕ × ℕ) → ℕ → List (ℕ × ℕ)
-told queue node = filter (λ entry. not (leads node entry)) queue
+abbrev pub without_led_by : List (ℕ × ℕ) → ℕ → List (ℕ × ℕ)
+without_led_by queue node = filter (λ entry. not (leads node entry)) queue
 
 -- ---- what the queue keeps
 
@@ -41,5 +41,5 @@ is_led node None = false
 is_led node (Some primary) = is_number primary node
 
 -- the index has for each node the blocks whose recovery it is to lead
-abbrev pub IsIndexed : List (ℕ × ℕ) → List (ℕ × List ℕ) → Type 0
-IsIndexed queue index = IsIndexBy is_led queue index
+abbrev pub IsQueueIndexed : List (ℕ × ℕ) → List (ℕ × List ℕ) → Type 0
+IsQueueIndexed queue index = IsIndexBy is_led queue index

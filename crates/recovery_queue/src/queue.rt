@@ -1,5 +1,5 @@
 ghost use Rattle.std.specs.Prelude.{◌≡◌, [], IfOk, OnOk, OnErr};
-ghost use Rattle.recovery_queue.specs.Queue.{put, all_put, forgotten, without_each, led_by, told};
+ghost use Rattle.recovery_queue.specs.Queue.{put, all_put, without_recovery, without_each, led_by, without_led_by};
 
 use crate::begun::BegunRecovery;
 use block_index::node_blocks::NodeBlocks;
@@ -20,13 +20,13 @@ pub struct RecoveryQueue {
 
 impl Model for RecoveryQueue {
     ghost use Rattle.std.specs.Prelude.{List, ℕ};
-    ghost use Rattle.recovery_queue.specs.Queue.{IsIndexed};
+    ghost use Rattle.recovery_queue.specs.Queue.{IsQueueIndexed};
 
     ghost Value = { List (ℕ × ℕ) };
 
     ghost view = { λ queue. queue.primaries.entries };
 
-    ghost invariant = { λ queue. IsIndexed queue.primaries.entries queue.blocks };
+    ghost invariant = { λ queue. IsQueueIndexed queue.primaries.entries queue.blocks };
 }
 
 impl RecoveryQueue {
@@ -91,7 +91,7 @@ impl RecoveryQueue {
 
     /// Ends the waiting of a block's recovery, if it waits. Costs a look-up, and takes no memory.
     pub fn forget(&mut self, block: BlockId)
-        ensures { self.new ≡ forgotten self.old block }
+        ensures { self.new ≡ without_recovery self.old block }
     {
         if let Some(primary) = self.primaries.remove(&block) {
             self.blocks.remove(primary, block);
@@ -121,7 +121,7 @@ impl RecoveryQueue {
 
     /// Takes out the blocks whose recovery a node is to lead: it was told of them. Costs a look-up for each, and takes no memory.
     pub fn forget_led(&mut self, node: NodeId)
-        ensures { self.new ≡ told self.old node }
+        ensures { self.new ≡ without_led_by self.old node }
     {
         // its contract tells that the keys ascend
         let _count = self.primaries.len();

@@ -1,7 +1,7 @@
 ghost use Rattle.std.specs.Prelude.{◌≡◌, IfOk, OnOk, OnErr};
 ghost use Rattle.block_records.specs.Marks.{with_marks};
-ghost use Rattle.recovery_queue.specs.Queue.{forgotten, without_each};
-ghost use Rattle.known_blocks.specs.Known.{block_of, removed, all_removed};
+ghost use Rattle.recovery_queue.specs.Queue.{without_recovery, without_each};
+ghost use Rattle.known_blocks.specs.Known.{block_of, without_block, without_each_block};
 ghost use Rattle.removed_blocks.specs.Removals as spec;
 
 use block_records::mark::{Mark, Marks};
@@ -65,9 +65,9 @@ pub fn remove(
     queue: &mut RecoveryQueue,
     block: BlockId,
 ) -> Result<(), AllocError>
-    ensures known { OnOk result (known.new ≡ removed known.old block) }
+    ensures known { OnOk result (known.new ≡ without_block known.old block) }
     ensures marked { OnOk result (marks.new ≡ with_marks marks.old (spec.marks_of_holders block (block_of known.old block))) }
-    ensures queued { OnOk result (queue.new ≡ forgotten queue.old block) }
+    ensures queued { OnOk result (queue.new ≡ without_recovery queue.old block) }
     ensures err { OnErr result ((known.new ≡ known.old) × (marks.new ≡ marks.old) × (queue.new ≡ queue.old)) }
 {
     let more = marks_of_holders(alloc, known, block)?;
@@ -88,7 +88,7 @@ pub fn remove_all(
     queue: &mut RecoveryQueue,
     blocks: &[BlockId],
 ) -> Result<(), AllocError>
-    ensures known { OnOk result (known.new ≡ all_removed known.old blocks.now) }
+    ensures known { OnOk result (known.new ≡ without_each_block known.old blocks.now) }
     ensures marked { OnOk result (marks.new ≡ with_marks marks.old (spec.marks_of_all_holders known.old blocks.now)) }
     ensures queued { OnOk result (queue.new ≡ without_each queue.old blocks.now) }
     ensures err { OnErr result ((known.new ≡ known.old) × (marks.new ≡ marks.old) × (queue.new ≡ queue.old)) }

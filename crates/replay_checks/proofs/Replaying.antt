@@ -13,9 +13,9 @@ use Rattle.history.specs.declared.entry.HistoryEntry.{HistoryEntry}
 use Rattle.history.specs.declared.entry.Answer.{Answer}
 use Rattle.history.specs.Config.{Opening}
 use Rattle.history.specs.LegalHistory.{verdict_of}
-use Rattle.name_core.specs.NameCore.{NameCore, stepped}
+use Rattle.name_core.specs.NameCore.{NameCore, with_next_entry}
 use Rattle.receipt_checks.specs.declared.pair.Pair.{Pair}
-use Rattle.receipt_checks.specs.Agreement.{receipt_of, replayed, given_by, IsLegalAt, Finds}
+use Rattle.receipt_checks.specs.Agreement.{receipt_of, replayed_history, given_by, IsLegalAt, Finds}
 use Rattle.receipt_checks.specs.Looking.{is_pair, lists, HasAllLooks, ToldHere, FindsAmong, IsLegalBehind, Replayed}
 use Rattle.receipt_checks.proofs.Stepping.{below_step}
 use Rattle.replay_checks.specs.Replaying.{LegalFrom, TellsAt}
@@ -28,7 +28,7 @@ below_none P n less = absurd (none less)
 
 -- ---- how long it is, and how it goes on
 
-pub length-replayed : (opening : Opening) (entries : List HistoryEntry) → length (replayed opening entries) ≡ length entries
+pub length-replayed : (opening : Opening) (entries : List HistoryEntry) → length (replayed_history opening entries) ≡ length entries
 length-replayed opening [] = refl
 length-replayed opening (entry ∷ earlier) = ap suc (length-replayed opening earlier)
 
@@ -36,9 +36,9 @@ pub length-given : (opening : Opening) (history : List HistoryEntry) (i : ℕ) �
 length-given opening history i within = length-replayed opening (reverse (take i history)) ∙ (length-reverse (take i history) ∙ length-take-le i history within)
 
 pub given_next : (opening : Opening) (history : List HistoryEntry) (i : ℕ) (item : HistoryEntry) → i < length history → item ≡ get_or history i item
-    → (stepped (record { opening = opening; entries = given_by opening history i }) item.pass item.index item.request).entries ≡ given_by opening history (i + 1)
+    → (with_next_entry (record { opening = opening; entries = given_by opening history i }) item.pass item.index item.request).entries ≡ given_by opening history (i + 1)
 given_next opening history i item below is =
-    sym (ap (λ (entries : List HistoryEntry). replayed opening entries)
+    sym (ap (λ (entries : List HistoryEntry). replayed_history opening entries)
     (ap reverse (take_more history i item below ∙ ap (λ (x : HistoryEntry). take i history ++ x ∷ []) (sym is)) ∙ reverse-append (take i history) (item ∷ [])))
 
 core_is : (core : NameCore) (opening : Opening) (entries : List HistoryEntry) → core.opening ≡ opening → core.entries ≡ entries → core ≡ record { opening = opening; entries = entries }
@@ -48,11 +48,11 @@ pub opened_with : (core : NameCore) (opening : Opening) → core ≡ record { op
 opened_with core opening is = ap (λ (own : NameCore). own.opening) is
 
 pub advanced : (opening : Opening) (history : List HistoryEntry) (i : ℕ) (item : HistoryEntry) (old new : NameCore) → i < length history → item ≡ get_or history i item
-    → old.opening ≡ opening → old.entries ≡ given_by opening history i → new ≡ stepped old item.pass item.index item.request
+    → old.opening ≡ opening → old.entries ≡ given_by opening history i → new ≡ with_next_entry old item.pass item.index item.request
     → (new.opening ≡ opening) × (new.entries ≡ given_by opening history (i + 1))
 advanced opening history i item old new below is o e made =
-    let all : new ≡ stepped (record { opening = opening; entries = given_by opening history i }) item.pass item.index item.request =
-    made ∙ ap (λ (core : NameCore). stepped core item.pass item.index item.request) (core_is old opening (given_by opening history i) o e) in
+    let all : new ≡ with_next_entry (record { opening = opening; entries = given_by opening history i }) item.pass item.index item.request =
+    made ∙ ap (λ (core : NameCore). with_next_entry core item.pass item.index item.request) (core_is old opening (given_by opening history i) o e) in
     (ap (λ (core : NameCore). core.opening) all, ap (λ (core : NameCore). core.entries) all ∙ given_next opening history i item below is)
 
 -- ---- entries

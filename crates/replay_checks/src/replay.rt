@@ -3,7 +3,7 @@ ghost use Rattle.std.specs.Bool.{Decides};
 ghost use Rattle.std.specs.Option.{IsSomeAnd};
 ghost use Rattle.hdfs_types.specs.Request.{is_look};
 ghost use Rattle.history.specs.LegalHistory.{verdict_of};
-ghost use Rattle.name_core.specs.NameCore.{stepped};
+ghost use Rattle.name_core.specs.NameCore.{with_next_entry};
 ghost use Rattle.receipt_checks.specs.Agreement.{Finds};
 ghost use Rattle.receipt_checks.specs.Looking.{ToldHere, FindsAmong, IsLegalBehind, Replayed, HasAllLooks};
 
@@ -83,7 +83,7 @@ fn request_of(entry: &HistoryEntry) -> Result<Request, AllocError>
 
 // Does the request of an entry, and tells whether the entry has the place and the verdict that the core gives.
 fn append(core: &mut NameCore, entry: &HistoryEntry) -> Result<bool, AllocError>
-    ensures new { IfOk result (λ _legal. core.new ≡ stepped core.old entry.now.pass entry.now.index entry.now.request) }
+    ensures new { IfOk result (λ _legal. core.new ≡ with_next_entry core.old entry.now.pass entry.now.index entry.now.request) }
     ensures legal { IfOk result (λ legal. Decides legal (IsLegalBehind core.old.opening core.old.entries entry.now)) }
 {
     let request = request_of(entry)?;

@@ -25,14 +25,14 @@ Answers (Ok x) refused = refused ≡ None
 Answers (Err refusal) refused = refused ≡ Some refusal
 
 -- this refusal, or else what comes later
-abbrev pub refused_where : Bool → ReplicaRefusal → Option ReplicaRefusal → Option ReplicaRefusal
-refused_where true refusal later = Some refusal
-refused_where false refusal later = later
+abbrev pub refused_or_later : Bool → ReplicaRefusal → Option ReplicaRefusal → Option ReplicaRefusal
+refused_or_later true refusal later = Some refusal
+refused_or_later false refusal later = later
 
 -- a new replica
-abbrev pub refused_new : Option ReplicaRefusal → Option Replica → Option ReplicaRefusal
-refused_new later None = later
-refused_new later (Some replica) = Some ReplicaExists
+abbrev pub refused_new_replica : Option ReplicaRefusal → Option Replica → Option ReplicaRefusal
+refused_new_replica later None = later
+refused_new_replica later (Some replica) = Some ReplicaExists
 
 -- something of a replica
 abbrev pub refused_of : (Replica → Option ReplicaRefusal) → Option Replica → Option ReplicaRefusal
@@ -42,13 +42,13 @@ refused_of later (Some replica) = later replica
 -- something of a replica that is being written at this stamp, while no newer one is promised
 abbrev pub refused_writing : ℕ → ℕ → (Replica → Option ReplicaRefusal) → Option Replica → Option ReplicaRefusal
 refused_writing stamp promised later = refused_of (λ replica.
-    refused_where (not (stamp == promised)) (StampDiffers promised)
-    (refused_where (not (is_writing replica.state) || nat_lt replica.stamp promised) NotWritable (later replica)))
+    refused_or_later (not (stamp == promised)) (StampDiffers promised)
+    (refused_or_later (not (is_writing replica.state) || nat_lt replica.stamp promised) NotWritable (later replica)))
 
 -- something of a finalized replica of this stamp
 abbrev pub refused_reading : ℕ → (Replica → Option ReplicaRefusal) → Option Replica → Option ReplicaRefusal
 refused_reading stamp later = refused_of (λ replica.
-    refused_where (is_writing replica.state) NoReplica (refused_where (not (stamp == replica.stamp)) (StampDiffers replica.stamp) (later replica)))
+    refused_or_later (is_writing replica.state) NoReplica (refused_or_later (not (stamp == replica.stamp)) (StampDiffers replica.stamp) (later replica)))
 
 -- the most bytes of a packet
 abbrev pub packet_limit : ℕ
@@ -56,51 +56,51 @@ packet_limit = 65536
 
 -- a call whose token is taken; `limit` is the most bytes of a replica
 abbrev pub replica_refusal : ℕ → TokenCall → ℕ → Held → Option ReplicaRefusal
-replica_refusal limit (call.Begin next) stamp held = refused_new (refused_where (nat_le stamp held.promised) (StampDiffers held.promised) None) held.replica
+replica_refusal limit (call.Begin next) stamp held = refused_new_replica (refused_or_later (nat_le stamp held.promised) (StampDiffers held.promised) None) held.replica
 replica_refusal limit (call.Packet offset bytes next) stamp held = refused_writing stamp held.promised (λ replica.
-    refused_where (not (offset == length replica.bytes)) (OffsetGap (length replica.bytes))
-    (refused_where (nat_lt packet_limit (length bytes) || nat_lt limit (length replica.bytes + length bytes)) OutOfRange None)) held.replica
+    refused_or_later (not (offset == length replica.bytes)) (OffsetGap (length replica.bytes))
+    (refused_or_later (nat_lt packet_limit (length bytes) || nat_lt limit (length replica.bytes + length bytes)) OutOfRange None)) held.replica
 replica_refusal limit (call.Finalize count next) stamp held = refused_writing stamp held.promised (λ replica.
-    refused_where (not (count == length replica.bytes)) (OffsetGap (length replica.bytes)) None) held.replica
+    refused_or_later (not (count == length replica.bytes)) (OffsetGap (length replica.bytes)) None) held.replica
 replica_refusal limit (call.Read offset count) stamp held = refused_reading stamp (λ replica.
-    refused_where (nat_lt (length replica.bytes) (offset + count)) OutOfRange None) held.replica
-replica_refusal limit call.InitRecovery stamp held = refused_of (λ replica. refused_where (nat_le stamp held.promised) (StampDiffers held.promised) None) held.replica
+    refused_or_later (nat_lt (length replica.bytes) (offset + count)) OutOfRange None) held.replica
+replica_refusal limit call.InitRecovery stamp held = refused_of (λ replica. refused_or_later (nat_le stamp held.promised) (StampDiffers held.promised) None) held.replica
 replica_refusal limit (call.UpdateReplica count) stamp held = refused_of (λ replica.
-    refused_where (not (stamp == held.promised)) (StampDiffers held.promised)
-    (refused_where (replica.stamp == stamp) NotWritable (refused_where (nat_lt (length replica.bytes) count) OutOfRange None))) held.replica
+    refused_or_later (not (stamp == held.promised)) (StampDiffers held.promised)
+    (refused_or_later (replica.stamp == stamp) NotWritable (refused_or_later (nat_lt (length replica.bytes) count) OutOfRange None))) held.replica
 replica_refusal limit (call.SendCopy to) stamp held = refused_reading stamp (λ replica. None) held.replica
-replica_refusal limit (call.TakeCopy bytes) stamp held = refused_new (refused_where (nat_lt stamp held.promised) (StampDiffers held.promised)
-    (refused_where (nat_lt limit (length bytes)) OutOfRange None)) held.replica
+replica_refusal limit (call.TakeCopy bytes) stamp held = refused_new_replica (refused_or_later (nat_lt stamp held.promised) (StampDiffers held.promised)
+    (refused_or_later (nat_lt limit (length bytes)) OutOfRange None)) held.replica
 
 -- a removal
 abbrev pub removal_refusal : ℕ → Option Replica → Option ReplicaRefusal
-removal_refusal stamp = refused_of (λ replica. refused_where (nat_lt stamp replica.stamp) (StampDiffers replica.stamp) None)
+removal_refusal stamp = refused_of (λ replica. refused_or_later (nat_lt stamp replica.stamp) (StampDiffers replica.stamp) None)
 
 -- ---- what is held of a block
 
 -- a new replica, at a stamp that is promised with it
-abbrev pub placed : ℕ → ReplicaState → List ℕ → Held
-placed stamp state bytes = record { replica = Some (record { stamp = stamp; state = state; bytes = bytes }); promised = stamp }
+abbrev pub newly_held : ℕ → ReplicaState → List ℕ → Held
+newly_held stamp state bytes = record { replica = Some (record { stamp = stamp; state = state; bytes = bytes }); promised = stamp }
 
 abbrev pub with_replica : (Replica → Replica) → Held → Held
 with_replica change held = record held { replica = option_map change held.replica }
 
-abbrev pub appended : List ℕ → Held → Held
-appended bytes = with_replica (λ replica. record replica { bytes = replica.bytes ++ bytes })
+abbrev pub with_bytes_appended : List ℕ → Held → Held
+with_bytes_appended bytes = with_replica (λ replica. record replica { bytes = replica.bytes ++ bytes })
 
-abbrev pub finalized : Held → Held
-finalized = with_replica (λ replica. record replica { state = Finalized })
+abbrev pub with_replica_finalized : Held → Held
+with_replica_finalized = with_replica (λ replica. record replica { state = Finalized })
 
-abbrev pub promising : ℕ → Held → Held
-promising stamp held = record held { promised = stamp }
+abbrev pub with_promise : ℕ → Held → Held
+with_promise stamp held = record held { promised = stamp }
 
 -- recovered at a stamp, with so many of its bytes
-abbrev pub updated : ℕ → ℕ → Held → Held
-updated stamp count = with_replica (λ replica. record { stamp = stamp; state = Finalized; bytes = take count replica.bytes })
+abbrev pub with_replica_recovered : ℕ → ℕ → Held → Held
+with_replica_recovered stamp count = with_replica (λ replica. record { stamp = stamp; state = Finalized; bytes = take count replica.bytes })
 
 -- what was promised stays
-abbrev pub removed : Held → Held
-removed held = record held { replica = None }
+abbrev pub with_no_replica : Held → Held
+with_no_replica held = record held { replica = None }
 
 -- the replica; where there is none, an empty one, which no answer tells
 abbrev pub own : Held → Replica
@@ -109,35 +109,35 @@ own held = unwrap_or held.replica (record { stamp = 0; state = Writing; bytes = 
 -- ---- all blocks of a node
 
 -- each block of which the node ever held a replica, by its id
-abbrev pub Blocks : Type 0
-Blocks = List (ℕ × Held)
+abbrev pub Replicas : Type 0
+Replicas = List (ℕ × Held)
 
 -- of any other block nothing is held, and stamp 0 is promised
 abbrev pub nothing : Held
 nothing = record { replica = None; promised = 0 }
 
-abbrev pub held_at : ℕ → Blocks → Held
+abbrev pub held_at : ℕ → Replicas → Held
 held_at block blocks = unwrap_or (entry_at block blocks) nothing
 
-abbrev pub changed_by : (Held → Held) → ℕ → Option Held → Blocks → Blocks
-changed_by change block None blocks = blocks
-changed_by change block (Some held) blocks = set_value (is_number block) blocks (change held)
+abbrev pub held_changed_by : (Held → Held) → ℕ → Option Held → Replicas → Replicas
+held_changed_by change block None blocks = blocks
+held_changed_by change block (Some held) blocks = set_value (is_number block) blocks (change held)
 
 -- other things are held of a block, if any were
-abbrev pub changed : (Held → Held) → ℕ → Blocks → Blocks
-changed change block blocks = changed_by change block (entry_at block blocks) blocks
+abbrev pub with_held_changed : (Held → Held) → ℕ → Replicas → Replicas
+with_held_changed change block blocks = held_changed_by change block (entry_at block blocks) blocks
 
 -- behind a call that isn't refused
-abbrev pub blocks_after : TokenCall → ℕ → ℕ → Blocks → Blocks
-blocks_after (call.Begin next) stamp block blocks = insert_entry nat_cmp blocks block (placed stamp Writing [])
-blocks_after (call.Packet offset bytes next) stamp block blocks = changed (appended bytes) block blocks
-blocks_after (call.Finalize count next) stamp block blocks = changed finalized block blocks
-blocks_after (call.Read offset count) stamp block blocks = blocks
-blocks_after call.InitRecovery stamp block blocks = changed (promising stamp) block blocks
-blocks_after (call.UpdateReplica count) stamp block blocks = changed (updated stamp count) block blocks
-blocks_after (call.SendCopy to) stamp block blocks = blocks
-blocks_after (call.TakeCopy bytes) stamp block blocks = insert_entry nat_cmp blocks block (placed stamp Finalized bytes)
+abbrev pub replicas_after : TokenCall → ℕ → ℕ → Replicas → Replicas
+replicas_after (call.Begin next) stamp block blocks = insert_entry nat_cmp blocks block (newly_held stamp Writing [])
+replicas_after (call.Packet offset bytes next) stamp block blocks = with_held_changed (with_bytes_appended bytes) block blocks
+replicas_after (call.Finalize count next) stamp block blocks = with_held_changed with_replica_finalized block blocks
+replicas_after (call.Read offset count) stamp block blocks = blocks
+replicas_after call.InitRecovery stamp block blocks = with_held_changed (with_promise stamp) block blocks
+replicas_after (call.UpdateReplica count) stamp block blocks = with_held_changed (with_replica_recovered stamp count) block blocks
+replicas_after (call.SendCopy to) stamp block blocks = blocks
+replicas_after (call.TakeCopy bytes) stamp block blocks = insert_entry nat_cmp blocks block (newly_held stamp Finalized bytes)
 
 -- behind a removal
-abbrev pub without : ℕ → Blocks → Blocks
-without block blocks = changed removed block blocks
+abbrev pub without_replica_of : ℕ → Replicas → Replicas
+without_replica_of block blocks = with_held_changed with_no_replica block blocks

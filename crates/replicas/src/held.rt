@@ -1,5 +1,5 @@
 ghost use Rattle.std.specs.Prelude.{◌≡◌, OnOk, OnErr};
-ghost use Rattle.replicas.specs.ReplicaStep.{appended, finalized, promising, updated, removed};
+ghost use Rattle.replicas.specs.ReplicaStep.{with_bytes_appended, with_replica_finalized, with_promise, with_replica_recovered, with_no_replica};
 
 use crate::replica::Replica;
 use hdfs_values::ids::Stamp;
@@ -30,7 +30,7 @@ impl Held {
     /// # Errors
     /// Out of memory. Nothing has changed then.
     pub fn append(&mut self, bytes: &BlockBytes) -> Result<(), AllocError>
-        ensures ok { OnOk result (self.new ≡ appended bytes.now self.old) }
+        ensures ok { OnOk result (self.new ≡ with_bytes_appended bytes.now self.old) }
         ensures err { OnErr result (self.new ≡ self.old) }
     {
         if let Some(replica) = &mut self.replica {
@@ -41,7 +41,7 @@ impl Held {
 
     /// Ends the writing of the replica, if there is one. Takes no memory.
     pub fn finalize(&mut self)
-        ensures { self.new ≡ finalized self.old }
+        ensures { self.new ≡ with_replica_finalized self.old }
     {
         if let Some(replica) = &mut self.replica {
             replica.state = ReplicaState::Finalized;
@@ -50,14 +50,14 @@ impl Held {
 
     /// Promises a stamp: nothing is written at another. Takes no memory.
     pub fn promise(&mut self, stamp: Stamp)
-        ensures { self.new ≡ promising stamp self.old }
+        ensures { self.new ≡ with_promise stamp self.old }
     {
         self.promised = stamp;
     }
 
     /// Gives the replica, if there is one, a stamp and at most so many of its bytes, and ends its writing. Takes no memory.
     pub fn update(&mut self, stamp: Stamp, length: u64)
-        ensures { self.new ≡ updated stamp length self.old }
+        ensures { self.new ≡ with_replica_recovered stamp length self.old }
     {
         if let Some(replica) = &mut self.replica {
             replica.bytes.cut(length);
@@ -68,7 +68,7 @@ impl Held {
 
     /// Removes the replica, if there is one; what was promised stays. Takes no memory.
     pub fn remove(&mut self)
-        ensures { self.new ≡ removed self.old }
+        ensures { self.new ≡ with_no_replica self.old }
     {
         self.replica = None;
     }

@@ -2,7 +2,7 @@ ghost use Rattle.std.specs.Prelude.{◌≡◌, [], take, drop, length, option_co
 ghost use Rattle.std.specs.BTreeMap.{insert_entry};
 ghost use Rattle.std.specs.Ordering.{nat_cmp};
 ghost use Rattle.node_calls.specs.declared.call.ReplicaState.TheVariants.{Writing, Finalized};
-ghost use Rattle.replicas.specs.ReplicaStep.{Answers, replica_refusal, removal_refusal, held_at, own, placed, changed, appended, finalized, promising, updated, without, blocks_after};
+ghost use Rattle.replicas.specs.ReplicaStep.{Answers, replica_refusal, removal_refusal, held_at, own, newly_held, with_held_changed, with_bytes_appended, with_replica_finalized, with_promise, with_replica_recovered, without_replica_of, replicas_after};
 
 use crate::held::Held;
 use crate::judge;
@@ -31,9 +31,9 @@ impl Drop for Replicas {
 }
 
 impl Model for Replicas {
-    ghost use Rattle.replicas.specs.ReplicaStep.{Blocks};
+    ghost use Rattle.replicas.specs.ReplicaStep.{Replicas};
 
-    ghost Value = { Blocks };
+    ghost Value = { Replicas };
 
     ghost view = { λ replicas. replicas.blocks.entries };
 }
@@ -158,7 +158,7 @@ impl Replicas {
         bytes: ReplicaBytes,
         block: BlockId,
     ) -> Result<(), AllocError>
-        ensures ok { OnOk result (self.new ≡ insert_entry nat_cmp self.old block (placed stamp state bytes)) }
+        ensures ok { OnOk result (self.new ≡ insert_entry nat_cmp self.old block (newly_held stamp state bytes)) }
         ensures err { OnErr result (self.new ≡ self.old) }
     {
         let held = Held {
@@ -178,7 +178,7 @@ impl Replicas {
     /// # Errors
     /// Out of memory. Nothing has changed then.
     pub fn begin(&mut self, stamp: Stamp, block: BlockId) -> Result<(), AllocError>
-        ensures ok { OnOk result (self.new ≡ insert_entry nat_cmp self.old block (placed stamp Writing [])) }
+        ensures ok { OnOk result (self.new ≡ insert_entry nat_cmp self.old block (newly_held stamp Writing [])) }
         ensures err { OnErr result (self.new ≡ self.old) }
     {
         let bytes = ReplicaBytes::new(self.alloc);
@@ -195,7 +195,7 @@ impl Replicas {
         stamp: Stamp,
         block: BlockId,
     ) -> Result<(), AllocError>
-        ensures ok { OnOk result (self.new ≡ insert_entry nat_cmp self.old block (placed stamp Finalized bytes.now)) }
+        ensures ok { OnOk result (self.new ≡ insert_entry nat_cmp self.old block (newly_held stamp Finalized bytes.now)) }
         ensures err { OnErr result (self.new ≡ self.old) }
     {
         let bytes = ReplicaBytes::of(self.alloc, bytes)?;
@@ -207,7 +207,7 @@ impl Replicas {
     /// # Errors
     /// Out of memory. Nothing has changed then.
     pub fn append(&mut self, bytes: &BlockBytes, block: BlockId) -> Result<(), AllocError>
-        ensures ok { OnOk result (self.new ≡ changed (appended bytes.now) block self.old) }
+        ensures ok { OnOk result (self.new ≡ with_held_changed (with_bytes_appended bytes.now) block self.old) }
         ensures err { OnErr result (self.new ≡ self.old) }
     {
         if let Some(held) = self.blocks.get_mut(&block) {
@@ -218,7 +218,7 @@ impl Replicas {
 
     /// Ends the writing of a block's replica, if there is one. Costs a look-up, and takes no memory.
     pub fn finalize(&mut self, block: BlockId)
-        ensures { self.new ≡ changed finalized block self.old }
+        ensures { self.new ≡ with_held_changed with_replica_finalized block self.old }
     {
         if let Some(held) = self.blocks.get_mut(&block) {
             held.finalize();
@@ -227,7 +227,7 @@ impl Replicas {
 
     /// Promises a stamp of a block of which there ever was a replica. Costs a look-up, and takes no memory.
     pub fn promise(&mut self, stamp: Stamp, block: BlockId)
-        ensures { self.new ≡ changed (promising stamp) block self.old }
+        ensures { self.new ≡ with_held_changed (with_promise stamp) block self.old }
     {
         if let Some(held) = self.blocks.get_mut(&block) {
             held.promise(stamp);
@@ -237,7 +237,7 @@ impl Replicas {
     /// Gives a block's replica, if there is one, a stamp and at most so many of its bytes, and ends its writing. Costs a look-up, and takes
     /// no memory.
     pub fn update(&mut self, count: u64, stamp: Stamp, block: BlockId)
-        ensures { self.new ≡ changed (updated stamp count) block self.old }
+        ensures { self.new ≡ with_held_changed (with_replica_recovered stamp count) block self.old }
     {
         if let Some(held) = self.blocks.get_mut(&block) {
             held.update(stamp, count);
@@ -246,7 +246,7 @@ impl Replicas {
 
     /// Removes a block's replica, if there is one; the stamp that was promised stays. Costs a look-up, and takes no memory.
     pub fn remove(&mut self, block: BlockId)
-        ensures { self.new ≡ without block self.old }
+        ensures { self.new ≡ without_replica_of block self.old }
     {
         if let Some(held) = self.blocks.get_mut(&block) {
             held.remove();
@@ -263,7 +263,7 @@ impl Replicas {
         stamp: Stamp,
         block: BlockId,
     ) -> Result<(), AllocError>
-        ensures ok { OnOk result (self.new ≡ blocks_after call.now stamp block self.old) }
+        ensures ok { OnOk result (self.new ≡ replicas_after call.now stamp block self.old) }
         ensures err { OnErr result (self.new ≡ self.old) }
     {
         match call {

@@ -1,12 +1,12 @@
 -- Lines with another number of words than any verb wants.
 use Rattle.std.proofs.Common.{◌≡◌, ℕ, ◌<◌, List, [], ◌∷◌, Bor, length, map, None, Err, refl, arith}
 use Rattle.hdfs_values.specs.declared.fault.IllFormed.TheVariants.{BadLine}
-use Rattle.request_lines.specs.Script.{op_of, request_of}
+use Rattle.request_lines.specs.Script.{op_of_words, request_of}
 
 abbrev now : Bor (List ℕ) → List ℕ
 now word = word.now
 
-pub too_many : (verb : List ℕ) (words : List (Bor (List ℕ))) → 4 < length words → op_of verb (map now words) ≡ None
+pub too_many : (verb : List ℕ) (words : List (Bor (List ℕ))) → 4 < length words → op_of_words verb (map now words) ≡ None
 too_many verb [] many = absurd (omega arith)
 too_many verb (a ∷ []) many = absurd (omega arith)
 too_many verb (a ∷ b ∷ []) many = absurd (omega arith)

@@ -193,13 +193,13 @@ op_of_four verb first second third fourth =
     if same verb (codes "create") then Some (create_with first second third fourth) else None
 
 -- the operation that a verb and its words say; nothing where the verb is unknown or wants another number of words
-abbrev pub op_of : List ℕ → List (List ℕ) → Option (Result Op IllFormed)
-op_of verb [] = op_of_none verb
-op_of verb (word ∷ []) = op_of_one verb word
-op_of verb (first ∷ second ∷ []) = op_of_two verb first second
-op_of verb (first ∷ second ∷ third ∷ []) = op_of_three verb first second third
-op_of verb (first ∷ second ∷ third ∷ fourth ∷ []) = op_of_four verb first second third fourth
-op_of verb _ = None
+abbrev pub op_of_words : List ℕ → List (List ℕ) → Option (Result Op IllFormed)
+op_of_words verb [] = op_of_none verb
+op_of_words verb (word ∷ []) = op_of_one verb word
+op_of_words verb (first ∷ second ∷ []) = op_of_two verb first second
+op_of_words verb (first ∷ second ∷ third ∷ []) = op_of_three verb first second third
+op_of_words verb (first ∷ second ∷ third ∷ fourth ∷ []) = op_of_four verb first second third fourth
+op_of_words verb _ = None
 
 -- who asks, and when
 abbrev pub asker_of : List ℕ → List ℕ → Result Asker IllFormed
@@ -222,5 +222,5 @@ request_with moment caller (Some said) = do
   Ok (record { caller = c; moment = m; op = o })
 
 abbrev pub request_of : List (List ℕ) → Result Request IllFormed
-request_of (moment ∷ caller ∷ verb ∷ words) = request_with moment caller (op_of verb words)
+request_of (moment ∷ caller ∷ verb ∷ words) = request_with moment caller (op_of_words verb words)
 request_of _ = Err BadLine

@@ -319,7 +319,7 @@ fn op_of_four(
 
 /// The operation that a verb and its words say; `None` where the verb is unknown or wants another number of words.
 fn op_of(alloc: Global, verb: &str, words: &[&str]) -> Option<Result<Op, ParseFault>>
-    ensures { FormsOption result (spec.op_of verb.now (map (λ word. word.now) words.now)) }
+    ensures { FormsOption result (spec.op_of_words verb.now (map (λ word. word.now) words.now)) }
 {
     match words {
         [] => op_of_none(verb),

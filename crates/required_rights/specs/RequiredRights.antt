@@ -91,8 +91,8 @@ abbrev pub administration : Demand
 administration = demand_on [] Always Superuser enforced.Always
 
 -- to be the principal of a DataNode; what has no path stands at the root
-abbrev pub node_principal : Demand
-node_principal = demand_on [] Always Node enforced.Always
+abbrev pub node_identity : Demand
+node_identity = demand_on [] Always Node enforced.Always
 
 -- what giving a path another owner and another group needs
 abbrev pub owner_demands : List (List ℕ) → Option (List ℕ) → List Demand
@@ -126,6 +126,6 @@ required_rights (op.SetReplication path replication) = traversal path ∷ access
 required_rights (op.RollKey key) = administration ∷ []
 required_rights op.Renew = []
 required_rights op.Tick = administration ∷ []
-required_rights op.Heartbeat = node_principal ∷ []
-required_rights (op.Reported replica) = node_principal ∷ []
-required_rights (op.CommitRecovery recovered) = node_principal ∷ []
+required_rights op.Heartbeat = node_identity ∷ []
+required_rights (op.Reported replica) = node_identity ∷ []
+required_rights (op.CommitRecovery recovered) = node_identity ∷ []

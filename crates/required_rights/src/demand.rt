@@ -236,7 +236,7 @@ impl<'a> Demand<'a> {
 
     /// To be the principal of a DataNode, at the root.
     pub fn node_principal() -> Demand<'a>
-        ensures { result ≡ spec.node_principal }
+        ensures { result ≡ spec.node_identity }
     {
         Demand {
             role: Role::Final,
@@ -444,7 +444,7 @@ fn needs_of_administration<'a>(alloc: Global) -> Result<Vec<Demand<'a>>, AllocEr
 
 /// What only a DataNode does.
 fn needs_of_node<'a>(alloc: Global) -> Result<Vec<Demand<'a>>, AllocError>
-    ensures { IfOk result (λ demands. demands.items ≡ spec.node_principal ∷ []) }
+    ensures { IfOk result (λ demands. demands.items ≡ spec.node_identity ∷ []) }
 {
     Ok(vec![in alloc; Demand::node_principal()]?)
 }

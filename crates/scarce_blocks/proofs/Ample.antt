@@ -5,13 +5,13 @@ use Rattle.std.specs.Option.{is_some}
 use Rattle.block_records.specs.Numbers.{is_number, entry_at}
 use Rattle.block_records.specs.declared.block_record.BlockRecord.{BlockRecord}
 use Rattle.block_records.proofs.Numbers.{number_is}
-use Rattle.block_tables.specs.Changes.{changed, changed_by, with_hand_out, handed_out}
+use Rattle.block_tables.specs.Changes.{with_record_changed, changed_by, with_hand_out, with_hand_outs}
 use Rattle.scarce_blocks.specs.Scarce.{IsAmple, AreAmple, AreOthersAmple}
 use Rattle.scarce_blocks.proofs.Stays.{put_at, others_stay}
 
 -- ---- all blocks but one that changed
 
-pub others_changed : (change : BlockRecord → BlockRecord) (block : ℕ) (table new : List (ℕ × BlockRecord)) (scarce : List ℕ) → new ≡ changed change block table → AreAmple table scarce → AreOthersAmple block new scarce
+pub others_changed : (change : BlockRecord → BlockRecord) (block : ℕ) (table new : List (ℕ × BlockRecord)) (scarce : List ℕ) → new ≡ with_record_changed change block table → AreAmple table scarce → AreOthersAmple block new scarce
 others_changed change block table new scarce is law q apart unlisted =
     subst IsAmple (sym (ap (entry_at q) is ∙ others_stay change block q table (entry_at block table) refl apart)) (law q unlisted)
 
@@ -59,7 +59,7 @@ ample_told now block q table (Some own) there ample = subst IsAmple (sym (put_at
         whole
     by false apart = ample
 
-pub ample_handed : (now : ℕ) (blocks : List ℕ) (table new : List (ℕ × BlockRecord)) (scarce : List ℕ) → new ≡ handed_out now table blocks → AreAmple table scarce → AreAmple new scarce
+pub ample_handed : (now : ℕ) (blocks : List ℕ) (table new : List (ℕ × BlockRecord)) (scarce : List ℕ) → new ≡ with_hand_outs now table blocks → AreAmple table scarce → AreAmple new scarce
 ample_handed now [] table new scarce is law = others_same table new scarce is law
 ample_handed now (block ∷ blocks) table new scarce is law =
-    ample_handed now blocks (changed (with_hand_out now) block table) new scarce is (λ q unlisted. ample_told now block q table (entry_at block table) refl (law q unlisted))
+    ample_handed now blocks (with_record_changed (with_hand_out now) block table) new scarce is (λ q unlisted. ample_told now block q table (entry_at block table) refl (law q unlisted))

@@ -15,9 +15,9 @@ use Rattle.block_records.specs.Verdicts.{holds_by}
 use Rattle.block_records.specs.declared.block_record.BlockRecord.{BlockRecord}
 use Rattle.block_records.proofs.Ascending.{same_ascending, kept_ascending}
 use Rattle.block_records.proofs.Numbers.{number_is}
-use Rattle.block_tables.specs.Kept.{holds, blocks_of}
+use Rattle.block_tables.specs.Kept.{holds, blocks_on}
 use Rattle.block_tables.proofs.Held.{has_entry, has_block}
-use Rattle.scarce_blocks.specs.Scarce.{IsAmple, AreAmple, is_lacking, Covers}
+use Rattle.scarce_blocks.specs.Scarce.{IsAmple, AreAmple, is_lacking, CoversLacking}
 
 both : (x y : Bool) → (x && y) ≡ true → (x ≡ true) × (y ≡ true)
 both true y is = (refl, is)
@@ -50,7 +50,7 @@ module _ (live : List ℕ) (up : IsStrictlyIncreasing live) (own : BlockRecord) 
       omega (arith, enough.0, less, count, length-keys_of own.reports)
 
 pub covers_listed : (table : List (ℕ × BlockRecord)) (scarce live : List ℕ) (node : ℕ) → IsStrictlyIncreasing live → AreAmple table scarce
-    → ((n block : ℕ) → holds table n block ≡ true → list_any (is_number n) live ≡ true) → Covers table live node scarce
+    → ((n block : ℕ) → holds table n block ≡ true → list_any (is_number n) live ≡ true) → CoversLacking table live node scarce
 covers_listed table scarce live node up law all q held lacking = by (list_any (is_number q) scarce) refl
   where
     some : (found : Option BlockRecord) → entry_at q table ≡ found → IsAmple found → is_lacking live found ≡ true → ⊥
@@ -63,18 +63,18 @@ covers_listed table scarce live node up law all q held lacking = by (list_any (i
     by true is = is
     by false is = absurd (some (entry_at q table) refl (law q is) lacking)
 
-pub covers_own : (table : List (ℕ × BlockRecord)) (live : List ℕ) (node : ℕ) → IsStrictlySortedBy nat_cmp (keys_of table) → Covers table live node (blocks_of table node)
+pub covers_own : (table : List (ℕ × BlockRecord)) (live : List ℕ) (node : ℕ) → IsStrictlySortedBy nat_cmp (keys_of table) → CoversLacking table live node (blocks_on table node)
 covers_own table live node up q held lacking = has_block table node q up ∙ held
 
 -- ---- what an answer owes
 
-pub listed_covers : {V E : Type 0} (r : Result V E) (blocks_in : V → List ℕ) (table : List (ℕ × BlockRecord)) (scarce live : List ℕ) (node : ℕ) → Covers table live node scarce
-    → IfOk r (λ some. blocks_in some ≡ scarce) → IfOk r (λ some. Covers table live node (blocks_in some))
-listed_covers (Ok some) blocks_in table scarce live node covers is = subst (λ (blocks : List ℕ). Covers table live node blocks) (sym is) covers
+pub listed_covers : {V E : Type 0} (r : Result V E) (blocks_in : V → List ℕ) (table : List (ℕ × BlockRecord)) (scarce live : List ℕ) (node : ℕ) → CoversLacking table live node scarce
+    → IfOk r (λ some. blocks_in some ≡ scarce) → IfOk r (λ some. CoversLacking table live node (blocks_in some))
+listed_covers (Ok some) blocks_in table scarce live node covers is = subst (λ (blocks : List ℕ). CoversLacking table live node blocks) (sym is) covers
 listed_covers (Err fault) blocks_in table scarce live node covers is = tt
 
 pub own_ascend : {V E : Type 0} (r : Result V E) (blocks_in : V → List ℕ) (table : List (ℕ × BlockRecord)) (node : ℕ) → IsStrictlySortedBy nat_cmp (keys_of table)
-    → IfOk r (λ some. blocks_in some ≡ blocks_of table node) → IfOk r (λ some. IsStrictlySortedBy nat_cmp (blocks_in some))
+    → IfOk r (λ some. blocks_in some ≡ blocks_on table node) → IfOk r (λ some. IsStrictlySortedBy nat_cmp (blocks_in some))
 own_ascend (Ok some) blocks_in table node up is =
     subst (λ (blocks : List ℕ). IsStrictlySortedBy nat_cmp blocks) (sym is) (kept_ascending (λ (entry : ℕ × BlockRecord). holds_by node (Some entry.1)) table up)
 own_ascend (Err fault) blocks_in table node up is = tt

@@ -33,5 +33,5 @@ is_lacking live None = false
 is_lacking live (Some own) = is_some own.committed && nat_lt (length (filter (λ node. is_some (entry_at node own.reports)) live)) own.replication
 
 -- such blocks of a node are among these
-abbrev pub Covers : List (ℕ × BlockRecord) → List ℕ → ℕ → List ℕ → Type 0
-Covers table live node blocks = (q : ℕ) → holds_by node (entry_at q table) ≡ true → is_lacking live (entry_at q table) ≡ true → list_any (is_number q) blocks ≡ true
+abbrev pub CoversLacking : List (ℕ × BlockRecord) → List ℕ → ℕ → List ℕ → Type 0
+CoversLacking table live node blocks = (q : ℕ) → holds_by node (entry_at q table) ≡ true → is_lacking live (entry_at q table) ≡ true → list_any (is_number q) blocks ≡ true

@@ -8,9 +8,9 @@ ghost use Rattle.block_records.specs.Marks.{with_marks};
 ghost use Rattle.block_records.specs.Numbers.{is_number, entry_at};
 ghost use Rattle.block_records.specs.Reports.{others_of};
 ghost use Rattle.block_placement.specs.Placement.{targets};
-ghost use Rattle.block_tables.specs.Changes.{changed, with_report, without_report, with_replication, with_length, with_recovery, with_recovered, handed_out};
+ghost use Rattle.block_tables.specs.Changes.{with_record_changed, with_report, without_report, with_replication, with_length, with_recovery, with_recovered, with_hand_outs};
 ghost use Rattle.block_tables.specs.Kept.{load};
-ghost use Rattle.scarce_blocks.specs.Scarce.{IsAmple, AreAmple, AreOthersAmple, Covers};
+ghost use Rattle.scarce_blocks.specs.Scarce.{IsAmple, AreAmple, AreOthersAmple, CoversLacking};
 
 use block_index::node_blocks::BlockSet;
 use block_records::block_record::BlockRecord;
@@ -138,7 +138,7 @@ impl WatchedTable {
         bytes: u64,
     ) -> Result<NodeSet, AllocError>
         requires { 0 < count }
-        ensures { IfOk result (λ chosen. chosen ≡ targets (load (changed (with_length bytes) block self.now)) count nodes.now) }
+        ensures { IfOk result (λ chosen. chosen ≡ targets (load (with_record_changed (with_length bytes) block self.now)) count nodes.now) }
     {
         self.table.targets_behind(alloc, nodes, count, block, bytes)
     }
@@ -155,7 +155,7 @@ impl WatchedTable {
         node: NodeId,
         live: &NodeSet,
     ) -> Result<Vec<BlockId>, AllocError>
-        ensures covers { IfOk result (λ blocks. Covers self.now live.now node blocks.items) }
+        ensures covers { IfOk result (λ blocks. CoversLacking self.now live.now node blocks.items) }
         ensures ascending { IfOk result (λ blocks. IsStrictlySortedBy nat_cmp blocks.items) }
         ensures known { IsStrictlySortedBy nat_cmp (keys_of self.now) }
     {
@@ -200,7 +200,7 @@ impl WatchedTable {
     /// # Errors
     /// Out of memory. Nothing has changed then.
     pub fn hold(&mut self, block: BlockId, node: NodeId, bytes: u64) -> Result<(), AllocError>
-        ensures ok { OnOk result (self.new ≡ changed (with_report node bytes) block self.old) }
+        ensures ok { OnOk result (self.new ≡ with_record_changed (with_report node bytes) block self.old) }
         ensures err { OnErr result (self.new ≡ self.old) }
     {
         self.table.hold(block, node, bytes)?;
@@ -210,7 +210,7 @@ impl WatchedTable {
 
     /// Ends a node's report of a block. Costs a look-up of the block, and one among its nodes. Where there is no memory, it needs none.
     pub fn end_report(&mut self, block: BlockId, node: NodeId)
-        ensures { self.new ≡ changed (without_report node) block self.old }
+        ensures { self.new ≡ with_record_changed (without_report node) block self.old }
     {
         self.table.end_report(block, node);
         watch(&self.table, &mut self.scarce, &mut self.complete, block);
@@ -219,7 +219,7 @@ impl WatchedTable {
     /// Gives a block another replication; nothing changes where the block isn't known. Costs a look-up. Where there is no memory, it needs
     /// none.
     pub fn set_replication(&mut self, block: BlockId, replication: Repl)
-        ensures { self.new ≡ changed (with_replication replication) block self.old }
+        ensures { self.new ≡ with_record_changed (with_replication replication) block self.old }
     {
         self.table.set_replication(block, replication);
         watch(&self.table, &mut self.scarce, &mut self.complete, block);
@@ -229,7 +229,7 @@ impl WatchedTable {
     /// Costs a look-up for each of them. Where there is no memory, it needs none.
     pub fn commit(&mut self, block: BlockId, bytes: u64, others: &[NodeId])
         requires { IfSome (entry_at block self.old) (λ own. others.now ≡ others_of bytes own.reports) }
-        ensures { self.new ≡ changed (with_length bytes) block self.old }
+        ensures { self.new ≡ with_record_changed (with_length bytes) block self.old }
     {
         self.table.commit(block, bytes, others);
         watch(&self.table, &mut self.scarce, &mut self.complete, block);
@@ -238,7 +238,7 @@ impl WatchedTable {
     /// Gives a block a newer stamp, which nobody has reported, and notes that a recovery of it begins. Costs a look-up for each node that
     /// reported it. Where there is no memory, it needs none.
     pub fn begin_recovery(&mut self, block: BlockId, stamp: Stamp, now: Moment)
-        ensures { self.new ≡ changed (with_recovery stamp now) block self.old }
+        ensures { self.new ≡ with_record_changed (with_recovery stamp now) block self.old }
     {
         self.table.begin_recovery(block, stamp, now);
         watch(&self.table, &mut self.scarce, &mut self.complete, block);
@@ -259,7 +259,7 @@ impl WatchedTable {
         marks: &mut Marks,
         more: Vec<Mark>,
     ) -> Result<(), AllocError>
-        ensures ok { OnOk result (self.new ≡ changed (with_recovered bytes nodes) block self.old) }
+        ensures ok { OnOk result (self.new ≡ with_record_changed (with_recovered bytes nodes) block self.old) }
         ensures marked { OnOk result (marks.new ≡ with_marks marks.old more.items) }
         ensures err { OnErr result ((self.new ≡ self.old) × (marks.new ≡ marks.old)) }
     {
@@ -272,7 +272,7 @@ impl WatchedTable {
     /// Notes that nodes are told now to copy these blocks; of those that aren't known nothing is noted. Costs a look-up for each, and takes
     /// no memory.
     pub fn hand_out(&mut self, blocks: &[BlockId], now: Moment)
-        ensures { self.new ≡ handed_out now self.old blocks.now }
+        ensures { self.new ≡ with_hand_outs now self.old blocks.now }
     {
         self.table.hand_out(blocks, now);
     }

@@ -56,8 +56,8 @@ said_by (Bad fault) = Err fault
 said_by (Given rows verdict) = Ok (record { rows = rows; verdict = verdict.now })
 
 -- the line's number, a blank, the answer and a line feed
-abbrev pub answer_line : ℕ → Result Ruling IllFormed → List ℕ
-answer_line number answer = decimal number ++ (32 ∷ (answer_text answer ++ (10 ∷ [])))
+abbrev pub ruling_line : ℕ → Result Ruling IllFormed → List ℕ
+ruling_line number answer = decimal number ++ (32 ∷ (answer_text answer ++ (10 ∷ [])))
 
 -- whether the line was ill-formed
 abbrev pub is_bad : Result Ruling IllFormed → Bool

@@ -20,6 +20,6 @@ parts_line parts =
     ++ (codes " modes " ++ (modes_text parts.modes ++ (codes " user " ++ (parts.user ++ (codes " code " ++ encode_lower parts.code))))))))))
 
 -- what is shown of the digits: the parts of their token, or that they are malformed, since they spell none
-abbrev pub Shows : List ℕ → Bool → List ℕ → Type 0
-Shows digits false line = (parts : Body) × SpellsToken digits parts × (line ≡ parts_line parts)
-Shows digits true line = ((parts : Body) → ¬ (SpellsToken digits parts)) × (line ≡ token_refusal_text Malformed)
+abbrev pub ShowsToken : List ℕ → Bool → List ℕ → Type 0
+ShowsToken digits false line = (parts : Body) × SpellsToken digits parts × (line ≡ parts_line parts)
+ShowsToken digits true line = ((parts : Body) → ¬ (SpellsToken digits parts)) × (line ≡ token_refusal_text Malformed)

@@ -1,6 +1,6 @@
 ghost use Rattle.std.specs.Prelude.{◌≡◌, true, false, IfOk};
 ghost use Rattle.std.specs.String.{string_bytes};
-ghost use Rattle.script_text.specs.TokenLine.{Shows, parts_line};
+ghost use Rattle.script_text.specs.TokenLine.{ShowsToken, parts_line};
 ghost use Rattle.block_tokens.specs.Refusals.{token_refusal_text};
 ghost use Rattle.block_tokens.specs.declared.refusal.TokenRefusal.TheVariants.{Malformed};
 
@@ -50,7 +50,7 @@ fn line_of(alloc: Global, body: &Body) -> Result<TokenLine, AllocError>
 /// # Errors
 /// Out of memory.
 pub fn show_token(alloc: Global, digits: &str) -> Result<TokenLine, AllocError>
-    ensures { IfOk result (λ line. Shows digits.now line.is_malformed (string_bytes line.text)) }
+    ensures { IfOk result (λ line. ShowsToken digits.now line.is_malformed (string_bytes line.text)) }
 {
     let bytes = match hex::decode(alloc, digits) {
         Ok(bytes) => bytes,

@@ -1,14 +1,12 @@
 -- Cutting a line at spaces, and each piece at tabs, is cutting it at both at once.
-use Rattle.std.proofs.Common.{Option, Some, None, ◌≡◌, ◌<◌, ◌+◌, ◌-◌, ℕ, List, [], ◌∷◌, ◌++◌, Bool, true, false, cond, length, get_or, take, drop, refl, sym, ap, ◌∙◌, subst, arith}
+use Rattle.std.proofs.Common.{◌≡◌, ◌<◌, ◌+◌, ◌-◌, ℕ, List, [], ◌∷◌, ◌++◌, Bool, true, false, cond, length, get_or, take, drop, refl, sym, ap, ◌∙◌, subst, arith}
 use Rattle.std.specs.Prelude.{◌==◌, ◌||◌, filter, slice_range}
 use Rattle.std.specs.List.{flat_map, onto_first, position_or_len, slice_split}
-use Rattle.std.specs.Option.{unwrap_or}
 use Rattle.std.specs.Str.{IsUtf8, IsCharBoundary}
 use Rattle.std.proofs.lemmas.Bool.Decides.{nat_tests}
 use Rattle.std.proofs.lemmas.List.Splits.{length-slice_split, slice_split_first, slice_split_none}
-use Rattle.std.proofs.lemmas.List.Sums.{position_or_len_is, fails_before_first, passes_at_first}
+use Rattle.std.proofs.lemmas.List.Sums.{fails_before_first, passes_at_first}
 use Rattle.std.proofs.lemmas.Str.{IsCharBoundary-before_ascii, IsCharBoundary-after_ascii}
-use Rattle.memchr.specs.Find.{IsFirstByte, is_byte}
 use Rattle.script_words.specs.Words.{pieces_at, blank_pieces, is_blank, is_filled, words_of}
 
 onto_more : (b : ℕ) (xs ys : List (List ℕ)) → 0 < length xs → onto_first b xs ++ ys ≡ onto_first b (xs ++ ys)
@@ -40,70 +38,30 @@ cut_at_once (b ∷ line) =
 pub words_are : (line : List ℕ) → words_of line ≡ filter is_filled (blank_pieces line)
 words_are line = ap (filter is_filled) (cut_at_once line)
 
--- ---- the first separator
+-- ---- the first blank
 
 is_low : (byte : ℕ) → is_blank byte ≡ true → byte < 128
 is_low byte h = grind (arith, nat_tests, h)
 
-is_low_byte : (separator : ℕ) → separator < 128 → (byte : ℕ) → (byte == separator) ≡ true → byte < 128
-is_low_byte separator low byte h = grind (arith, nat_tests, h)
-
--- separators are ASCII
-module _ (separates : ℕ → Bool) (low : (byte : ℕ) → separates byte ≡ true → byte < 128) (text : List ℕ) (at : ℕ) (is : at ≡ position_or_len separates text) where
-  low_at : at < length text → get_or text at 0 < 128
-  low_at lt = low (get_or text at 0) (subst (λ i. separates (get_or text i 0) ≡ true) (sym is) (passes_at_first separates text 0 (subst (λ i. i < length text) is lt)))
-
-  cut_before : at < length text → IsCharBoundary text at
-  cut_before lt = IsCharBoundary-before_ascii text at lt (low_at lt)
-
-  cut_behind : IsUtf8 text → at < length text → IsCharBoundary text (at + 1)
-  cut_behind utf8 lt = IsCharBoundary-after_ascii text at utf8 lt (low_at lt)
-
-  cut_first : (front back : List ℕ) → at < length text → front ≡ slice_range text 0 at → back ≡ drop (at + 1) text → slice_split separates text ≡ front ∷ slice_split separates back
-  cut_first front back lt before behind =
-      slice_split_first separates text 0 (subst (λ i. i < length text) is lt)
-      ∙ ap (λ i. take i text ∷ slice_split separates (drop (i + 1) text)) (sym is)
-      ∙ ap (λ piece. piece ∷ slice_split separates (drop (at + 1) text)) (sym (before ∙ whole_front))
-      ∙ ap (λ rest. front ∷ slice_split separates rest) (sym behind)
-    where
-      whole_front : slice_range text 0 at ≡ take at text
-      whole_front = let e : at - 0 ≡ at = omega arith in ap (λ n. take n text) e
-
-  cut_nowhere : at ≡ length text → slice_split separates text ≡ text ∷ []
-  cut_nowhere whole = slice_split_none separates text (λ k d lt. fails_before_first separates text k d (omega (arith, is, whole, lt)))
+low_at : (text : List ℕ) (at : ℕ) → at ≡ position_or_len is_blank text → at < length text → get_or text at 0 < 128
+low_at text at is lt = is_low (get_or text at 0) (subst (λ i. is_blank (get_or text i 0) ≡ true) (sym is) (passes_at_first is_blank text 0 (subst (λ i. i < length text) is lt)))
 
 pub can_cut_before : (text : List ℕ) (at : ℕ) → at ≡ position_or_len is_blank text → at < length text → IsCharBoundary text at
-can_cut_before text at is lt = cut_before is_blank is_low text at is lt
+can_cut_before text at is lt = IsCharBoundary-before_ascii text at lt (low_at text at is lt)
 
 pub can_cut_behind : (text : List ℕ) (at : ℕ) → IsUtf8 text → at ≡ position_or_len is_blank text → at < length text → IsCharBoundary text (at + 1)
-can_cut_behind text at utf8 is lt = cut_behind is_blank is_low text at is utf8 lt
+can_cut_behind text at utf8 is lt = IsCharBoundary-after_ascii text at utf8 lt (low_at text at is lt)
 
 pub first_cut : (text front back : List ℕ) (at : ℕ) → at ≡ position_or_len is_blank text → at < length text → front ≡ slice_range text 0 at → back ≡ drop (at + 1) text
     → blank_pieces text ≡ front ∷ blank_pieces back
-first_cut text front back at is lt before behind = cut_first is_blank is_low text at is front back lt before behind
+first_cut text front back at is lt before behind =
+    slice_split_first is_blank text 0 (subst (λ i. i < length text) is lt)
+    ∙ ap (λ i. take i text ∷ blank_pieces (drop (i + 1) text)) (sym is)
+    ∙ ap (λ piece. piece ∷ blank_pieces (drop (at + 1) text)) (sym (before ∙ whole_front))
+    ∙ ap (λ rest. front ∷ blank_pieces rest) (sym behind)
+  where
+    whole_front : slice_range text 0 at ≡ take at text
+    whole_front = let e : at - 0 ≡ at = omega arith in ap (λ n. take n text) e
 
 pub no_cut : (text : List ℕ) (at : ℕ) → at ≡ position_or_len is_blank text → at ≡ length text → blank_pieces text ≡ text ∷ []
-no_cut text at is whole = cut_nowhere is_blank is_low text at is whole
-
-module _ (separator : ℕ) (low : separator < 128) (text : List ℕ) (at : ℕ) (is : at ≡ position_or_len (λ b. b == separator) text) where
-  pub cuts_before : at < length text → IsCharBoundary text at
-  cuts_before lt = cut_before (λ b. b == separator) (is_low_byte separator low) text at is lt
-
-  pub cuts_behind : IsUtf8 text → at < length text → IsCharBoundary text (at + 1)
-  cuts_behind utf8 lt = cut_behind (λ b. b == separator) (is_low_byte separator low) text at is utf8 lt
-
-  pub cuts_first : (front back : List ℕ) → at < length text → front ≡ slice_range text 0 at → back ≡ drop (at + 1) text → pieces_at separator text ≡ front ∷ pieces_at separator back
-  cuts_first front back lt before behind = cut_first (λ b. b == separator) (is_low_byte separator low) text at is front back lt before behind
-
-  pub cuts_nowhere : at ≡ length text → pieces_at separator text ≡ text ∷ []
-  cuts_nowhere whole = cut_nowhere (λ b. b == separator) (is_low_byte separator low) text at is whole
-
--- ---- the place that a search finds
-
-not_true : (b : Bool) → ¬ (b ≡ true) → b ≡ false
-not_true true never = absurd (never refl)
-not_true false never = refl
-
-pub place_of_byte : (byte : ℕ) (text : List ℕ) (found : Option ℕ) → IsFirstByte (is_byte byte) text found → unwrap_or found (length text) ≡ position_or_len (λ b. b == byte) text
-place_of_byte byte text None h = sym (position_or_len_is (λ b. b == byte) text (length text) 0 (omega arith) (λ k lt. not_true (get_or text k 0 == byte) (h k (omega arith) lt)) (λ lt. absurd (omega (arith, lt))))
-place_of_byte byte text (Some at) h = sym (position_or_len_is (λ b. b == byte) text at 0 (omega (arith, h.0.high)) (λ k lt. not_true (get_or text k 0 == byte) (h.0.before k (omega arith) lt)) (λ _. h.1))
+no_cut text at is whole = slice_split_none is_blank text (λ k d lt. fails_before_first is_blank text k d (omega (arith, is, whole, lt)))

@@ -40,12 +40,12 @@ path_word word = ok_or (path_of word) BadPath
 abbrev pub mode_word : List ℕ → Result ℕ IllFormed
 mode_word word = ok_or (mode_of word) BadMode
 
-abbrev pub replication_of : ℕ → Option ℕ
-replication_of replicas = if is_replication replicas then Some replicas else None
+abbrev pub allowed_replication : ℕ → Option ℕ
+allowed_replication replicas = if is_replication replicas then Some replicas else None
 
 -- how many replicas, in decimal digits
 abbrev pub replication_word : List ℕ → Result ℕ IllFormed
-replication_word word = ok_or (option_and_then replication_of (number_of word)) BadLine
+replication_word word = ok_or (option_and_then allowed_replication (number_of word)) BadLine
 
 -- a number below 2^64, as of a block or of bytes
 abbrev pub number_word : List ℕ → Result ℕ IllFormed
@@ -84,11 +84,11 @@ abbrev pub whos_of : List (List ℕ) → Option (List (List ℕ))
 whos_of pieces = if list_all is_who pieces then Some pieces else None
 
 -- names with a comma between each two, or `-` for none; a group may stand twice
-abbrev pub groups_of : List ℕ → Option (List (List ℕ))
-groups_of word = if same word (codes "-") then Some [] else whos_of (pieces_at 44 word)
+abbrev pub groups_in_word : List ℕ → Option (List (List ℕ))
+groups_in_word word = if same word (codes "-") then Some [] else whos_of (pieces_at 44 word)
 
 abbrev pub groups_word : List ℕ → Result (List (List ℕ)) IllFormed
-groups_word word = ok_or (groups_of word) BadName
+groups_word word = ok_or (groups_in_word word) BadName
 
 abbrev pub spec_or_bad : Result (List Entry) AclFault → Result (List Entry) IllFormed
 spec_or_bad (Ok spec) = Ok spec

@@ -51,7 +51,7 @@ pub fn mode_word(word: &str) -> Result<Mode, ParseFault>
 
 /// How many replicas a number says; `None` for 0 and above 16.
 fn replication_of(replicas: u64) -> Option<Repl>
-    ensures { result ≡ spec.replication_of replicas }
+    ensures { result ≡ spec.allowed_replication replicas }
 {
     if replicas > 16 {
         return None;

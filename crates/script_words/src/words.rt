@@ -1,35 +1,10 @@
-ghost use Rattle.std.specs.Prelude.{◌≡◌, ◌≢◌, ◌<◌, ◌≤◌, ◌==◌, ℕ, List, [], ◌∷◌, ◌++◌, IfOk, IfSome, OnOk, MatchOption, length, map, filter};
+ghost use Rattle.std.specs.Prelude.{◌≡◌, ◌≢◌, ◌<◌, ◌≤◌, ℕ, List, [], ◌∷◌, ◌++◌, IfOk, IfSome, OnOk, MatchOption, length, map, filter};
 ghost use Rattle.std.specs.List.{position_or_len};
 ghost use Rattle.hdfs_values.specs.Text.{same};
 ghost use Rattle.script_words.specs.Words as spec;
 
-use memchr::memchr;
+use hdfs_values::pieces::cut_at;
 use std::alloc::{AllocError, Global};
-
-/// Where a byte first stands; the length where it stands nowhere.
-fn byte_at(text: &[u8], byte: u8) -> usize
-    ensures place { result ≡ position_or_len (λ b. b == byte) text.now }
-    ensures bound { result ≤ length text.now }
-{
-    match memchr(byte, text) {
-        Some(at) => at,
-        None => text.len(),
-    }
-}
-
-/// What stands before the first separator, and what stands behind it.
-fn cut_at(text: &str, separator: u8) -> Option<(&str, &str)>
-    requires { separator < 128 }
-    ensures pieces { MatchOption result (spec.pieces_at separator text.now ≡ text.now ∷ [])
-        (λ cut. spec.pieces_at separator text.now ≡ cut.0.now ∷ spec.pieces_at separator cut.1.now) }
-    ensures shorter { IfSome result (λ cut. length cut.1.now < length text.now) }
-{
-    let at = byte_at(text.as_bytes(), separator);
-    if at == text.len() {
-        return None;
-    }
-    Some((&text[..at], &text[at + 1..]))
-}
 
 /// The pieces of a text between an ASCII character.
 pub fn pieces_between(alloc: Global, text: &str, separator: char) -> Result<Vec<&str>, AllocError>

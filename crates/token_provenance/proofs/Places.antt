@@ -13,9 +13,9 @@ use Rattle.hdfs_values.proofs.Texts.{same_is}
 use Rattle.node_calls.specs.declared.access_log.AccessRecord.{AccessRecord}
 use Rattle.grant_ledger.specs.declared.ledger.LedgerRow.{LedgerRow}
 use Rattle.permission_specs.specs.Rights.{covers}
-use Rattle.token_provenance.specs.Provenance.{allows, fits, lesser, place_of, least_place, records_of}
+use Rattle.token_provenance.specs.Provenance.{allows, supports, lesser, place_of, least_place, records_of}
 use Rattle.token_provenance.specs.declared.source.Source.{Source}
-use Rattle.token_provenance.specs.Index.{Table, rows_at, IsIndex, TellsAlso, grants_the_same, repeats, repeats_first, listed_with}
+use Rattle.token_provenance.specs.Index.{TokenIndex, rows_at, IsIndex, TellsAlso, grants_the_same, repeats, repeats_first, listed_with}
 
 pub lesser_none : (place : Option ℕ) → lesser place None ≡ place
 lesser_none None = refl
@@ -64,7 +64,7 @@ behind_all (row ∷ rows) entry least place =
     ap (λ l. fold (λ l next. lesser l (place_of next entry)) l rows) (lesser_turned least place (place_of row entry)) ∙ behind_all rows entry (lesser least (place_of row entry)) place
 
 -- the records that rest on a row rest on one that says the same
-fits_as : (first row : LedgerRow) (entry : AccessRecord) → repeats first row ≡ true → fits first entry ≡ fits row entry
+fits_as : (first row : LedgerRow) (entry : AccessRecord) → repeats first row ≡ true → supports first entry ≡ supports row entry
 fits_as first row entry h =
     let whole = both (nat_le first.place row.place && same first.grant.token row.grant.token) (grants_the_same first.grant row.grant) h in
     let token = same_is first.grant.token row.grant.token (both (nat_le first.place row.place) (same first.grant.token row.grant.token) whole.0).1 in
@@ -79,7 +79,7 @@ fits_as first row entry h =
 
 -- beside a row, one that repeats it tells nothing
 tells_nothing : (first row : LedgerRow) (entry : AccessRecord) → repeats first row ≡ true → lesser (place_of first entry) (place_of row entry) ≡ place_of first entry
-tells_nothing first row entry h = by (fits first entry) (fits row entry) (fits_as first row entry h)
+tells_nothing first row entry h = by (supports first entry) (supports row entry) (fits_as first row entry h)
   where
     by : (a b : Bool) → a ≡ b → lesser (cond a (Some first.place) None) (cond b (Some row.place) None) ≡ cond a (Some first.place) None
     by true true is = ap Some (least_of_both first.place row.place (no_lesser first.place row.place (both (nat_le first.place row.place) (same first.grant.token row.grant.token) (both (nat_le first.place row.place && same first.grant.token row.grant.token) (grants_the_same first.grant row.grant) h).0).0))
@@ -122,7 +122,7 @@ least_step rows i row entry least place below is before here =
 -- ---- the index
 
 -- under one token other rows are listed
-pub relisted : (old new : Table) (token : List ℕ) (own : List LedgerRow)
+pub relisted : (old new : TokenIndex) (token : List ℕ) (own : List LedgerRow)
     → ((q : Bor (List ℕ)) → lookup (is_at (λ key. text_cmp q.now key.now)) new ≡ cond (same token q.now) (Some own) (lookup (is_at (λ key. text_cmp q.now key.now)) old))
     → (bytes : List ℕ) → rows_at bytes new ≡ cond (same token bytes) own (rows_at bytes old)
 relisted old new token own put bytes = ap (λ found. unwrap_or found []) (put (record { ref_ptr = (0, 0); now = bytes })) ∙ by (same token bytes)
@@ -132,7 +132,7 @@ relisted old new token own put bytes = ap (λ found. unwrap_or found []) (put (r
     by false = refl
 
 -- a row is listed under its token
-pub indexed_more : (old new : Table) (row : LedgerRow) (own : List LedgerRow)
+pub indexed_more : (old new : TokenIndex) (row : LedgerRow) (own : List LedgerRow)
     → ((q : Bor (List ℕ)) → lookup (is_at (λ key. text_cmp q.now key.now)) new ≡ cond (same row.grant.token q.now) (Some own) (lookup (is_at (λ key. text_cmp q.now key.now)) old))
     → TellsAlso (rows_at row.grant.token old) row own → (rows : List LedgerRow) → IsIndex old rows → IsIndex new (rows ++ row ∷ [])
 indexed_more old new row own put tells rows law entry =

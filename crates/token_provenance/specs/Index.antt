@@ -10,15 +10,15 @@ use Rattle.std.specs.Map.{lookup}
 use Rattle.hdfs_values.specs.Text.{same, text_cmp}
 
 -- for each token, borrowed, the rows that are listed under it
-abbrev pub Table : Type 0
-Table = List (Bor (List ℕ) × List LedgerRow)
+abbrev pub TokenIndex : Type 0
+TokenIndex = List (Bor (List ℕ) × List LedgerRow)
 
 -- the rows that are listed under these bytes
-abbrev pub rows_at : List ℕ → Table → List LedgerRow
+abbrev pub rows_at : List ℕ → TokenIndex → List LedgerRow
 rows_at bytes table = unwrap_or (lookup (is_at (λ key. text_cmp bytes key.now)) table) []
 
 -- whatever record is asked for, the rows that are listed under its token tell as much as all
-abbrev pub IsIndex : Table → List LedgerRow → Type 0
+abbrev pub IsIndex : TokenIndex → List LedgerRow → Type 0
 IsIndex table rows = (entry : AccessRecord) → least_place (rows_at entry.token table) entry ≡ least_place rows entry
 
 -- the second list tells of each record what the first one and the row tell

@@ -16,8 +16,8 @@ allows row entry =
     same row.grant.user entry.caller && row.grant.block == entry.block && covers row.grant.modes.0 entry.mode.0 && nat_lt entry.moment row.grant.expiry
 
 -- the record rests on the row
-abbrev pub fits : LedgerRow → AccessRecord → Bool
-fits row entry = same row.grant.token entry.token && allows row entry
+abbrev pub supports : LedgerRow → AccessRecord → Bool
+supports row entry = same row.grant.token entry.token && allows row entry
 
 -- the lesser of two places, where there are both
 abbrev pub lesser : Option ℕ → Option ℕ → Option ℕ
@@ -26,7 +26,7 @@ lesser (Some place) None = Some place
 lesser (Some place) (Some other) = Some (min place other)
 
 abbrev pub place_of : LedgerRow → AccessRecord → Option ℕ
-place_of row entry = if fits row entry then Some row.place else None
+place_of row entry = if supports row entry then Some row.place else None
 
 -- the least place of the rows that fit
 abbrev pub least_place : List LedgerRow → AccessRecord → Option ℕ

@@ -137,9 +137,9 @@ pub(crate) struct TokenIndex<'a> {
 }
 
 impl<'a> Model for TokenIndex<'a> {
-    ghost use Rattle.token_provenance.specs.Index.{Table};
+    ghost use Rattle.token_provenance.specs.Index.{TokenIndex};
 
-    ghost Value = { Table };
+    ghost Value = { TokenIndex };
 
     ghost view = { λ index. index.tokens.entries };
 }

@@ -4,8 +4,8 @@ use Rattle.std.specs.Prelude.{unwrap_or}
 use Rattle.std.specs.List.{list_any}
 use Rattle.block_records.specs.declared.last_block.LastBlock.{LastBlock}
 use Rattle.namespace_rows.specs.declared.file_row.FileBlock.{FileBlock}
-use Rattle.namespace_rows.specs.Files.{last_of, length_of, told_length, but_last, has_id, with_length, committed_in}
-use Rattle.flat_rows.specs.BlockOutcome.{is_named, is_last}
+use Rattle.namespace_rows.specs.Files.{last_of, length_of, told_length, but_last, has_id, with_length_where, committed_in}
+use Rattle.flat_rows.specs.BlockOutcome.{has_block_id, is_last}
 
 flipped : (a b : ℕ) → (a == b) ≡ true → (b == a) ≡ true
 flipped a b h = grind (arith, h)
@@ -20,10 +20,10 @@ last_behind block next blocks = ap (slice_get (block ∷ next ∷ blocks)) (one_
 front_behind : (block next : FileBlock) (blocks : List FileBlock) → but_last (block ∷ next ∷ blocks) ≡ block ∷ but_last (next ∷ blocks)
 front_behind block next blocks = ap (λ n. take n (block ∷ next ∷ blocks)) (one_less (suc (length blocks))) ∙ ap (λ n. block ∷ take n (next ∷ blocks)) (sym (one_less (length blocks)))
 
-named_among : (id : ℕ) (blocks : List FileBlock) → is_named id (last_of blocks) ≡ true → list_any (has_id id) blocks ≡ true
+named_among : (id : ℕ) (blocks : List FileBlock) → has_block_id id (last_of blocks) ≡ true → list_any (has_id id) blocks ≡ true
 named_among id [] h = cc
 named_among id (block ∷ []) h = ap (λ b. b || false) (flipped id block.id h)
-named_among id (block ∷ next ∷ blocks) h = by (has_id id block) (named_among id (next ∷ blocks) (ap (is_named id) (sym (last_behind block next blocks)) ∙ h))
+named_among id (block ∷ next ∷ blocks) h = by (has_id id block) (named_among id (next ∷ blocks) (ap (has_block_id id) (sym (last_behind block next blocks)) ∙ h))
   where
     by : (b : Bool) → list_any (has_id id) (next ∷ blocks) ≡ true → (b || list_any (has_id id) (next ∷ blocks)) ≡ true
     by true k = refl
@@ -37,20 +37,20 @@ told_is n x h = by (nat_lt x (2 ^ 64)) h
     by true e = cc
     by false e = cc
 
-pub length_committed : (id bytes : ℕ) (blocks : List FileBlock) → is_named id (last_of blocks) ≡ true → length_of (committed_in id bytes blocks) ≡ length_of (but_last blocks) + bytes
+pub length_committed : (id bytes : ℕ) (blocks : List FileBlock) → has_block_id id (last_of blocks) ≡ true → length_of (committed_in id bytes blocks) ≡ length_of (but_last blocks) + bytes
 length_committed id bytes [] h = cc
 length_committed id bytes (block ∷ []) h = by (has_id id block) (flipped id block.id h)
   where
-    by : (b : Bool) → b ≡ true → unwrap_or (with_length (b && true) bytes block).committed 0 + 0 ≡ 0 + bytes
+    by : (b : Bool) → b ≡ true → unwrap_or (with_length_where (b && true) bytes block).committed 0 + 0 ≡ 0 + bytes
     by true e = omega arith
     by false e = cc
 length_committed id bytes (block ∷ next ∷ blocks) h =
-    let rest = ap (is_named id) (sym (last_behind block next blocks)) ∙ h in
+    let rest = ap (has_block_id id) (sym (last_behind block next blocks)) ∙ h in
     let among = named_among id (next ∷ blocks) rest in
-    ap (λ b. unwrap_or (with_length (has_id id block && not b) bytes block).committed 0 + length_of (committed_in id bytes (next ∷ blocks))) among
+    ap (λ b. unwrap_or (with_length_where (has_id id block && not b) bytes block).committed 0 + length_of (committed_in id bytes (next ∷ blocks))) among
     ∙ (kept (has_id id block) ∙ (ap (λ n. unwrap_or block.committed 0 + n) (length_committed id bytes (next ∷ blocks) rest) ∙ (joined (unwrap_or block.committed 0) (length_of (but_last (next ∷ blocks))) bytes ∙ ap (λ l. length_of l + bytes) (sym (front_behind block next blocks)))))
   where
-    kept : (b : Bool) → unwrap_or (with_length (b && false) bytes block).committed 0 + length_of (committed_in id bytes (next ∷ blocks)) ≡ unwrap_or block.committed 0 + length_of (committed_in id bytes (next ∷ blocks))
+    kept : (b : Bool) → unwrap_or (with_length_where (b && false) bytes block).committed 0 + length_of (committed_in id bytes (next ∷ blocks)) ≡ unwrap_or block.committed 0 + length_of (committed_in id bytes (next ∷ blocks))
     kept true = refl
     kept false = refl
 

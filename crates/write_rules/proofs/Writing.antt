@@ -13,13 +13,13 @@ use Rattle.principals.specs.Users.{Users, Caller}
 use Rattle.namespace_rows.specs.declared.file_row.FileRow.{FileRow}
 use Rattle.namespace_rows.specs.declared.row.Row.{Row}
 use Rattle.namespace_rows.specs.Rows.{row_at}
-use Rattle.namespace_rows.specs.Files.{holder_of, holder_of_file, unfinished}
+use Rattle.namespace_rows.specs.Files.{holder_of, holder_of_file, unfinished_block}
 use Rattle.flat_rows.specs.FileOutcome.{directory_there, of_file, if_some_file, refused_write, holder_at}
 use Rattle.flat_rows.specs.Takeover.{refused_append, appended_reply, unfinished_of, unfinished_at}
-use Rattle.flat_rows.specs.BlockOutcome.{replication_of, replication_at, refused_last, refused_new, refused_end, added, added_to, opened, blocks_of, blocks_at, bytes_behind, bytes_behind_at}
+use Rattle.flat_rows.specs.BlockOutcome.{replication_of, replication_at, refused_unless_last, refused_new, refused_end, added_reply, added_to, opened_reply, blocks_of_file, blocks_of_row, bytes_behind, bytes_behind_at}
 use Rattle.flat_rows.specs.Facts.{Facts}
 use Rattle.required_rights.specs.RequiredRights.{Demand, required_rights}
-use Rattle.flat_rows.specs.Decision.{asking, denial_among}
+use Rattle.flat_rows.specs.Decision.{asking_caller, denial_among}
 use Rattle.flat_rows.specs.Outcome.{Step, step, first_some, beneath_file, nothing_at, refusals_of_file, first_refusal, reply_of, refused_or_done, denied_or_outcome}
 use Rattle.perm_walk.specs.Found.{file_at_row, IsFileThere}
 use Rattle.perm_walk.specs.JudgedStep.{judged_step}
@@ -48,7 +48,7 @@ pub holder_of_this : (at : Option Row) (file : FileRow) → file_at_row at ≡ S
 holder_of_this None file h = cc
 holder_of_this (Some row) file h = ap holder_of_file h
 
-unfinished_of_this : (at : Option Row) (file : FileRow) → file_at_row at ≡ Some file → unfinished_at at ≡ unfinished file.blocks
+unfinished_of_this : (at : Option Row) (file : FileRow) → file_at_row at ≡ Some file → unfinished_at at ≡ unfinished_block file.blocks
 unfinished_of_this None file h = cc
 unfinished_of_this (Some row) file h = ap unfinished_of h
 
@@ -62,13 +62,13 @@ verdict_is facts rows users caller op None = refl
 verdict_is facts rows users caller op (Some refusal) = refl
 
 pub append_verdict : (facts : Facts) (path : List (List ℕ)) (rows : List Row) (users : Users) (caller : Caller) (needs : List Demand) (file : FileRow) → IsFileThere path rows file → denial_among rows caller needs ≡ None
-    → refused_or (appended_reply facts.blocks (holder_of file.state) (unfinished file.blocks)) (refused_append facts caller.name file) ≡ (judged_step facts rows users caller needs (Append path)).verdict
+    → refused_or (appended_reply facts.blocks (holder_of file.state) (unfinished_block file.blocks)) (refused_append facts caller.name file) ≡ (judged_step facts rows users caller needs (Append path)).verdict
 append_verdict facts path rows users caller needs file there granted =
     let takeover = of_file (refused_append facts caller.name) (row_at path rows) in
     let refusal : first_refusal facts caller.name (Append path) rows users ≡ refused_append facts caller.name file =
     free_at_file path rows (takeover ∷ []) there.free ∙ or_none takeover ∙ of_this (refused_append facts caller.name) (row_at path rows) file there.at in
-    ap (refused_or (appended_reply facts.blocks (holder_of file.state) (unfinished file.blocks))) (sym refusal)
-    ∙ ap (λ holder. refused_or (appended_reply facts.blocks holder (unfinished file.blocks)) (first_refusal facts caller.name (Append path) rows users)) (sym (holder_of_this (row_at path rows) file there.at))
+    ap (refused_or (appended_reply facts.blocks (holder_of file.state) (unfinished_block file.blocks))) (sym refusal)
+    ∙ ap (λ holder. refused_or (appended_reply facts.blocks holder (unfinished_block file.blocks)) (first_refusal facts caller.name (Append path) rows users)) (sym (holder_of_this (row_at path rows) file there.at))
     ∙ ap (λ block. refused_or (appended_reply facts.blocks (holder_at (row_at path rows)) block) (first_refusal facts caller.name (Append path) rows users)) (sym (unfinished_of_this (row_at path rows) file there.at))
     ∙ verdict_is facts rows users caller.name (Append path) (first_refusal facts caller.name (Append path) rows users)
     ∙ ap (λ denied. (denied_or_outcome facts rows users caller.name (Append path) denied).verdict) (sym granted)
@@ -89,16 +89,16 @@ pub replication_of_this : (at : Option Row) (file : FileRow) → file_at_row at 
 replication_of_this None file h = cc
 replication_of_this (Some row) file h = ap replication_of h
 
-blocks_of_this : (at : Option Row) (file : FileRow) → file_at_row at ≡ Some file → blocks_at at ≡ file.blocks
+blocks_of_this : (at : Option Row) (file : FileRow) → file_at_row at ≡ Some file → blocks_of_row at ≡ file.blocks
 blocks_of_this None file h = cc
-blocks_of_this (Some row) file h = ap blocks_of h
+blocks_of_this (Some row) file h = ap blocks_of_file h
 
 -- what stands against a writer, and behind that what the map of blocks refuses
 abbrev pub against : List ℕ → Option LastBlock → FileRow → Option Refusal → Option Refusal
-against client last file behind = option_or (refused_write client file) (option_or (refused_last last file) behind)
+against client last file behind = option_or (refused_write client file) (option_or (refused_unless_last last file) behind)
 
-pub against_none : (client : List ℕ) (last : Option LastBlock) (file : FileRow) (behind : Option Refusal) → option_or (refused_write client file) (refused_last last file) ≡ None → against client last file behind ≡ behind
-against_none client last file behind h = by (refused_write client file) (refused_last last file) h
+pub against_none : (client : List ℕ) (last : Option LastBlock) (file : FileRow) (behind : Option Refusal) → option_or (refused_write client file) (refused_unless_last last file) ≡ None → against client last file behind ≡ behind
+against_none client last file behind h = by (refused_write client file) (refused_unless_last last file) h
   where
     by : (a b : Option Refusal) → option_or a b ≡ None → option_or a (option_or b behind) ≡ behind
     by (Some r) b k = cc
@@ -106,12 +106,12 @@ against_none client last file behind h = by (refused_write client file) (refused
     by None None k = refl
 
 against_is : (path : List (List ℕ)) (rows : List Row) (client : List ℕ) (last : Option LastBlock) (file : FileRow) (behind : Option Refusal) → IsFileThere path rows file
-    → first_some (refusals_of_file path rows ++ of_file (refused_write client) (row_at path rows) ∷ of_file (refused_last last) (row_at path rows) ∷ behind ∷ []) ≡ against client last file behind
+    → first_some (refusals_of_file path rows ++ of_file (refused_write client) (row_at path rows) ∷ of_file (refused_unless_last last) (row_at path rows) ∷ behind ∷ []) ≡ against client last file behind
 against_is path rows client last file behind there =
-    free_at_file path rows (of_file (refused_write client) (row_at path rows) ∷ of_file (refused_last last) (row_at path rows) ∷ behind ∷ []) there.free
-    ∙ (ap (λ a. option_or a (option_or (of_file (refused_last last) (row_at path rows)) (option_or behind None))) (of_this (refused_write client) (row_at path rows) file there.at)
-    ∙ (ap (λ b. option_or (refused_write client file) (option_or b (option_or behind None))) (of_this (refused_last last) (row_at path rows) file there.at)
-    ∙ ap (λ c. option_or (refused_write client file) (option_or (refused_last last file) c)) (or_none behind)))
+    free_at_file path rows (of_file (refused_write client) (row_at path rows) ∷ of_file (refused_unless_last last) (row_at path rows) ∷ behind ∷ []) there.free
+    ∙ (ap (λ a. option_or a (option_or (of_file (refused_unless_last last) (row_at path rows)) (option_or behind None))) (of_this (refused_write client) (row_at path rows) file there.at)
+    ∙ (ap (λ b. option_or (refused_write client file) (option_or b (option_or behind None))) (of_this (refused_unless_last last) (row_at path rows) file there.at)
+    ∙ ap (λ c. option_or (refused_write client file) (option_or (refused_unless_last last file) c)) (or_none behind)))
 
 module _ (facts : Facts) (path : List (List ℕ)) (rows : List Row) (users : Users) (caller : Caller) (needs : List Demand) (file : FileRow) (there : IsFileThere path rows file) (granted : denial_among rows caller needs ≡ None) where
   judged_of : (what : Op) (reply : Reply) (refusal : Option Refusal) → reply ≡ reply_of facts caller.name what rows → refusal ≡ first_refusal facts caller.name what rows users → refused_or reply refusal ≡ (judged_step facts rows users caller needs what).verdict
@@ -127,17 +127,17 @@ module _ (facts : Facts) (path : List (List ℕ)) (rows : List Row) (users : Use
       (ap replies.Closed (sym (bytes_of_this last (row_at path rows) file there.at))) (sym (against_is path rows caller.name last file (refused_end facts.blocks last) there))
 
   pub add_block_verdict : (last : Option LastBlock)
-      → refused_or (added facts.token caller.name (given_behind facts.blocks last facts.now file.replication)) (against caller.name last file (refused_new facts.blocks last facts.now)) ≡ (judged_step facts rows users caller needs (AddBlock path last)).verdict
+      → refused_or (added_reply facts.token caller.name (given_behind facts.blocks last facts.now file.replication)) (against caller.name last file (refused_new facts.blocks last facts.now)) ≡ (judged_step facts rows users caller needs (AddBlock path last)).verdict
   add_block_verdict last =
-      judged_of (AddBlock path last) (added facts.token caller.name (given_behind facts.blocks last facts.now file.replication)) (against caller.name last file (refused_new facts.blocks last facts.now))
+      judged_of (AddBlock path last) (added_reply facts.token caller.name (given_behind facts.blocks last facts.now file.replication)) (against caller.name last file (refused_new facts.blocks last facts.now))
       (ap (added_to facts.token caller.name facts.blocks last facts.now) (sym (replication_of_this (row_at path rows) file there.at))) (sym (against_is path rows caller.name last file (refused_new facts.blocks last facts.now) there))
 
-  pub open_verdict : Done (opened facts.token caller.name facts.blocks file.blocks) ≡ (judged_step facts rows users caller needs (Open path)).verdict
+  pub open_verdict : Done (opened_reply facts.token caller.name facts.blocks file.blocks) ≡ (judged_step facts rows users caller needs (Open path)).verdict
   open_verdict =
-      judged_of (Open path) (opened facts.token caller.name facts.blocks file.blocks) None
-      (ap (opened facts.token caller.name facts.blocks) (sym (blocks_of_this (row_at path rows) file there.at))) (sym there.free)
+      judged_of (Open path) (opened_reply facts.token caller.name facts.blocks file.blocks) None
+      (ap (opened_reply facts.token caller.name facts.blocks) (sym (blocks_of_this (row_at path rows) file there.at))) (sym there.free)
 
 -- the verdict on what is judged with its needs is that of the step
-pub as_judged : (facts : Facts) (rows : List Row) (users : Users) (caller : List ℕ) (who : Caller) (needs : List Demand) (what taken : Op) → who ≡ asking users caller taken → needs ≡ required_rights what → what ≡ taken
+pub as_judged : (facts : Facts) (rows : List Row) (users : Users) (caller : List ℕ) (who : Caller) (needs : List Demand) (what taken : Op) → who ≡ asking_caller users caller taken → needs ≡ required_rights what → what ≡ taken
     → (judged_step facts rows users who needs taken).verdict ≡ (step facts rows users caller what).verdict
 as_judged facts rows users caller who needs what taken him all is = ap (λ (s : Step). s.verdict) (as_step facts rows users caller who needs what taken him all is)

@@ -7,7 +7,7 @@ use Rattle.hdfs_types.specs.declared.reply.Reply.TheVariants.{Empty}
 use Rattle.namespace_rows.specs.declared.file_row.FileRow.{FileRow}
 use Rattle.namespace_rows.specs.declared.row.Row.{Row}
 use Rattle.namespace_rows.specs.Rows.{row_at}
-use Rattle.namespace_rows.specs.Files.{unfinished}
+use Rattle.namespace_rows.specs.Files.{unfinished_block}
 use Rattle.flat_rows.specs.Facts.{Facts}
 use Rattle.flat_rows.specs.Takeover.{refused_taking, taken_reply}
 use Rattle.flat_rows.specs.Verdicts.{is_done}
@@ -32,7 +32,7 @@ verdict_of_append facts (Held holder block) = refused_or (taken_reply facts.bloc
 abbrev pub IsJudgedFile : FileRow → JudgedAppend → Type 0
 IsJudgedFile file (Verdict verdict) = is_done verdict ≡ false
 IsJudgedFile file Closed = file.state ≡ state.Closed
-IsJudgedFile file (Held holder block) = (file.state ≡ state.Open holder) × (unfinished file.blocks ≡ block)
+IsJudgedFile file (Held holder block) = (file.state ≡ state.Open holder) × (unfinished_block file.blocks ≡ block)
 
 -- what is done is found at the path
 abbrev pub IsJudgedAt : List (List ℕ) → List Row → JudgedAppend → Type 0

@@ -2,7 +2,7 @@ ghost use Rattle.std.specs.Prelude.{◌≡◌, ℕ, List, IfOk};
 ghost use Rattle.principals.specs.Users.{Users};
 ghost use Rattle.flat_rows.specs.Facts.{Facts};
 ghost use Rattle.flat_rows.specs.Takeover.{refused_append};
-ghost use Rattle.namespace_rows.specs.Files.{unfinished, holder_of};
+ghost use Rattle.namespace_rows.specs.Files.{unfinished_block, holder_of};
 ghost use Rattle.hdfs_types.specs.declared.op.Op.TheVariants.{Append};
 ghost use Rattle.perm_walk.specs.Walked.{AreOn};
 ghost use Rattle.perm_walk.specs.JudgedStep.{judged_step};
@@ -44,7 +44,7 @@ pub enum JudgedAppend {
 
 /// Judges whether a client can append to a file.
 fn appended(client: &Who, file: &FileRow) -> Result<JudgedAppend, AllocError>
-    ensures verdict { (facts : Facts) → IfOk result (λ judged. verdict_of_append facts judged ≡ refused_or (appended_reply facts.blocks (holder_of file.now.state) (unfinished file.now.blocks)) (refused_append facts client.now file.now)) }
+    ensures verdict { (facts : Facts) → IfOk result (λ judged. verdict_of_append facts judged ≡ refused_or (appended_reply facts.blocks (holder_of file.now.state) (unfinished_block file.now.blocks)) (refused_append facts client.now file.now)) }
     ensures found { IfOk result (IsJudgedFile file.now) }
 {
     let holder = match &file.state {

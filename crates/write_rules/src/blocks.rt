@@ -10,7 +10,7 @@ ghost use Rattle.principals.specs.Users.{Users};
 ghost use Rattle.flat_rows.specs.Outcome.{step};
 ghost use Rattle.required_rights.specs.RequiredRights.{required_rights};
 ghost use Rattle.write_rules.specs.Judged.{refused_or};
-ghost use Rattle.write_rules.specs.JudgedBlocks.{verdict_of_new, verdict_of_open, IsPlanned, IsGiven, IsUndone};
+ghost use Rattle.write_rules.specs.JudgedBlocks.{verdict_of_new, verdict_of_open, IsPlanned, IsGiven, DoesNothing};
 
 use crate::ends::refusal_of_write;
 use block_map::blocks::Blocks;
@@ -56,7 +56,7 @@ fn planned(
     replication: Repl,
     now: Moment,
 ) -> Result<JudgedBlock, AllocError>
-    ensures verdict { (token : Tokens) (caller : List ℕ) → IfOk result (λ judged. verdict_of_new token caller judged ≡ refused_or (spec.added token caller (given_behind blocks.now last.now now replication)) (spec.refused_new blocks.now last.now now)) }
+    ensures verdict { (token : Tokens) (caller : List ℕ) → IfOk result (λ judged. verdict_of_new token caller judged ≡ refused_or (spec.added_reply token caller (given_behind blocks.now last.now now replication)) (spec.refused_new blocks.now last.now now)) }
     ensures given { IfOk result (IsGiven blocks.now now last.now replication) }
 {
     match blocks.plan_behind(last, replication, now) {
@@ -107,7 +107,7 @@ fn open_judged<'a>(
 ) -> Result<JudgedOpen<'a>, AllocError>
     requires { AreOn path.now needs.now }
     ensures verdict { (facts : Facts) (users : Users) → IfOk result (λ judged. verdict_of_open facts.token caller.now.name facts.blocks judged ≡ (judged_step facts tree.now users caller.now needs.now (Op.Open path.now)).verdict) }
-    ensures undone { IfOk result IsUndone }
+    ensures undone { IfOk result DoesNothing }
 {
     let reach = match walk_along(alloc, tree, caller, needs, path)? {
         Walked::Denied(denial) => return Ok(JudgedOpen::Verdict(Verdict::Denied(denial))),
@@ -168,7 +168,7 @@ pub fn judge_open<'a>(
 ) -> Result<JudgedOpen<'a>, AllocError>
     requires { needs.now ≡ required_rights (Op.Open path.now) }
     ensures verdict { (facts : Facts) → IfOk result (λ judged. verdict_of_open facts.token caller.now facts.blocks judged ≡ (step facts tree.now users.now caller.now (Op.Open path.now)).verdict) }
-    ensures undone { IfOk result IsUndone }
+    ensures undone { IfOk result DoesNothing }
 {
     open_judged(alloc, tree, &users.caller(caller), needs, path)
 }

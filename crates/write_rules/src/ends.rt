@@ -2,7 +2,7 @@ ghost use Rattle.std.specs.Prelude.{◌≡◌, ◌+◌, ℕ, List, true, IfOk};
 ghost use Rattle.std.specs.Option.{option_or};
 ghost use Rattle.hdfs_types.specs.declared.reply.Reply.TheVariants as reply;
 ghost use Rattle.flat_rows.specs.FileOutcome.{refused_write};
-ghost use Rattle.flat_rows.specs.BlockOutcome.{is_last, refused_last, refused_end, bytes_behind};
+ghost use Rattle.flat_rows.specs.BlockOutcome.{is_last, refused_unless_last, refused_end, bytes_behind};
 ghost use Rattle.namespace_rows.specs.Files.{but_last, length_of};
 ghost use Rattle.write_rules.specs.Judged.{refused_or};
 
@@ -45,7 +45,7 @@ fn names_last(last: Option<LastBlock>, file: &FileRow) -> bool
 
 /// Why a client may not go on behind the last block of a file, where he may not, whatever is known of that block.
 pub fn refusal_of_write(client: &Who, last: Option<LastBlock>, file: &FileRow) -> Option<Refusal>
-    ensures { result ≡ option_or (refused_write client.now file.now) (refused_last last file.now) }
+    ensures { result ≡ option_or (refused_write client.now file.now) (refused_unless_last last file.now) }
 {
     let refusal = refusal_of_writer(client, file);
     if refusal.is_some() {
@@ -95,7 +95,7 @@ pub fn completed(
     last: Option<LastBlock>,
     file: &FileRow,
 ) -> Result<Verdict, AllocError>
-    ensures { IfOk result (λ verdict. verdict ≡ refused_or (reply.Closed (bytes_behind last (Some file.now))) (option_or (refused_write client.now file.now) (option_or (refused_last last file.now) (refused_end blocks.now last)))) }
+    ensures { IfOk result (λ verdict. verdict ≡ refused_or (reply.Closed (bytes_behind last (Some file.now))) (option_or (refused_write client.now file.now) (option_or (refused_unless_last last file.now) (refused_end blocks.now last)))) }
 {
     if let Some(refusal) = refusal_of_write(client, last, file) {
         return Ok(Verdict::Refused(refusal));

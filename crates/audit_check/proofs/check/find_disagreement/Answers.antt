@@ -3,7 +3,7 @@ use Rattle.std.specs.Result.{IfOk}
 use Rattle.history.specs.declared.entry.HistoryEntry.{HistoryEntry}
 use Rattle.receipt_checks.specs.Agreement.{Agrees, Finds}
 use Rattle.receipt_checks.specs.Looking.{Replayed}
-use Rattle.audit_check.specs.Checking.{claims_of, opening_of, Standing}
+use Rattle.audit_check.specs.Checking.{claims_of, history_opening, Standing}
 use Rattle.audit_check.proofs.Finding.{none_found, part_found, last_searched}
 use Rattle.audit_check.proofs.check.find_disagreement.Goals as goal
 
@@ -19,9 +19,9 @@ returns c =
     none_found (Standing c.args.opening.now.entries.items c.args.history.now c.args.passes.now) c.find_in_place-found.result
     (subst (λ (begun : List HistoryEntry). Finds (Standing begun c.args.history.now c.args.passes.now) c.find_in_place-found.result) c.as_slice-begun.ensures.value c.find_in_place-found.ensures)
     (sym c.is_some.ensures ∙ c.if-is_some.false) in
-    last_searched (Replayed (opening_of c.args.opening.now) (length c.args.opening.now.entries.items) c.args.history.now c.args.passes.now) (Agrees (claims_of c.args.opening.now c.args.history.now c.args.passes.now))
+    last_searched (Replayed (history_opening c.args.opening.now) (length c.args.opening.now.entries.items) c.args.history.now c.args.passes.now) (Agrees (claims_of c.args.opening.now c.args.history.now c.args.passes.now))
     c.find_in_replay.result
-    (subst (λ (count : ℕ). IfOk c.find_in_replay.result (Finds (Replayed (opening_of c.args.opening.now) count c.args.history.now c.args.passes.now))) (ap length c.as_slice-begun.ensures.value) c.find_in_replay.ensures)
+    (subst (λ (count : ℕ). IfOk c.find_in_replay.result (Finds (Replayed (history_opening c.args.opening.now) count c.args.history.now c.args.passes.now))) (ap length c.as_slice-begun.ensures.value) c.find_in_replay.ensures)
     (λ pass index all. record { legal = all.legal; told = all.told })
     (λ pass index replayed. record {
       placed = (place pass index).placed;

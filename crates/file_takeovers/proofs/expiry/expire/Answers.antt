@@ -1,7 +1,7 @@
 use Rattle.std.proofs.Common.{◌≡◌, ◌∙◌, ℕ, ap, refl}
 use Rattle.std.specs.BTreeMap.{get}
 use Rattle.std.specs.Ordering.{nat_cmp}
-use Rattle.block_map.specs.BlockEffects.{recoveries_begun, all_begun}
+use Rattle.block_map.specs.BlockEffects.{recoveries_begun, with_recoveries_begun}
 use Rattle.flat_rows.specs.Takeover.{stamp_in}
 use Rattle.file_takeovers.specs.Expiry.{Expiry}
 use Rattle.file_takeovers.proofs.SoughtFiles.{held_each}
@@ -17,8 +17,8 @@ returns-clause-ok c = λ last exact.
     let all = c.in_ok-files.ensures.all last exact in
     let planned : c.in_ok-begun.begun.items ≡ recoveries_begun c.args.blocks.now c.in_ok-sought.sought.items c.args.now =
     c.in_ok-begun.ensures ∙ ap (λ blocks. recoveries_begun c.args.blocks.now blocks c.args.now) c.deref.ensures.value in
-    let known : c.begin_recoveries.new.self ≡ all_begun c.args.blocks.now c.in_ok-sought.sought.items c.args.now =
-    c.in_ok-begin_recoveries.ensures.begun ∙ ap (λ blocks. all_begun c.args.blocks.now blocks c.args.now) c.deref-3.ensures.value in
+    let known : c.begin_recoveries.new.self ≡ with_recoveries_begun c.args.blocks.now c.in_ok-sought.sought.items c.args.now =
+    c.in_ok-begin_recoveries.ensures.begun ∙ ap (λ blocks. with_recoveries_begun c.args.blocks.now blocks c.args.now) c.deref-3.ensures.value in
     let agree : (block : ℕ) → get nat_cmp c.in_ok-stamps.stamps block ≡ stamp_in c.in_ok-begun.begun.items block = λ block.
     c.in_ok-stamps.ensures block ∙ ap (λ begun. stamp_in begun block) c.deref-2.ensures.value in
     expired_is last expiry c.args.tree.now c.take_each.new.tree c.args.blocks.now c.begin_recoveries.new.self c.args.writers.now c.take_each.new.writers c.in_ok-files.files.entries c.in_ok-sought.sought.items c.in_ok-begun.begun.items c.count_closed.result c.len.result

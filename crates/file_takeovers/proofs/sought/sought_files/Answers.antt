@@ -4,7 +4,7 @@ use Rattle.std.proofs.lemmas.Result.{IfOk-weaker}
 use Rattle.std.specs.List.{AllByRecursion}
 use Rattle.std.specs.Result.{IfOk}
 use Rattle.namespace_rows.proofs.Namespaces.{namespace_tests}
-use Rattle.file_takeovers.specs.Expiry.{Expiry, AreAll, open_of}
+use Rattle.file_takeovers.specs.Expiry.{Expiry, AreAll, open_count}
 use Rattle.file_takeovers.proofs.SoughtFiles.{IsFoundIn, AreFoundIn, all_found, all_known}
 use Rattle.file_takeovers.proofs.sought.sought_files.Goals as goal
 
@@ -18,7 +18,7 @@ found c =
 pub returns-then-have_open-clause-all : goal.returns-then-have_open-clause-all
 returns-then-have_open-clause-all c = λ last exact.
     let due = c.len-2.ensures ∙ (c.in_ok-overdue.overdue.ok.0 ∙ ap length c.in_ok-overdue.ensures) in
-    let number : open_of c.args.writers.now.files c.args.past.now + c.len-2.result ≡ c.len.result = grind (arith, nat_tests, c.if-have_open.ensures) in
+    let number : open_count c.args.writers.now.files c.args.past.now + c.len-2.result ≡ c.len.result = grind (arith, nat_tests, c.if-have_open.ensures) in
     all_known last c.args.past.now c.args.now c.args.tree.now c.args.writers.now c.args.blocks.now c.add_each_overdue.new.files.entries c.len-2.result c.len.result c.requires.namespace exact c.requires.due
     due c.len.ensures.len number c.len.ensures.ordered (found c)
 

@@ -1,12 +1,12 @@
 use Rattle.std.proofs.Common.{◌∙◌, ap}
 use Rattle.hdfs_types.specs.declared.file.FileState.TheVariants as state
 use Rattle.namespace_rows.specs.declared.row.Change.TheVariants as change
-use Rattle.flat_rows.specs.Changes.{rewritten}
+use Rattle.flat_rows.specs.Changes.{row_rewritten}
 use Rattle.file_takeovers.proofs.Reopening.{exact_reopen}
 use Rattle.file_takeovers.proofs.taking.reopen.Goals as goal
 
 pub returns-clause-tree : goal.returns-clause-tree
-returns-clause-tree c = c.rewrite.ensures ∙ ap (λ who. rewritten c.args.path.now (change.State (state.Open who)) c.args.tree.now) c.in_ok-client.ensures.cases
+returns-clause-tree c = c.rewrite.ensures ∙ ap (λ who. row_rewritten c.args.path.now (change.State (state.Open who)) c.args.tree.now) c.in_ok-client.ensures.cases
 
 pub returns-clause-exact : goal.returns-clause-exact
 returns-clause-exact c = λ last exact.

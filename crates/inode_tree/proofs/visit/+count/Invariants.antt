@@ -1,6 +1,6 @@
 use Rattle.std.proofs.Common.{◌≡◌, ◌+◌, ◌*◌, ◌≤◌, ◌<◌, ◌^◌, length}
 use Rattle.inode_nodes.specs.Node.{flatten}
-use Rattle.inode_tree.specs.Visits.{told, directories, files}
+use Rattle.inode_tree.specs.Visits.{told_number, directories, files}
 use Rattle.inode_tree.proofs.Visits.{Counted}
 use Rattle.inode_tree.proofs.visit.+count.Given as goal
 
@@ -14,8 +14,8 @@ abbrev pub invariant-count_in-loop-name : goal.invariant-count_in-loop-name
 invariant-count_in-loop-name l = record {
   can_next : (goal.iterator-count_in-loop-name).can_next l._name-iterator;
   is_finite : (goal.iterator-count_in-loop-name).is_finite l._name-iterator;
-  directories : told (l.directories + directories (flatten l._name-iterator)) ≡ told (directories (flatten l.map.entries));
-  files : told (l.files + files (flatten l._name-iterator)) ≡ told (files (flatten l.map.entries));
+  directories : told_number (l.directories + directories (flatten l._name-iterator)) ≡ told_number (directories (flatten l.map.entries));
+  files : told_number (l.files + files (flatten l._name-iterator)) ≡ told_number (files (flatten l.map.entries));
   few_directories : l.directories < 2 ^ 64;
   few_files : l.files < 2 ^ 64;
   bytes : Counted (flatten l.map.entries) (flatten l._name-iterator) l.bytes;

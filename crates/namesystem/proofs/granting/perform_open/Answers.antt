@@ -3,7 +3,7 @@ use Rattle.hdfs_types.specs.declared.op.Op.TheVariants as op
 use Rattle.history.specs.Grants.{rows_granted}
 use Rattle.flat_rows.specs.Outcome.{step}
 use Rattle.flat_rows.specs.declared.verdict.Verdict.TheVariants.{Done}
-use Rattle.write_rules.specs.JudgedBlocks.{verdict_of_open, IsUndone}
+use Rattle.write_rules.specs.JudgedBlocks.{verdict_of_open, DoesNothing}
 use Rattle.namesystem.specs.declared.told.Told.{Told}
 use Rattle.namesystem.specs.Told.{IsTold}
 use Rattle.namesystem.specs.Performed.{IsPerformed, facts_in}
@@ -15,7 +15,7 @@ pub returns-in-Verdict-clause-ok : goal.returns-in-Verdict-clause-ok
 returns-in-Verdict-clause-ok c = λ last exact.
     let what = op.Open c.args.path.now in
     let facts = facts_in last c.args.now c.args.system.now in
-    let none = subst IsUndone c.in-Verdict.is c.in_ok-verdict.ensures.undone in
+    let none = subst DoesNothing c.in-Verdict.is c.in_ok-verdict.ensures.undone in
     let judged : c.in-Verdict.verdict ≡ (step facts c.args.system.now.tree c.args.system.now.users c.args.caller.now what).verdict =
     ap (verdict_of_open facts.token c.args.caller.now facts.blocks) (sym c.in-Verdict.is) ∙ c.in_ok-verdict.ensures.verdict facts in
     where_ok c.with_copy.result (IsTold c.in-Verdict.verdict) (λ (told : Told). IsPerformed last c.args.now c.args.caller.now what c.args.system.now told.verdict c.args.system.now)
@@ -26,7 +26,7 @@ returns-in-Verdict-clause-ok c = λ last exact.
 pub returns-in-Verdict-clause-ledger : goal.returns-in-Verdict-clause-ledger
 returns-in-Verdict-clause-ledger c =
     let what = op.Open c.args.path.now in
-    let none = subst IsUndone c.in-Verdict.is c.in_ok-verdict.ensures.undone in
+    let none = subst DoesNothing c.in-Verdict.is c.in_ok-verdict.ensures.undone in
     where_ok c.with_copy.result (IsTold c.in-Verdict.verdict)
     (λ (told : Told). c.args.ledger.now.rows ≡ c.args.ledger.now.rows ++ rows_granted c.args.place c.args.system.now.ring c.args.now c.args.caller.now what told.verdict)
     (λ told is. subst (λ v. c.args.ledger.now.rows ≡ c.args.ledger.now.rows ++ rows_granted c.args.place c.args.system.now.ring c.args.now c.args.caller.now what v) (sym is.verdict_is)

@@ -4,7 +4,7 @@ use Rattle.node_calls.specs.declared.call.PlanCall.TheVariants.{Recover}
 use Rattle.node_calls.specs.declared.call.TokenCall.TheVariants.{InitRecovery}
 use Rattle.node_calls.specs.declared.presented.Presented.{Presented}
 use Rattle.block_recovery.specs.Plans.{refused_begin}
-use Rattle.plan_steps.specs.PlanStep.{presenting, to_each}
+use Rattle.plan_steps.specs.PlanStep.{presented_by_leader, to_each}
 use Rattle.plan_steps.proofs.Steps.{refused_with, refused_is, allowed_after, refused_after, refused_answer, begun_answer}
 use Rattle.plan_steps.proofs.lead.begin.Goals as goal
 
@@ -20,7 +20,7 @@ returns-in-Ok-clause-answer c =
     (ap (λ (nodes : List ℕ). length nodes) (c.as_slice-in-Ok.ensures.nodes ∙ c.in-Ok.ensures.asked))
     (c.in_ok-messages.ensures
     ∙ (ap (λ (presented : Presented). to_each presented InitRecovery c.as_slice.result.now) c.in_ok-presented.ensures
-    ∙ ap (λ (nodes : List ℕ). to_each (presenting c.args.leader own.block own.stamp own.token) InitRecovery nodes) c.as_slice.ensures.nodes))
+    ∙ ap (λ (nodes : List ℕ). to_each (presented_by_leader c.args.leader own.block own.stamp own.token) InitRecovery nodes) c.as_slice.ensures.nodes))
 
 pub returns-in-Err-Refused-clause-ok : goal.returns-in-Err-Refused-clause-ok
 returns-in-Err-Refused-clause-ok c =

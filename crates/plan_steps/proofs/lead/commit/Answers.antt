@@ -1,16 +1,16 @@
 use Rattle.std.proofs.Common.{sym, ap, ◌∙◌, ◌∷◌, [], List, Ok}
 use Rattle.node_calls.specs.declared.call.PlanCall.{PlanCall}
 use Rattle.node_calls.specs.declared.call.PlanCall.TheVariants.{Commit}
-use Rattle.block_recovery.specs.Plans.{plan_at, refused_commit}
+use Rattle.block_recovery.specs.Plans.{plan_at, refused_plan_commit}
 use Rattle.plan_steps.proofs.Steps.{refused_with, refused_is, allowed_after, refused_after, refused_answer, committed_answer}
 use Rattle.plan_steps.proofs.lead.commit.Goals as goal
 
 pub returns-in-Err-Refused-clause-ok : goal.returns-in-Err-Refused-clause-ok
-returns-in-Err-Refused-clause-ok c = sym (refused_after (Commit c.args.block c.args.stamp) c.args.plans.now c.in-Err-Refused.refusal (refused_is (refused_commit (plan_at c.args.block c.args.stamp c.args.plans.now)) c.in-Err-Refused.field-0 c.in-Err-Refused.refusal c.in-Err-Refused.field-0-is c.in-Err-Refused.ensures.fault))
+returns-in-Err-Refused-clause-ok c = sym (refused_after (Commit c.args.block c.args.stamp) c.args.plans.now c.in-Err-Refused.refusal (refused_is (refused_plan_commit (plan_at c.args.block c.args.stamp c.args.plans.now)) c.in-Err-Refused.field-0 c.in-Err-Refused.refusal c.in-Err-Refused.field-0-is c.in-Err-Refused.ensures.fault))
 
 pub returns-in-Err-Refused-clause-answer : goal.returns-in-Err-Refused-clause-answer
 returns-in-Err-Refused-clause-answer c =
-    c.refuse.ensures ∙ (ap refused_with c.in-Err-Refused.refusal-is ∙ sym (refused_answer c.args.leader (Commit c.args.block c.args.stamp) c.args.plans.now c.in-Err-Refused.refusal (refused_is (refused_commit (plan_at c.args.block c.args.stamp c.args.plans.now)) c.in-Err-Refused.field-0 c.in-Err-Refused.refusal c.in-Err-Refused.field-0-is c.in-Err-Refused.ensures.fault)))
+    c.refuse.ensures ∙ (ap refused_with c.in-Err-Refused.refusal-is ∙ sym (refused_answer c.args.leader (Commit c.args.block c.args.stamp) c.args.plans.now c.in-Err-Refused.refusal (refused_is (refused_plan_commit (plan_at c.args.block c.args.stamp c.args.plans.now)) c.in-Err-Refused.field-0 c.in-Err-Refused.refusal c.in-Err-Refused.field-0-is c.in-Err-Refused.ensures.fault)))
 
 pub returns-clause-ok : goal.returns-clause-ok
 returns-clause-ok c = sym (allowed_after (Commit c.args.block c.args.stamp) c.args.plans.now c.in-Ok.ensures.allowed)

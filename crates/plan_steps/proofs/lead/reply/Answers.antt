@@ -1,7 +1,7 @@
 use Rattle.std.proofs.Common.{sym, ap, ◌∙◌}
 use Rattle.node_calls.specs.declared.call.PlanCall.{PlanCall}
 use Rattle.node_calls.specs.declared.call.PlanCall.TheVariants.{Reply}
-use Rattle.block_recovery.specs.Plans.{plan_at, changed, refused_reply, with_answer}
+use Rattle.block_recovery.specs.Plans.{plan_at, with_plan_changed, refused_reply, with_answer}
 use Rattle.block_recovery.specs.declared.answer.Answer.{Answer}
 use Rattle.plan_steps.proofs.Steps.{refused_is, allowed_after, refused_after, allowed_answer, refused_answer}
 use Rattle.plan_steps.proofs.lead.reply.Goals as goal
@@ -10,7 +10,7 @@ pub returns-in-Ok-clause-ok : goal.returns-in-Ok-clause-ok
 returns-in-Ok-clause-ok c =
     let asked : PlanCall = Reply c.args.node c.args.block c.args.stamp c.args.state c.args.length in
     c.in-Ok.ensures.ok
-    ∙ (ap (λ (own : Answer). changed (with_answer c.args.node own) c.args.block c.args.stamp c.args.plans.now) c.answer_of.ensures ∙ sym (allowed_after asked c.args.plans.now c.in-Ok.ensures.allowed))
+    ∙ (ap (λ (own : Answer). with_plan_changed (with_answer c.args.node own) c.args.block c.args.stamp c.args.plans.now) c.answer_of.ensures ∙ sym (allowed_after asked c.args.plans.now c.in-Ok.ensures.allowed))
 
 pub returns-in-Ok-clause-answer : goal.returns-in-Ok-clause-answer
 returns-in-Ok-clause-answer c =

@@ -1,10 +1,10 @@
 use Rattle.std.proofs.Common.{◌∙◌, ap, sym, arith}
-use Rattle.receipt_checks.specs.Agreement.{entry_at}
+use Rattle.receipt_checks.specs.Agreement.{entry_at_place}
 use Rattle.receipt_checks.proofs.Placing.{at_place}
 use Rattle.receipt_checks.proofs.placed.entry_at.Goals as goal
 
 pub returns-then-place-eq0 : goal.returns-then-place-eq0
-returns-then-place-eq0 c = ap (λ place. entry_at c.args.history.now place) (sym c.if-place-eq0.true)
+returns-then-place-eq0 c = ap (λ place. entry_at_place c.args.history.now place) (sym c.if-place-eq0.true)
 
 pub returns : goal.returns
 returns c = c.entry_behind.ensures ∙ at_place c.args.history.now c.args.place (omega arith)

@@ -1,6 +1,6 @@
 use Rattle.std.proofs.Common.{◌∙◌, ap, subst}
 use Rattle.flat_rows.specs.Takeover.{appended_reply, refused_append}
-use Rattle.namespace_rows.specs.Files.{holder_of, unfinished}
+use Rattle.namespace_rows.specs.Files.{holder_of, unfinished_block}
 use Rattle.perm_walk.specs.Walked.{IsWalked}
 use Rattle.perm_walk.specs.Found.{IsFoundFile}
 use Rattle.write_rules.specs.Judged.{refused_or}
@@ -15,7 +15,7 @@ returns-in-There-clause-verdict c = λ facts users.
     let file = c.in-There.file.now in
     IfOk-weaker c.appended.result _ _
     (λ judged is. is
-    ∙ (ap (λ client. refused_or (appended_reply facts.blocks (holder_of file.state) (unfinished file.blocks)) (refused_append facts client file)) c.name.ensures
+    ∙ (ap (λ client. refused_or (appended_reply facts.blocks (holder_of file.state) (unfinished_block file.blocks)) (refused_append facts client file)) c.name.ensures
     ∙ append_verdict facts c.args.path.now c.args.tree.now users c.args.caller.now c.args.needs.now file there granted.granted))
     (c.appended.ensures.verdict facts)
 

@@ -3,7 +3,7 @@ use Rattle.std.proofs.lemmas.Result.{IfOk-weaker}
 use Rattle.std.specs.Option.{option_or}
 use Rattle.block_map.specs.BlockEffects.{given_behind}
 use Rattle.flat_rows.specs.FileOutcome.{refused_write}
-use Rattle.flat_rows.specs.BlockOutcome.{refused_last, refused_new, added}
+use Rattle.flat_rows.specs.BlockOutcome.{refused_unless_last, refused_new, added_reply}
 use Rattle.perm_walk.specs.Walked.{IsWalked}
 use Rattle.perm_walk.specs.Found.{IsFoundFile}
 use Rattle.write_rules.specs.Judged.{refused_or}
@@ -16,12 +16,12 @@ returns-clause-verdict c = λ facts users blocks now.
     let there = subst (IsFoundFile c.args.path.now c.args.tree.now) c.in-There.is (c.in_ok-file.ensures c.args.path.now c.args.tree.now granted.leads) in
     let file = c.in-There.file.now in
     let client = c.args.caller.now.name in
-    let free : option_or (refused_write client file) (refused_last c.args.last file) ≡ None =
-    ap (λ who. option_or (refused_write who file) (refused_last c.args.last file)) (sym c.name.ensures) ∙ (sym c.refusal_of_write.ensures ∙ c.in_default.is) in
+    let free : option_or (refused_write client file) (refused_unless_last c.args.last file) ≡ None =
+    ap (λ who. option_or (refused_write who file) (refused_unless_last c.args.last file)) (sym c.name.ensures) ∙ (sym c.refusal_of_write.ensures ∙ c.in_default.is) in
     IfOk-weaker c.planned.result _ _
     (λ judged is. is
-    ∙ (ap (λ b. refused_or (added facts.token client (given_behind b c.args.last c.args.now file.replication)) (refused_new b c.args.last c.args.now)) (sym blocks)
-    ∙ (ap (λ n. refused_or (added facts.token client (given_behind facts.blocks c.args.last n file.replication)) (refused_new facts.blocks c.args.last n)) (sym now)
-    ∙ (ap (refused_or (added facts.token client (given_behind facts.blocks c.args.last facts.now file.replication))) (sym (against_none client c.args.last file (refused_new facts.blocks c.args.last facts.now) free))
+    ∙ (ap (λ b. refused_or (added_reply facts.token client (given_behind b c.args.last c.args.now file.replication)) (refused_new b c.args.last c.args.now)) (sym blocks)
+    ∙ (ap (λ n. refused_or (added_reply facts.token client (given_behind facts.blocks c.args.last n file.replication)) (refused_new facts.blocks c.args.last n)) (sym now)
+    ∙ (ap (refused_or (added_reply facts.token client (given_behind facts.blocks c.args.last facts.now file.replication))) (sym (against_none client c.args.last file (refused_new facts.blocks c.args.last facts.now) free))
     ∙ add_block_verdict facts c.args.path.now c.args.tree.now users c.args.caller.now c.args.needs.now file there granted.granted c.args.last))))
     (c.planned.ensures.verdict facts.token client)

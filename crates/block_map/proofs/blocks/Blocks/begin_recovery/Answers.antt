@@ -1,7 +1,7 @@
 use Rattle.std.proofs.Common.{IfErr, subst}
 use Rattle.new_blocks.specs.Behind.{IsFaultOf}
-use Rattle.block_map.specs.BlockFacts.{BlockFacts, refused_recovery}
+use Rattle.block_map.specs.BlockFacts.{Blocks, refused_recovery}
 use Rattle.block_map.proofs.blocks.Blocks.begin_recovery.Goals as goal
 
 pub returns-clause-fault : goal.returns-clause-fault
-returns-clause-fault c = subst (λ (facts : BlockFacts). IfErr c.begin.result (IsFaultOf (refused_recovery facts c.args.block c.args.now))) c.self.view_is c.begin.ensures.fault
+returns-clause-fault c = subst (λ (facts : Blocks). IfErr c.begin.result (IsFaultOf (refused_recovery facts c.args.block c.args.now))) c.self.view_is c.begin.ensures.fault

@@ -1,7 +1,7 @@
 use Rattle.std.proofs.Common.{IfErr, subst}
 use Rattle.new_blocks.specs.Behind.{IsFaultOf}
-use Rattle.block_map.specs.BlockFacts.{BlockFacts, refused_commit}
+use Rattle.block_map.specs.BlockFacts.{Blocks, refused_commit}
 use Rattle.block_map.proofs.blocks.Blocks.commit.Goals as goal
 
 pub returns-clause-fault : goal.returns-clause-fault
-returns-clause-fault c = subst (λ (facts : BlockFacts). IfErr c.commit.result (IsFaultOf (refused_commit facts c.args.block c.args.length))) c.self.view_is c.commit.ensures.fault
+returns-clause-fault c = subst (λ (facts : Blocks). IfErr c.commit.result (IsFaultOf (refused_commit facts c.args.block c.args.length))) c.self.view_is c.commit.ensures.fault

@@ -1,7 +1,7 @@
 use Rattle.std.proofs.Common.{IfErr, subst}
 use Rattle.new_blocks.specs.Behind.{IsFaultOf}
-use Rattle.block_map.specs.BlockFacts.{BlockFacts, refused_recovered}
+use Rattle.block_map.specs.BlockFacts.{Blocks, refused_recovered}
 use Rattle.block_map.proofs.blocks.Blocks.commit_recovery.Goals as goal
 
 pub returns-clause-fault : goal.returns-clause-fault
-returns-clause-fault c = subst (λ (facts : BlockFacts). IfErr c.end.result (IsFaultOf (refused_recovered facts c.args.block c.args.stamp))) c.self.view_is c.end.ensures.fault
+returns-clause-fault c = subst (λ (facts : Blocks). IfErr c.end.result (IsFaultOf (refused_recovered facts c.args.block c.args.stamp))) c.self.view_is c.end.ensures.fault

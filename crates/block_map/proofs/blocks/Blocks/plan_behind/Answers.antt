@@ -1,7 +1,7 @@
 use Rattle.std.proofs.Common.{◌≡◌, ◌∙◌, IfOk, subst, ap}
 use Rattle.new_blocks.specs.Behind as behind
 use Rattle.new_blocks.specs.declared.behind.NewBlock.{NewBlock}
-use Rattle.block_map.specs.BlockFacts.{BlockFacts}
+use Rattle.block_map.specs.BlockFacts.{Blocks}
 use Rattle.block_map.specs.BlockEffects.{given_behind}
 use Rattle.block_map.proofs.Planned.{given_same}
 use Rattle.block_map.proofs.blocks.Blocks.plan_behind.Goals as goal
@@ -9,9 +9,9 @@ use Rattle.block_map.proofs.blocks.Blocks.plan_behind.Goals as goal
 pub returns-clause-given : goal.returns-clause-given
 returns-clause-given c =
     let inside = c.self.inside in
-    let facts : BlockFacts = record { retry = inside.retry; known = inside.known; nodes = inside.nodes; marks = inside.marks; queued = inside.queue } in
+    let facts : Blocks = record { retry = inside.retry; known = inside.known; nodes = inside.nodes; marks = inside.marks; queued = inside.queue } in
     subst
     (λ (own : NewBlock). IfOk c.plan_behind.result (λ new. new ≡ own))
-    (ap (behind.given_behind c.args.last.now inside.known c.args.replication) c.in_ok-live.ensures
-    ∙ (given_same facts c.args.last.now c.args.now c.args.replication ∙ ap (λ (own : BlockFacts). given_behind own c.args.last.now c.args.now c.args.replication) c.self.view_is))
+    (ap (behind.new_block_behind c.args.last.now inside.known c.args.replication) c.in_ok-live.ensures
+    ∙ (given_same facts c.args.last.now c.args.now c.args.replication ∙ ap (λ (own : Blocks). given_behind own c.args.last.now c.args.now c.args.replication) c.self.view_is))
     c.plan_behind.ensures.given

@@ -1,12 +1,12 @@
 use Rattle.std.proofs.Common.{◌≡◌, ap, ◌∙◌, subst, IfErr, IfOk, Some}
 use Rattle.std.specs.Option.{option_and_then}
 use Rattle.block_records.specs.Numbers.{entry_at}
-use Rattle.block_recovery.specs.Plans.{IsFaultOf, refused_decide, decision_for}
+use Rattle.block_recovery.specs.Plans.{IsPlanFaultOf, refused_decide, decision_for}
 use Rattle.block_recovery.proofs.Tables.{unchanged}
 use Rattle.block_recovery.proofs.block_plans.BlockPlans.decide.Goals as goal
 
 pub returns-clause-fault : goal.returns-clause-fault
-returns-clause-fault c = subst (λ found. IfErr c.decide.result (IsFaultOf (refused_decide found))) (c.in-Some.ensures.value ∙ ap (entry_at c.args.stamp) c.self.view_is) c.decide.ensures.fault
+returns-clause-fault c = subst (λ found. IfErr c.decide.result (IsPlanFaultOf (refused_decide found))) (c.in-Some.ensures.value ∙ ap (entry_at c.args.stamp) c.self.view_is) c.decide.ensures.fault
 
 pub returns-clause-err : goal.returns-clause-err
 returns-clause-err c =

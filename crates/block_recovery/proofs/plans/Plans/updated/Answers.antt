@@ -1,13 +1,13 @@
 use Rattle.std.proofs.Common.{[], ap, ◌∙◌, subst, IfErr}
 use Rattle.std.specs.Option.{unwrap_or}
 use Rattle.block_records.specs.Numbers.{entry_at}
-use Rattle.block_recovery.specs.Plans.{IsFaultOf, refused_updated}
+use Rattle.block_recovery.specs.Plans.{IsPlanFaultOf, refused_updated}
 use Rattle.block_recovery.proofs.Tables.{unchanged}
 use Rattle.block_recovery.proofs.plans.Plans.updated.Goals as goal
 
 pub returns-clause-fault : goal.returns-clause-fault
 returns-clause-fault c =
-    subst (λ found. IfErr c.update.result (IsFaultOf (refused_updated c.args.node (entry_at c.args.stamp (unwrap_or found []))))) (c.in-Some.ensures.value ∙ ap (entry_at c.args.block) c.self.view_is) c.update.ensures.fault
+    subst (λ found. IfErr c.update.result (IsPlanFaultOf (refused_updated c.args.node (entry_at c.args.stamp (unwrap_or found []))))) (c.in-Some.ensures.value ∙ ap (entry_at c.args.block) c.self.view_is) c.update.ensures.fault
 
 pub returns-clause-err : goal.returns-clause-err
 returns-clause-err c =

@@ -1,7 +1,7 @@
 use Rattle.std.proofs.Common.{◌≡◌, ◌∙◌, ℕ, List, not, cond, filter, ap, sym, subst, rules, Some}
 use Rattle.std.specs.Option.{IfSome}
 use Rattle.block_records.specs.Numbers.{is_number, has_number, entry_at}
-use Rattle.block_records.specs.Reports.{agreeing, with_reports_of}
+use Rattle.block_records.specs.Reports.{agreeing_reports, with_reports_of}
 use Rattle.block_records.specs.Verdicts.{holds_by}
 use Rattle.block_tables.specs.Changes.{with_recovered}
 use Rattle.block_tables.specs.Recovered.{AreRecovered, AreFresh, AreGone}
@@ -32,6 +32,6 @@ invariant_of-self-2 c =
     let gone : AreGone own left.reports c.deref-2.result.now = λ q. ap (has_number q) c.deref-2.ensures.value ∙ c.in_ok-left.ensures.gone q in
     indexed_recovered own c.args.bytes c.args.nodes c.deref.result.now c.deref-2.result.now left.reports told fresh gone
     table c.set_recovered.new.records.entries c.self.inside.held c.reassign.new.held c.args.block c.self.invariant found
-    (c.in_ok-left.ensures.reports ∙ ap (λ some. with_reports_of some c.args.bytes (agreeing c.args.bytes own.reports)) nodes)
+    (c.in_ok-left.ensures.reports ∙ ap (λ some. with_reports_of some c.args.bytes (agreeing_reports c.args.bytes own.reports)) nodes)
     c.in_ok-reassign.ensures.ok
     (subst (λ one. IfSome one (λ (own : _). (q : ℕ) → entry_at q c.set_recovered.new.records.entries ≡ cond (is_number c.args.block q) (Some (with_recovered c.args.bytes c.args.nodes own)) (entry_at q table))) (sym found) c.set_recovered.ensures.others)

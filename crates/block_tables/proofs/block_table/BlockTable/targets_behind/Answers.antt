@@ -1,11 +1,11 @@
 use Rattle.std.proofs.Common.{◌≡◌, ◌∙◌, ap, subst, ℕ, IfOk}
 use Rattle.block_placement.specs.Placement.{targets}
-use Rattle.block_tables.specs.Changes.{changed, with_length}
+use Rattle.block_tables.specs.Changes.{with_record_changed, with_length}
 use Rattle.block_tables.specs.Kept.{load, load_without}
 use Rattle.block_tables.proofs.block_table.BlockTable.targets_behind.Goals as goal
 
 pub returns : goal.returns
 returns c =
-    let same : load_without c.args.self.now c.deref.result.now ≡ load (changed (with_length c.args.bytes) c.args.block c.args.self.now) =
+    let same : load_without c.args.self.now c.deref.result.now ≡ load (with_record_changed (with_length c.args.bytes) c.args.block c.args.self.now) =
     λ i node. (ap (λ nodes. load_without c.args.self.now nodes node) c.deref.ensures.value ∙ c.in_ok-leaving.ensures node) i in
     subst (λ (loads : ℕ → ℕ). IfOk c.targets_without.result (λ chosen. chosen ≡ targets loads c.args.count c.args.nodes.now)) same c.targets_without.ensures

@@ -1,7 +1,7 @@
 use Rattle.std.proofs.Common.{◌≡◌, subst, ◌++◌, ◌∷◌, [], List, refl, ap, ◌∙◌}
 use Rattle.cluster_trace.specs.DataCall.{DataCall}
 use Rattle.cluster_trace.specs.Provenance.{call_of}
-use Rattle.cluster_trace.specs.Trace.{happens, outcome}
+use Rattle.cluster_trace.specs.Trace.{happens, event_outcome}
 use Rattle.cluster_trace.specs.Typed.{CallFits}
 use Rattle.cluster_trace.specs.declared.event.Event.TheVariants.{Data}
 use Rattle.cluster_core.specs.declared.kept.KeptEvent.{KeptEvent}
@@ -36,7 +36,7 @@ returns-clause-world c = step_past c.self.inside c.args.self.now (Data c.args.no
 pub returns-clause-outcome : goal.returns-clause-outcome
 returns-clause-outcome c =
     step_outcome c.self.inside c.args.self.now (Data c.args.node c.args.now c.args.call) c.in-Ok.outcome c.self.invariant c.self.view_is
-    (c.in-Ok.ensures.outcome ∙ ap (λ (own : DataCall). outcome c.self.inside.cluster (Data c.args.node c.args.now own)) (is_lent c))
+    (c.in-Ok.ensures.outcome ∙ ap (λ (own : DataCall). event_outcome c.self.inside.cluster (Data c.args.node c.args.now own)) (is_lent c))
 
 pub invariant_of-self-in_default : goal.invariant_of-self-in_default
 invariant_of-self-in_default c =

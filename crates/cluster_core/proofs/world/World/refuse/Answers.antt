@@ -1,6 +1,6 @@
 use Rattle.std.proofs.Common.{◌≡◌, ◌++◌, ◌∷◌, [], List, refl, ap, ◌∙◌}
 use Rattle.hdfs_types.specs.declared.op.Request.{Request}
-use Rattle.cluster_trace.specs.Trace.{happens, outcome}
+use Rattle.cluster_trace.specs.Trace.{happens, event_outcome}
 use Rattle.cluster_trace.specs.declared.event.Event.TheVariants.{Name}
 use Rattle.cluster_core.specs.declared.kept.KeptEvent.{KeptEvent}
 use Rattle.cluster_core.specs.declared.kept.KeptEvent.TheVariants.{Refused}
@@ -33,7 +33,7 @@ returns-clause-world c = step_past c.self.inside c.args.self.now (Name c.args.re
 pub returns-clause-outcome : goal.returns-clause-outcome
 returns-clause-outcome c =
     step_outcome c.self.inside c.args.self.now (Name c.args.request) c.in-Ok.outcome c.self.invariant c.self.view_is
-    (c.in-Ok.ensures.outcome ∙ ap (λ (own : Request). outcome c.self.inside.cluster (Name own)) (is_lent c))
+    (c.in-Ok.ensures.outcome ∙ ap (λ (own : Request). event_outcome c.self.inside.cluster (Name own)) (is_lent c))
 
 pub invariant_of-self-in_default : goal.invariant_of-self-in_default
 invariant_of-self-in_default c =

@@ -1,8 +1,8 @@
 use Rattle.std.proofs.Common.{◌≡◌, ℕ, ◌+◌, List, sym, ap, ◌∙◌, Option}
 use Rattle.node_calls.specs.declared.message.Message.{Message}
-use Rattle.datanode.specs.NodeStep.{Node}
+use Rattle.datanode.specs.NodeStep.{DataNode}
 use Rattle.block_recovery.specs.Plans.{PlanTable}
-use Rattle.cluster_trace.specs.Trace.{State, named, delivered, message_at, left_by, outcome_of}
+use Rattle.cluster_trace.specs.Trace.{Cluster, request_named, message_delivered, message_at, left_by, outcome_of}
 use Rattle.cluster_trace.specs.declared.outcome.ClusterRefusal.TheVariants.{NoMessage}
 use Rattle.cluster_trace.specs.declared.outcome.EventAnswer.TheVariants.{Lost}
 use Rattle.cluster_trace.specs.declared.outcome.Outcome.{Outcome}
@@ -18,7 +18,7 @@ use Rattle.cluster_steps.proofs.cluster.Cluster.deliver.Goals as goal
 pub returns-in-Nowhere-clause-outcome : goal.returns-in-Nowhere-clause-outcome
 returns-in-Nowhere-clause-outcome c =
     let own = c.self.inside in
-    let state : State = state_with own.core own.nodes own.leaders own.sent.batches.items in
+    let state : Cluster = state_with own.core own.nodes own.leaders own.sent.batches.items in
     let found : Option Message = found_message c.as_ref.result in
     let is : found ≡ message_at c.args.number state.messages =
     found_is own.core.entries c.history.result.now own.sent.batches.items c.make_room.new.self.batches.items c.args.number c.find-found.result c.as_ref.result c.history.ensures.entries c.make_room.ensures.batches
@@ -26,13 +26,13 @@ returns-in-Nowhere-clause-outcome c =
     c.note_nothing.ensures
     ∙ ap (λ (n : ℕ). record { answer = Lost NoMessage; first = n + 1; count = 0 }) c.make_room.ensures.count
     ∙ nowhere_outcome own.core own.nodes own.leaders own.sent.batches.items own.sent.count c.self.invariant c.args.now found (sym c.in_ok-carried.ensures.carried ∙ c.in-Nowhere.is)
-    ∙ ap (λ (own : Option Message). outcome_of state (delivered state c.args.now own)) is
-    ∙ ap (λ (own : State). outcome_of own (delivered own c.args.now (message_at c.args.number own.messages))) c.self.view_is
+    ∙ ap (λ (own : Option Message). outcome_of state (message_delivered state c.args.now own)) is
+    ∙ ap (λ (own : Cluster). outcome_of own (message_delivered own c.args.now (message_at c.args.number own.messages))) c.self.view_is
 
 pub returns-in-Called-clause-outcome : goal.returns-in-Called-clause-outcome
 returns-in-Called-clause-outcome c =
     let own = c.self.inside in
-    let state : State = state_with own.core own.nodes own.leaders own.sent.batches.items in
+    let state : Cluster = state_with own.core own.nodes own.leaders own.sent.batches.items in
     let found : Option Message = found_message c.as_ref.result in
     let is : found ≡ message_at c.args.number state.messages =
     found_is own.core.entries c.history.result.now own.sent.batches.items c.make_room.new.self.batches.items c.args.number c.find-found.result c.as_ref.result c.history.ensures.entries c.make_room.ensures.batches
@@ -40,13 +40,13 @@ returns-in-Called-clause-outcome c =
     c.note_answer.ensures.outcome
     ∙ ap (λ (n : ℕ). answer_outcome n c.in-Called.answered) c.make_room.ensures.count
     ∙ carried_outcome own.core own.nodes own.leaders own.sent.batches.items own.sent.count c.self.invariant c.args.now found c.in-Called.answered (sym c.in_ok-carried.ensures.carried ∙ c.in-Called.is)
-    ∙ ap (λ (own : Option Message). outcome_of state (delivered state c.args.now own)) is
-    ∙ ap (λ (own : State). outcome_of own (delivered own c.args.now (message_at c.args.number own.messages))) c.self.view_is
+    ∙ ap (λ (own : Option Message). outcome_of state (message_delivered state c.args.now own)) is
+    ∙ ap (λ (own : Cluster). outcome_of own (message_delivered own c.args.now (message_at c.args.number own.messages))) c.self.view_is
 
 pub returns-in-Led-clause-outcome : goal.returns-in-Led-clause-outcome
 returns-in-Led-clause-outcome c =
     let own = c.self.inside in
-    let state : State = state_with own.core own.nodes own.leaders own.sent.batches.items in
+    let state : Cluster = state_with own.core own.nodes own.leaders own.sent.batches.items in
     let found : Option Message = found_message c.as_ref.result in
     let is : found ≡ message_at c.args.number state.messages =
     found_is own.core.entries c.history.result.now own.sent.batches.items c.make_room.new.self.batches.items c.args.number c.find-found.result c.as_ref.result c.history.ensures.entries c.make_room.ensures.batches
@@ -54,15 +54,15 @@ returns-in-Led-clause-outcome c =
     c.note_led.ensures.outcome
     ∙ ap (λ (n : ℕ). led_outcome n c.in-Led.answered) c.make_room.ensures.count
     ∙ carried_led own.core own.nodes own.leaders own.sent.batches.items own.sent.count c.self.invariant c.args.now found c.in-Led.answered (sym c.in_ok-carried.ensures.carried ∙ c.in-Led.is)
-    ∙ ap (λ (own : Option Message). outcome_of state (delivered state c.args.now own)) is
-    ∙ ap (λ (own : State). outcome_of own (delivered own c.args.now (message_at c.args.number own.messages))) c.self.view_is
+    ∙ ap (λ (own : Option Message). outcome_of state (message_delivered state c.args.now own)) is
+    ∙ ap (λ (own : Cluster). outcome_of own (message_delivered own c.args.now (message_at c.args.number own.messages))) c.self.view_is
 
 pub returns-in-Told-clause-ok : goal.returns-in-Told-clause-ok
 returns-in-Told-clause-ok c =
     let own = c.self.inside in
     let now = c.args.now in
     let request = c.in-Told.request in
-    let state : State = state_with own.core own.nodes own.leaders own.sent.batches.items in
+    let state : Cluster = state_with own.core own.nodes own.leaders own.sent.batches.items in
     let found : Option Message = found_message c.as_ref.result in
     let is : found ≡ message_at c.args.number state.messages =
     found_is own.core.entries c.history.result.now own.sent.batches.items c.make_room.new.self.batches.items c.args.number c.find-found.result c.as_ref.result c.history.ensures.entries c.make_room.ensures.batches
@@ -72,13 +72,13 @@ returns-in-Told-clause-ok c =
     carried_is own.core own.nodes own.leaders own.sent.batches.items c.args.self.now c.args.number now found c.in_ok-carried.carried (carried.Told request) is
     c.in_ok-carried.ensures.carried c.in-Told.is c.self.view_is in
     let same : state_with own.core c.carry_out.new.nodes c.carry_out.new.leaders c.make_room.new.self.batches.items ≡ c.args.self.now =
-    ap (λ (nodes : List (ℕ × Node)). state_with own.core nodes c.carry_out.new.leaders c.make_room.new.self.batches.items)
+    ap (λ (nodes : List (ℕ × DataNode)). state_with own.core nodes c.carry_out.new.leaders c.make_room.new.self.batches.items)
     (c.in_ok-carried.ensures.nodes ∙ told_stays own.nodes own.leaders now found request told)
     ∙ ap (λ (plans : List (ℕ × PlanTable)). state_with own.core own.nodes plans c.make_room.new.self.batches.items)
     (c.in_ok-carried.ensures.leaders ∙ told_leaves own.nodes own.leaders now found request told)
     ∙ ap (λ (batches : List Batch). state_with own.core own.nodes own.leaders batches) c.make_room.ensures.batches ∙ c.self.view_is in
     on_ok c.name.result (λ h.
-    h ∙ ap (λ (own : State). left_by own (named own request)) same
+    h ∙ ap (λ (own : Cluster). left_by own (request_named own request)) same
     ∙ ap (left_by c.args.self.now) (told_is c.args.self.now now (message_at c.args.number c.args.self.now.messages) request there)) c.name.ensures.ok
 
 pub returns-in-Told-clause-outcome : goal.returns-in-Told-clause-outcome
@@ -86,7 +86,7 @@ returns-in-Told-clause-outcome c =
     let own = c.self.inside in
     let now = c.args.now in
     let request = c.in-Told.request in
-    let state : State = state_with own.core own.nodes own.leaders own.sent.batches.items in
+    let state : Cluster = state_with own.core own.nodes own.leaders own.sent.batches.items in
     let found : Option Message = found_message c.as_ref.result in
     let is : found ≡ message_at c.args.number state.messages =
     found_is own.core.entries c.history.result.now own.sent.batches.items c.make_room.new.self.batches.items c.args.number c.find-found.result c.as_ref.result c.history.ensures.entries c.make_room.ensures.batches
@@ -96,12 +96,12 @@ returns-in-Told-clause-outcome c =
     carried_is own.core own.nodes own.leaders own.sent.batches.items c.args.self.now c.args.number now found c.in_ok-carried.carried (carried.Told request) is
     c.in_ok-carried.ensures.carried c.in-Told.is c.self.view_is in
     let same : state_with own.core c.carry_out.new.nodes c.carry_out.new.leaders c.make_room.new.self.batches.items ≡ c.args.self.now =
-    ap (λ (nodes : List (ℕ × Node)). state_with own.core nodes c.carry_out.new.leaders c.make_room.new.self.batches.items)
+    ap (λ (nodes : List (ℕ × DataNode)). state_with own.core nodes c.carry_out.new.leaders c.make_room.new.self.batches.items)
     (c.in_ok-carried.ensures.nodes ∙ told_stays own.nodes own.leaders now found request told)
     ∙ ap (λ (plans : List (ℕ × PlanTable)). state_with own.core own.nodes plans c.make_room.new.self.batches.items)
     (c.in_ok-carried.ensures.leaders ∙ told_leaves own.nodes own.leaders now found request told)
     ∙ ap (λ (batches : List Batch). state_with own.core own.nodes own.leaders batches) c.make_room.ensures.batches ∙ c.self.view_is in
-    if_ok (λ (outcome : Outcome). outcome ≡ outcome_of (state_with own.core c.carry_out.new.nodes c.carry_out.new.leaders c.make_room.new.self.batches.items) (named (state_with own.core c.carry_out.new.nodes c.carry_out.new.leaders c.make_room.new.self.batches.items) request))
-    (λ (outcome : Outcome). outcome ≡ outcome_of c.args.self.now (delivered c.args.self.now now (message_at c.args.number c.args.self.now.messages))) c.name.result
-    (λ outcome h. h ∙ ap (λ (own : State). outcome_of own (named own request)) same
+    if_ok (λ (outcome : Outcome). outcome ≡ outcome_of (state_with own.core c.carry_out.new.nodes c.carry_out.new.leaders c.make_room.new.self.batches.items) (request_named (state_with own.core c.carry_out.new.nodes c.carry_out.new.leaders c.make_room.new.self.batches.items) request))
+    (λ (outcome : Outcome). outcome ≡ outcome_of c.args.self.now (message_delivered c.args.self.now now (message_at c.args.number c.args.self.now.messages))) c.name.result
+    (λ outcome h. h ∙ ap (λ (own : Cluster). outcome_of own (request_named own request)) same
     ∙ ap (outcome_of c.args.self.now) (told_is c.args.self.now now (message_at c.args.number c.args.self.now.messages) request there)) c.name.ensures.outcome

@@ -1,5 +1,5 @@
 use Rattle.std.proofs.Common.{ℕ, ap, ◌∙◌}
-use Rattle.cluster_trace.specs.Trace.{State, led, outcome_of}
+use Rattle.cluster_trace.specs.Trace.{Cluster, leader_called, outcome_of}
 use Rattle.cluster_steps.specs.Cluster.{led_outcome}
 use Rattle.cluster_steps.proofs.Answering.{led_by_outcome}
 use Rattle.cluster_steps.proofs.cluster.Cluster.lead.Goals as goal
@@ -11,4 +11,4 @@ returns-clause-outcome c =
     ∙ ap (λ (n : ℕ). led_outcome n c.in_ok-answered.answered) c.make_room.ensures.count
     ∙ ap (led_outcome own.sent.count) c.in_ok-answered.ensures.answer
     ∙ led_by_outcome own.core own.nodes own.leaders own.sent.batches.items own.sent.count c.self.invariant c.args.node c.args.call.now
-    ∙ ap (λ (state : State). outcome_of state (led state c.args.node c.args.call.now)) c.self.view_is
+    ∙ ap (λ (state : Cluster). outcome_of state (leader_called state c.args.node c.args.call.now)) c.self.view_is

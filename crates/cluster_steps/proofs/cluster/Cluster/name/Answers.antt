@@ -1,7 +1,7 @@
 use Rattle.std.proofs.Common.{ℕ, ◌+◌, length, sym, ap, ◌∙◌, subst}
 use Rattle.grant_ledger.specs.declared.ledger.LedgerRow.{LedgerRow}
 use Rattle.std.proofs.Common.{List}
-use Rattle.cluster_trace.specs.Trace.{State, named, left_by, outcome_of}
+use Rattle.cluster_trace.specs.Trace.{Cluster, request_named, left_by, outcome_of}
 use Rattle.cluster_trace.specs.Typed.{GrantsFit}
 use Rattle.cluster_steps.proofs.Naming.{IsNamed, is_named, noted_behind, grants_fit}
 use Rattle.cluster_steps.proofs.cluster.Cluster.name.Goals as goal
@@ -19,12 +19,12 @@ pub invariant_of-self-2 : goal.invariant_of-self-2
 invariant_of-self-2 c = (done c).laid
 
 pub returns-clause-ok : goal.returns-clause-ok
-returns-clause-ok c = (done c).state ∙ ap (λ (state : State). left_by state (named state c.args.request)) c.self.view_is
+returns-clause-ok c = (done c).state ∙ ap (λ (state : Cluster). left_by state (request_named state c.args.request)) c.self.view_is
 
 pub returns-clause-outcome : goal.returns-clause-outcome
 returns-clause-outcome c =
     (done c).outcome c.place.result c.add-first.result c.place.ensures.place (c.add-first.ensures.first ∙ ap (λ (n : ℕ). n + 1) c.make_room.ensures.count)
-    ∙ ap (λ (state : State). outcome_of state (named state c.args.request)) c.self.view_is
+    ∙ ap (λ (state : Cluster). outcome_of state (request_named state c.args.request)) c.self.view_is
 
 pub returns-clause-fits : goal.returns-clause-fits
 returns-clause-fits c = λ fits.

@@ -1,7 +1,7 @@
 use Rattle.std.proofs.Common.{ap, ◌∙◌}
 use Rattle.namespace_rows.specs.declared.row.Change.TheVariants as change
 use Rattle.namespace_rows.specs.Rows.{row_at}
-use Rattle.flat_rows.specs.Changes.{rewritten}
+use Rattle.flat_rows.specs.Changes.{row_rewritten}
 use Rattle.inode_nodes.specs.Node.{rows}
 use Rattle.inode_tree.proofs.FileBlocks.{committing_suits, committed_as_before}
 use Rattle.inode_tree.proofs.Trees.{rewrite_keeps}
@@ -15,4 +15,4 @@ invariant_of-self c =
 pub returns-clause-as_before : goal.returns-clause-as_before
 returns-clause-as_before c =
     λ added before other was. committed_as_before c.args.path.now c.args.block c.args.bytes added other c.args.self.now (rows c.rewrite.new.self) before
-    (c.rewrite.ensures ∙ ap (λ p. rewritten p (change.Committed c.args.block c.args.bytes) (rows c.self.inside.root)) c.names.ensures.names ∙ ap (rewritten c.args.path.now (change.Committed c.args.block c.args.bytes)) c.self.view_is) was
+    (c.rewrite.ensures ∙ ap (λ p. row_rewritten p (change.Committed c.args.block c.args.bytes) (rows c.self.inside.root)) c.names.ensures.names ∙ ap (row_rewritten c.args.path.now (change.Committed c.args.block c.args.bytes)) c.self.view_is) was

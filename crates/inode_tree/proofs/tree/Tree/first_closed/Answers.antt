@@ -2,7 +2,7 @@ use Rattle.std.proofs.Common.{Some, None, ap, refl, subst, sym, ◌∙◌, ◌�
 use Rattle.std.specs.Option.{option_map, option_copied}
 use Rattle.std.specs.Prelude.{filter}
 use Rattle.namespace_rows.specs.First.{first}
-use Rattle.inode_nodes.specs.Node.{rows, placed}
+use Rattle.inode_nodes.specs.Node.{rows, row_placed}
 use Rattle.inode_nodes.specs.Part.{IsWhole}
 use Rattle.inode_tree.specs.Visits.{is_closed, row_found}
 use Rattle.inode_tree.proofs.Asked.{found_path, first_there}
@@ -16,13 +16,13 @@ into_row-requires c =
 pub returns-in_ok-into_row-in-Some-2 : goal.returns-in_ok-into_row-in-Some-2
 returns-in_ok-into_row-in-Some-2 c =
     let found : first (filter (is_closed c.args.caller.now c.args.groups.now c.args.need) (rows c.in-Some.node.now)) ≡ Some (row_found c.in-Some-2.found) = sym c.in_ok-found.ensures ∙ ap (option_map row_found) c.in-Some-2.is in
-    ap Some c.in_ok-into_row-in-Some-2.ensures ∙ ap (option_map (placed c.args.path.now)) (sym found)
+    ap Some c.in_ok-into_row-in-Some-2.ensures ∙ ap (option_map (row_placed c.args.path.now)) (sym found)
     ∙ first_there c.args.path.now c.args.path.now refl c.self.inside.root c.args.self.now c.self.view_is c.self.invariant (Some c.in-Some.node.now) (subst (IsWhole c.args.path.now (rows c.self.inside.root)) (ap option_copied c.in-Some.is) c.find.ensures)
     (is_closed c.args.caller.now c.args.groups.now c.args.need) (λ row. refl)
 
 pub returns-in-None : goal.returns-in-None
 returns-in-None c =
     let none : first (filter (is_closed c.args.caller.now c.args.groups.now c.args.need) (rows c.in-Some.node.now)) ≡ None = sym c.in_ok-found.ensures ∙ ap (option_map row_found) c.in-None.is in
-    ap (option_map (placed c.args.path.now)) (sym none)
+    ap (option_map (row_placed c.args.path.now)) (sym none)
     ∙ first_there c.args.path.now c.args.path.now refl c.self.inside.root c.args.self.now c.self.view_is c.self.invariant (Some c.in-Some.node.now) (subst (IsWhole c.args.path.now (rows c.self.inside.root)) (ap option_copied c.in-Some.is) c.find.ensures)
     (is_closed c.args.caller.now c.args.groups.now c.args.need) (λ row. refl)

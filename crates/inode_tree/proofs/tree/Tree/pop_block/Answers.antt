@@ -1,7 +1,7 @@
 use Rattle.std.proofs.Common.{ap, ◌∙◌}
 use Rattle.namespace_rows.specs.declared.row.Change.TheVariants as change
 use Rattle.namespace_rows.specs.Rows.{row_at}
-use Rattle.flat_rows.specs.Changes.{rewritten}
+use Rattle.flat_rows.specs.Changes.{row_rewritten}
 use Rattle.inode_nodes.specs.Node.{rows}
 use Rattle.inode_tree.proofs.FileBlocks.{taking_suits, undone}
 use Rattle.inode_tree.proofs.Trees.{rewrite_keeps}
@@ -15,4 +15,4 @@ invariant_of-self c =
 pub returns-clause-undone : goal.returns-clause-undone
 returns-clause-undone c =
     λ block before added. undone c.args.path.now block c.args.self.now (rows c.rewrite.new.self) before
-    (c.rewrite.ensures ∙ ap (λ p. rewritten p change.LastTaken (rows c.self.inside.root)) c.names.ensures.names ∙ ap (rewritten c.args.path.now change.LastTaken) c.self.view_is) added
+    (c.rewrite.ensures ∙ ap (λ p. row_rewritten p change.LastTaken (rows c.self.inside.root)) c.names.ensures.names ∙ ap (row_rewritten c.args.path.now change.LastTaken) c.self.view_is) added

@@ -1,5 +1,5 @@
 use Rattle.std.proofs.Common.{◌≡◌, ◌≤◌, ◌∙◌, length, ap, sym, arith}
-use Rattle.known_blocks.specs.Known.{Known, stamped}
+use Rattle.known_blocks.specs.Known.{KnownBlocks, with_stamps}
 use Rattle.known_blocks.proofs.Begun.{below_begun, listed_too, listed_all, all_listed, stamps_fit}
 use Rattle.known_blocks.proofs.known_blocks.KnownBlocks.begin_all.Goals as goal
 
@@ -7,8 +7,8 @@ pub overflow_add-self : goal.overflow_add-self
 overflow_add-self c =
     let small : c.self.inside.next_stamp ≤ 18446744073709551615 = omega arith in
     let fit = stamps_fit c.self.inside.next_stamp c.requires.0 small in
-    let same : length c.args.begun.now ≡ length (stamped c.self.inside.next_stamp c.requires.0) =
-    ap length (c.requires.1 ∙ ap (λ (known : Known). stamped known.next_stamp c.requires.0) (sym c.self.view_is))
+    let same : length c.args.begun.now ≡ length (with_stamps c.self.inside.next_stamp c.requires.0) =
+    ap length (c.requires.1 ∙ ap (λ (known : KnownBlocks). with_stamps known.next_stamp c.requires.0) (sym c.self.view_is))
     in
     omega arith
 

@@ -2,7 +2,7 @@ use Rattle.std.proofs.Common.{◌++◌, ◌∷◌, [], refl, ap, ◌∙◌}
 use Rattle.history.specs.ClockAndLease.{last_renewal}
 use Rattle.history.specs.declared.entry.HistoryEntry.{HistoryEntry}
 use Rattle.name_core.specs.declared.namenode.NameCore.TheInside.{Inside}
-use Rattle.name_core.specs.NameCore.{stepped}
+use Rattle.name_core.specs.NameCore.{with_next_entry}
 use Rattle.name_core.specs.Kept.{entries_of}
 use Rattle.name_core.proofs.Keeping.{Adds, kept_more}
 use Rattle.name_core.proofs.Recoveries.{known}
@@ -30,4 +30,4 @@ invariant_of-self-2 c = kept_more c.self.inside (after c) (entry c) c.self.invar
 pub returns-clause-ok : goal.returns-clause-ok
 returns-clause-ok c =
     appended c.self.inside (after c) c.args.request c.in-Ok.place c.args.pass c.args.index c.in-Ok-perform.verdict c.self.invariant (added c)
-    ∙ ap (λ core. stepped core c.args.pass c.args.index c.args.request) c.self.view_is
+    ∙ ap (λ core. with_next_entry core c.args.pass c.args.index c.args.request) c.self.view_is

@@ -1,8 +1,8 @@
 use Rattle.std.proofs.Common.{◌∙◌, ap, arith}
 use Rattle.std.specs.Prelude.{◌==◌}
 use Rattle.std.specs.List.{position_or_len}
-use Rattle.script_words.proofs.Blanks.{cuts_before, cuts_behind, cuts_first, cuts_nowhere}
-use Rattle.script_words.proofs.words.cut_at.Goals as goal
+use Rattle.hdfs_values.proofs.Cuts.{cuts_before, cuts_behind, cuts_first, cuts_nowhere}
+use Rattle.hdfs_values.proofs.pieces.cut_at.Goals as goal
 
 pub returns-then-at-text-clause-pieces : goal.returns-then-at-text-clause-pieces
 returns-then-at-text-clause-pieces c =

@@ -1,7 +1,7 @@
 use Rattle.std.proofs.Common.{sym, ap, ◌∙◌, length}
 use Rattle.std.specs.Option.{unwrap_or}
-use Rattle.script_words.proofs.Blanks.{place_of_byte}
-use Rattle.script_words.proofs.words.byte_at.Goals as goal
+use Rattle.hdfs_values.proofs.Cuts.{place_of_byte}
+use Rattle.hdfs_values.proofs.pieces.byte_at.Goals as goal
 
 pub returns-in-Some-clause-place : goal.returns-in-Some-clause-place
 returns-in-Some-clause-place c =
