@@ -456,7 +456,7 @@ impl Blocks {
     /// The copies that a node is to make, by block: of each committed block that fewer live nodes report than there are to be replicas,
     /// where the node is the lowest live one that reports it and nobody was told to copy it within the retry limit. It goes to the live node
     /// with the fewest blocks, ties to the lowest id, of those that don't report it. Costs a step for each node that ever sent a
-    /// heartbeat, a look-up for each that holds blocks, the live nodes for each block of this node, and a sort of them for each copy; but
+    /// heartbeat, a step for each that ever held a block, the live nodes for each block of this node, and a sort of them for each copy; but
     /// where all nodes that hold blocks are live, only blocks are looked at of which fewer replicas were reported than there are to be.
     ///
     /// # Errors

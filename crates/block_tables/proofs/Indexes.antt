@@ -1,5 +1,5 @@
 -- The index of the blocks that each node holds, behind a change of one block's record.
-use Rattle.std.proofs.Common.{◌≡◌, ℕ, Bool, true, false, not, ◌&&◌, ◌||◌, List, [], filter, Option, Some, None, refl, sym, ap, ◌∙◌, cond}
+use Rattle.std.proofs.Common.{◌≡◌, ℕ, Bool, true, false, not, ◌&&◌, ◌||◌, List, [], Option, Some, None, refl, sym, ap, ◌∙◌, cond}
 use Rattle.std.specs.Option.{is_some}
 use Rattle.block_records.specs.Numbers.{is_number, has_number, entry_at}
 use Rattle.block_index.specs.Relation.{relates}

@@ -1,5 +1,5 @@
 -- How many blocks the nodes have once the length of a block is committed.
-use Rattle.std.proofs.Common.{◌≡◌, ℕ, ◌+◌, ◌-◌, ◌==◌, Bool, true, false, ◌&&◌, ◌||◌, not, List, [], ◌∷◌, filter, length, Option, Some, None, refl, sym, ap, ◌∙◌, cond, arith}
+use Rattle.std.proofs.Common.{◌≡◌, ℕ, ◌+◌, ◌-◌, ◌==◌, Bool, true, false, ◌&&◌, ◌||◌, not, List, [], ◌∷◌, filter, length, Some, None, refl, sym, ap, ◌∙◌, cond, arith}
 use Rattle.std.proofs.lemmas.List.Sums.{sum_by-cons}
 use Rattle.std.proofs.lemmas.Map.Entries.{sum_by-set_value}
 use Rattle.std.specs.List.{sum_by}
@@ -8,12 +8,12 @@ use Rattle.std.specs.Map.{keys_of, values_of, set_value}
 use Rattle.std.specs.Option.{is_some}
 use Rattle.std.specs.Ordering.{nat_cmp}
 use Rattle.block_records.specs.Numbers.{is_number, has_number, entry_at}
-use Rattle.block_records.specs.Reports.{agreeing_reports, others_of}
+use Rattle.block_records.specs.Reports.{others_of}
 use Rattle.block_records.specs.Verdicts.{holds_by}
 use Rattle.block_records.specs.declared.block_record.BlockRecord.{BlockRecord}
 use Rattle.block_records.proofs.Reporting.{has_key, has_kept, kept_reports, holds_agreeing}
 use Rattle.block_tables.specs.Changes.{with_record_changed, changed_by, with_length}
-use Rattle.block_tables.specs.Kept.{blocks_on, load, load_without}
+use Rattle.block_tables.specs.Kept.{load, load_without}
 
 abbrev pub weight : ℕ → BlockRecord → ℕ
 weight node own = cond (holds_by node (Some own)) 1 0

@@ -463,7 +463,7 @@ impl BlockTable {
         self.held.blocks(alloc, node)
     }
 
-    /// Nodes among which all are that are to hold a block or reported one. Costs a look-up for each.
+    /// Nodes among which all are that are to hold a block or reported one. Costs a step for each node that ever did.
     ///
     /// # Errors
     /// Out of memory.

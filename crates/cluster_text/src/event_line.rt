@@ -59,7 +59,6 @@ fn place_of(block: &str, stamp: &str) -> Result<Place, ParseFault>
 
 /// The caller presents a token for what is there.
 fn presented_of(
-    alloc: Global,
     ledger: &[LedgerRow],
     caller: &Who,
     at: Place,
@@ -67,7 +66,7 @@ fn presented_of(
 ) -> Result<Presented, ParseFault>
     ensures { Forms result (spec.presented_of ledger.now caller.now at token.now) }
 {
-    let token = token_word(alloc, ledger, token)?;
+    let token = token_word(ledger, token)?;
     let caller = caller.clone()?;
     Ok(Presented {
         caller,
@@ -90,7 +89,7 @@ fn begin_of(
 {
     let at = place_of(block, stamp)?;
     let next = next_word(alloc, next)?;
-    let presented = presented_of(alloc, ledger, caller, at, token)?;
+    let presented = presented_of(ledger, caller, at, token)?;
     Ok(DataCall::begin_write(presented, next))
 }
 
@@ -111,7 +110,7 @@ fn packet_of(
     let offset = number_word(offset)?;
     let bytes = bytes_word(alloc, bytes)?;
     let next = next_word(alloc, next)?;
-    let presented = presented_of(alloc, ledger, caller, at, token)?;
+    let presented = presented_of(ledger, caller, at, token)?;
     Ok(DataCall::packet(presented, offset, bytes, next))
 }
 
@@ -130,12 +129,11 @@ fn finalize_of(
     let at = place_of(block, stamp)?;
     let count = number_word(count)?;
     let next = next_word(alloc, next)?;
-    let presented = presented_of(alloc, ledger, caller, at, token)?;
+    let presented = presented_of(ledger, caller, at, token)?;
     Ok(DataCall::finalize(presented, count, next))
 }
 
 fn read_of(
-    alloc: Global,
     ledger: &[LedgerRow],
     caller: &Who,
     block: &str,
@@ -149,7 +147,7 @@ fn read_of(
     let at = place_of(block, stamp)?;
     let offset = number_word(offset)?;
     let count = number_word(count)?;
-    let presented = presented_of(alloc, ledger, caller, at, token)?;
+    let presented = presented_of(ledger, caller, at, token)?;
     Ok(DataCall::read(presented, offset, count))
 }
 
@@ -180,7 +178,7 @@ fn five_of(
     if is_word(verb, "finalize") {
         finalize_of(alloc, ledger, caller, block, stamp, number, next, token)
     } else {
-        read_of(alloc, ledger, caller, block, stamp, number, next, token)
+        read_of(ledger, caller, block, stamp, number, next, token)
     }
 }
 

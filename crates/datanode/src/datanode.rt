@@ -83,15 +83,6 @@ impl Model for DataNode {
     ghost invariant = { λ node. node.principal ≡ node_principal node.id };
 }
 
-fn first_moment() -> Moment
-    ensures { result ≡ 0 }
-{
-    let Some(moment) = Moment::new(0) else {
-        unreachable!();
-    };
-    moment
-}
-
 impl DataNode {
     /// No replica, no key, nothing noted down, and the clock at 0. A replica has at most so many bytes.
     ///
@@ -104,7 +95,7 @@ impl DataNode {
             id,
             principal: principal_of(alloc, id)?,
             limit,
-            clock: first_moment(),
+            clock: Moment::START,
             keys: KeyCache::new(alloc),
             replicas: Replicas::new(alloc),
             log: AccessLog::new(alloc),

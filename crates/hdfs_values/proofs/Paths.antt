@@ -1,12 +1,11 @@
 -- Names, pieces and the text of a path.
-use Rattle.std.proofs.Common.{◌≡◌, ℕ, suc, ◌+◌, ◌≤◌, ◌<◌, Bool, true, false, List, [], ◌∷◌, ◌++◌, length, map, get_or, take, drop, Option, Some, None, IsTrue, eqb, leb, cond, refl, sym, ap, ◌∙◌, subst, arith, add-one, length-append, append-nil}
-use Rattle.std.specs.List.{list_all, flat_map, join_with_byte, slice_split}
+use Rattle.std.proofs.Common.{◌≡◌, ℕ, ◌<◌, Bool, true, false, List, [], ◌∷◌, ◌++◌, length, Some, None, eqb, cond, refl, sym, ap, ◌∙◌, arith, append-nil}
+use Rattle.std.specs.List.{list_all, join_with_byte, slice_split}
 use Rattle.std.proofs.lemmas.Bool.Decides.{nat_tests}
-use Rattle.std.proofs.lemmas.Grind.{common_steps}
-use Rattle.std.proofs.lemmas.List.{take_more, nil_from_length}
+use Rattle.std.proofs.lemmas.List.{nil_from_length}
 use Rattle.std.proofs.lemmas.List.Splits.{join_with_byte-slice_split, length-slice_split}
 use Rattle.hdfs_values.specs.Name.{is_name}
-use Rattle.hdfs_values.specs.Path.{IsRelative, is_path, is_slash, path_of, path_after_slash, path_of_names, path_text, component}
+use Rattle.hdfs_values.specs.Path.{IsRelative, is_path, is_slash, path_of, path_after_slash, path_of_names, path_text}
 
 pub guard_some : {X : Type 0} (b : Bool) (x y : X) → cond b (Some x) None ≡ Some y → (b ≡ true) × (x ≡ y)
 guard_some true x y e = (refl, cc)

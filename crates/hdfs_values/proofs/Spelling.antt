@@ -1,8 +1,7 @@
 -- A path has one text.
-use Rattle.std.proofs.Common.{◌≡◌, ℕ, suc, ◌+◌, ◌≤◌, ◌<◌, Bool, true, false, List, [], ◌∷◌, ◌++◌, ◌&&◌, length, Option, Some, None, IsTrue, eqb, leb, cond, refl, sym, ap, ◌∙◌, subst, arith, length-append, append-nil}
-use Rattle.std.specs.List.{list_all, flat_map, join_with_byte, slice_split, onto_first}
+use Rattle.std.proofs.Common.{◌≡◌, ℕ, ◌<◌, Bool, true, false, List, [], ◌∷◌, ◌++◌, length, Option, Some, None, eqb, cond, refl, sym, ap, ◌∙◌, subst, arith, length-append, append-nil}
+use Rattle.std.specs.List.{list_all, flat_map, slice_split}
 use Rattle.std.proofs.lemmas.Bool.Decides.{nat_tests}
-use Rattle.std.proofs.lemmas.Grind.{common_steps}
 use Rattle.hdfs_values.specs.Name.{is_name, is_name_byte}
 use Rattle.hdfs_values.specs.Path.{IsPath, is_path, is_slash, path_of, path_after_slash, path_of_names, path_text, component}
 use Rattle.hdfs_values.proofs.Paths.{guard_some, is_its_path, path_behind, path_names, path_text-pieces}

@@ -1,5 +1,5 @@
 -- Two texts that compare as equal are one.
-use Rattle.std.proofs.Common.{◌≡◌, ℕ, Bool, true, List, refl, sym, ◌∙◌}
+use Rattle.std.proofs.Common.{◌≡◌, ℕ, true, List, refl, sym, ◌∙◌}
 use Rattle.std.specs.Bool.{Decides}
 use Rattle.std.specs.Cmp.Lexicographic.{pointwise, texts_ties, pointwise_decides}
 use Rattle.std.specs.Prelude.{nat_eq}

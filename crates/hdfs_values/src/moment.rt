@@ -22,6 +22,9 @@ impl Model for Moment {
 }
 
 impl Moment {
+    /// The moment before which nothing has happened.
+    pub const START: Moment = Moment { milliseconds: 0 };
+
     /// The latest moment, in milliseconds.
     pub const MAX: u64 = 1 << 62;
 

@@ -122,7 +122,7 @@ impl KnownBlocks {
     }
 
     /// Blocks among which all are that a node holds and that are committed with fewer replicas on these live nodes than there are to be.
-    /// Costs a look-up for each node that holds blocks, and those of this node; but where all nodes that hold blocks are live, at most
+    /// Costs a step for each node that ever held a block, and those of this node; but where all nodes that hold blocks are live, at most
     /// the blocks of which fewer replicas were reported at all.
     ///
     /// # Errors

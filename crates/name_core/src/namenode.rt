@@ -29,16 +29,6 @@ use principals::users::Users;
 use std::alloc::{AllocError, Global};
 use std::marker::Model;
 
-// The moment of a core that has no entries.
-fn first_moment() -> Moment
-    ensures { result ≡ 0 }
-{
-    let Some(moment) = Moment::new(0) else {
-        unreachable!()
-    };
-    moment
-}
-
 // A name that is known to be well-formed.
 fn known_who(alloc: Global, text: &str) -> Result<Who, AllocError>
     requires { IsWho text.now }
@@ -190,7 +180,7 @@ impl NameCore {
             },
             open_paths: OpenPaths::new(alloc),
             ledger: Ledger::new(alloc),
-            clock: first_moment(),
+            clock: Moment::START,
             history: Vec::new(alloc),
             alloc,
         })

@@ -42,23 +42,23 @@ fn read(
     Ok(NodeReply::Read(replicas.read(offset, count, block)?))
 }
 
-fn state_of(replicas: &Replicas, block: BlockId) -> ReplicaState
-    ensures { result ≡ (own (held_at block replicas.now)).state }
+// The stamp, the length and the state of a block's replica; of none those of an empty one.
+fn facts(replicas: &Replicas, block: BlockId) -> (Stamp, u64, ReplicaState)
+    ensures stamp { result.0 ≡ (own (held_at block replicas.now)).stamp }
+    ensures count { result.1 ≡ length (own (held_at block replicas.now)).bytes }
+    ensures state { result.2 ≡ (own (held_at block replicas.now)).state }
 {
     match replicas.replica(block) {
-        Some(replica) => replica.state,
-        None => ReplicaState::Writing,
+        Some(replica) => (replica.stamp, replica.bytes.len(), replica.state),
+        None => (Stamp::new(0), 0, ReplicaState::Writing),
     }
 }
 
-fn facts(replicas: &Replicas, block: BlockId) -> NodeReply
+fn replica_told(replicas: &Replicas, block: BlockId) -> NodeReply
     ensures { result ≡ reply.Replica (own (held_at block replicas.now)).stamp (length (own (held_at block replicas.now)).bytes) (own (held_at block replicas.now)).state }
 {
-    let stamp = match replicas.replica(block) {
-        Some(replica) => replica.stamp,
-        None => Stamp::new(0),
-    };
-    NodeReply::Replica(stamp, replicas.length(block), state_of(replicas, block))
+    let (stamp, count, state) = facts(replicas, block);
+    NodeReply::Replica(stamp, count, state)
 }
 
 /// What is answered to a call that isn't refused, by what is held before it. Costs the bytes that are read.
@@ -77,7 +77,7 @@ pub fn reply_to(
         TokenCall::Packet(offset, bytes, _) => taken(*offset, bytes.len()),
         TokenCall::Finalize(count, _) => Ok(NodeReply::Finalized(*count)),
         TokenCall::Read(offset, count) => read(replicas, *offset, *count, block),
-        TokenCall::InitRecovery => Ok(facts(replicas, block)),
+        TokenCall::InitRecovery => Ok(replica_told(replicas, block)),
         TokenCall::UpdateReplica(count) => Ok(NodeReply::Updated(*count)),
         TokenCall::SendCopy(_) => Ok(NodeReply::Copied(replicas.length(block))),
         TokenCall::TakeCopy(bytes) => Ok(NodeReply::Stored(bytes.len())),
@@ -179,8 +179,8 @@ fn tell_replica(
         return Ok(Messages::new(alloc));
     };
     let (block, stamp) = (presented.block, presented.stamp);
-    let state = state_of(replicas, block);
-    let told = PlanCall::Reply(node, block, stamp, state, replicas.length(block));
+    let (_, count, state) = facts(replicas, block);
+    let told = PlanCall::Reply(node, block, stamp, state, count);
     Messages::one(alloc, Message::Plan(primary, told))
 }
 

@@ -9,7 +9,6 @@ use grant_ledger::ledger::LedgerRow;
 use hdfs_values::fault::{IllFormed, ParseFault};
 use hdfs_values::number::number_of;
 use node_calls::presented::PresentedToken;
-use std::alloc::Global;
 
 /// The row of the ledger with a number; the first has the number 1.
 fn row_at(ledger: &[LedgerRow], number: u64) -> Option<&LedgerRow>
@@ -32,11 +31,7 @@ fn row_of<'a>(ledger: &'a [LedgerRow], word: &str) -> Option<&'a LedgerRow>
 ///
 /// # Errors
 /// `BadLine` where the ledger has no such row, or out of memory.
-pub fn token_word(
-    alloc: Global,
-    ledger: &[LedgerRow],
-    word: &str,
-) -> Result<PresentedToken, ParseFault>
+pub fn token_word(ledger: &[LedgerRow], word: &str) -> Result<PresentedToken, ParseFault>
     ensures { Forms result (spec.token_word ledger.now word.now) }
 {
     match row_of(ledger, word) {

@@ -105,7 +105,18 @@ impl Replicas {
         }
     }
 
-    /// What a call at a stamp is refused for, where a replica holds at most so many bytes. Costs two look-ups, and takes no memory.
+    // The replica of a block, and the greatest stamp that was ever held or promised of it; 0 before any.
+    fn held(&self, block: BlockId) -> (Option<&Replica>, Stamp)
+        ensures replica { option_copied result.0 ≡ (held_at block self.now).replica }
+        ensures promised { result.1 ≡ (held_at block self.now).promised }
+    {
+        match self.blocks.get(&block) {
+            Some(held) => (held.replica.as_ref(), held.promised),
+            None => (None, Stamp::new(0)),
+        }
+    }
+
+    /// What a call at a stamp is refused for, where a replica holds at most so many bytes. Costs a look-up, and takes no memory.
     ///
     /// # Errors
     /// The first refusal that applies.
@@ -118,8 +129,7 @@ impl Replicas {
     ) -> Result<(), ReplicaRefusal>
         ensures { Answers result (replica_refusal limit call.now stamp (held_at block self.now)) }
     {
-        let replica = self.replica(block);
-        let promised = self.stamp_floor(block);
+        let (replica, promised) = self.held(block);
         match call {
             TokenCall::Begin(_) => judge::judge_begin(replica, promised, stamp),
             TokenCall::Packet(offset, bytes, _) => {

@@ -1,4 +1,3 @@
-use Rattle.std.proofs.Common.{◌≡◌, ℕ, true, false}
 use Rattle.block_records.specs.Numbers.{has_number}
 use Rattle.block_tables.proofs.Indexes.{undone}
 use Rattle.block_tables.proofs.block_table.reassign.Goals as goal

@@ -1,7 +1,6 @@
 -- The bytes in front are those of the text, and behind them the zeros of the array are left.
-use Rattle.std.proofs.Common.{◌≡◌, ℕ, ◌-◌, ◌∙◌, List, drop, length, replicate}
+use Rattle.std.proofs.Common.{ℕ, ◌∙◌, List, drop, length, replicate}
 use Rattle.std.proofs.lemmas.List.{drop-replicate}
-use Rattle.std.proofs.lemmas.Str.{IsUtf8-had}
 use Rattle.std.proofs.Math.Seq.{drop-append_seam, take-append_seam}
 use Rattle.hdfs_values.proofs.short_text.inline.Goals as goal
 

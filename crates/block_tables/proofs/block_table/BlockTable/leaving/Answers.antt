@@ -1,9 +1,6 @@
-use Rattle.std.proofs.Common.{◌≡◌, ◌∙◌, ap, sym, subst, not, filter, List, ℕ, Some, None, rules}
+use Rattle.std.proofs.Common.{◌≡◌, not, filter, Some, None, rules}
 use Rattle.block_records.specs.Numbers.{has_number, entry_at}
 use Rattle.block_records.specs.Reports.{others_of}
-use Rattle.block_records.specs.declared.block_record.BlockRecord.{BlockRecord}
-use Rattle.block_tables.specs.Changes.{with_record_changed, with_length}
-use Rattle.block_tables.specs.Kept.{load, load_without}
 use Rattle.block_tables.proofs.Loads.{less_behind, none_less}
 use Rattle.block_tables.proofs.block_table.BlockTable.leaving.Goals as goal
 
