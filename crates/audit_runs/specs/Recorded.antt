@@ -2,13 +2,13 @@
 use Rattle.std.specs.Prelude.{◌≡◌, ◌<◌, ◌≤◌, ℕ, List, length, take}
 use Rattle.std.specs.List.{list_any}
 use Rattle.history.specs.declared.entry.HistoryEntry.{HistoryEntry}
-use Rattle.cluster_text.specs.ToldText.{is_bad}
+use Rattle.cluster_text.specs.ToldText.{is_bad_line}
 use Rattle.cluster_runs.specs.Output.{State, behind_lines}
 use Rattle.audit_runs.specs.declared.recording.Recording.{Recording}
 
 pub record Holds (state : State) (recording : Recording) : Type 0 where
   pub world : recording.world ≡ state.past
-  pub bad : recording.has_bad ≡ list_any (λ numbered. is_bad numbered.answer) state.answers
+  pub bad : recording.has_bad ≡ list_any (λ numbered. is_bad_line numbered.answer) state.answers
 
 -- of more lines, memory ran out in one: what those before it leave is held
 pub record HoldsFirst (state : State) (lines : List (List ℕ)) (recording : Recording) : Type 0 where

@@ -1,4 +1,4 @@
-ghost use Rattle.std.specs.Prelude.{◌≡◌, ℕ, ◌&&◌, true, false, [], not, is_some, nat_lt, length, filter, fold, if◌then◌else◌, IfOk, OnOk, OnErr};
+ghost use Rattle.std.specs.Prelude.{◌≡◌, ◌<◌, ◌≤◌, ℕ, ◌&&◌, true, false, [], not, is_some, length, fold, if◌then◌else◌, IsTrue, IfOk, OnOk, OnErr};
 ghost use Rattle.std.specs.List.{list_any};
 ghost use Rattle.std.specs.List.Sorted.{IsStrictlySortedBy};
 ghost use Rattle.std.specs.Map.{remove_entry, keys_of};
@@ -111,6 +111,22 @@ impl Model for NodeBlocks {
     ghost view = { λ table. table.nodes.entries };
 }
 
+/// Where a node stands among others, from a place on; the number of these where it doesn't.
+fn place_from(nodes: &[NodeId], from: usize, node: NodeId) -> usize
+    requires { from ≤ length nodes.now }
+    ensures bound { result ≤ length nodes.now }
+    ensures there { result < length nodes.now → list_any (is_number node) nodes.now ≡ true }
+{
+    let mut at = from;
+    while at < nodes.len() {
+        if nodes[at] == node {
+            return at;
+        }
+        at += 1;
+    }
+    at
+}
+
 impl NodeBlocks {
     /// No node has to do with a block. Takes no memory.
     pub fn new(alloc: Global) -> NodeBlocks
@@ -147,29 +163,23 @@ impl NodeBlocks {
         }
     }
 
-    // The nodes beside which there is a block.
-    fn busy_nodes(&self, alloc: Global) -> Result<Vec<NodeId>, AllocError>
-        ensures { IfOk result (λ nodes. nodes.items ≡ keys_of (filter (λ entry. nat_lt 0 (length entry.1)) self.now)) }
-    {
-        let mut nodes = Vec::with_capacity(alloc, self.nodes.len())?;
-        for (node, blocks) in &self.nodes {
-            if blocks.len() > 0 {
-                nodes.push(*node)?;
-            }
-        }
-        Ok(nodes)
-    }
-
-    /// The nodes that have to do with a block, by their ids. Costs a step for each node that ever had.
-    ///
-    /// # Errors
-    /// Out of memory.
-    pub fn busy(&self, alloc: Global) -> Result<Vec<NodeId>, AllocError>
-        ensures { IfOk result (λ nodes. nodes.items ≡ filter (λ node. nat_lt 0 (length (blocks_at self.now node))) (keys_of self.now)) }
+    /// Whether each node that has to do with a block is among these, by their ids in order. Costs a step for each node that ever had, and
+    /// for each of these, and takes no memory.
+    pub fn are_busy_among(&self, nodes: &[NodeId]) -> bool
+        ensures { IsTrue result → (n b : ℕ) → relates self.now n b ≡ true → list_any (is_number n) nodes.now ≡ true }
     {
         // its contract tells that the keys ascend
         let _count = self.nodes.len();
-        self.busy_nodes(alloc)
+        let mut at = 0;
+        for (node, blocks) in &self.nodes {
+            if blocks.len() > 0 {
+                at = place_from(nodes, at, *node);
+                if at == nodes.len() {
+                    return false;
+                }
+            }
+        }
+        true
     }
 
     /// Takes out the blocks that a node has to do with. Costs a look-up, and takes no memory.

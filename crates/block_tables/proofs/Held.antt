@@ -1,5 +1,5 @@
 -- The index has for a node the blocks that it holds, in order.
-use Rattle.std.proofs.Common.{◌≡◌, ◌≤◌, ℕ, Bool, true, false, ◌||◌, nat_lt, List, [], ◌∷◌, filter, Option, Some, None, Result, Ok, Err, IfOk, refl, sym, ap, ◌∙◌, cond, length, arith}
+use Rattle.std.proofs.Common.{◌≡◌, ◌≤◌, ℕ, Bool, true, false, ◌||◌, List, [], ◌∷◌, filter, Option, Some, None, refl, sym, ap, ◌∙◌, cond, length, arith}
 use Rattle.std.proofs.lemmas.List.Sums.{length-filter, count_by-le-length}
 use Rattle.std.proofs.lemmas.Map.Entries.{lookup-filter-values, option_filter, length-keys_of}
 use Rattle.std.proofs.lemmas.Map.Keys.{IsDistinct-from_sorted}
@@ -14,8 +14,7 @@ use Rattle.block_records.specs.Verdicts.{holds_by}
 use Rattle.block_records.specs.declared.block_record.BlockRecord.{BlockRecord}
 use Rattle.block_records.proofs.Ascending.{same_ascending, kept_ascending}
 use Rattle.block_index.specs.Relation.{blocks_at}
-use Rattle.block_index.proofs.Relations.{busy_listed}
-use Rattle.block_tables.specs.Kept.{IsIndexed, holds, blocks_on}
+use Rattle.block_tables.specs.Kept.{IsIndexed, blocks_on}
 
 -- a number is among the keys where the table has something at it
 pub has_entry : {X : Type 0} (q : ℕ) (table : List (ℕ × X)) → list_any (is_number q) (keys_of table) ≡ is_some (entry_at q table)
@@ -51,10 +50,3 @@ has_block table node q up =
     has_entry q (filter (λ entry. holds_by node (Some entry.1)) table)
     ∙ (ap is_some (lookup-filter-values (eq_by_cmp_equiv nat_cmp_total) (λ own. holds_by node (Some own)) q table (IsDistinct-from_sorted nat_cmp (keys_of table) up))
     ∙ held_by node (entry_at q table))
-
--- the nodes that hold blocks are among those that the index has
-pub holders_listed : {V E : Type 0} (r : Result V E) (nodes_of : V → List ℕ) (table : List (ℕ × BlockRecord)) (index : List (ℕ × List ℕ)) → IsIndexed table index
-    → IfOk r (λ nodes. nodes_of nodes ≡ filter (λ n. nat_lt 0 (length (blocks_at index n))) (keys_of index))
-    → IfOk r (λ nodes. (node block : ℕ) → holds table node block ≡ true → list_any (is_number node) (nodes_of nodes) ≡ true)
-holders_listed (Ok nodes) nodes_of table index law is = λ node block held. ap (list_any (is_number node)) is ∙ busy_listed node block index (law node block ∙ held)
-holders_listed (Err fault) nodes_of table index law is = tt

@@ -2,3 +2,4 @@ pub mod Indexes
 pub mod Held
 pub mod Loads
 pub mod Restored
+pub mod Chosen

@@ -1,4 +1,4 @@
-ghost use Rattle.std.specs.Prelude.{◌≡◌, ◌<◌, ◌&&◌, ℕ, true, false, [], Some, None, map, filter, length, if◌then◌else◌, option_copied, IfSome, IfOk, OnOk, OnErr};
+ghost use Rattle.std.specs.Prelude.{◌≡◌, ◌<◌, ◌&&◌, ℕ, true, false, [], Some, None, map, filter, length, if◌then◌else◌, option_copied, IsTrue, IfSome, IfOk, OnOk, OnErr};
 ghost use Rattle.std.specs.BTreeMap.{insert_entry};
 ghost use Rattle.std.specs.List.{list_any};
 ghost use Rattle.std.specs.List.Sorted.{IsStrictlySortedBy};
@@ -6,6 +6,7 @@ ghost use Rattle.std.specs.Map.{remove_entry, keys_of};
 ghost use Rattle.std.specs.Ordering.{nat_cmp};
 ghost use Rattle.block_records.specs.Numbers.{is_number, has_number, entry_at};
 ghost use Rattle.block_placement.specs.Placement.{beside, is_chosen, targets};
+ghost use Rattle.block_placement.specs.declared.candidate.Candidate.{Candidate};
 ghost use Rattle.block_tables.specs.Kept.{holds, load, load_without, blocks_on};
 ghost use Rattle.block_index.specs.Relation.{relates};
 ghost use Rattle.block_tables.specs.Recovered.{AreRecovered, AreFresh, AreGone};
@@ -130,6 +131,22 @@ fn is_among(nodes: &[NodeId], node: NodeId) -> bool
     nodes.iter().any(|own| *own == node)
 }
 
+// Of these candidates the nodes of those up to the last that is chosen.
+fn up_to(
+    alloc: Global,
+    candidates: &[Candidate],
+    last: Option<Candidate>,
+) -> Result<Vec<NodeId>, AllocError>
+    ensures { IfOk result (λ chosen. chosen.items ≡ map (λ (own : Candidate). own.node) (filter (is_chosen last) candidates.now)) }
+{
+    candidates
+        .iter()
+        .copied()
+        .filter(|own| own.is_chosen(last))
+        .map(|own| own.node)
+        .collect(alloc)
+}
+
 impl BlockTable {
     /// No block is known. Takes no memory.
     pub fn new(alloc: Global) -> BlockTable
@@ -194,29 +211,6 @@ impl BlockTable {
             .collect(alloc)
     }
 
-    // Of these nodes those up to the last that is chosen, where some have a block less.
-    fn up_to(
-        &self,
-        alloc: Global,
-        nodes: &[NodeId],
-        leaving: &[NodeId],
-        last: Option<Candidate>,
-    ) -> Result<Vec<NodeId>, AllocError>
-        ensures { IfOk result (λ chosen. chosen.items ≡ filter (λ node. is_chosen last (beside (load_without self.now leaving.now) node)) nodes.now) }
-    {
-        nodes
-            .iter()
-            .copied()
-            .filter(|node| {
-                let own = Candidate {
-                    load: self.load_without(leaving, *node),
-                    node: *node,
-                };
-                own.is_chosen(last)
-            })
-            .collect(alloc)
-    }
-
     // So many of these nodes that have the fewest blocks, where some have a block less.
     fn targets_without(
         &self,
@@ -228,9 +222,9 @@ impl BlockTable {
         requires { 0 < count }
         ensures { IfOk result (λ chosen. chosen ≡ targets (load_without self.now leaving.now) count nodes.now) }
     {
-        let nodes = nodes.as_slice();
-        let last = last_chosen(self.candidates(alloc, nodes, leaving)?, count);
-        let chosen = self.up_to(alloc, nodes, leaving, last)?;
+        let candidates = self.candidates(alloc, nodes.as_slice(), leaving)?;
+        let last = last_chosen(Vec::from_slice(alloc, &candidates)?, count);
+        let chosen = up_to(alloc, &candidates, last)?;
         Ok(NodeSet::of_ascending(chosen))
     }
 
@@ -463,14 +457,12 @@ impl BlockTable {
         self.held.blocks(alloc, node)
     }
 
-    /// Nodes among which all are that are to hold a block or reported one. Costs a step for each node that ever did.
-    ///
-    /// # Errors
-    /// Out of memory.
-    pub fn holders(&self, alloc: Global) -> Result<Vec<NodeId>, AllocError>
-        ensures { IfOk result (λ nodes. (node block : ℕ) → holds self.now node block ≡ true → list_any (is_number node) nodes.items ≡ true) }
+    /// Whether each node that is to hold a block or reported one is among these, by their ids in order. Costs a step for each node that
+    /// ever was or did, and for each of these, and takes no memory.
+    pub fn are_holders_among(&self, nodes: &[NodeId]) -> bool
+        ensures { IsTrue result → (node block : ℕ) → holds self.now node block ≡ true → list_any (is_number node) nodes.now ≡ true }
     {
-        self.held.busy(alloc)
+        self.held.are_busy_among(nodes)
     }
 
     /// Makes a block known no more. Costs a look-up for each node that was to hold it or reported it, and takes no memory.

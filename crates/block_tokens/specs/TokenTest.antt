@@ -44,6 +44,6 @@ unfoldable pub token_test : KeyList → Access → List ℕ → Option TokenRefu
 token_test keys access bytes = parts_test keys bytes (parts_of bytes) access
 
 -- what a function answered is what the test says
-abbrev pub Answers : {X : Type 0} → Result X TokenRefusal → Option TokenRefusal → Type 0
-Answers (Ok x) test = test ≡ None
-Answers (Err refusal) test = test ≡ Some refusal
+abbrev pub TellsTokenRefusal : {X : Type 0} → Result X TokenRefusal → Option TokenRefusal → Type 0
+TellsTokenRefusal (Ok x) test = test ≡ None
+TellsTokenRefusal (Err refusal) test = test ≡ Some refusal

@@ -1,7 +1,7 @@
 ghost use Rattle.std.specs.Prelude.{◌≡◌, ◌+◌, [], Some, None, length, IfOk, OnOk, OnErr, option_copied};
 ghost use Rattle.hdfs_values.specs.Text.{same};
 ghost use Rattle.block_tokens.specs.KeyList as spec;
-ghost use Rattle.block_tokens.specs.TokenTest.{Answers, access_test, token_test};
+ghost use Rattle.block_tokens.specs.TokenTest.{TellsTokenRefusal, access_test, token_test};
 
 use crate::code::has_code;
 use crate::hmac::CodeKey;
@@ -129,7 +129,7 @@ fn judge(
     block: BlockId,
     mode: Modes,
 ) -> Result<(), TokenRefusal>
-    ensures { Answers result (access_test body.now (record { now = now; caller = caller.now; block = block; mode = mode.0 })) }
+    ensures { TellsTokenRefusal result (access_test body.now (record { now = now; caller = caller.now; block = block; mode = mode.0 })) }
 {
     if now.milliseconds() >= body.expiry {
         return Err(TokenRefusal::Expired);
@@ -211,7 +211,7 @@ impl KeyCache {
         mode: Modes,
         bytes: &[u8],
     ) -> Result<(), TokenRefusal>
-        ensures { Answers result (token_test self.now (record { now = now; caller = caller.now; block = block; mode = mode.0 }) bytes.now) }
+        ensures { TellsTokenRefusal result (token_test self.now (record { now = now; caller = caller.now; block = block; mode = mode.0 }) bytes.now) }
     {
         let Some(body) = decode(bytes) else {
             return Err(TokenRefusal::Malformed);

@@ -10,7 +10,7 @@ use Rattle.cluster_trace.specs.declared.event.Event.{Event}
 use Rattle.cluster_trace.specs.declared.outcome.Outcome.{Outcome}
 use Rattle.cluster_core.specs.Past.{World}
 use Rattle.cluster_core.specs.World.{state_after, with_event}
-use Rattle.cluster_text.specs.ToldText.{Told, answer_line, is_bad}
+use Rattle.cluster_text.specs.ToldText.{Told, answer_line, is_bad_line}
 use Rattle.cluster_runs.specs.Output.{State, Numbered, ledger_after, newest_verdict, told_behind, line_answered, after_answer, text_of}
 use Rattle.cluster_runs.specs.Shown.{Shows}
 use Rattle.cluster_runs.specs.declared.session.Session.{Session}
@@ -55,6 +55,6 @@ shows_more state old event own rows new steps shows =
       bad =
           steps.bad
           ∙ shows.bad
-          ∙ sym (or_false (list_any (λ (numbered : Numbered). is_bad numbered.answer) state.answers))
-          ∙ sym (list_any-append (λ (numbered : Numbered). is_bad numbered.answer) state.answers (answer ∷ []));
+          ∙ sym (or_false (list_any (λ (numbered : Numbered). is_bad_line numbered.answer) state.answers))
+          ∙ sym (list_any-append (λ (numbered : Numbered). is_bad_line numbered.answer) state.answers (answer ∷ []));
     }

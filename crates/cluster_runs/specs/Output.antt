@@ -17,7 +17,7 @@ use Rattle.script_words.specs.Words.{lines_of, without_return, is_skipped, words
 use Rattle.script_runs.specs.Status.{status_by}
 use Rattle.script_runs.specs.declared.script.Status.{Status}
 use Rattle.cluster_text.specs.EventLine.{event_of}
-use Rattle.cluster_text.specs.ToldText.{Told, answer_line, is_bad}
+use Rattle.cluster_text.specs.ToldText.{Told, answer_line, is_bad_line}
 
 -- what the cluster of a script opens with: a NameNode with the limits that HDFS has by default and a key of twenty bytes 11, and the
 -- DataNodes 1 to 8
@@ -105,7 +105,7 @@ text_of answers = flat_map (λ numbered. answer_line numbered.number numbered.an
 
 -- how a script ends: with an ill-formed line, or with none
 abbrev pub script_status : List Numbered → Status
-script_status answers = status_by (list_any (λ numbered. is_bad numbered.answer) answers)
+script_status answers = status_by (list_any (λ numbered. is_bad_line numbered.answer) answers)
 
 -- what a script prints
 abbrev pub output_of : List ℕ → List ℕ

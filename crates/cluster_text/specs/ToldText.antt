@@ -98,6 +98,6 @@ abbrev pub answer_line : ℕ → Result Told IllFormed → List ℕ
 answer_line number answer = decimal number ++ (32 ∷ (line_text answer ++ (10 ∷ [])))
 
 -- whether the line was ill-formed
-abbrev pub is_bad : Result Told IllFormed → Bool
-is_bad (Err fault) = true
-is_bad (Ok told) = false
+abbrev pub is_bad_line : Result Told IllFormed → Bool
+is_bad_line (Err fault) = true
+is_bad_line (Ok told) = false

@@ -43,9 +43,9 @@ moved_on clock node = record node { clock = clock; keys = usable_keys clock node
 -- ---- calls that present a token
 
 -- what a function answered is what is refused, or nothing is
-abbrev pub Answers : {X : Type 0} → Result X NodeRefusal → Option NodeRefusal → Type 0
-Answers (Ok x) refused = refused ≡ None
-Answers (Err refusal) refused = refused ≡ Some refusal
+abbrev pub TellsNodeRefusal : {X : Type 0} → Result X NodeRefusal → Option NodeRefusal → Type 0
+TellsNodeRefusal (Ok x) refused = refused ≡ None
+TellsNodeRefusal (Err refusal) refused = refused ≡ Some refusal
 
 abbrev pub access_of : ℕ → Presented → TokenCall → Access
 access_of clock presented asked = record { now = clock; caller = presented.caller; block = presented.block; mode = (modes_of_call asked).0 }

@@ -161,7 +161,7 @@ impl DataNode {
         presented: &Presented,
         call: &TokenCall,
     ) -> Result<(), NodeRefusal>
-        ensures { spec.Answers result (spec.call_refusal self.now clock presented.now call.now) }
+        ensures { spec.TellsNodeRefusal result (spec.call_refusal self.now clock presented.now call.now) }
     {
         let mode = asking::mode_of(call);
         let token = presented.token.as_bytes();

@@ -74,3 +74,21 @@ pub made_anew : (old inside : List (List ℕ × ℕ)) (after : Option ℕ) (clie
 made_anew old inside after client key other seen is absent made =
     counted_new (lookup (same other) inside) after (same key other) (λ at. unsaid _ (absent ∙ ap (λ who. is_some (lookup (same who) inside)) (sym is ∙ same_is key other at))) made
     ∙ ap (λ es. count_of es other) seen
+
+-- ---- a client that is looked up once
+
+pub count_found : (old inside : List (List ℕ × ℕ)) (client : List ℕ) (n : ℕ) → inside ≡ old → Some n ≡ lookup (same client) inside → n ≡ count_of old client
+count_found old inside client n seen found = ap (λ o. unwrap_or o 0) found ∙ ap (λ es. count_of es client) seen
+
+pub absent_less : (old inside new : List (List ℕ × ℕ)) (client other : List ℕ) → inside ≡ old → None ≡ lookup (same client) inside → new ≡ inside
+    → count_of new other ≡ cond (same client other) (count_of old client - 1) (count_of old other)
+absent_less old inside new client other seen none kept =
+    ap (λ es. count_of es other) (kept ∙ (seen ∙ sym (absent_stays old client (count_of old client - 1) (ap (λ es. lookup (same client) es) (sym seen) ∙ sym none))))
+    ∙ counted_less old client other
+
+pub absent_more : {X : Type 0} (old inside : List (List ℕ × ℕ)) (client : List ℕ) → inside ≡ old → None ≡ lookup (same client) inside → CanCountOneMore old client → X
+absent_more {X} old inside client seen none room = by (lookup (same client) old) (none ∙ ap (λ es. lookup (same client) es) seen) room.known
+  where
+    by : (found : Option ℕ) → None ≡ found → IsSome found → X
+    by None at known = cc
+    by (Some n) at known = cc

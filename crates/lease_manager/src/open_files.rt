@@ -22,16 +22,6 @@ impl Model for OpenFiles {
     ghost view = { λ files. files.counts.entries };
 }
 
-// Gives a client another number, where it is counted.
-#[tactic(auto, using(crate::proofs::Counts::absent_stays))]
-fn set(counts: &mut BTreeMap<Who, u64>, client: &Who, count: u64)
-    ensures { counts.new.entries ≡ set_value (same client.now) counts.old.entries count }
-{
-    if let Some(own) = counts.get_mut(client) {
-        *own = count;
-    }
-}
-
 impl OpenFiles {
     /// No client has a file open. Takes no memory.
     pub fn new(alloc: Global) -> OpenFiles
@@ -60,10 +50,10 @@ impl OpenFiles {
         ensures counts { (other : List ℕ) → count_of self.new other ≡ count_of self.old other }
         ensures room { OnOk result (CanCountOneMore self.new client.now) }
     {
-        if self.count(client) == u64::MAX {
-            return Err(AllocError);
-        }
-        if self.counts.contains_key(client) {
+        if let Some(count) = self.counts.get(client) {
+            if *count == u64::MAX {
+                return Err(AllocError);
+            }
             return Ok(());
         }
         self.counts.insert(client.clone()?, 0)?;
@@ -75,15 +65,17 @@ impl OpenFiles {
         requires { CanCountOneMore self.old client.now }
         ensures { (other : List ℕ) → count_of self.new other ≡ (if same client.now other then count_of self.old client.now + 1 else count_of self.old other) }
     {
-        let count = self.count(client);
-        set(&mut self.counts, client, count + 1);
+        if let Some(count) = self.counts.get_mut(client) {
+            *count += 1;
+        }
     }
 
     /// Counts one open file of a client less. Takes no memory.
     pub fn take(&mut self, client: &Who)
         ensures { (other : List ℕ) → count_of self.new other ≡ (if same client.now other then count_of self.old client.now - 1 else count_of self.old other) }
     {
-        let count = self.count(client);
-        set(&mut self.counts, client, count.saturating_sub(1));
+        if let Some(count) = self.counts.get_mut(client) {
+            *count = count.saturating_sub(1);
+        }
     }
 }

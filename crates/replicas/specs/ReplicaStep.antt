@@ -20,9 +20,9 @@ use Rattle.replicas.specs.declared.replica.Replica.{Replica}
 -- ---- refusals
 
 -- what a function answered is what is refused, or nothing is
-abbrev pub Answers : {X : Type 0} → Result X ReplicaRefusal → Option ReplicaRefusal → Type 0
-Answers (Ok x) refused = refused ≡ None
-Answers (Err refusal) refused = refused ≡ Some refusal
+abbrev pub TellsReplicaRefusal : {X : Type 0} → Result X ReplicaRefusal → Option ReplicaRefusal → Type 0
+TellsReplicaRefusal (Ok x) refused = refused ≡ None
+TellsReplicaRefusal (Err refusal) refused = refused ≡ Some refusal
 
 -- this refusal, or else what comes later
 abbrev pub refused_or_later : Bool → ReplicaRefusal → Option ReplicaRefusal → Option ReplicaRefusal

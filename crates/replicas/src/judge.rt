@@ -1,5 +1,5 @@
 ghost use Rattle.std.specs.Prelude.{◌≡◌, ◌+◌, [], nat_lt, option_copied};
-ghost use Rattle.replicas.specs.ReplicaStep.{Answers, replica_refusal, removal_refusal};
+ghost use Rattle.replicas.specs.ReplicaStep.{TellsReplicaRefusal, replica_refusal, removal_refusal};
 ghost use Rattle.node_calls.specs.declared.call.TokenCall.TheVariants as asked;
 
 use crate::replica::Replica;
@@ -25,7 +25,7 @@ pub(crate) fn judge_begin(
     promised: Stamp,
     stamp: Stamp,
 ) -> Result<(), ReplicaRefusal>
-    ensures { Answers result (replica_refusal 0 (asked.Begin []) stamp (record { replica = option_copied replica.entry; promised = promised })) }
+    ensures { TellsReplicaRefusal result (replica_refusal 0 (asked.Begin []) stamp (record { replica = option_copied replica.entry; promised = promised })) }
 {
     if replica.is_some() {
         return Err(ReplicaRefusal::ReplicaExists);
@@ -44,7 +44,7 @@ pub(crate) fn judge_packet(
     offset: u64,
     bytes: &BlockBytes,
 ) -> Result<(), ReplicaRefusal>
-    ensures { Answers result (replica_refusal limit (asked.Packet offset bytes.now []) stamp (record { replica = option_copied replica.entry; promised = promised })) }
+    ensures { TellsReplicaRefusal result (replica_refusal limit (asked.Packet offset bytes.now []) stamp (record { replica = option_copied replica.entry; promised = promised })) }
 {
     let Some(replica) = replica else {
         return Err(ReplicaRefusal::NoReplica);
@@ -71,7 +71,7 @@ pub(crate) fn judge_finalize(
     stamp: Stamp,
     count: u64,
 ) -> Result<(), ReplicaRefusal>
-    ensures { Answers result (replica_refusal 0 (asked.Finalize count []) stamp (record { replica = option_copied replica.entry; promised = promised })) }
+    ensures { TellsReplicaRefusal result (replica_refusal 0 (asked.Finalize count []) stamp (record { replica = option_copied replica.entry; promised = promised })) }
 {
     let Some(replica) = replica else {
         return Err(ReplicaRefusal::NoReplica);
@@ -95,7 +95,7 @@ pub(crate) fn judge_read(
     offset: u64,
     count: u64,
 ) -> Result<(), ReplicaRefusal>
-    ensures { Answers result (replica_refusal 0 (asked.Read offset count) stamp (record { replica = option_copied replica.entry; promised = 0 })) }
+    ensures { TellsReplicaRefusal result (replica_refusal 0 (asked.Read offset count) stamp (record { replica = option_copied replica.entry; promised = 0 })) }
 {
     let Some(replica) = replica else {
         return Err(ReplicaRefusal::NoReplica);
@@ -117,7 +117,7 @@ pub(crate) fn judge_init(
     promised: Stamp,
     stamp: Stamp,
 ) -> Result<(), ReplicaRefusal>
-    ensures { Answers result (replica_refusal 0 asked.InitRecovery stamp (record { replica = option_copied replica.entry; promised = promised })) }
+    ensures { TellsReplicaRefusal result (replica_refusal 0 asked.InitRecovery stamp (record { replica = option_copied replica.entry; promised = promised })) }
 {
     if replica.is_none() {
         return Err(ReplicaRefusal::NoReplica);
@@ -134,7 +134,7 @@ pub(crate) fn judge_update(
     stamp: Stamp,
     count: u64,
 ) -> Result<(), ReplicaRefusal>
-    ensures { Answers result (replica_refusal 0 (asked.UpdateReplica count) stamp (record { replica = option_copied replica.entry; promised = promised })) }
+    ensures { TellsReplicaRefusal result (replica_refusal 0 (asked.UpdateReplica count) stamp (record { replica = option_copied replica.entry; promised = promised })) }
 {
     let Some(replica) = replica else {
         return Err(ReplicaRefusal::NoReplica);
@@ -152,7 +152,7 @@ pub(crate) fn judge_update(
 }
 
 pub(crate) fn judge_copy(replica: Option<&Replica>, stamp: Stamp) -> Result<(), ReplicaRefusal>
-    ensures { Answers result (replica_refusal 0 (asked.SendCopy 0) stamp (record { replica = option_copied replica.entry; promised = 0 })) }
+    ensures { TellsReplicaRefusal result (replica_refusal 0 (asked.SendCopy 0) stamp (record { replica = option_copied replica.entry; promised = 0 })) }
 {
     let Some(replica) = replica else {
         return Err(ReplicaRefusal::NoReplica);
@@ -173,7 +173,7 @@ pub(crate) fn judge_take(
     stamp: Stamp,
     bytes: &BlockBytes,
 ) -> Result<(), ReplicaRefusal>
-    ensures { Answers result (replica_refusal limit (asked.TakeCopy bytes.now) stamp (record { replica = option_copied replica.entry; promised = promised })) }
+    ensures { TellsReplicaRefusal result (replica_refusal limit (asked.TakeCopy bytes.now) stamp (record { replica = option_copied replica.entry; promised = promised })) }
 {
     if replica.is_some() {
         return Err(ReplicaRefusal::ReplicaExists);
@@ -188,7 +188,7 @@ pub(crate) fn judge_take(
 }
 
 pub(crate) fn judge_removal(replica: Option<&Replica>, stamp: Stamp) -> Result<(), ReplicaRefusal>
-    ensures { Answers result (removal_refusal stamp (option_copied replica.entry)) }
+    ensures { TellsReplicaRefusal result (removal_refusal stamp (option_copied replica.entry)) }
 {
     let Some(replica) = replica else {
         return Err(ReplicaRefusal::NoReplica);

@@ -2,7 +2,7 @@ ghost use Rattle.std.specs.Prelude.{◌≡◌, [], take, drop, length, option_co
 ghost use Rattle.std.specs.BTreeMap.{insert_entry};
 ghost use Rattle.std.specs.Ordering.{nat_cmp};
 ghost use Rattle.node_calls.specs.declared.call.ReplicaState.TheVariants.{Writing, Finalized};
-ghost use Rattle.replicas.specs.ReplicaStep.{Answers, replica_refusal, removal_refusal, held_at, own, newly_held, with_held_changed, with_bytes_appended, with_replica_finalized, with_promise, with_replica_recovered, without_replica_of, replicas_after};
+ghost use Rattle.replicas.specs.ReplicaStep.{TellsReplicaRefusal, replica_refusal, removal_refusal, held_at, own, newly_held, with_held_changed, with_bytes_appended, with_replica_finalized, with_promise, with_replica_recovered, without_replica_of, replicas_after};
 
 use crate::held::Held;
 use crate::judge;
@@ -127,7 +127,7 @@ impl Replicas {
         stamp: Stamp,
         block: BlockId,
     ) -> Result<(), ReplicaRefusal>
-        ensures { Answers result (replica_refusal limit call.now stamp (held_at block self.now)) }
+        ensures { TellsReplicaRefusal result (replica_refusal limit call.now stamp (held_at block self.now)) }
     {
         let (replica, promised) = self.held(block);
         match call {
@@ -155,7 +155,7 @@ impl Replicas {
     /// # Errors
     /// The first refusal that applies.
     pub fn judge_removal(&self, stamp: Stamp, block: BlockId) -> Result<(), ReplicaRefusal>
-        ensures { Answers result (removal_refusal stamp (held_at block self.now).replica) }
+        ensures { TellsReplicaRefusal result (removal_refusal stamp (held_at block self.now).replica) }
     {
         judge::judge_removal(self.replica(block), stamp)
     }

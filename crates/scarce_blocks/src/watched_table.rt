@@ -68,19 +68,6 @@ fn watch(table: &BlockTable, scarce: &mut BlockSet, complete: &mut bool, block: 
     }
 }
 
-// Whether all of these nodes are among others. Costs both.
-fn are_among(nodes: &[NodeId], others: &[NodeId]) -> bool
-    ensures { IsTrue result → (n : ℕ) → list_any (is_number n) nodes.now ≡ true → list_any (is_number n) others.now ≡ true }
-{
-    let mut met = 0;
-    for other in others {
-        if met < nodes.len() && nodes[met] == *other {
-            met += 1;
-        }
-    }
-    met == nodes.len()
-}
-
 impl WatchedTable {
     /// No block is known. Takes no memory.
     pub fn new(alloc: Global) -> WatchedTable
@@ -161,11 +148,11 @@ impl WatchedTable {
     {
         // its contract tells that the ids ascend
         let _count = self.table.len();
-        if self.complete && self.scarce.len() <= self.table.load(node) {
-            let holders = self.table.holders(alloc)?;
-            if are_among(&holders, live.as_slice()) {
-                return self.scarce.to_vec(alloc);
-            }
+        if self.complete
+            && self.scarce.len() <= self.table.load(node)
+            && self.table.are_holders_among(live.as_slice())
+        {
+            return self.scarce.to_vec(alloc);
         }
         self.table.blocks_of(alloc, node)
     }

@@ -60,6 +60,6 @@ abbrev pub ruling_line : ℕ → Result Ruling IllFormed → List ℕ
 ruling_line number answer = decimal number ++ (32 ∷ (answer_text answer ++ (10 ∷ [])))
 
 -- whether the line was ill-formed
-abbrev pub is_bad : Result Ruling IllFormed → Bool
-is_bad (Err fault) = true
-is_bad (Ok ruling) = false
+abbrev pub is_bad_ruling : Result Ruling IllFormed → Bool
+is_bad_ruling (Err fault) = true
+is_bad_ruling (Ok ruling) = false

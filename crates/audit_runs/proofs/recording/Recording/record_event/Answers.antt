@@ -3,7 +3,7 @@ use Rattle.std.specs.List.{list_any}
 use Rattle.std.proofs.lemmas.List.Folds.{list_any-append}
 use Rattle.cluster_core.specs.Past.{World}
 use Rattle.cluster_core.specs.World.{with_event}
-use Rattle.cluster_text.specs.ToldText.{is_bad}
+use Rattle.cluster_text.specs.ToldText.{is_bad_line}
 use Rattle.cluster_runs.specs.Output.{Numbered, told_behind}
 use Rattle.audit_runs.proofs.recording.Recording.record_event.Goals as goal
 
@@ -20,6 +20,6 @@ returns-clause-ok c = λ state holds.
       world = c.in_ok-outcome.ensures.world ∙ ap (λ (past : World). with_event past event) holds.world;
       bad =
           holds.bad
-          ∙ sym (or_false (list_any (λ (numbered : Numbered). is_bad numbered.answer) state.answers))
-          ∙ sym (list_any-append (λ (numbered : Numbered). is_bad numbered.answer) state.answers (answer ∷ []));
+          ∙ sym (or_false (list_any (λ (numbered : Numbered). is_bad_line numbered.answer) state.answers))
+          ∙ sym (list_any-append (λ (numbered : Numbered). is_bad_line numbered.answer) state.answers (answer ∷ []));
     }

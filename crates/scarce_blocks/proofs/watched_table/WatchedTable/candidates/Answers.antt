@@ -7,14 +7,12 @@ use Rattle.scarce_blocks.specs.Scarce.{CoversLacking}
 use Rattle.scarce_blocks.proofs.Covering.{covers_listed, covers_own, listed_covers, own_ascend}
 use Rattle.scarce_blocks.proofs.watched_table.WatchedTable.candidates.Goals as goal
 
-pub returns-then-are_among-clause-covers : goal.returns-then-are_among-clause-covers
-returns-then-are_among-clause-covers c =
+pub returns-then-are_holders_among-clause-covers : goal.returns-then-are_holders_among-clause-covers
+returns-then-are_holders_among-clause-covers c =
     let table = c.self.inside.table in
     let live = c.args.live.now in
     let all : (n block : ℕ) → holds table n block ≡ true → list_any (is_number n) live ≡ true =
-    λ n block held.
-    ap (list_any (is_number n)) (sym c.as_slice.ensures.nodes)
-    ∙ c.if-are_among.ensures refl n (ap (list_any (is_number n)) c.deref.ensures.value ∙ c.in_ok-holders.ensures n block held)
+    λ n block held. ap (list_any (is_number n)) (sym c.as_slice.ensures.nodes) ∙ c.if-are_holders_among.ensures refl n block held
     in
     subst
     (λ (own : List (ℕ × BlockRecord)). IfOk c.to_vec.result (λ blocks. CoversLacking own live c.args.node blocks.items))
