@@ -1,4 +1,4 @@
-ghost use Rattle.std.specs.Prelude.{◌≡◌, ◌≤◌, ◌+◌, ℕ, List, Option, None, Some, Bool, true, [], if◌then◌else◌, map, not, IfOk, OnOk, OnErr};
+ghost use Rattle.std.specs.Prelude.{◌≡◌, ◌≤◌, ◌+◌, ℕ, List, Option, None, Some, Bool, true, false, [], if◌then◌else◌, map, not, IfOk, OnOk, OnErr};
 ghost use Rattle.std.specs.Option.{IsSome};
 ghost use Rattle.flat_rows.specs.FileOutcome.{holder_at, directory_there};
 ghost use Rattle.namespace_rows.specs.Files.{holder_of, holders, new_file, blocks_in};
@@ -71,6 +71,7 @@ fn create_first(
     path: &Path,
     mode: Mode,
     replication: Repl,
+    over: bool,
     caller: &Who,
     now: Moment,
 ) -> Result<(), AllocError>
@@ -79,6 +80,7 @@ fn create_first(
     requires absent { renewal_moment_of writers.old.leases.renewals caller.now ≡ None }
     requires clear { file_above path.now tree.old ≡ None }
     requires file { directory_there (row_at path.now tree.old) ≡ None }
+    requires free { over ≡ false → is_missing path.now tree.old ≡ true }
     requires new { is_missing path.now tree.old ≡ true → replaced.now ≡ [] }
     ensures ok { OnOk result (IsCreated path.now mode replication caller.now now tree.old writers.old tree.new writers.new) }
     ensures blocks { OnOk result (blocks.new ≡ with_blocks_removed blocks.old replaced.now) }
@@ -95,6 +97,7 @@ fn create_first(
         path,
         mode,
         replication,
+        over,
         caller,
     ) else {
         writers.leases.release(caller);
@@ -115,12 +118,14 @@ fn create_open(
     path: &Path,
     mode: Mode,
     replication: Repl,
+    over: bool,
     caller: &Who,
     now: Moment,
 ) -> Result<(), AllocError>
     requires latest { lease.latest_moment writers.old.leases.renewals ≤ now }
     requires clear { file_above path.now tree.old ≡ None }
     requires file { directory_there (row_at path.now tree.old) ≡ None }
+    requires free { over ≡ false → is_missing path.now tree.old ≡ true }
     requires new { is_missing path.now tree.old ≡ true → replaced.now ≡ [] }
     ensures ok { OnOk result (IsCreated path.now mode replication caller.now now tree.old writers.old tree.new writers.new) }
     ensures blocks { OnOk result (blocks.new ≡ with_blocks_removed blocks.old replaced.now) }
@@ -139,6 +144,7 @@ fn create_open(
             path,
             mode,
             replication,
+            over,
             caller,
             now,
         );
@@ -151,6 +157,7 @@ fn create_open(
         path,
         mode,
         replication,
+        over,
         caller,
     )?;
     let Ok(()) = writers.leases.take(caller, now) else {
@@ -177,13 +184,22 @@ fn replaced_holders(
     holders_at(alloc, tree, path)
 }
 
-/// The blocks of what a creation takes the place of. Where nothing has the path, there are none.
-fn replaced_blocks(alloc: Global, tree: &Tree, path: &Path) -> Result<Vec<BlockId>, AllocError>
-    requires { IsNamespace tree.now }
+/// The blocks of the file which `create over` replaces; none without `over`, since then the path is free.
+fn replaced_blocks(
+    alloc: Global,
+    tree: &Tree,
+    path: &Path,
+    over: bool,
+) -> Result<Vec<BlockId>, AllocError>
+    requires free { over ≡ false → is_missing path.now tree.now ≡ true }
+    requires namespace { IsNamespace tree.now }
     ensures blocks { IfOk result (λ blocks. blocks.items ≡ blocks_in (rows_under path.now tree.now)) }
     ensures new { IfOk result (λ blocks. is_missing path.now tree.now ≡ true → blocks.items ≡ []) }
 {
-    tree.blocks_under(path)
+    if over {
+        return tree.blocks_under(path);
+    }
+    Ok(Vec::new(alloc))
 }
 
 /// Makes a file that the caller has open, in the place of one that has the path.
@@ -211,7 +227,7 @@ fn create(
     ensures err_blocks { OnErr result (blocks.new ≡ blocks.old) }
 {
     let clients = replaced_holders(alloc, tree, path, over)?;
-    let replaced = replaced_blocks(alloc, tree, path)?;
+    let replaced = replaced_blocks(alloc, tree, path, over)?;
     create_open(
         alloc,
         tree,
@@ -221,6 +237,7 @@ fn create(
         path,
         mode,
         replication,
+        over,
         caller,
         now,
     )?;

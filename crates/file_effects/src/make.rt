@@ -87,7 +87,7 @@ fn replace_file(
 }
 
 /// Makes a file of a mode and a replication that the caller has open, instead of the file that has the path, and the missing
-/// directories above it. The blocks of the file that has the path are known no more; they are handed in. Costs the path, and what
+/// directories above it. Without `over` nothing has the path. The blocks of the file that has the path are known no more; they are handed in. Costs the path, and what
 /// `Blocks::remove_all` costs (HDFS Architecture, "The File System Namespace").
 ///
 /// # Errors
@@ -100,16 +100,21 @@ pub fn make_file(
     path: &Path,
     mode: Mode,
     replication: Repl,
+    over: bool,
     caller: &Who,
 ) -> Result<(), AllocError>
     requires clear { file_above path.now tree.old ≡ None }
     requires file { directory_there (row_at path.now tree.old) ≡ None }
+    requires free { over ≡ false → is_missing path.now tree.old ≡ true }
     requires new { is_missing path.now tree.old ≡ true → replaced.now ≡ [] }
-    ensures ok { (facts : Facts) (over : Bool) → OnOk result (tree.new ≡ spec.rows_after facts (op.Create path.now mode replication over) caller.now tree.old) }
+    ensures ok { (facts : Facts) (any : Bool) → OnOk result (tree.new ≡ spec.rows_after facts (op.Create path.now mode replication any) caller.now tree.old) }
     ensures blocks { OnOk result (blocks.new ≡ with_blocks_removed blocks.old replaced.now) }
     ensures err { OnErr result ((tree.new ≡ tree.old) × (blocks.new ≡ blocks.old)) }
 {
     let file = FileRow::opened(alloc, replication, caller.clone()?);
+    if !over {
+        return tree.make(path, mode, Some(file), caller);
+    }
     if tree.get(path).is_some() {
         return replace_file(alloc, tree, blocks, replaced, path, mode, file, caller);
     }

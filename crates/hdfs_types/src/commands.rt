@@ -1,4 +1,5 @@
-ghost use Rattle.std.specs.Prelude.{◌≡◌, IfOk};
+ghost use Rattle.std.specs.Prelude.{◌≡◌, [], IfOk, unwrap_or};
+ghost use Rattle.std.specs.Option.{option_map};
 
 use crate::key_list::KeyList;
 use crate::token_bytes::TokenBytes;
@@ -58,13 +59,19 @@ impl Drop for CopyOrder {
     }
 }
 
-// The commands of one heartbeat.
+// What a node is told to do at one heartbeat.
 #[derive(Drop)]
-struct CommandLists {
-    keys: KeyList,
+struct Orders {
     recoveries: Vec<Recover>,
     removals: Vec<Removal>,
     copies: Vec<CopyOrder>,
+}
+
+// The commands of one heartbeat. Most have no orders, and a history keeps them all.
+#[derive(Drop)]
+struct CommandLists {
+    keys: KeyList,
+    orders: Option<Box<Orders>>,
 }
 
 /// What a DataNode is told with the answer to its heartbeat, in this order: the keys under which tokens serve, the recoveries that it
@@ -86,12 +93,37 @@ impl Model for Commands {
 
     ghost Value = { Commands };
 
+    ghost use Rattle.std.specs.Prelude.{[], unwrap_or};
+    ghost use Rattle.std.specs.Option.{option_map};
+
     ghost view = { λ commands. record {
       keys = commands.lists.value.keys;
-      recoveries = commands.lists.value.recoveries.items;
-      removals = commands.lists.value.removals.items;
-      copies = commands.lists.value.copies.items;
+      recoveries = unwrap_or (option_map (λ orders. orders.value.recoveries.items) commands.lists.value.orders) [];
+      removals = unwrap_or (option_map (λ orders. orders.value.removals.items) commands.lists.value.orders) [];
+      copies = unwrap_or (option_map (λ orders. orders.value.copies.items) commands.lists.value.orders) [];
     } };
+}
+
+// Orders in a box, where there are any.
+fn boxed(
+    alloc: Global,
+    recoveries: Vec<Recover>,
+    removals: Vec<Removal>,
+    copies: Vec<CopyOrder>,
+) -> Result<Option<Box<Orders>>, AllocError>
+    ensures recoveries { IfOk result (λ orders. unwrap_or (option_map (λ orders. orders.value.recoveries.items) orders) [] ≡ recoveries.items) }
+    ensures removals { IfOk result (λ orders. unwrap_or (option_map (λ orders. orders.value.removals.items) orders) [] ≡ removals.items) }
+    ensures copies { IfOk result (λ orders. unwrap_or (option_map (λ orders. orders.value.copies.items) orders) [] ≡ copies.items) }
+{
+    if recoveries.is_empty() && removals.is_empty() && copies.is_empty() {
+        return Ok(None);
+    }
+    let orders = Orders {
+        recoveries,
+        removals,
+        copies,
+    };
+    Ok(Some(Box::new(alloc, orders)?))
 }
 
 impl Commands {
@@ -108,12 +140,8 @@ impl Commands {
     ) -> Result<Commands, AllocError>
         ensures { IfOk result (λ commands. commands ≡ record { keys = keys; recoveries = recoveries.items; removals = removals.items; copies = copies.items }) }
     {
-        let lists = CommandLists {
-            keys,
-            recoveries,
-            removals,
-            copies,
-        };
+        let orders = boxed(alloc, recoveries, removals, copies)?;
+        let lists = CommandLists { keys, orders };
         Ok(Commands {
             lists: Rc::new(alloc, lists)?,
         })
@@ -130,21 +158,30 @@ impl Commands {
     pub fn recoveries(&self) -> &[Recover]
         ensures { result.now ≡ self.now.recoveries }
     {
-        &self.lists.recoveries
+        match &self.lists.orders {
+            Some(orders) => &orders.recoveries,
+            None => &[],
+        }
     }
 
     /// The replicas that the node is to remove, by block and then by stamp.
     pub fn removals(&self) -> &[Removal]
         ensures { result.now ≡ self.now.removals }
     {
-        &self.lists.removals
+        match &self.lists.orders {
+            Some(orders) => &orders.removals,
+            None => &[],
+        }
     }
 
     /// The replicas that the node is to copy, by block.
     pub fn copies(&self) -> &[CopyOrder]
         ensures { result.now ≡ self.now.copies }
     {
-        &self.lists.copies
+        match &self.lists.orders {
+            Some(orders) => &orders.copies,
+            None => &[],
+        }
     }
 }
 

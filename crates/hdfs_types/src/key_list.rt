@@ -1,4 +1,4 @@
-ghost use Rattle.std.specs.Prelude.{◌≡◌, ◌++◌, [], ◌∷◌, OnOk, OnErr};
+ghost use Rattle.std.specs.Prelude.{◌≡◌, ◌++◌, [], ◌∷◌, IfOk, OnOk, OnErr};
 ghost use Rattle.hdfs_types.specs.KeyList as spec;
 
 use crate::key::Key;
@@ -54,6 +54,18 @@ impl KeyList {
         KeyList {
             keys: Vec::new(alloc),
         }
+    }
+
+    /// The empty list, with room for so many keys.
+    ///
+    /// # Errors
+    /// Out of memory.
+    pub fn with_room(alloc: Global, count: usize) -> Result<KeyList, AllocError>
+        ensures { IfOk result (λ list. list ≡ []) }
+    {
+        Ok(KeyList {
+            keys: Vec::with_capacity(alloc, count)?,
+        })
     }
 
     /// Adds a key at the end.

@@ -82,6 +82,7 @@ fn unequal(own: u64, others: u64) -> Ordering
 
 /// The order of two texts that stand within their values, by words of their bytes. No byte is in two words: so each word is one load. The
 /// zeros behind a text are below all that stands there in another, unless that is zeros too: then the shorter text is the lower one.
+#[inline(always)]
 fn order(own: &[u8], own_length: u8, others: &[u8], others_length: u8) -> Ordering
     requires own { length own.now ≡ 14 }
     requires others { length others.now ≡ 14 }
@@ -185,6 +186,8 @@ impl Ord for ShortText {
 
     ghost matches_eq = { Prim.search (comparing, rules) };
 
+    // a search among names compares a dozen of them
+    #[inline(always)]
     fn cmp(&self, other: &ShortText) -> Ordering {
         match (&self.held, &other.held) {
             (Held::Inline(length, bytes), Held::Inline(others_length, others_bytes)) => {
