@@ -3,7 +3,7 @@ ghost use Rattle.cluster_trace.specs.Trace.{command_messages, entry_messages, me
 ghost use Rattle.cluster_parts.specs.Sent.{messages_at, messages_of, AreLaid};
 ghost use Rattle.cluster_parts.specs.Carried.{message_of_found, commands_seen, commands_for};
 
-use crate::sent::{Sent, Source, begun_by};
+use crate::sent::{Sent, Source, begun_near};
 use flat_rows::verdict::Verdict;
 use hdfs_types::commands::{Commands, CopyOrder, Recover, Removal};
 use hdfs_types::key_list::KeyList;
@@ -112,12 +112,20 @@ fn own_message(messages: &Messages, index: usize) -> Option<Found<'_>>
     }
 }
 
-/// The message with a number. Costs a step for each time that the number of batches can be halved, and takes no memory.
-pub fn find<'a>(sent: &'a Sent, history: &'a [HistoryEntry], number: u64) -> Option<Found<'a>>
+/// The message with a number; `near` is how many batches began up to the message that was found before, and becomes that of this one.
+/// Costs a step for each time that the number of batches can be halved, and where the two messages stand in one batch or in the next,
+/// nothing. Takes no memory.
+pub fn find<'a>(
+    sent: &'a Sent,
+    history: &'a [HistoryEntry],
+    number: u64,
+    near: &mut usize,
+) -> Option<Found<'a>>
     requires { AreLaid history.now 0 sent.now.batches.items sent.now.count }
     ensures { option_map message_of_found result ≡ message_at number (messages_of history.now sent.now.batches.items) }
 {
-    let begun = begun_by(&sent.batches, number);
+    let begun = begun_near(&sent.batches, number, *near);
+    *near = begun;
     if begun == 0 {
         return None;
     }

@@ -1,4 +1,4 @@
-ghost use Rattle.std.specs.Prelude.{◌≡◌, ℕ, ◌+◌, ◌<◌, ◌≤◌, ◌^◌, ◌++◌, List, [], length, slice_get, OnOk, vec_len, vec_capacity};
+ghost use Rattle.std.specs.Prelude.{◌≡◌, ℕ, ◌+◌, ◌<◌, ◌≤◌, ◌^◌, ◌++◌, List, [], length, slice_get, OnOk, vec_len, vec_capacity, IsTrue, Some};
 ghost use Rattle.history.specs.declared.entry.HistoryEntry.{HistoryEntry};
 ghost use Rattle.cluster_parts.specs.Sent.{source_messages, messages_of, IsWithin, AreLaid};
 ghost use Rattle.cluster_parts.specs.declared.sent.Batch.{Batch};
@@ -107,8 +107,23 @@ impl Sent {
     }
 }
 
+/// Whether the last of so many batches begins at or below a number, and the next one behind it.
+fn is_begun(batches: &[Batch], number: u64, begun: usize) -> bool
+    ensures within { IsTrue result → begun ≤ length batches.now }
+    ensures below { IsTrue result → (index : ℕ) (batch : Batch) → begun ≡ index + 1 → slice_get batches.now index ≡ Some batch → batch.first ≤ number }
+    ensures above { IsTrue result → (batch : Batch) → slice_get batches.now begun ≡ Some batch → number < batch.first }
+{
+    if begun > batches.len() {
+        return false;
+    }
+    if begun > 0 && batches[begun - 1].first > number {
+        return false;
+    }
+    begun == batches.len() || number < batches[begun].first
+}
+
 /// How many batches begin at or below a number, where their first numbers ascend: the last of them may hold the message of that number.
-pub fn begun_by(batches: &[Batch], number: u64) -> usize
+fn begun_by(batches: &[Batch], number: u64) -> usize
     ensures within { result ≤ length batches.now }
     ensures below { (index : ℕ) (batch : Batch) → result ≡ index + 1 → slice_get batches.now index ≡ Some batch → batch.first ≤ number }
     ensures above { (batch : Batch) → slice_get batches.now result ≡ Some batch → number < batch.first }
@@ -124,4 +139,20 @@ pub fn begun_by(batches: &[Batch], number: u64) -> usize
         }
     }
     low
+}
+
+/// The same. Messages are mostly delivered in their order: so it is tried first whether this many batches are it, or one more, which costs
+/// nothing where it is so.
+pub fn begun_near(batches: &[Batch], number: u64, near: usize) -> usize
+    ensures within { result ≤ length batches.now }
+    ensures below { (index : ℕ) (batch : Batch) → result ≡ index + 1 → slice_get batches.now index ≡ Some batch → batch.first ≤ number }
+    ensures above { (batch : Batch) → slice_get batches.now result ≡ Some batch → number < batch.first }
+{
+    if is_begun(batches, number, near) {
+        return near;
+    }
+    if near < batches.len() && is_begun(batches, number, near + 1) {
+        return near + 1;
+    }
+    begun_by(batches, number)
 }

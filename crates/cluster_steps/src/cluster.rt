@@ -113,6 +113,8 @@ pub struct Cluster {
     nodes: Nodes,
     leaders: Leaders,
     sent: Sent,
+    // how many batches of messages began up to the one that was delivered last: where the next is looked for first
+    near: usize,
     alloc: Global,
 }
 
@@ -124,6 +126,7 @@ impl Drop for Cluster {
             nodes,
             leaders,
             sent,
+            near: _,
             alloc: _,
         } = self;
         drop(core);
@@ -166,6 +169,7 @@ impl Cluster {
             nodes,
             leaders,
             sent: Sent::new(alloc),
+            near: 0,
             alloc,
         })
     }
@@ -278,7 +282,7 @@ impl Cluster {
         ensures err { OnErr result (self.new ≡ self.old) }
     {
         self.sent.make_room()?;
-        let found = find(&self.sent, self.core.history(), number);
+        let found = find(&self.sent, self.core.history(), number, &mut self.near);
         let carried = carry_out(
             self.alloc,
             &mut self.nodes,

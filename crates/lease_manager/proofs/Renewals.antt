@@ -1,13 +1,11 @@
 -- What a change of the map's entries makes of the renewals.
-use Rattle.std.proofs.Common.{◌≡◌, ℕ, ◌-◌, zero, suc, Bool, true, false, not, cond, List, [], ◌∷◌, ◌++◌, length, remove, slice_get, Some, is_some, refl, sym, ap, ◌∙◌, subst, true≢false, unwrap_or}
-use Rattle.std.proofs.lemmas.List.{map-append}
+use Rattle.std.proofs.Common.{◌≡◌, ◌≤◌, ℕ, ◌-◌, Bool, true, false, not, cond, List, [], ◌∷◌, ◌++◌, length, take, None, Some, is_some, refl, sym, ap, ◌∙◌, subst, true≢false}
+use Rattle.std.proofs.lemmas.List.{map-append, take_all}
 use Rattle.std.specs.List.{AllByRecursion, IsDistinct}
-use Rattle.std.specs.Map.{keys_of, lookup, lookup_key, remove_entry}
-use Rattle.std.specs.Option.{option_map}
-use Rattle.indexmap.specs.IndexMap.{insert_entry, set_value_at, move_index}
-use Rattle.indexmap.specs.Layout.{length-set_value_at}
-use Rattle.indexmap.proofs.RemoveLemmas.{moved_last}
-use Rattle.hdfs_values.proofs.Texts.{same_is, same_self, same_symm}
+use Rattle.std.specs.Map.{keys_of, lookup, lookup_entry, remove_entry, set_value}
+use Rattle.std.specs.Option.{option_map, option_map_or}
+use Rattle.lru.specs.LruCache.{lru_cache, demoted, put_entries}
+use Rattle.hdfs_values.proofs.Texts.{same_is, same_self}
 use Rattle.hdfs_values.specs.Text.{same}
 use Rattle.lease_manager.specs.Leases.{Renewal, AreInOrder, AreRenewals, clients, renewals_without, renewals_with, renewal_of}
 use Rattle.lease_manager.specs.Shown.{renewals_of}
@@ -49,43 +47,46 @@ removed client (e ∷ es) distinct = by (same client e.0) refl (removed client e
         ∙ ap (λ rs. renewal e ∷ rs) rest
         ∙ sym (stays client e es other)
 
-key_at : (P : List ℕ → Type 0) (es : Entries) (i : ℕ) (client : List ℕ) (last : ℕ) → AllByRecursion P (keys_of es) → slice_get es i ≡ Some (client, last) → P client
-key_at P [] i client last all at = absurd (true≢false (sym (ap is_some at)))
-key_at P (e ∷ es) zero client last all at = subst P (ap (λ r. (unwrap_or r e).0) at) all.0
-key_at P (e ∷ es) (suc i) client last all at = key_at P es i client last all.1 at
-
-pub removed_at : (client : List ℕ) (last : ℕ) (es : Entries) (i : ℕ) → IsDistinct same (keys_of es) → slice_get es i ≡ Some (client, last) → renewals_of (remove es i) ≡ renewals_without client (renewals_of es)
-unfolding IsDistinct
-removed_at client last [] i distinct at = absurd (true≢false (sym (ap is_some at)))
-removed_at client last (e ∷ es) zero distinct at =
-    sym (first_goes client e es distinct (ap (λ r. same client (unwrap_or r e).0) at ∙ same_self client))
-removed_at client last (e ∷ es) (suc i) distinct at =
-    let other : same e.0 client ≡ false = key_at (λ key. same e.0 key ≡ false) es i client last distinct.0 at in
-    ap (λ rs. renewal e ∷ rs) (removed_at client last es i distinct.1 at) ∙ sym (stays client e es (same_symm client e.0 ∙ other))
-
 -- ---- one entry is renewed
 
-removed_set : (es : Entries) (i now : ℕ) → remove (set_value_at es i now) i ≡ remove es i
-removed_set [] i now = refl
-removed_set (e ∷ es) zero now = refl
-removed_set (e ∷ es) (suc i) now = ap (λ rest. e ∷ rest) (removed_set es i now)
+set_found : (client : List ℕ) (now : ℕ) (es : Entries) → is_some (lookup (same client) es) ≡ true → lookup_entry (same client) (set_value (same client) es now) ≡ Some (client, now)
+set_found client now [] there = cc
+set_found client now (e ∷ es) there = by (same client e.0) refl there (set_found client now es)
+  where
+    by : (b : Bool) → same client e.0 ≡ b → is_some (cond b (Some e.1) (lookup (same client) es)) ≡ true
+        → (is_some (lookup (same client) es) ≡ true → lookup_entry (same client) (set_value (same client) es now) ≡ Some (client, now))
+        → lookup_entry (same client) (cond b ((e.0, now) ∷ es) (e ∷ set_value (same client) es now)) ≡ Some (client, now)
+    by true one there rest =
+        ap (λ b. cond b (Some (e.0, now)) (lookup_entry (same client) es)) one ∙ ap (λ who. Some (who, now)) (sym (same_is client e.0 one))
+    by false other there rest =
+        ap (λ b. cond b (Some e) (lookup_entry (same client) (set_value (same client) es now))) other ∙ rest there
 
-set_there : (es : Entries) (i now : ℕ) (client : List ℕ) (last : ℕ) → slice_get es i ≡ Some (client, last) → slice_get (set_value_at es i now) i ≡ Some (client, now)
-set_there [] i now client last at = absurd (true≢false (sym (ap is_some at)))
-set_there (e ∷ es) zero now client last at = ap (λ r. Some ((unwrap_or r e).0, now)) at
-set_there (e ∷ es) (suc i) now client last at = set_there es i now client last at
+removed_set : (client : List ℕ) (now : ℕ) (es : Entries) → remove_entry (same client) (set_value (same client) es now) ≡ remove_entry (same client) es
+removed_set client now [] = refl
+removed_set client now (e ∷ es) = by (same client e.0) refl (removed_set client now es)
+  where
+    by : (b : Bool) → same client e.0 ≡ b → remove_entry (same client) (set_value (same client) es now) ≡ remove_entry (same client) es
+        → remove_entry (same client) (cond b ((e.0, now) ∷ es) (e ∷ set_value (same client) es now)) ≡ cond b es (e ∷ remove_entry (same client) es)
+    by true one rest = ap (λ b. cond b es ((e.0, now) ∷ remove_entry (same client) es)) one
+    by false other rest =
+        ap (λ b. cond b (set_value (same client) es now) (e ∷ remove_entry (same client) (set_value (same client) es now))) other ∙ ap (λ left. e ∷ left) rest
 
-pub renewed_at : (client : List ℕ) (last now : ℕ) (es : Entries) (i : ℕ) → IsDistinct same (keys_of es) → slice_get es i ≡ Some (client, last)
-    → renewals_of (move_index (set_value_at es i now) i (length es - 1)) ≡ renewals_with client now (renewals_of es)
-renewed_at client last now es i distinct at =
-    let set : Entries = set_value_at es i now in
-    let moved : move_index set i (length es - 1) ≡ remove es i ++ (client, now) ∷ [] =
-    ap (λ n. move_index set i (n - 1)) (sym (length-set_value_at es i now))
-    ∙ moved_last set i (client, now) (set_there es i now client last at)
-    ∙ ap (λ rest. rest ++ (client, now) ∷ []) (removed_set es i now) in
-    ap renewals_of moved
-    ∙ map-append renewal (remove es i) ((client, now) ∷ [])
-    ∙ ap (λ rs. rs ++ renewal (client, now) ∷ []) (removed_at client last es i distinct at)
+-- an entry that is found goes last
+demoted_found : (client : List ℕ) (now : ℕ) (es : Entries) → lookup_entry (same client) es ≡ Some (client, now) → demoted (same client) es ≡ remove_entry (same client) es ++ (client, now) ∷ []
+demoted_found client now es found = ap (λ own. option_map_or (λ e. remove_entry (same client) es ++ e ∷ []) own es) found
+
+went_last : (client : List ℕ) (now : ℕ) (es left : Entries) → IsDistinct same (keys_of es) → left ≡ remove_entry (same client) es ++ (client, now) ∷ []
+    → renewals_of left ≡ renewals_with client now (renewals_of es)
+went_last client now es left distinct is =
+    ap renewals_of is
+    ∙ map-append renewal (remove_entry (same client) es) ((client, now) ∷ [])
+    ∙ ap (λ rs. rs ++ renewal (client, now) ∷ []) (removed client es distinct)
+
+pub renewed : (client : List ℕ) (now : ℕ) (es set left : Entries) → IsDistinct same (keys_of es) → is_some (lookup (same client) es) ≡ true
+    → set ≡ set_value (same client) es now → left ≡ demoted (same client) set → renewals_of left ≡ renewals_with client now (renewals_of es)
+renewed client now es set left distinct there written moved =
+    went_last client now es left distinct
+    (moved ∙ ap (demoted (same client)) written ∙ demoted_found client now (set_value (same client) es now) (set_found client now es there) ∙ ap (λ es. es ++ (client, now) ∷ []) (removed_set client now es))
 
 -- ---- what a look-up finds
 
@@ -101,16 +102,6 @@ is_there client (e ∷ es) =
     elim (same client e.0) as (λ b. is_some (cond b (Some (renewal e)) (renewal_of client (renewals_of es))) ≡ is_some (cond b (Some e.1) (lookup (same client) es)))
     [ true ↦ refl | false ↦ is_there client es ]
 
-pub key_is : (client key : List ℕ) (es : Entries) → lookup_key (same client) es ≡ Some key → key ≡ client
-key_is client key [] at = absurd (true≢false (sym (ap is_some at)))
-key_is client key (e ∷ es) at = by (same client e.0) refl (key_is client key es)
-  where
-    by : (b : Bool) → same client e.0 ≡ b → (lookup_key (same client) es ≡ Some key → key ≡ client) → key ≡ client
-    by true one rest =
-        let first : Some e.0 ≡ Some key = sym (ap (λ b. cond b (Some e.0) (lookup_key (same client) es)) one) ∙ at in
-        sym (ap (λ r. unwrap_or r key) first) ∙ sym (same_is client e.0 one)
-    by false other rest = rest (sym (ap (λ b. cond b (Some e.0) (lookup_key (same client) es)) other) ∙ at)
-
 -- ---- a new client
 
 absent_goes : (client : List ℕ) (es : Entries) → is_some (renewal_of client (renewals_of es)) ≡ false → renewals_without client (renewals_of es) ≡ renewals_of es
@@ -124,21 +115,28 @@ absent_goes client (e ∷ es) none = by (same client e.0) refl (absent_goes clie
         stays client e es other
         ∙ ap (λ rs. renewal e ∷ rs) (rest (sym (ap (λ b. is_some (cond b (Some (renewal e)) (renewal_of client (renewals_of es)))) other) ∙ none))
 
-goes_last : (client : List ℕ) (now : ℕ) (es : Entries) → is_some (renewal_of client (renewals_of es)) ≡ false → insert_entry same es client now ≡ es ++ (client, now) ∷ []
-goes_last client now [] none = refl
-goes_last client now (e ∷ es) none = by (same client e.0) refl (goes_last client now es)
+no_entry : (client : List ℕ) (es : Entries) → is_some (renewal_of client (renewals_of es)) ≡ false → lookup_entry (same client) es ≡ None
+no_entry client [] none = refl
+no_entry client (e ∷ es) none = by (same client e.0) refl none (no_entry client es)
   where
-    by : (b : Bool) → same client e.0 ≡ b → (is_some (renewal_of client (renewals_of es)) ≡ false → insert_entry same es client now ≡ es ++ (client, now) ∷ [])
-        → insert_entry same (e ∷ es) client now ≡ (e ∷ es) ++ (client, now) ∷ []
-    by true one rest = absurd (true≢false (sym (ap (λ b. is_some (cond b (Some (renewal e)) (renewal_of client (renewals_of es)))) one) ∙ none))
-    by false other rest =
-        ap (λ b. cond b ((e.0, now) ∷ es) (e ∷ insert_entry same es client now)) other
-        ∙ ap (λ rest. e ∷ rest) (rest (sym (ap (λ b. is_some (cond b (Some (renewal e)) (renewal_of client (renewals_of es)))) other) ∙ none))
+    by : (b : Bool) → same client e.0 ≡ b → is_some (cond b (Some (renewal e)) (renewal_of client (renewals_of es))) ≡ false
+        → (is_some (renewal_of client (renewals_of es)) ≡ false → lookup_entry (same client) es ≡ None) → cond b (Some e) (lookup_entry (same client) es) ≡ None
+    by true one none rest = absurd (true≢false none)
+    by false other none rest = rest none
 
-pub inserted : (client key : List ℕ) (now : ℕ) (es before after : Entries) → after ≡ insert_entry same before key now → before ≡ es → key ≡ client
-    → is_some (renewal_of client (renewals_of es)) ≡ false → renewals_of after ≡ renewals_with client now (renewals_of es)
-inserted client key now es before after made unchanged copied none =
-    ap renewals_of (made ∙ (λ j. insert_entry same (unchanged j) (copied j) now) ∙ goes_last client now es none)
+front_demoted : (client : List ℕ) (now : ℕ) (es : Entries) → demoted (same client) ((client, now) ∷ es) ≡ es ++ (client, now) ∷ []
+front_demoted client now es =
+    demoted_found client now ((client, now) ∷ es) (ap (λ b. cond b (Some (client, now)) (lookup_entry (same client) es)) (same_self client))
+    ∙ ap (λ b. cond b es ((client, now) ∷ remove_entry (same client) es) ++ (client, now) ∷ []) (same_self client)
+
+pub added : (client key : List ℕ) (now cap : ℕ) (es put left : Entries) → length es ≤ cap - 1 → key ≡ client → put ≡ put_entries same (lru_cache es cap) key now → left ≡ demoted (same client) put
+    → is_some (renewal_of client (renewals_of es)) ≡ false → renewals_of left ≡ renewals_with client now (renewals_of es)
+added client key now cap es put left room copied made moved none =
+    let front : put ≡ (client, now) ∷ es =
+    made ∙ ap (λ who. put_entries same (lru_cache es cap) who now) copied
+    ∙ ap (λ own. option_map_or (λ e. (e.0, now) ∷ remove_entry (same client) es) own ((client, now) ∷ take (cap - 1) es)) (no_entry client es none)
+    ∙ ap (λ rest. (client, now) ∷ rest) (take_all (cap - 1) es room) in
+    ap renewals_of (moved ∙ ap (demoted (same client)) front ∙ front_demoted client now es)
     ∙ map-append renewal es ((client, now) ∷ [])
     ∙ ap (λ rs. rs ++ renewal (client, now) ∷ []) (sym (absent_goes client es none))
 

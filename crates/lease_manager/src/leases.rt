@@ -1,16 +1,16 @@
-ghost use Rattle.std.specs.Prelude.{◌≡◌, ◌≤◌, nat_lt, not, [], None, OnOk, OnErr, IfErr, IsOk, IsSome, is_some};
+ghost use Rattle.std.specs.Prelude.{◌≡◌, ◌≤◌, nat_lt, [], None, IfOk, OnOk, OnErr, IfErr, IsOk, IsSome, is_some};
 ghost use Rattle.std.specs.Bool.{MatchBool};
-ghost use Rattle.std.specs.List.{position_or_len};
+ghost use Rattle.std.specs.List.{IsDistinct};
+ghost use Rattle.std.specs.Map.{keys_of};
 ghost use Rattle.hdfs_values.specs.Text.{same};
 ghost use Rattle.hdfs_types.specs.declared.reply.Refusal.TheVariants.{NoLease};
-ghost use Rattle.indexmap.specs.IndexMap.{IsUnique};
 ghost use Rattle.lease_manager.specs.Leases as spec;
 ghost use Rattle.lease_manager.specs.Shown.{renewals_of};
 
 use hdfs_types::reply::Refusal;
 use hdfs_values::moment::Moment;
 use hdfs_values::who::Who;
-use indexmap::IndexMap;
+use lru::LruCache;
 use std::alloc::{AllocError, Global};
 use std::marker::Model;
 
@@ -31,7 +31,9 @@ pub struct Leases {
     // in milliseconds
     soft: u32,
     hard: u32,
-    renewals: IndexMap<Who, Moment>,
+    // Without a limit. The oldest stands where the cache has what was used last, and who renews goes to its other end: so the entries
+    // are in the order of the renewals.
+    renewals: LruCache<Who, Moment>,
 }
 
 impl Drop for Leases {
@@ -54,7 +56,9 @@ impl Model for Leases {
 
     ghost view = { leases_of };
 
-    ghost invariant = { λ leases. AreRenewals (renewals_of leases.renewals.entries) };
+    ghost use Rattle.std.specs.Prelude.{◌≡◌, ◌^◌, ◌-◌};
+
+    ghost invariant = { λ leases. AreRenewals (renewals_of leases.renewals.entries) × (leases.renewals.cap ≡ 2 ^ 64 - 1) };
 }
 
 // The milliseconds from a renewal until now.
@@ -65,34 +69,39 @@ fn age(last: Moment, now: Moment) -> u64
 }
 
 // Puts a client's renewal last, with a new moment; answers whether the client is there.
-fn renew_present(renewals: &mut IndexMap<Who, Moment>, client: &Who, now: Moment) -> bool
+fn renew_present(renewals: &mut LruCache<Who, Moment>, client: &Who, now: Moment) -> bool
     ensures there { result ≡ is_some (spec.renewal_of client.now (renewals_of renewals.old.entries)) }
-    ensures renewed { MatchBool result (renewals_of renewals.new.entries ≡ spec.renewals_with client.now now (renewals_of renewals.old.entries) × IsUnique same renewals.new) (renewals.new ≡ renewals.old) }
+    ensures renewed { MatchBool result (renewals_of renewals.new.entries ≡ spec.renewals_with client.now now (renewals_of renewals.old.entries) × IsDistinct same (keys_of renewals.new.entries)) (renewals.new ≡ renewals.old) }
+    ensures cap { renewals.new.cap ≡ renewals.old.cap }
 {
-    let Some((index, _, _)) = renewals.get_full(client) else {
+    // its contract tells that no client is there twice, before and behind
+    let _before = renewals.len();
+    let Some(last) = renewals.peek_mut(client) else {
         return false;
     };
-    let last = renewals.len() - 1;
-    renewals[index] = now;
-    renewals.move_index(index, last);
+    *last = now;
+    renewals.demote(client);
+    let _behind = renewals.len();
     true
 }
 
 impl Leases {
-    /// No client has a lease. The limits are in milliseconds. Takes no memory.
-    pub fn new(alloc: Global, soft: u32, hard: u32) -> Leases
-        ensures { result ≡ record { limits = record { soft = soft; hard = hard }; renewals = [] } }
+    /// No client has a lease. The limits are in milliseconds.
+    ///
+    /// # Errors
+    /// Out of memory.
+    pub fn new(alloc: Global, soft: u32, hard: u32) -> Result<Leases, AllocError>
+        ensures { IfOk result (λ leases. leases ≡ record { limits = record { soft = soft; hard = hard }; renewals = [] }) }
     {
-        Leases {
+        Ok(Leases {
             soft,
             hard,
-            renewals: IndexMap::new(alloc),
-        }
+            renewals: LruCache::unbounded(alloc)?,
+        })
     }
 
     /// Gives a client a lease, or renews the one that it has: it comes last in the list of renewals. `now` must not be before
-    /// the last renewal. Costs the clients that have leases, since the map closes the gap, and takes memory only for a client
-    /// that has none.
+    /// the last renewal. Costs look-ups by hash, and takes memory only for a client that has none.
     ///
     /// # Errors
     /// Out of memory. Nothing has changed then.
@@ -106,12 +115,16 @@ impl Leases {
         if renew_present(&mut self.renewals, client, now) {
             return Ok(());
         }
-        self.renewals.insert(client.clone()?, now)?;
+        // its contract tells that there is room for one more, and then that no client is there twice
+        let _before = self.renewals.len();
+        self.renewals.put(client.clone()?, now)?;
+        self.renewals.demote(client);
+        let _behind = self.renewals.len();
         Ok(())
     }
 
-    /// Renews a client's lease: it comes last in the list of renewals. `now` must not be before the last renewal. Costs the
-    /// clients that have leases, since the map closes the gap, and takes no memory.
+    /// Renews a client's lease: it comes last in the list of renewals. `now` must not be before the last renewal. Costs look-ups by
+    /// hash, and takes no memory.
     ///
     /// # Errors
     /// `NoLease`, where the client has no lease. Nothing has changed then.
@@ -128,13 +141,14 @@ impl Leases {
         Ok(())
     }
 
-    /// Ends a client's lease; where it has none, nothing changes. Costs the clients that have leases, since the map closes the
-    /// gap, and takes no memory.
+    /// Ends a client's lease; where it has none, nothing changes. Costs a look-up by hash, and takes no memory.
     pub fn release(&mut self, client: &Who)
         ensures released { self.new ≡ spec.after_release self.old client.now }
         ensures latest { spec.latest_moment self.new.renewals ≤ spec.latest_moment self.old.renewals }
     {
-        self.renewals.shift_remove(client);
+        self.renewals.pop(client);
+        // its contract tells that no client is there twice
+        let _behind = self.renewals.len();
     }
 
     fn is_past_hard(&self, last: Moment, now: Moment) -> bool
@@ -161,26 +175,25 @@ impl Leases {
         ensures state { result ≡ spec.state_of self.now client.now now }
         ensures renewals { spec.AreRenewals self.now.renewals }
     {
-        let last = self.renewals.get(client)?;
+        let last = self.renewals.peek(client)?;
         Some(self.state_since(*last, now))
     }
 
-    // The index of the first moment whose age isn't past the hard limit, or the number of moments.
-    fn first_within_hard(&self, moments: &[Moment], now: Moment) -> usize
-        ensures { result ≡ position_or_len (λ last. not (nat_lt self.now.limits.hard (spec.age last now))) moments.now }
-    {
-        moments
-            .iter()
-            .position(|last| !self.is_past_hard(*last, now))
-            .unwrap_or(moments.len())
-    }
-
-    /// The clients whose leases are older than the hard limit, the oldest first. Costs its answer, and takes no memory.
-    pub fn past_hard(&self, now: Moment) -> &[Who]
-        ensures past { result.now ≡ spec.clients (spec.renewals_past_hard self.now.limits now self.now.renewals) }
+    /// The clients whose leases are older than the hard limit, the oldest first. Costs its answer.
+    ///
+    /// # Errors
+    /// Out of memory.
+    pub fn past_hard(&self, alloc: Global, now: Moment) -> Result<Vec<Who>, AllocError>
+        ensures past { IfOk result (λ past. past.items ≡ spec.clients (spec.renewals_past_hard self.now.limits now self.now.renewals)) }
         ensures renewals { spec.AreRenewals self.now.renewals }
     {
-        let count = self.first_within_hard(self.renewals.values().as_slice(), now);
-        &self.renewals.keys().as_slice()[..count]
+        let mut past = Vec::new(alloc);
+        for (client, last) in self.renewals.iter() {
+            if !self.is_past_hard(*last, now) {
+                break;
+            }
+            past.push(client.clone()?)?;
+        }
+        Ok(past)
     }
 }

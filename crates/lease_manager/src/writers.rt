@@ -1,4 +1,4 @@
-ghost use Rattle.std.specs.Prelude.{◌≡◌, ◌≤◌, ◌<◌, ◌+◌, ◌-◌, ℕ, [], List, Option, if◌then◌else◌, filter, length, OnOk, OnErr};
+ghost use Rattle.std.specs.Prelude.{◌≡◌, ◌≤◌, ◌<◌, ◌+◌, ◌-◌, ℕ, [], List, Option, if◌then◌else◌, filter, length, IfOk, OnOk, OnErr};
 ghost use Rattle.hdfs_values.specs.Text.{same};
 ghost use Rattle.lease_manager.specs.Leases as lease;
 ghost use Rattle.lease_manager.specs.Writers.{count_of, renewal_moment_of, IsLeased, IsAlike, renewed_at};
@@ -10,7 +10,7 @@ use hdfs_values::who::Who;
 use std::alloc::{AllocError, Global};
 
 /// The clients who have files open: how many, and the lease of each, which ends with its last open file (HDFS Architecture, the
-/// single-writer model). A call that changes leases costs the clients that have one.
+/// single-writer model).
 #[derive(Drop)]
 pub struct Writers {
     pub leases: Leases,
@@ -18,14 +18,17 @@ pub struct Writers {
 }
 
 impl Writers {
-    /// No client has a file open. The limits are in milliseconds. Takes no memory.
-    pub fn new(alloc: Global, soft: u32, hard: u32) -> Writers
-        ensures { result ≡ record { leases = record { limits = record { soft = soft; hard = hard }; renewals = [] }; files = [] } }
+    /// No client has a file open. The limits are in milliseconds.
+    ///
+    /// # Errors
+    /// Out of memory.
+    pub fn new(alloc: Global, soft: u32, hard: u32) -> Result<Writers, AllocError>
+        ensures { IfOk result (λ writers. writers ≡ record { leases = record { limits = record { soft = soft; hard = hard }; renewals = [] }; files = [] }) }
     {
-        Writers {
-            leases: Leases::new(alloc, soft, hard),
+        Ok(Writers {
+            leases: Leases::new(alloc, soft, hard)?,
             files: OpenFiles::new(alloc),
-        }
+        })
     }
 
     /// Notes that a client has opened a file, which also renews its lease, or begins one.

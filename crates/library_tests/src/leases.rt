@@ -6,6 +6,7 @@ use hdfs_values::moment::Moment;
 use hdfs_values::who::Who;
 use lease_manager::leases::{LeaseState, Leases};
 use std::alloc::Global;
+use std::test::Fail;
 
 const SOFT: u32 = 60_000;
 
@@ -95,10 +96,13 @@ fn are_names(clients: &[Who], names: &[&str]) -> bool {
 }
 
 /// Whether these clients' leases are past the hard limit, in this order.
-fn are_past_hard(leases: &Leases, now: u64, names: &[&str]) -> bool {
-    match Moment::new(now) {
-        Some(now) => are_names(leases.past_hard(now), names),
-        None => false,
+fn are_past_hard(alloc: Global, leases: &Leases, now: u64, names: &[&str]) -> bool {
+    let Some(now) = Moment::new(now) else {
+        return false;
+    };
+    match leases.past_hard(alloc, now) {
+        Ok(past) => are_names(&past, names),
+        Err(_) => false,
     }
 }
 
@@ -134,11 +138,12 @@ fn are_alices(alloc: Global, leases: &mut Leases, now: u64, states: &[(u64, Leas
 }
 
 #[test]
-fn states_at_the_limits(rt: HostRuntime) {
-    let mut leases = Leases::new(rt.alloc(), SOFT, HARD);
+fn states_at_the_limits(rt: HostRuntime) -> Result<(), Fail> {
+    let mut leases = Leases::new(rt.alloc(), SOFT, HARD)?;
     let are_states = are_alices(rt.alloc(), &mut leases, 1000, &STATES);
     drop(leases);
     assert!(rt; are_states);
+    Ok(())
 }
 
 static STATES_OF_HARD: [(u64, LeaseState); 3] = [
@@ -149,11 +154,12 @@ static STATES_OF_HARD: [(u64, LeaseState); 3] = [
 
 // A lease is never past the soft limit alone where the hard limit is no greater.
 #[test]
-fn hard_limit_is_asked_first(rt: HostRuntime) {
-    let mut leases = Leases::new(rt.alloc(), SOFT, 100);
+fn hard_limit_is_asked_first(rt: HostRuntime) -> Result<(), Fail> {
+    let mut leases = Leases::new(rt.alloc(), SOFT, 100)?;
     let are_states = are_alices(rt.alloc(), &mut leases, 0, &STATES_OF_HARD);
     drop(leases);
     assert!(rt; are_states);
+    Ok(())
 }
 
 /// Whether `alice`, who took a lease at 0, is past the hard limit at the last moment, and `bob` isn't.
@@ -165,12 +171,12 @@ fn is_alice_past(alloc: Global, leases: &Leases) -> bool {
         LAST_MOMENT,
         Some(LeaseState::PastHard),
     ) && stands(alloc, leases, "bob", LAST_MOMENT, Some(LeaseState::Live))
-        && are_past_hard(leases, LAST_MOMENT, &["alice"])
+        && are_past_hard(alloc, leases, LAST_MOMENT, &["alice"])
 }
 
 fn is_none_past(alloc: Global, leases: &Leases) -> bool {
     stands(alloc, leases, "alice", LAST_MOMENT, Some(LeaseState::Live))
-        && are_past_hard(leases, LAST_MOMENT, &[])
+        && are_past_hard(alloc, leases, LAST_MOMENT, &[])
 }
 
 fn are_live_again(alloc: Global, leases: &mut Leases) -> bool
@@ -184,11 +190,12 @@ fn are_live_again(alloc: Global, leases: &mut Leases) -> bool
 }
 
 #[test]
-fn renewals_at_the_last_moment(rt: HostRuntime) {
-    let mut leases = Leases::new(rt.alloc(), SOFT, HARD);
+fn renewals_at_the_last_moment(rt: HostRuntime) -> Result<(), Fail> {
+    let mut leases = Leases::new(rt.alloc(), SOFT, HARD)?;
     let are_live = are_live_again(rt.alloc(), &mut leases);
     drop(leases);
     assert!(rt; are_live);
+    Ok(())
 }
 
 /// Whether three clients took leases.
@@ -205,17 +212,18 @@ fn are_in_order(alloc: Global, leases: &mut Leases) -> bool
     requires { latest_moment leases.old.renewals ≡ 0 }
 {
     took_three(alloc, leases)
-        && are_past_hard(leases, 1_200_000, &[])
-        && are_past_hard(leases, 1_200_001, &["bob", "alice"])
-        && are_past_hard(leases, 1_200_011, &["bob", "alice", "carl"])
+        && are_past_hard(alloc, leases, 1_200_000, &[])
+        && are_past_hard(alloc, leases, 1_200_001, &["bob", "alice"])
+        && are_past_hard(alloc, leases, 1_200_011, &["bob", "alice", "carl"])
 }
 
 #[test]
-fn oldest_renewals_come_first(rt: HostRuntime) {
-    let mut leases = Leases::new(rt.alloc(), SOFT, HARD);
+fn oldest_renewals_come_first(rt: HostRuntime) -> Result<(), Fail> {
+    let mut leases = Leases::new(rt.alloc(), SOFT, HARD)?;
     let are_in_order = are_in_order(rt.alloc(), &mut leases);
     drop(leases);
     assert!(rt; are_in_order);
+    Ok(())
 }
 
 fn are_renewed_last(alloc: Global, leases: &mut Leases) -> bool
@@ -223,18 +231,19 @@ fn are_renewed_last(alloc: Global, leases: &mut Leases) -> bool
 {
     took_three(alloc, leases)
         && is_renewed(alloc, leases, "bob", 20, 0)
-        && are_past_hard(leases, 1_200_021, &["alice", "carl", "bob"])
+        && are_past_hard(alloc, leases, 1_200_021, &["alice", "carl", "bob"])
         && took(alloc, leases, "alice", 30)
-        && are_past_hard(leases, 1_200_030, &["carl", "bob"])
-        && are_past_hard(leases, 1_200_031, &["carl", "bob", "alice"])
+        && are_past_hard(alloc, leases, 1_200_030, &["carl", "bob"])
+        && are_past_hard(alloc, leases, 1_200_031, &["carl", "bob", "alice"])
 }
 
 #[test]
-fn renewed_leases_go_last(rt: HostRuntime) {
-    let mut leases = Leases::new(rt.alloc(), SOFT, HARD);
+fn renewed_leases_go_last(rt: HostRuntime) -> Result<(), Fail> {
+    let mut leases = Leases::new(rt.alloc(), SOFT, HARD)?;
     let are_last = are_renewed_last(rt.alloc(), &mut leases);
     drop(leases);
     assert!(rt; are_last);
+    Ok(())
 }
 
 fn is_released_gone(alloc: Global, leases: &mut Leases) -> bool
@@ -245,13 +254,14 @@ fn is_released_gone(alloc: Global, leases: &mut Leases) -> bool
         && stands(alloc, leases, "alice", 10, None)
         && is_renewed(alloc, leases, "alice", 10, 13)
         && released(alloc, leases, "alice")
-        && are_past_hard(leases, 1_200_011, &["bob", "carl"])
+        && are_past_hard(alloc, leases, 1_200_011, &["bob", "carl"])
 }
 
 #[test]
-fn released_leases_are_gone(rt: HostRuntime) {
-    let mut leases = Leases::new(rt.alloc(), SOFT, HARD);
+fn released_leases_are_gone(rt: HostRuntime) -> Result<(), Fail> {
+    let mut leases = Leases::new(rt.alloc(), SOFT, HARD)?;
     let is_gone = is_released_gone(rt.alloc(), &mut leases);
     drop(leases);
     assert!(rt; is_gone);
+    Ok(())
 }

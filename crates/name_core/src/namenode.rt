@@ -159,12 +159,12 @@ impl NameCore {
     pub fn open(alloc: Global, config: Config, key: Key) -> Result<NameCore, AllocError>
         ensures { IfOk result (λ core. core ≡ record { opening = record { config = config; key = key }; entries = [] }) }
     {
+        let durations = config.durations();
+        let writers = Writers::new(alloc, durations.soft_limit, durations.hard_limit)?;
         let superuser = known_who(alloc, "hdfs")?;
         let supergroup = known_who(alloc, "supergroup")?;
         let tree = Tree::new(alloc, superuser.clone()?, supergroup.clone()?);
         let users = Users::new(alloc, superuser, supergroup);
-        let durations = config.durations();
-        let writers = Writers::new(alloc, durations.soft_limit, durations.hard_limit);
         let first = config.first();
         let serial = Serial::new(first.serial);
         let (dead, retry) = (durations.dead_limit, durations.retry_limit);

@@ -332,11 +332,7 @@ fn clients_past(alloc: Global, writers: &Writers, now: Moment) -> Result<Vec<Who
     ensures past { IfOk result (λ past. past.items ≡ lease.clients (lease.renewals_past_hard writers.now.leases.limits now writers.now.leases.renewals)) }
     ensures renewals { lease.AreRenewals writers.now.leases.renewals }
 {
-    let mut past = Vec::new(alloc);
-    for client in writers.leases.past_hard(now) {
-        past.push(client.clone()?)?;
-    }
-    Ok(past)
+    writers.leases.past_hard(alloc, now)
 }
 
 /// A request to take the files of all clients whose leases are past the hard limit, and to begin anew the recoveries that last too long.

@@ -31,23 +31,23 @@ module _ (batches seen : List Batch) (begun number : ℕ) (batch : Batch) (is : 
 
 pub returns-then-begun-eq0 : goal.returns-then-begun-eq0
 returns-then-begun-eq0 c =
-    let at : c.begun_by-begun.result ≡ 0 = c.if-begun-eq0.true in
+    let at : c.begun_near-begun.result ≡ 0 = c.if-begun-eq0.true in
     sym (not_found c.args.history.now c.args.sent.now.batches.items c.args.sent.now.count c.args.number c.requires
-    (λ next h. c.begun_by-begun.ensures.above next (ap (λ (l : List Batch). slice_get l c.begun_by-begun.result) c.deref.ensures.value ∙ ap (slice_get c.args.sent.now.batches.items) at ∙ h)))
+    (λ next h. c.begun_near-begun.ensures.above next (ap (λ (l : List Batch). slice_get l c.begun_near-begun.result) c.deref.ensures.value ∙ ap (slice_get c.args.sent.now.batches.items) at ∙ h)))
 
 pub overflow_sub-index : goal.overflow_sub-index
 overflow_sub-index c =
-    begins_below c.args.sent.now.batches.items c.deref.result.now c.begun_by-begun.result c.args.number c.index-batch.result.now c.deref.ensures.value c.if-begun-eq0.false
-    c.begun_by-begun.ensures.within c.index-batch.ensures c.begun_by-begun.ensures.below
+    begins_below c.args.sent.now.batches.items c.deref.result.now c.begun_near-begun.result c.args.number c.index-batch.result.now c.deref.ensures.value c.if-begun-eq0.false
+    c.begun_near-begun.ensures.within c.index-batch.ensures c.begun_near-begun.ensures.below
 
 pub returns-in-Entry : goal.returns-in-Entry
 returns-in-Entry c =
     c.history_message.ensures
-    ∙ message_found c.args.sent.now.batches.items c.deref.result.now c.begun_by-begun.result c.args.number c.index-batch.result.now c.deref.ensures.value c.if-begun-eq0.false
-    c.begun_by-begun.ensures.within c.index-batch.ensures c.args.history.now c.args.sent.now.count _ c.requires c.begun_by-begun.ensures.below c.begun_by-begun.ensures.above c.in-Entry.is
+    ∙ message_found c.args.sent.now.batches.items c.deref.result.now c.begun_near-begun.result c.args.number c.index-batch.result.now c.deref.ensures.value c.if-begun-eq0.false
+    c.begun_near-begun.ensures.within c.index-batch.ensures c.args.history.now c.args.sent.now.count _ c.requires c.begun_near-begun.ensures.below c.begun_near-begun.ensures.above c.in-Entry.is
 
 pub returns-in-Own : goal.returns-in-Own
 returns-in-Own c =
     c.own_message.ensures
-    ∙ message_found c.args.sent.now.batches.items c.deref.result.now c.begun_by-begun.result c.args.number c.index-batch.result.now c.deref.ensures.value c.if-begun-eq0.false
-    c.begun_by-begun.ensures.within c.index-batch.ensures c.args.history.now c.args.sent.now.count _ c.requires c.begun_by-begun.ensures.below c.begun_by-begun.ensures.above c.in-Own.is
+    ∙ message_found c.args.sent.now.batches.items c.deref.result.now c.begun_near-begun.result c.args.number c.index-batch.result.now c.deref.ensures.value c.if-begun-eq0.false
+    c.begun_near-begun.ensures.within c.index-batch.ensures c.args.history.now c.args.sent.now.count _ c.requires c.begun_near-begun.ensures.below c.begun_near-begun.ensures.above c.in-Own.is

@@ -8,22 +8,24 @@ use Rattle.lease_manager.proofs.leases.Leases.release.Goals as goal
 pub invariant_of-self : goal.invariant_of-self
 invariant_of-self c =
     let es = c.self.inside.renewals.entries in
-    let left : renewals_of c.shift_remove.new.self.entries ≡ renewals_without c.args.client.now (renewals_of es) =
-    ap renewals_of c.shift_remove.ensures.entries ∙ removed c.args.client.now es (distinct_keys es c.self.invariant) in
-    are_renewals c.shift_remove.new.self.entries c.shift_remove.ensures.unique
-    (subst AreInOrder (sym left) (released_in_order c.args.client.now (renewals_of es) c.self.invariant.1))
+    let left : renewals_of c.pop.new.self.entries ≡ renewals_without c.args.client.now (renewals_of es) =
+    ap (λ cache. renewals_of cache.entries) c.pop.ensures.entries ∙ removed c.args.client.now es (distinct_keys es c.self.invariant.0) in (
+      are_renewals c.pop.new.self.entries c.len-behind.ensures.valid.0
+          (subst AreInOrder (sym left) (released_in_order c.args.client.now (renewals_of es) c.self.invariant.0.1)),
+      ap (λ cache. cache.cap) c.pop.ensures.entries ∙ c.self.invariant.1,
+    )
 
 pub returns-clause-released : goal.returns-clause-released
 returns-clause-released c =
     let es = c.self.inside.renewals.entries in
     ap (λ rs. record { limits = record { soft = c.self.inside.soft; hard = c.self.inside.hard }; renewals = rs })
-    (ap renewals_of c.shift_remove.ensures.entries ∙ removed c.args.client.now es (distinct_keys es c.self.invariant))
+    (ap (λ cache. renewals_of cache.entries) c.pop.ensures.entries ∙ removed c.args.client.now es (distinct_keys es c.self.invariant.0))
     ∙ ap (λ (leases : Leases). after_release leases c.args.client.now) c.self.view_is
 
 pub returns-clause-latest : goal.returns-clause-latest
 returns-clause-latest c =
     let es = c.self.inside.renewals.entries in
-    let left : renewals_of c.shift_remove.new.self.entries ≡ renewals_without c.args.client.now (renewals_of es) =
-    ap renewals_of c.shift_remove.ensures.entries ∙ removed c.args.client.now es (distinct_keys es c.self.invariant) in
+    let left : renewals_of c.pop.new.self.entries ≡ renewals_without c.args.client.now (renewals_of es) =
+    ap (λ cache. renewals_of cache.entries) c.pop.ensures.entries ∙ removed c.args.client.now es (distinct_keys es c.self.invariant.0) in
     let before : latest_moment (renewals_of es) ≡ latest_moment c.args.self.now.renewals = ap (λ (leases : Leases). latest_moment leases.renewals) c.self.view_is in
     omega (arith, ap latest_moment left, released_latest c.args.client.now (renewals_of es), before)
