@@ -7,6 +7,7 @@ ghost use Rattle.block_records.specs.Numbers.{is_number, has_number, entry_at};
 ghost use Rattle.block_index.specs.Relation.{blocks_at, relates};
 
 use block_records::node_set::NodeSet;
+use block_records::places::place_of;
 use block_records::reports::Reports;
 use hdfs_values::ids::BlockId;
 use hdfs_values::node_id::NodeId;
@@ -99,16 +100,22 @@ impl Clone for BlockSet {
 /// Which blocks each DataNode has to do with. A call costs a look-up for each pair that it names.
 #[derive(Drop)]
 pub struct NodeBlocks {
-    nodes: BTreeMap<NodeId, BlockSet>,
+    // by the nodes' ids, ascending
+    nodes: Vec<(NodeId, BlockSet)>,
     alloc: Global,
 }
 
 impl Model for NodeBlocks {
     ghost use Rattle.std.specs.Prelude.{List, ℕ};
+    ghost use Rattle.std.specs.List.Sorted.{IsStrictlySortedBy};
+    ghost use Rattle.std.specs.Map.{keys_of};
+    ghost use Rattle.std.specs.Ordering.{nat_cmp};
 
     ghost Value = { List (ℕ × List ℕ) };
 
-    ghost view = { λ table. table.nodes.entries };
+    ghost view = { λ table. table.nodes.items };
+
+    ghost invariant = { λ table. IsStrictlySortedBy nat_cmp (keys_of table.nodes.items) };
 }
 
 /// Where a node stands among others, from a place on; the number of these where it doesn't.
@@ -133,7 +140,7 @@ impl NodeBlocks {
         ensures { result ≡ [] }
     {
         NodeBlocks {
-            nodes: BTreeMap::new(alloc),
+            nodes: Vec::new(alloc),
             alloc,
         }
     }
@@ -143,9 +150,9 @@ impl NodeBlocks {
         ensures count { result ≡ length (blocks_at self.now node) }
         ensures ascending { IsStrictlySortedBy nat_cmp (blocks_at self.now node) }
     {
-        match self.nodes.get(&node) {
-            Some(blocks) => blocks.len(),
-            None => 0,
+        match place_of(&self.nodes, node) {
+            Ok(at) => self.nodes[at].1.len(),
+            Err(_) => 0,
         }
     }
 
@@ -157,9 +164,9 @@ impl NodeBlocks {
         ensures blocks { IfOk result (λ blocks. blocks.items ≡ blocks_at self.now node) }
         ensures ascending { IsStrictlySortedBy nat_cmp (blocks_at self.now node) }
     {
-        match self.nodes.get(&node) {
-            Some(blocks) => blocks.to_vec(alloc),
-            None => Ok(Vec::new(alloc)),
+        match place_of(&self.nodes, node) {
+            Ok(at) => self.nodes[at].1.to_vec(alloc),
+            Err(_) => Ok(Vec::new(alloc)),
         }
     }
 
@@ -168,12 +175,10 @@ impl NodeBlocks {
     pub fn are_busy_among(&self, nodes: &[NodeId]) -> bool
         ensures { IsTrue result → (n b : ℕ) → relates self.now n b ≡ true → list_any (is_number n) nodes.now ≡ true }
     {
-        // its contract tells that the keys ascend
-        let _count = self.nodes.len();
         let mut at = 0;
-        for (node, blocks) in &self.nodes {
-            if blocks.len() > 0 {
-                at = place_from(nodes, at, *node);
+        for entry in &self.nodes {
+            if entry.1.len() > 0 {
+                at = place_from(nodes, at, entry.0);
                 if at == nodes.len() {
                     return false;
                 }
@@ -188,9 +193,9 @@ impl NodeBlocks {
         ensures ascending { IsStrictlySortedBy nat_cmp result }
         ensures left { (n b : ℕ) → relates self.new n b ≡ (if is_number node n then false else relates self.old n b) }
     {
-        let blocks = match self.nodes.remove(&node) {
-            Some(blocks) => blocks,
-            None => BlockSet::new(self.alloc),
+        let blocks = match place_of(&self.nodes, node) {
+            Ok(at) => self.nodes.remove(at).1,
+            Err(_) => BlockSet::new(self.alloc),
         };
         // its contract tells that the ids ascend
         let _count = blocks.len();
@@ -205,24 +210,24 @@ impl NodeBlocks {
         ensures ok { OnOk result ((n b : ℕ) → relates self.new n b ≡ (if is_number block b && is_number node n then true else relates self.old n b)) }
         ensures err { OnErr result (self.new ≡ self.old) }
     {
-        if let Some(blocks) = self.nodes.get_mut(&node) {
-            blocks.insert(block)?;
-            return Ok(());
+        match place_of(&self.nodes, node) {
+            Ok(at) => self.nodes[at].1.insert(block),
+            Err(at) => {
+                let mut blocks = BlockSet::new(self.alloc);
+                blocks.insert(block)?;
+                self.nodes.insert(at, (node, blocks))?;
+                Ok(())
+            }
         }
-        let mut blocks = BlockSet::new(self.alloc);
-        blocks.insert(block)?;
-        self.nodes.insert(node, blocks)?;
-        Ok(())
     }
 
     /// Notes that a node has nothing to do with a block. Takes no memory.
     pub fn remove(&mut self, node: NodeId, block: BlockId)
         ensures { (n b : ℕ) → relates self.new n b ≡ (if is_number block b && is_number node n then false else relates self.old n b) }
     {
-        let Some(blocks) = self.nodes.get_mut(&node) else {
-            return;
-        };
-        blocks.remove(block);
+        if let Ok(at) = place_of(&self.nodes, node) {
+            self.nodes[at].1.remove(block);
+        }
     }
 
     /// Notes that none of these nodes has anything to do with a block. Takes no memory.

@@ -4,4 +4,5 @@ pub mod Ascending
 pub mod Taking
 pub mod Waiting
 mod Searches
+pub mod Standing
 pub mod Entries

@@ -1,4 +1,5 @@
 pub mod Numbers
+pub mod Places
 pub mod Marks
 pub mod Reports
 pub mod Verdicts

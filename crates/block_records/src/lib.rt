@@ -7,5 +7,6 @@ pub mod fault;
 pub mod last_block;
 pub mod mark;
 pub mod node_set;
+pub mod places;
 pub mod report;
 pub mod reports;

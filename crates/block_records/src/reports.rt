@@ -6,23 +6,29 @@ ghost use Rattle.std.specs.Ordering.{nat_cmp};
 ghost use Rattle.block_records.specs.Numbers.{is_number, has_number, entry_at};
 ghost use Rattle.block_records.specs.Reports.{is_reported, agreeing_reports, others_of, with_reports_of};
 
+use crate::places::place_of;
 use hdfs_values::node_id::NodeId;
 use std::alloc::{AllocError, Global};
-use std::collections::BTreeMap;
 use std::marker::Model;
 
 /// The DataNodes that reported a block at its newest stamp, by their ids, each with the length that it reported.
 #[derive(Drop)]
 pub struct Reports {
-    lengths: BTreeMap<NodeId, u64>,
+    // by the nodes' ids, ascending
+    lengths: Vec<(NodeId, u64)>,
 }
 
 impl Model for Reports {
     ghost use Rattle.std.specs.Prelude.{List, ℕ};
+    ghost use Rattle.std.specs.List.Sorted.{IsStrictlySortedBy};
+    ghost use Rattle.std.specs.Map.{keys_of};
+    ghost use Rattle.std.specs.Ordering.{nat_cmp};
 
     ghost Value = { List (ℕ × ℕ) };
 
-    ghost view = { λ reports. reports.lengths.entries };
+    ghost view = { λ reports. reports.lengths.items };
+
+    ghost invariant = { λ reports. IsStrictlySortedBy nat_cmp (keys_of reports.lengths.items) };
 }
 
 impl Reports {
@@ -31,7 +37,7 @@ impl Reports {
         ensures { result ≡ [] }
     {
         Reports {
-            lengths: BTreeMap::new(alloc),
+            lengths: Vec::new(alloc),
         }
     }
 
@@ -47,14 +53,14 @@ impl Reports {
     pub fn contains(&self, node: NodeId) -> bool
         ensures { result ≡ is_some (entry_at node self.now) }
     {
-        self.lengths.contains_key(&node)
+        place_of(&self.lengths, node).is_ok()
     }
 
     /// Whether a node has reported this length. Costs the reports, and takes no memory.
     pub fn has_length(&self, bytes: u64) -> bool
         ensures { result ≡ is_reported self.now bytes }
     {
-        self.lengths.iter().any(|(_, own)| *own == bytes)
+        self.lengths.iter().any(|report| report.1 == bytes)
     }
 
     /// The nodes that have reported, by their ids. Costs them.
@@ -64,10 +70,11 @@ impl Reports {
     pub fn nodes(&self, alloc: Global) -> Result<Vec<NodeId>, AllocError>
         ensures { IfOk result (λ nodes. nodes.items ≡ keys_of self.now) }
     {
-        self.lengths.keys().copied().collect(alloc)
+        self.lengths.iter().map(|report| report.0).collect(alloc)
     }
 
-    /// Notes that a node reports this length, in place of what it reported before. Costs a look-up.
+    /// Notes that a node reports this length, in place of what it reported before. Costs a look-up, and a step for each report of a
+    /// higher node.
     ///
     /// # Errors
     /// Out of memory, which only a node that hasn't reported can meet. Nothing has changed then.
@@ -77,16 +84,23 @@ impl Reports {
         ensures absent { OnErr result (entry_at node self.old ≡ None) }
         ensures others { OnOk result ((other : ℕ) → entry_at other self.new ≡ (if is_number node other then Some bytes else entry_at other self.old)) }
     {
-        self.lengths.insert(node, bytes)?;
-        Ok(())
+        match place_of(&self.lengths, node) {
+            Ok(at) => {
+                self.lengths[at] = (node, bytes);
+                Ok(())
+            }
+            Err(at) => Ok(self.lengths.insert(at, (node, bytes))?),
+        }
     }
 
-    /// Ends a node's report. Costs a look-up, and takes no memory.
+    /// Ends a node's report. Costs a look-up, and a step for each report of a higher node, and takes no memory.
     pub fn remove(&mut self, node: NodeId)
         ensures reports { self.new ≡ remove_entry (is_number node) self.old }
         ensures others { (other : ℕ) → entry_at other self.new ≡ (if is_number node other then None else entry_at other self.old) }
     {
-        self.lengths.remove(&node);
+        if let Ok(at) = place_of(&self.lengths, node) {
+            self.lengths.remove(at);
+        }
     }
 
     /// The nodes that have reported another length, by their ids. Costs the reports.
@@ -98,8 +112,8 @@ impl Reports {
     {
         self.lengths
             .iter()
-            .filter(|(_, own)| **own != bytes)
-            .map(|(node, _)| *node)
+            .filter(|report| report.1 != bytes)
+            .map(|report| report.0)
             .collect(alloc)
     }
 
@@ -108,7 +122,7 @@ impl Reports {
         ensures reports { self.new ≡ agreeing_reports bytes self.old }
         ensures left { (node : ℕ) → is_some (entry_at node self.new) ≡ (is_some (entry_at node self.old) && not (has_number node (others_of bytes self.old))) }
     {
-        self.lengths.retain(|_, own| *own == bytes);
+        self.lengths.retain(|report| report.1 == bytes);
     }
 
     /// Ends all reports. Costs them, and takes no memory.
@@ -144,13 +158,13 @@ impl Reports {
         Ok(reports)
     }
 
-    /// Takes out the report of the lowest node, and answers which node that was; `None` where nobody has reported. Takes no memory.
+    /// Takes out the report of the highest node, and answers which node that was; `None` where nobody has reported. Takes no memory.
     pub fn pop(&mut self) -> Option<NodeId>
         ensures node { IfSome result (λ node. (other : ℕ) → is_some (entry_at other self.old) ≡ (is_number node other || is_some (entry_at other self.new))) }
         ensures fewer { IfSome result (λ _. length self.new + 1 ≡ length self.old) }
         ensures none { IfNone result (self.old ≡ []) }
     {
-        let (node, _) = self.lengths.pop_first()?;
+        let (node, _) = self.lengths.pop()?;
         Some(node)
     }
 }

@@ -5,10 +5,10 @@ ghost use Rattle.block_records.specs.Numbers.{entry_at};
 ghost use Rattle.heartbeats.specs.Live as spec;
 
 use block_records::node_set::NodeSet;
+use block_records::places::place_of;
 use hdfs_values::moment::Moment;
 use hdfs_values::node_id::NodeId;
 use std::alloc::{AllocError, Global};
-use std::collections::BTreeMap;
 use std::marker::Model;
 
 /// The DataNodes that ever sent a heartbeat, each with the moment of the last (HDFS Architecture, "Data Disk Failure, Heartbeats and
@@ -17,16 +17,22 @@ use std::marker::Model;
 pub struct Heartbeats {
     // in milliseconds
     dead: u32,
-    last: BTreeMap<NodeId, Moment>,
+    // by the nodes' ids, ascending
+    last: Vec<(NodeId, Moment)>,
     alloc: Global,
 }
 
 impl Model for Heartbeats {
+    ghost use Rattle.std.specs.List.Sorted.{IsStrictlySortedBy};
+    ghost use Rattle.std.specs.Map.{keys_of};
+    ghost use Rattle.std.specs.Ordering.{nat_cmp};
     ghost use Rattle.heartbeats.specs.Live.{Heartbeats};
 
     ghost Value = { Heartbeats };
 
-    ghost view = { λ nodes. record { dead = nodes.dead; last = nodes.last.entries } };
+    ghost view = { λ nodes. record { dead = nodes.dead; last = nodes.last.items } };
+
+    ghost invariant = { λ nodes. IsStrictlySortedBy nat_cmp (keys_of nodes.last.items) };
 }
 
 impl Heartbeats {
@@ -36,12 +42,12 @@ impl Heartbeats {
     {
         Heartbeats {
             dead,
-            last: BTreeMap::new(alloc),
+            last: Vec::new(alloc),
             alloc,
         }
     }
 
-    /// Notes a node's heartbeat. Costs a look-up.
+    /// Notes a node's heartbeat. Costs a look-up, and a node's first one a step for each node of a higher id.
     ///
     /// # Errors
     /// Out of memory, which only a node's first heartbeat can meet. Nothing has changed then.
@@ -49,8 +55,13 @@ impl Heartbeats {
         ensures ok { OnOk result (self.new ≡ spec.with_heartbeat self.old node now) }
         ensures err { OnErr result (self.new ≡ self.old) }
     {
-        self.last.insert(node, now)?;
-        Ok(())
+        match place_of(&self.last, node) {
+            Ok(at) => {
+                self.last[at] = (node, now);
+                Ok(())
+            }
+            Err(at) => Ok(self.last.insert(at, (node, now))?),
+        }
     }
 
     // Whether a heartbeat of that moment isn't older than the limit.
@@ -64,9 +75,9 @@ impl Heartbeats {
     pub fn is_live(&self, node: NodeId, now: Moment) -> bool
         ensures { result ≡ spec.is_live self.now now node }
     {
-        match self.last.get(&node) {
-            Some(last) => self.is_recent(*last, now),
-            None => false,
+        match place_of(&self.last, node) {
+            Ok(at) => self.is_recent(self.last[at].1, now),
+            Err(_) => false,
         }
     }
 
@@ -75,9 +86,9 @@ impl Heartbeats {
         ensures { IfOk result (λ nodes. nodes.items ≡ keys_of (filter (λ entry. spec.is_recent self.now.dead now (Some entry.1)) self.now.last)) }
     {
         let mut nodes = Vec::with_capacity(self.alloc, self.last.len())?;
-        for (node, last) in &self.last {
-            if self.is_recent(*last, now) {
-                nodes.push(*node)?;
+        for entry in &self.last {
+            if self.is_recent(entry.1, now) {
+                nodes.push(entry.0)?;
             }
         }
         Ok(nodes)
@@ -88,9 +99,9 @@ impl Heartbeats {
         ensures { IfOk result (λ nodes. nodes.items ≡ keys_of (filter (λ entry. (entry.0 == node) || spec.is_recent self.now.dead now (Some entry.1)) self.now.last)) }
     {
         let mut nodes = Vec::with_capacity(self.alloc, self.last.len())?;
-        for (own, last) in &self.last {
-            if *own == node || self.is_recent(*last, now) {
-                nodes.push(*own)?;
+        for entry in &self.last {
+            if entry.0 == node || self.is_recent(entry.1, now) {
+                nodes.push(entry.0)?;
             }
         }
         Ok(nodes)
@@ -103,8 +114,6 @@ impl Heartbeats {
     pub fn live(&self, now: Moment) -> Result<NodeSet, AllocError>
         ensures { IfOk result (λ nodes. nodes ≡ spec.live_nodes self.now now) }
     {
-        // its contract tells that the keys ascend
-        let _count = self.last.len();
         let nodes = self.recent_nodes(now)?;
         Ok(NodeSet::of_ascending(nodes))
     }
@@ -127,8 +136,6 @@ impl Heartbeats {
         requires { IsSome (entry_at node self.now.last) }
         ensures { IfOk result (λ nodes. nodes ≡ spec.live_nodes (spec.with_heartbeat self.now node now) now) }
     {
-        // its contract tells that the keys ascend
-        let _count = self.last.len();
         let nodes = self.recent_nodes_with(node, now)?;
         Ok(NodeSet::of_ascending(nodes))
     }
@@ -141,7 +148,7 @@ impl Heartbeats {
     pub fn live_behind(&self, node: NodeId, now: Moment) -> Result<NodeSet, AllocError>
         ensures { IfOk result (λ nodes. nodes ≡ spec.live_nodes (spec.with_heartbeat self.now node now) now) }
     {
-        if self.last.contains_key(&node) {
+        if place_of(&self.last, node).is_ok() {
             self.live_behind_another(node, now)
         } else {
             self.live_behind_first(node, now)
@@ -152,9 +159,9 @@ impl Heartbeats {
     fn last_of(&self, node: NodeId) -> u64
         ensures { result ≡ spec.last_heard self.now node }
     {
-        match self.last.get(&node) {
-            Some(last) => last.milliseconds(),
-            None => 0,
+        match place_of(&self.last, node) {
+            Ok(at) => self.last[at].1.milliseconds(),
+            Err(_) => 0,
         }
     }
 
