@@ -200,7 +200,7 @@ module _ {X : Type 0} where
 
   -- ---- what is looked up behind an edit
 
-  behind : (node : ℕ) (value : X) (q : ℕ) (table : List (ℕ × X)) → entry_at q (insert_entry nat_cmp table node value) ≡ cond (is_number q node) (Some value) (entry_at q table)
+  pub behind : (node : ℕ) (value : X) (q : ℕ) (table : List (ℕ × X)) → entry_at q (insert_entry nat_cmp table node value) ≡ cond (is_number q node) (Some value) (entry_at q table)
   behind node value q [] = refl
   behind node value q (e ∷ es) = by (nat_cmp node e.0) refl (behind node value q es)
     where

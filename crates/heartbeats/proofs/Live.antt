@@ -14,7 +14,7 @@ use Rattle.std.specs.declared.cmp.Ordering.TheVariants.{Less, Equal, Greater}
 use Rattle.block_records.specs.Numbers.{is_number, entry_at}
 use Rattle.block_records.proofs.Ascending.{above_lower, lacks_lower, kept_ascending}
 use Rattle.block_records.proofs.Entries.{found_keys}
-use Rattle.block_records.proofs.Numbers.{number_is}
+use Rattle.block_records.proofs.Standing.{behind}
 use Rattle.heartbeats.specs.Live.{Heartbeats, with_heartbeat, is_recent, is_live, live_nodes}
 
 -- the keys of those entries that pass a test ascend
@@ -30,30 +30,6 @@ pub live_recent : (nodes : Heartbeats) (now : ℕ) → IsStrictlySortedBy nat_cm
 live_recent nodes now up = found_keys (is_recent_entry nodes.dead now) (is_live nodes now) nodes.last up (λ entry is. ap (is_recent nodes.dead now) (sym is))
 
 -- ---- live nodes behind a heartbeat of a node that sent one before
-
-greater_equal : {A : Type 0} → Greater ≡ Equal → A
-greater_equal e = cc
-
--- what a look-up finds behind the heartbeat
-entry_behind : (node moment q : ℕ) (entries : List (ℕ × ℕ)) → entry_at q (insert_entry nat_cmp entries node moment) ≡ cond (is_number q node) (Some moment) (entry_at q entries)
-entry_behind node moment q [] = refl
-entry_behind node moment q (e ∷ es) = by (nat_cmp node e.0) refl (entry_behind node moment q es)
-  where
-    same : (b : Bool) → cond b (Some moment) (entry_at q es) ≡ cond b (Some moment) (cond b (Some e.1) (entry_at q es))
-    same true = refl
-    same false = refl
-
-    apart : (b : Bool) → is_number q e.0 ≡ b → (d : Bool) → is_number q node ≡ d → nat_cmp node e.0 ≡ Greater
-        → cond b (Some e.1) (cond d (Some moment) (entry_at q es)) ≡ cond d (Some moment) (cond b (Some e.1) (entry_at q es))
-    apart true at true to greater = greater_equal (sym greater ∙ ap (nat_cmp node) (sym (number_is q e.0 at) ∙ number_is q node to) ∙ tied_itself nat_cmp_total node)
-    apart true at false to greater = refl
-    apart false at d to greater = refl
-
-    by : (o : Ordering) → nat_cmp node e.0 ≡ o → entry_at q (insert_entry nat_cmp es node moment) ≡ cond (is_number q node) (Some moment) (entry_at q es)
-        → entry_at q (match_ordering o ((node, moment) ∷ e ∷ es) ((e.0, moment) ∷ es) (e ∷ insert_entry nat_cmp es node moment)) ≡ cond (is_number q node) (Some moment) (cond (is_number q e.0) (Some e.1) (entry_at q es))
-    by Less is rest = refl
-    by Equal is rest = same (is_number q e.0) ∙ ap (λ n. cond (is_number q n) (Some moment) (cond (is_number q e.0) (Some e.1) (entry_at q es))) (sym (number_is node e.0 (ap is_eq is)))
-    by Greater is rest = ap (cond (is_number q e.0) (Some e.1)) rest ∙ apart (is_number q e.0) refl (is_number q node) refl is
 
 -- the heartbeat adds no key
 keys_behind : (node moment : ℕ) (entries : List (ℕ × ℕ)) → IsStrictlySortedBy nat_cmp (keys_of entries) → IsSome (entry_at node entries) → keys_of (insert_entry nat_cmp entries node moment) ≡ keys_of entries
@@ -87,4 +63,4 @@ live_behind nodes node now up known =
     each entry is =
         ap (λ b. b || is_recent nodes.dead now (Some entry.1)) (unsigned_ties entry.0 node)
         ∙ by entry.1 (is_number entry.0 node)
-        ∙ sym (ap (is_recent nodes.dead now) (entry_behind node now entry.0 nodes.last ∙ ap (cond (is_number entry.0 node) (Some now)) is))
+        ∙ sym (ap (is_recent nodes.dead now) (behind node now entry.0 nodes.last ∙ ap (cond (is_number entry.0 node) (Some now)) is))

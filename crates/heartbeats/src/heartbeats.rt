@@ -114,6 +114,8 @@ impl Heartbeats {
     pub fn live(&self, now: Moment) -> Result<NodeSet, AllocError>
         ensures { IfOk result (λ nodes. nodes ≡ spec.live_nodes self.now now) }
     {
+        // its invariant tells that the ids ascend
+        let _count = self.last.len();
         let nodes = self.recent_nodes(now)?;
         Ok(NodeSet::of_ascending(nodes))
     }
@@ -136,6 +138,8 @@ impl Heartbeats {
         requires { IsSome (entry_at node self.now.last) }
         ensures { IfOk result (λ nodes. nodes ≡ spec.live_nodes (spec.with_heartbeat self.now node now) now) }
     {
+        // its invariant tells that the ids ascend
+        let _count = self.last.len();
         let nodes = self.recent_nodes_with(node, now)?;
         Ok(NodeSet::of_ascending(nodes))
     }

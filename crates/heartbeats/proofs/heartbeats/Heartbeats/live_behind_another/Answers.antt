@@ -8,10 +8,10 @@ use Rattle.heartbeats.proofs.heartbeats.Heartbeats.live_behind_another.Goals as 
 
 pub of_ascending-requires : goal.of_ascending-requires
 of_ascending-requires c =
-    let up = subst (λ (nodes : Heartbeats). IsStrictlySortedBy nat_cmp (keys_of nodes.last)) c.self.view_is c.len-count.ensures.ordered in
+    let up = subst (λ (nodes : Heartbeats). IsStrictlySortedBy nat_cmp (keys_of nodes.last)) c.self.view_is c.self.invariant in
     subst (λ (xs : List ℕ). IsStrictlyIncreasing xs) (sym c.in_ok-nodes.ensures) (kept_increasing (is_own_or_recent c.args.node c.args.self.now.dead c.args.now) c.args.self.now.last up)
 
 pub returns : goal.returns
 returns c =
-    let up = subst (λ (nodes : Heartbeats). IsStrictlySortedBy nat_cmp (keys_of nodes.last)) c.self.view_is c.len-count.ensures.ordered in
+    let up = subst (λ (nodes : Heartbeats). IsStrictlySortedBy nat_cmp (keys_of nodes.last)) c.self.view_is c.self.invariant in
     c.of_ascending.ensures ∙ (c.in_ok-nodes.ensures ∙ live_behind c.args.self.now c.args.node c.args.now up c.requires)

@@ -1,11 +1,7 @@
-use Rattle.std.proofs.Common.{◌≡◌, ◌++◌, filter}
+use Rattle.std.proofs.Common.{◌≡◌, ◌++◌, filter, drop}
 use Rattle.std.specs.Map.{keys_of}
 use Rattle.heartbeats.proofs.Live.{is_recent_entry}
 use Rattle.heartbeats.proofs.heartbeats.Heartbeats.recent_nodes.Given as goal
 
-abbrev pub invariant-loop-node : goal.invariant-loop-node
-invariant-loop-node l = record {
-  can_next : (goal.iterator-loop-node).can_next l.node-iterator;
-  is_finite : (goal.iterator-loop-node).is_finite l.node-iterator;
-  kept : l.nodes.items ++ keys_of (filter (is_recent_entry l.self.dead l.now) l.node-iterator) ≡ keys_of (filter (is_recent_entry l.self.dead l.now) l.self.last);
-}
+abbrev pub invariant-loop-entry : goal.invariant-loop-entry
+invariant-loop-entry l = l.nodes.items ++ keys_of (filter (is_recent_entry l.self.dead l.now) (drop l.entry-index l.self.last)) ≡ keys_of (filter (is_recent_entry l.self.dead l.now) l.self.last)

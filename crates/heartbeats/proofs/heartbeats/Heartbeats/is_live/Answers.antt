@@ -1,0 +1,11 @@
+use Rattle.std.proofs.Common.{◌≡◌, ◌∙◌, Some, sym, ap}
+use Rattle.block_records.specs.Numbers.{entry_at}
+use Rattle.block_records.proofs.Standing.{entry_there}
+use Rattle.heartbeats.specs.Live.{Heartbeats, is_recent}
+use Rattle.heartbeats.proofs.heartbeats.Heartbeats.is_live.Goals as goal
+
+pub returns-in-Ok : goal.returns-in-Ok
+returns-in-Ok c =
+    let there : entry_at c.args.node c.self.inside.last.items ≡ Some c.index.result.now.1 =
+    entry_there c.args.node c.self.inside.last.items c.in-Ok.at c.index.result.now (rw (← c.deref.ensures.value) c.in-Ok.ensures.there) ∙ ap (λ entry. Some entry.1) (sym c.index.ensures) in
+    c.is_recent.ensures ∙ ap (is_recent c.args.self.now.dead c.args.now) (sym (ap (λ (nodes : Heartbeats). entry_at c.args.node nodes.last) (sym c.self.view_is) ∙ there))
