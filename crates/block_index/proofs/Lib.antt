@@ -1,3 +1,4 @@
 pub mod Relations
 pub mod Indexing
 pub mod Busy
+pub mod Written

@@ -38,14 +38,13 @@ related_at v old new node block n b own now there set put =
         ∙ ap (λ blocks. cond (is_number block b) v (list_any (is_number b) blocks)) (sym there ∙ ap (blocks_at old) (number_is node n at))
         ∙ this_node v (relates old n b) (is_number block b)
 
--- a node that has nothing to do with any block
-pub unrelated : (old : List (ℕ × List ℕ)) (node block n b : ℕ) → entry_at node old ≡ None → relates old n b ≡ cond (is_number block b && is_number node n) false (relates old n b)
-unrelated old node block n b none = by (is_number block b) (is_number node n) refl
+-- a node that has none, where its blocks are taken
+pub taken_none : (old : List (ℕ × List ℕ)) (node n b : ℕ) → blocks_at old node ≡ [] → relates old n b ≡ cond (is_number node n) false (relates old n b)
+taken_none old node n b none = by (is_number node n) refl
   where
-    by : (y x : Bool) → is_number node n ≡ x → relates old n b ≡ cond (y && x) false (relates old n b)
-    by false x at = refl
-    by true false at = refl
-    by true true at = ap (λ q. list_any (is_number b) (blocks_at old q)) (sym (number_is node n at)) ∙ ap (λ found. list_any (is_number b) (unwrap_or found [])) none
+    by : (x : Bool) → is_number node n ≡ x → relates old n b ≡ cond x false (relates old n b)
+    by false at = refl
+    by true at = ap (λ q. list_any (is_number b) (blocks_at old q)) (sym (number_is node n at)) ∙ ap (list_any (is_number b)) none
 
 -- blocks written back change nothing
 pub written_back : {K X : Type 0} (test : K → Bool) (table new : List (K × X)) (own : X) → lookup test table ≡ Some own → new ≡ set_value test table own → new ≡ table

@@ -97,7 +97,8 @@ impl Clone for BlockSet {
     }
 }
 
-/// Which blocks each DataNode has to do with. A call costs a look-up for each pair that it names.
+/// Which blocks each DataNode has to do with. A call costs a look-up for each pair that it names, and a node's first block a step for each
+/// node of a higher id.
 #[derive(Drop)]
 pub struct NodeBlocks {
     // by the nodes' ids, ascending
@@ -187,7 +188,7 @@ impl NodeBlocks {
         true
     }
 
-    /// Takes out the blocks that a node has to do with. Costs a look-up, and takes no memory.
+    /// Takes out the blocks that a node has to do with. Costs a look-up, and a step for each node of a higher id, and takes no memory.
     pub fn take(&mut self, node: NodeId) -> BlockSet
         ensures blocks { result ≡ blocks_at self.old node }
         ensures ascending { IsStrictlySortedBy nat_cmp result }
@@ -202,7 +203,7 @@ impl NodeBlocks {
         blocks
     }
 
-    /// Notes that a node has to do with a block.
+    /// Notes that a node has to do with a block. Costs a look-up, and a node's first block a step for each node of a higher id.
     ///
     /// # Errors
     /// Out of memory. Nothing has changed then.

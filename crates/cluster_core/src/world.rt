@@ -9,6 +9,7 @@ ghost use Rattle.cluster_laws.specs.Laws.{RecordsOf};
 ghost use Rattle.cluster_core.specs.World.{state_after, with_event, run_past, run_outcomes};
 
 use crate::kept::KeptEvent;
+pub use cluster_steps::cluster::NameCore;
 use cluster_steps::cluster::{Cluster, is_from_outside};
 use cluster_trace::data_call::DataCall;
 use cluster_trace::event::Event;
@@ -19,7 +20,6 @@ use hdfs_types::op::Request;
 use hdfs_values::moment::Moment;
 use hdfs_values::node_id::NodeId;
 use history::config::Config;
-use name_core::namenode::NameCore;
 use std::alloc::{AllocError, Global};
 use std::collections::VecDeque;
 use std::marker::Model;

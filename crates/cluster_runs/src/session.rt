@@ -9,7 +9,7 @@ ghost use Rattle.cluster_text.specs.ToldText.{answer_line};
 ghost use Rattle.cluster_runs.specs.Output as spec;
 ghost use Rattle.cluster_runs.specs.Shown.{Shows, KeepsLines, ShowsFirst};
 
-use cluster_core::world::World;
+use cluster_core::world::{NameCore, World};
 use cluster_text::event_line::read_event;
 use cluster_text::told::{print_bad, print_told};
 use cluster_trace::event::Event;
@@ -19,7 +19,6 @@ use hdfs_types::key::Key;
 use hdfs_values::fault::IllFormed;
 use hdfs_values::node_id::NodeId;
 use history::config::Config;
-use name_core::namenode::NameCore;
 use script_words::words::{is_skipped, without_return};
 use std::alloc::{AllocError, Global};
 use std::mem;

@@ -24,7 +24,7 @@ use hdfs_types::op::{Op, Request};
 use hdfs_values::moment::Moment;
 use hdfs_values::node_id::NodeId;
 use history::config::Config;
-use name_core::namenode::NameCore;
+pub use name_core::namenode::NameCore;
 use node_calls::call::{NodeCall, PlanCall};
 use plan_steps::answered::PlanAnswered;
 use std::alloc::{AllocError, Global};
