@@ -58,18 +58,20 @@ module _ {X : Type 0} where
   placed node (entry ∷ table) zero up short same = equal_behind node entry.0 (same entry)
   placed node (entry ∷ table) (suc at) up short same =
       let within : at < length table = omega (arith, short) in
-      let key : (get_or table at entry).0 ≡ node = number_is (get_or table at entry).0 node (ap is_eq (same entry)) in
-      (greater_behind node entry.0 (subst (λ n. nat_cmp entry.0 n ≡ Less) key (above_at entry.0 table at entry (sorted_head nat_cmp entry.0 (keys_of table) up) within)),
-      placed node table at (sorted_tail nat_cmp entry.0 (keys_of table) up) within same)
+      let key : (get_or table at entry).0 ≡ node = number_is (get_or table at entry).0 node (ap is_eq (same entry)) in (
+        greater_behind node entry.0 (subst (λ n. nat_cmp entry.0 n ≡ Less) key (above_at entry.0 table at entry (sorted_head nat_cmp entry.0 (keys_of table) up) within)),
+        placed node table at (sorted_tail nat_cmp entry.0 (keys_of table) up) within same,
+      )
 
   parted : (node : ℕ) (table : List (ℕ × X)) (at : ℕ) → at ≤ length table → ((k : ℕ) (d : ℕ × X) → k < at → nat_cmp (get_or table k d).0 node ≡ Less)
       → ((k : ℕ) (d : ℕ × X) → at ≤ k → k < length table → nat_cmp (get_or table k d).0 node ≡ Greater) → IsGap node table at
   parted node [] zero within lower higher = tt
   parted node [] (suc at) within lower higher = absurd (omega (arith, within))
   parted node (entry ∷ table) zero within lower higher = less_behind node entry.0 (higher 0 entry (omega arith) (omega arith))
-  parted node (entry ∷ table) (suc at) within lower higher =
-      (greater_behind node entry.0 (lower 0 entry (omega arith)),
-      parted node table at (omega (arith, within)) (λ k d before. lower (suc k) d (omega (arith, before))) (λ k d behind short. higher (suc k) d (omega (arith, behind)) (omega (arith, short))))
+  parted node (entry ∷ table) (suc at) within lower higher = (
+    greater_behind node entry.0 (lower 0 entry (omega arith)),
+    parted node table at (omega (arith, within)) (λ k d before. lower (suc k) d (omega (arith, before))) (λ k d behind short. higher (suc k) d (omega (arith, behind)) (omega (arith, short))),
+  )
 
   keyed : (table : List (ℕ × X)) (at : ℕ) (d : ℕ × X) → get_or (keys_of table) at d.0 ≡ (get_or table at d).0
   keyed [] at d = refl

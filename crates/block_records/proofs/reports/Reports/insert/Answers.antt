@@ -17,7 +17,7 @@ pub insert-requires : goal.insert-requires
 insert-requires c = rw (← c.deref.ensures.len) c.in-Err.ensures.bound
 
 pub returns-in_err-insert-in-Err-clause-absent : goal.returns-in_err-insert-in-Err-clause-absent
-returns-in_err-insert-in-Err-clause-absent c = 
+returns-in_err-insert-in-Err-clause-absent c =
     let none : entry_at c.args.node c.args.self.now ≡ None = ap (entry_at c.args.node) (sym c.self.view_is) ∙ entry_absent c.args.node c.self.inside.lengths.items c.in-Err.at c.self.invariant (rw (← c.deref.ensures.value) c.in-Err.ensures.absent) in
     search (rules, none)
 
