@@ -2,4 +2,3 @@ pub mod Blanks
 pub mod Forming
 pub mod Groups
 pub mod Returns
-mod Sameness

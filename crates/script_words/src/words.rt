@@ -108,22 +108,9 @@ pub fn is_skipped(line: &str) -> bool
     line.is_empty() || line.as_bytes()[0] == b'#'
 }
 
-// Byte by byte: most words differ in the first, and the texts are constants, so that this is faster than a comparison of strings.
-fn are_same(word: &[u8], text: &[u8]) -> bool
-    requires { length word.now ≡ length text.now }
-    ensures { result ≡ same word.now text.now }
-{
-    for at in 0..text.len() {
-        if word[at] != text[at] {
-            return false;
-        }
-    }
-    true
-}
-
 /// Whether a word is this text.
 pub fn is_word(word: &str, text: &str) -> bool
     ensures { result ≡ same word.now text.now }
 {
-    word.len() == text.len() && are_same(word.as_bytes(), text.as_bytes())
+    word == text
 }

@@ -1,5 +1,7 @@
-use Rattle.script_words.proofs.Sameness.{lengths_apart}
+-- Equal bytes are texts that compare as equal.
+use Rattle.std.proofs.Common.{◌∙◌}
+use Rattle.std.specs.Cmp.Lexicographic.{texts_ties}
 use Rattle.script_words.proofs.words.is_word.Goals as goal
 
-pub returns-else-word-text : goal.returns-else-word-text
-returns-else-word-text c = lengths_apart c.args.word.now c.args.text.now c.if-word-text.false
+pub returns : goal.returns
+returns c = c.eq.ensures ∙ texts_ties c.args.word.now c.args.text.now
