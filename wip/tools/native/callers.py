@@ -1,12 +1,7 @@
 import re,collections,glob,sys
+from names import Names
 f=sys.argv[1]; keys=sys.argv[2].split(','); per=float(sys.argv[3])
-names={}
-def nm(s):
-    m=re.match(r'\((\d+)\)(?: (.*))?$',s)
-    if m:
-        if m.group(2): names[m.group(1)]=m.group(2)
-        return names.get(m.group(1),s)
-    return s
+nm=Names()
 for g in sorted(glob.glob(re.sub(r'\.\d+$','',f)+'*')):
     for l in open(g):
         if l.startswith(('fn=','cfn=')): nm(l.split('=',1)[1].rstrip())

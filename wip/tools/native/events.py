@@ -1,13 +1,8 @@
 import sys,re
+from names import Names
 # self costs by function of a callgrind out file, for event index (names), sorted
 f=sys.argv[1]; key=sys.argv[2]; top=int(sys.argv[3])
-names={}; fn=None; ev=None; cost={}; skip=False
-def nm(s):
-    m=re.match(r'\((\d+)\)(?: (.*))?$',s)
-    if m:
-        if m.group(2): names[m.group(1)]=m.group(2)
-        return names.get(m.group(1),s)
-    return s
+nm=Names(); fn=None; ev=None; cost={}; skip=False
 for l in open(f):
     l=l.rstrip('\n')
     if l.startswith('events:'): ev=l.split()[1:]; continue

@@ -1,14 +1,9 @@
 import sys,re,collections
+from names import Names
 # distinct 64-byte lines of code executed at least MIN times in a callgrind file with --dump-instr=yes, by function
 f=sys.argv[1]; minc=int(sys.argv[2]); top=int(sys.argv[3])
-names={}; fn=None; skip=False; addr=0; pos=None
+nm=Names(); fn=None; skip=False; addr=0; pos=None
 lines=collections.Counter(); byfn=collections.defaultdict(set); instr=collections.Counter()
-def nm(s):
-    m=re.match(r'\((\d+)\)(?: (.*))?$',s)
-    if m:
-        if m.group(2): names[m.group(1)]=m.group(2)
-        return names.get(m.group(1),s)
-    return s
 def num(s,base):
     if s.startswith('+'): return base+int(s[1:],0)
     if s.startswith('-'): return base-int(s[1:],0)
