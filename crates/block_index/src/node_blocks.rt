@@ -47,6 +47,13 @@ impl BlockSet {
         self.ids.len()
     }
 
+    /// Whether a block is among them. Costs a look-up, and takes no memory.
+    pub fn contains(&self, block: BlockId) -> bool
+        ensures { result ≡ list_any (is_number block) self.now }
+    {
+        self.ids.contains(&block)
+    }
+
     /// The blocks, in order. Costs so many steps.
     ///
     /// # Errors

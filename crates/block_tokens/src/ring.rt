@@ -152,8 +152,7 @@ impl KeyRing {
         ensures keys { IfOk result (λ keys. keys ≡ spec.update_of self.now now) }
         ensures ascend { IfOk result (λ keys. AreKeys keys) }
     {
-        // mostly the current key is the only one
-        let mut keys = KeyList::with_room(alloc, 1)?;
+        let mut keys = KeyList::new(alloc);
         for (serial, key) in self.older.as_slice() {
             if key.is_usable(now) {
                 keys.push(*serial, *key)?;

@@ -1,7 +1,9 @@
 -- Keys by their serials, as a NameNode sends them and a DataNode holds them. (HADOOP-4359: keys roll, and DataNodes learn
 -- them with heartbeats.)
-use Rattle.std.specs.Prelude.{ℕ, Bool, true, List, Option, Some, None, nat_lt}
+use Rattle.std.specs.Prelude.{ℕ, Bool, true, List, [], ◌∷◌, Option, Some, None, nat_lt}
 use Rattle.hdfs_types.specs.declared.key_list.HeldKey.{HeldKey}
+use Rattle.hdfs_types.specs.declared.key_list.Listed.{Listed}
+use Rattle.hdfs_types.specs.declared.key_list.Listed.TheVariants.{Nothing, One, Several}
 
 -- each key with its serial before it
 abbrev pub KeyList : Type 0
@@ -11,3 +13,9 @@ KeyList = List (ℕ × HeldKey)
 abbrev pub expires_after : ℕ → Option ℕ → Bool
 expires_after now None = true
 expires_after now (Some expiry) = nat_lt now expiry
+
+-- the keys that a value lists
+abbrev pub listed : Listed → KeyList
+listed Nothing = []
+listed (One key) = key ∷ []
+listed (Several keys) = keys.items

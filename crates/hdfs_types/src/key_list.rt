@@ -6,6 +6,7 @@ use hdfs_values::ids::Serial;
 use hdfs_values::moment::Moment;
 use std::alloc::{AllocError, Global};
 use std::marker::Model;
+use std::slice::from_ref;
 
 /// A key, and the moment in milliseconds from which it serves no more, where that is known.
 #[derive(Clone, Copy)]
@@ -26,49 +27,42 @@ impl HeldKey {
     }
 }
 
-/// Keys with their serials, as a NameNode sends them.
-pub struct KeyList {
-    keys: Vec<(Serial, HeldKey)>,
+// Keys in order. A single one stands in the value: mostly the current key is the only one, and a history keeps it with each
+// heartbeat.
+#[derive(Drop)]
+enum Listed {
+    Nothing,
+    One((Serial, HeldKey)),
+    Several(Vec<(Serial, HeldKey)>),
 }
 
-impl Drop for KeyList {
-    fn drop(self) {
-        let KeyList { keys } = self;
-        drop(keys);
-    }
+/// Keys with their serials, as a NameNode sends them.
+#[derive(Drop)]
+pub struct KeyList {
+    keys: Listed,
+    alloc: Global,
 }
 
 impl Model for KeyList {
-    ghost use Rattle.hdfs_types.specs.KeyList.{KeyList};
+    ghost use Rattle.hdfs_types.specs.KeyList.{KeyList, listed};
 
     ghost Value = { KeyList };
 
-    ghost view = { λ list. list.keys.items };
+    ghost view = { λ list. listed list.keys };
 }
 
 impl KeyList {
-    /// The empty list.
+    /// The empty list. Takes no memory.
     pub fn new(alloc: Global) -> KeyList
         ensures { result ≡ [] }
     {
         KeyList {
-            keys: Vec::new(alloc),
+            keys: Listed::Nothing,
+            alloc,
         }
     }
 
-    /// The empty list, with room for so many keys.
-    ///
-    /// # Errors
-    /// Out of memory.
-    pub fn with_room(alloc: Global, count: usize) -> Result<KeyList, AllocError>
-        ensures { IfOk result (λ list. list ≡ []) }
-    {
-        Ok(KeyList {
-            keys: Vec::with_capacity(alloc, count)?,
-        })
-    }
-
-    /// Adds a key at the end.
+    /// Adds a key at the end. Takes no memory for the first.
     ///
     /// # Errors
     /// Out of memory: the list is as before.
@@ -76,14 +70,26 @@ impl KeyList {
         ensures ok { OnOk result (self.new ≡ self.old ++ (serial, key) ∷ []) }
         ensures err { OnErr result (self.new ≡ self.old) }
     {
-        self.keys.push((serial, key))?;
+        let keys = match &mut self.keys {
+            Listed::Several(keys) => {
+                keys.push((serial, key))?;
+                return Ok(());
+            }
+            Listed::Nothing => Listed::One((serial, key)),
+            Listed::One(first) => Listed::Several(vec![in self.alloc; *first, (serial, key)]?),
+        };
+        self.keys = keys;
         Ok(())
     }
 
     pub fn as_slice(&self) -> &[(Serial, HeldKey)]
         ensures { result.now ≡ self.now }
     {
-        self.keys.as_slice()
+        match &self.keys {
+            Listed::Nothing => &[],
+            Listed::One(key) => from_ref(key),
+            Listed::Several(keys) => keys,
+        }
     }
 }
 
@@ -91,8 +97,14 @@ impl Clone for KeyList {
     ghost is_clone = { λ list copy. copy ≡ list };
 
     fn clone(&self) -> Result<KeyList, AllocError> {
+        let keys = match &self.keys {
+            Listed::Nothing => Listed::Nothing,
+            Listed::One(key) => Listed::One(*key),
+            Listed::Several(keys) => Listed::Several(keys.clone()?),
+        };
         Ok(KeyList {
-            keys: self.keys.clone()?,
+            keys,
+            alloc: self.alloc,
         })
     }
 }

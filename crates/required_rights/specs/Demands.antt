@@ -1,7 +1,9 @@
 -- How a demand is seen, and what holds of each.
-use Rattle.std.specs.Prelude.{Bool, true, false, ◌&&◌, IsTrue}
+use Rattle.std.specs.Prelude.{Bool, true, false, ◌&&◌, IsTrue, List, [], ◌∷◌}
 use Rattle.hdfs_values.specs.Path.{is_path}
 use Rattle.required_rights.specs.declared.demand.Demand.TheInside as demand
+use Rattle.required_rights.specs.declared.demand.Listed.{Listed}
+use Rattle.required_rights.specs.declared.demand.Listed.TheVariants.{One, Several}
 use Rattle.required_rights.specs.declared.demand.Role.{Role}
 use Rattle.required_rights.specs.declared.demand.Role.TheVariants.{Final}
 use Rattle.required_rights.specs.declared.need.Need.{Need}
@@ -23,3 +25,8 @@ suits_role need role = is_final role
 -- the path of a demand is one, and only rights are needed of other components than the path itself
 abbrev pub IsDemand : Demand → Type 0
 IsDemand demand = IsTrue (is_path demand.path && suits_role demand.need demand.role)
+
+-- the needs that a value lists
+abbrev pub listed : Listed → List Demand
+listed (One demand) = demand ∷ []
+listed (Several demands) = demands.items

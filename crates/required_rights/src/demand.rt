@@ -1,6 +1,7 @@
 ghost use Rattle.std.specs.Prelude.{◌≡◌, ◌∷◌, ◌++◌, [], Some, IfOk, OnOk};
 ghost use Rattle.hdfs_values.specs.Path.{IsPath};
 ghost use Rattle.permission_specs.specs.Rights.{rights};
+ghost use Rattle.required_rights.specs.Demands.{listed};
 ghost use Rattle.required_rights.specs.RequiredRights as spec;
 
 use crate::need::Need;
@@ -12,6 +13,7 @@ use hdfs_values::who::Who;
 use permission_specs::rights::Rights;
 use std::alloc::{AllocError, Global};
 use std::marker::Model;
+use std::slice::from_ref;
 
 /// Which components a need on a path is of.
 #[derive(Clone, Copy, PartialEq, Eq)]
@@ -281,26 +283,37 @@ impl<'a> Demand<'a> {
     }
 }
 
+// Needs in order. Where there is one, it stands in the value, so that a request costs no memory for it.
+#[derive(Drop)]
+enum Listed<'a> {
+    One(Demand<'a>),
+    Several(Vec<Demand<'a>>),
+}
+
 /// The needs of an operation, in the order in which they are judged.
 #[derive(Drop)]
 pub struct Needs<'a> {
-    demands: Vec<Demand<'a>>,
+    demands: Listed<'a>,
 }
 
 impl<'a> Model for Needs<'a> {
     ghost use Rattle.std.specs.Prelude.{List};
     ghost use Rattle.required_rights.specs.RequiredRights as spec;
+    ghost use Rattle.required_rights.specs.Demands.{listed};
 
     ghost Value = { List spec.Demand };
 
-    ghost view = { λ needs. needs.demands.items };
+    ghost view = { λ needs. listed needs.demands };
 }
 
 impl<'a> Needs<'a> {
     pub fn as_slice(&self) -> &[Demand<'a>]
         ensures { result.now ≡ self.now }
     {
-        &self.demands
+        match &self.demands {
+            Listed::One(demand) => from_ref(demand),
+            Listed::Several(demands) => demands,
+        }
     }
 }
 
@@ -338,90 +351,86 @@ fn needs_of_owner<'a>(
     path: &'a Path,
     owner: &GivenName,
     group: &GivenName,
-) -> Result<Vec<Demand<'a>>, AllocError>
-    ensures { IfOk result (λ demands. demands.items ≡ spec.strict_traversal path.now ∷ spec.ownership path.now ∷ (spec.owner_demands path.now owner.now ++ spec.group_demands path.now group.now)) }
+) -> Result<Listed<'a>, AllocError>
+    ensures { IfOk result (λ demands. listed demands ≡ spec.strict_traversal path.now ∷ spec.ownership path.now ∷ (spec.owner_demands path.now owner.now ++ spec.group_demands path.now group.now)) }
 {
     let mut demands = vec![in alloc; Demand::strict_traversal(path), Demand::ownership(path)]?;
     add_owner_needs(&mut demands, path, owner)?;
     add_group_needs(&mut demands, path, group)?;
-    Ok(demands)
+    Ok(Listed::Several(demands))
 }
 
 /// What making a file needs, and also replacing one where that is asked.
-fn needs_of_file<'a>(
-    alloc: Global,
-    path: &'a Path,
-    over: bool,
-) -> Result<Vec<Demand<'a>>, AllocError>
-    ensures { IfOk result (λ demands. demands.items ≡ spec.traversal path.now ∷ spec.write_above path.now ∷ spec.over_demands path.now over) }
+fn needs_of_file<'a>(alloc: Global, path: &'a Path, over: bool) -> Result<Listed<'a>, AllocError>
+    ensures { IfOk result (λ demands. listed demands ≡ spec.traversal path.now ∷ spec.write_above path.now ∷ spec.over_demands path.now over) }
 {
     let mut demands = vec![in alloc; Demand::traversal(path), Demand::write_above(path)]?;
     if over {
         demands.push(Demand::overwriting(path))?;
     }
-    Ok(demands)
+    Ok(Listed::Several(demands))
 }
 
 /// What only needs to get to the path.
-fn needs_of_traversal<'a>(alloc: Global, path: &'a Path) -> Result<Vec<Demand<'a>>, AllocError>
-    ensures { IfOk result (λ demands. demands.items ≡ spec.traversal path.now ∷ []) }
+fn needs_of_traversal<'a>(path: &'a Path) -> Listed<'a>
+    ensures { listed result ≡ spec.traversal path.now ∷ [] }
 {
-    Ok(vec![in alloc; Demand::traversal(path)]?)
+    Listed::One(Demand::traversal(path))
 }
 
-fn needs_of_mkdirs<'a>(alloc: Global, path: &'a Path) -> Result<Vec<Demand<'a>>, AllocError>
-    ensures { IfOk result (λ demands. demands.items ≡ spec.traversal path.now ∷ spec.creation path.now ∷ []) }
+fn needs_of_mkdirs<'a>(alloc: Global, path: &'a Path) -> Result<Listed<'a>, AllocError>
+    ensures { IfOk result (λ demands. listed demands ≡ spec.traversal path.now ∷ spec.creation path.now ∷ []) }
 {
-    Ok(vec![in alloc; Demand::traversal(path), Demand::creation(path)]?)
+    Ok(Listed::Several(vec![in alloc; Demand::traversal(path), Demand::creation(path)]?))
 }
 
-fn needs_of_list<'a>(alloc: Global, path: &'a Path) -> Result<Vec<Demand<'a>>, AllocError>
-    ensures { IfOk result (λ demands. demands.items ≡ spec.traversal path.now ∷ spec.listing path.now ∷ []) }
+fn needs_of_list<'a>(alloc: Global, path: &'a Path) -> Result<Listed<'a>, AllocError>
+    ensures { IfOk result (λ demands. listed demands ≡ spec.traversal path.now ∷ spec.listing path.now ∷ []) }
 {
-    Ok(vec![in alloc; Demand::traversal(path), Demand::listing(path)]?)
+    Ok(Listed::Several(vec![in alloc; Demand::traversal(path), Demand::listing(path)]?))
 }
 
-fn needs_of_summary<'a>(alloc: Global, path: &'a Path) -> Result<Vec<Demand<'a>>, AllocError>
-    ensures { IfOk result (λ demands. demands.items ≡ spec.traversal path.now ∷ spec.sub_tree (rights 5) path.now ∷ []) }
+fn needs_of_summary<'a>(alloc: Global, path: &'a Path) -> Result<Listed<'a>, AllocError>
+    ensures { IfOk result (λ demands. listed demands ≡ spec.traversal path.now ∷ spec.sub_tree (rights 5) path.now ∷ []) }
 {
-    Ok(vec![in alloc;
+    Ok(Listed::Several(vec![in alloc;
         Demand::traversal(path),
         Demand::sub_tree(Rights::of_low_bits(0o5), path),
-    ]?)
+    ]?))
 }
 
-fn needs_of_delete<'a>(alloc: Global, path: &'a Path) -> Result<Vec<Demand<'a>>, AllocError>
-    ensures { IfOk result (λ demands. demands.items ≡ spec.traversal path.now ∷ spec.sticky_bit path.now ∷ spec.removal path.now ∷ spec.sub_tree (rights 7) path.now ∷ []) }
+fn needs_of_delete<'a>(alloc: Global, path: &'a Path) -> Result<Listed<'a>, AllocError>
+    ensures { IfOk result (λ demands. listed demands ≡ spec.traversal path.now ∷ spec.sticky_bit path.now ∷ spec.removal path.now ∷ spec.sub_tree (rights 7) path.now ∷ []) }
 {
-    Ok(vec![in alloc;
+    Ok(Listed::Several(vec![in alloc;
         Demand::traversal(path),
         Demand::sticky_bit(path),
         Demand::removal(path),
         Demand::sub_tree(Rights::of_low_bits(0o7), path),
-    ]?)
+    ]?))
 }
 
 fn needs_of_rename<'a>(
     alloc: Global,
     from: &'a Path,
     to: &'a Path,
-) -> Result<Vec<Demand<'a>>, AllocError>
-    ensures { IfOk result (λ demands. demands.items ≡ spec.traversal from.now ∷ spec.traversal to.now ∷ spec.sticky_bit from.now ∷ spec.write_above to.now ∷ spec.removal from.now ∷ []) }
+) -> Result<Listed<'a>, AllocError>
+    ensures { IfOk result (λ demands. listed demands ≡ spec.traversal from.now ∷ spec.traversal to.now ∷ spec.sticky_bit from.now ∷ spec.write_above to.now ∷ spec.removal from.now ∷ []) }
 {
-    Ok(vec![in alloc;
+    Ok(Listed::Several(vec![in alloc;
         Demand::traversal(from),
         Demand::traversal(to),
         Demand::sticky_bit(from),
         Demand::write_above(to),
         Demand::removal(from),
-    ]?)
+    ]?))
 }
 
 /// What only the owner does.
-fn needs_of_ownership<'a>(alloc: Global, path: &'a Path) -> Result<Vec<Demand<'a>>, AllocError>
-    ensures { IfOk result (λ demands. demands.items ≡ spec.strict_traversal path.now ∷ spec.ownership path.now ∷ []) }
+fn needs_of_ownership<'a>(alloc: Global, path: &'a Path) -> Result<Listed<'a>, AllocError>
+    ensures { IfOk result (λ demands. listed demands ≡ spec.strict_traversal path.now ∷ spec.ownership path.now ∷ []) }
 {
-    Ok(vec![in alloc; Demand::strict_traversal(path), Demand::ownership(path)]?)
+    Ok(Listed::Several(vec![in alloc; Demand::strict_traversal(path), Demand::ownership(path)]?))
 }
 
 /// What needs rights on what has the path.
@@ -429,57 +438,57 @@ fn needs_of_access<'a>(
     alloc: Global,
     rights: Rights,
     path: &'a Path,
-) -> Result<Vec<Demand<'a>>, AllocError>
-    ensures { IfOk result (λ demands. demands.items ≡ spec.traversal path.now ∷ spec.access rights path.now ∷ []) }
+) -> Result<Listed<'a>, AllocError>
+    ensures { IfOk result (λ demands. listed demands ≡ spec.traversal path.now ∷ spec.access rights path.now ∷ []) }
 {
-    Ok(vec![in alloc; Demand::traversal(path), Demand::access(rights, path)]?)
+    Ok(Listed::Several(vec![in alloc; Demand::traversal(path), Demand::access(rights, path)]?))
 }
 
 /// What only a superuser does.
-fn needs_of_administration<'a>(alloc: Global) -> Result<Vec<Demand<'a>>, AllocError>
-    ensures { IfOk result (λ demands. demands.items ≡ spec.administration ∷ []) }
+fn needs_of_administration<'a>() -> Listed<'a>
+    ensures { listed result ≡ spec.administration ∷ [] }
 {
-    Ok(vec![in alloc; Demand::administration()]?)
+    Listed::One(Demand::administration())
 }
 
 /// What only a DataNode does.
-fn needs_of_node<'a>(alloc: Global) -> Result<Vec<Demand<'a>>, AllocError>
-    ensures { IfOk result (λ demands. demands.items ≡ spec.node_identity ∷ []) }
+fn needs_of_node<'a>() -> Listed<'a>
+    ensures { listed result ≡ spec.node_identity ∷ [] }
 {
-    Ok(vec![in alloc; Demand::node_principal()]?)
+    Listed::One(Demand::node_principal())
 }
 
 /// The one table of required rights. Each line is one call: a function in which the needs themselves are made takes far longer
 /// to prove.
-fn demands_of<'a>(alloc: Global, op: &'a Op) -> Result<Vec<Demand<'a>>, AllocError>
-    ensures { IfOk result (λ demands. demands.items ≡ spec.required_rights op.now) }
+fn demands_of<'a>(alloc: Global, op: &'a Op) -> Result<Listed<'a>, AllocError>
+    ensures { IfOk result (λ demands. listed demands ≡ spec.required_rights op.now) }
 {
     match op {
         Op::Mkdirs(path, _) => needs_of_mkdirs(alloc, path),
-        Op::Stat(path) => needs_of_traversal(alloc, path),
+        Op::Stat(path) => Ok(needs_of_traversal(path)),
         Op::List(path) => needs_of_list(alloc, path),
         Op::Summary(path) => needs_of_summary(alloc, path),
         Op::Delete(path, _) => needs_of_delete(alloc, path),
         Op::Rename(from, to) => needs_of_rename(alloc, from, to),
         Op::SetMode(path, _) => needs_of_ownership(alloc, path),
-        Op::GetAcl(path) => needs_of_traversal(alloc, path),
+        Op::GetAcl(path) => Ok(needs_of_traversal(path)),
         Op::SetAcl(path, _) => needs_of_ownership(alloc, path),
         Op::SetOwner(path, owner, group) => needs_of_owner(alloc, path, owner, group),
         Op::Create(path, _, _, over) => needs_of_file(alloc, path, *over),
         Op::Append(path) => needs_of_access(alloc, Rights::WRITE, path),
         Op::SetReplication(path, _) => needs_of_access(alloc, Rights::WRITE, path),
         Op::Open(path) => needs_of_access(alloc, Rights::READ, path),
-        Op::AddBlock(path, _) => needs_of_traversal(alloc, path),
-        Op::Complete(path, _) => needs_of_traversal(alloc, path),
-        Op::Renew => Ok(Vec::new(alloc)),
-        Op::AddUser(_, _) => needs_of_administration(alloc),
-        Op::SetGroups(_, _) => needs_of_administration(alloc),
-        Op::RollKey(_) | Op::Tick => needs_of_administration(alloc),
-        Op::Heartbeat | Op::Reported(_) | Op::CommitRecovery(_) => needs_of_node(alloc),
+        Op::AddBlock(path, _) => Ok(needs_of_traversal(path)),
+        Op::Complete(path, _) => Ok(needs_of_traversal(path)),
+        Op::Renew => Ok(Listed::Several(Vec::new(alloc))),
+        Op::AddUser(_, _) => Ok(needs_of_administration()),
+        Op::SetGroups(_, _) => Ok(needs_of_administration()),
+        Op::RollKey(_) | Op::Tick => Ok(needs_of_administration()),
+        Op::Heartbeat | Op::Reported(_) | Op::CommitRecovery(_) => Ok(needs_of_node()),
     }
 }
 
-/// The needs of an operation, with its paths borrowed.
+/// The needs of an operation, with its paths borrowed. Takes no memory where there is one need.
 pub fn needs_of<'a>(alloc: Global, op: &'a Op) -> Result<Needs<'a>, AllocError>
     ensures { IfOk result (λ needs. needs ≡ spec.required_rights op.now) }
 {

@@ -1,11 +1,16 @@
 -- The blocks that too few nodes report are listed, behind a change of one block.
-use Rattle.std.proofs.Common.{◌≡◌, ◌∙◌, ℕ, Bool, true, false, List, [], ◌∷◌, Option, Some, None, refl, sym, ap, subst, cond, true≢false}
+use Rattle.std.proofs.Common.{◌≡◌, ◌≤◌, ◌∙◌, ℕ, Bool, true, false, List, [], ◌∷◌, length, Option, Some, None, refl, sym, ap, subst, cond, true≢false, arith}
+use Rattle.std.specs.BTreeMap.{insert_entry}
 use Rattle.std.specs.List.{list_any}
 use Rattle.std.specs.Option.{is_some}
+use Rattle.std.specs.Ordering.{nat_cmp, match_ordering}
+use Rattle.std.specs.declared.cmp.Ordering.{Ordering}
+use Rattle.std.specs.declared.cmp.Ordering.TheVariants.{Less, Equal, Greater}
 use Rattle.block_records.specs.Numbers.{is_number, entry_at}
 use Rattle.block_records.specs.declared.block_record.BlockRecord.{BlockRecord}
 use Rattle.block_records.proofs.Numbers.{number_is}
-use Rattle.block_tables.specs.Changes.{with_record_changed, changed_by, with_hand_out, with_hand_outs}
+use Rattle.block_records.proofs.Standing.{inserted_ordered}
+use Rattle.block_tables.specs.Changes.{with_record_changed, changed_by, with_report, with_hand_out, with_hand_outs}
 use Rattle.scarce_blocks.specs.Scarce.{IsAmple, AreAmple, AreOthersAmple}
 use Rattle.scarce_blocks.proofs.Stays.{put_at, others_stay}
 
@@ -44,6 +49,41 @@ ample_more block table scarce more put law q unlisted = by (is_number block q) r
 
 pub uncommitted : (own : BlockRecord) → is_some own.committed ≡ false → IsAmple (Some own)
 uncommitted own none some = absurd (true≢false (sym some ∙ none))
+
+-- ---- a report more
+
+longer : (node bytes : ℕ) (reports : List (ℕ × ℕ)) → length reports ≤ length (insert_entry nat_cmp reports node bytes)
+longer node bytes [] = omega arith
+longer node bytes (report ∷ reports) = by (nat_cmp node report.0) (longer node bytes reports)
+  where
+    by : (o : Ordering) → length reports ≤ length (insert_entry nat_cmp reports node bytes)
+        → length (report ∷ reports) ≤ length (match_ordering o ((node, bytes) ∷ report ∷ reports) ((report.0, bytes) ∷ reports) (report ∷ insert_entry nat_cmp reports node bytes))
+    by Less rest = omega arith
+    by Equal rest = omega arith
+    by Greater rest = omega (arith, rest)
+
+-- leaves a block with enough of them
+ample_reported : (node bytes : ℕ) (own : BlockRecord) → IsAmple (Some own) → IsAmple (Some (with_report node bytes own))
+ample_reported node bytes own ample some =
+    let enough : own.replication ≤ length own.reports = (ample some).0 in
+    let more : length own.reports ≤ length (insert_entry nat_cmp own.reports node bytes) = longer node bytes own.reports in
+    (omega (arith, enough, more), inserted_ordered node bytes own.reports (ample some).1)
+
+ample_behind : (node bytes block q : ℕ) (table : List (ℕ × BlockRecord)) (found : Option BlockRecord) → entry_at block table ≡ found → IsAmple (entry_at q table)
+    → IsAmple (entry_at q (changed_by (with_report node bytes) block found table))
+ample_behind node bytes block q table None there ample = ample
+ample_behind node bytes block q table (Some own) there ample = subst IsAmple (sym (put_at block q table own (with_report node bytes own) there)) (by (is_number block q) refl)
+  where
+    by : (b : Bool) → is_number block q ≡ b → IsAmple (cond b (Some (with_report node bytes own)) (entry_at q table))
+    by true at =
+        let same : entry_at q table ≡ Some own = ap (λ n. entry_at n table) (sym (number_is block q at)) ∙ there in
+        let whole : IsAmple (Some own) = subst IsAmple same ample in
+        ample_reported node bytes own whole
+    by false apart = ample
+
+pub ample_held : (node bytes block : ℕ) (table new : List (ℕ × BlockRecord)) (scarce : List ℕ) → new ≡ with_record_changed (with_report node bytes) block table → AreAmple table scarce → AreAmple new scarce
+ample_held node bytes block table new scarce is law q unlisted =
+    subst (λ left. IsAmple (entry_at q left)) (sym is) (ample_behind node bytes block q table (entry_at block table) refl (law q unlisted))
 
 -- ---- hand-outs change nothing of it
 

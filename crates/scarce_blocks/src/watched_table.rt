@@ -176,8 +176,11 @@ impl WatchedTable {
         ensures marked { OnOk result (marks.new ≡ with_marks marks.old more.items) }
         ensures err { OnErr result ((self.new ≡ self.old) × (marks.new ≡ marks.old)) }
     {
+        let is_committed = own.committed.is_some();
         self.table.insert_with(block, own, marks, more)?;
-        watch(&self.table, &mut self.scarce, &mut self.complete, block);
+        if is_committed {
+            watch(&self.table, &mut self.scarce, &mut self.complete, block);
+        }
         Ok(())
     }
 
@@ -191,7 +194,10 @@ impl WatchedTable {
         ensures err { OnErr result (self.new ≡ self.old) }
     {
         self.table.hold(block, node, bytes)?;
-        watch(&self.table, &mut self.scarce, &mut self.complete, block);
+        // a block that isn't listed has enough reports, and a report more leaves it enough
+        if self.scarce.contains(block) {
+            watch(&self.table, &mut self.scarce, &mut self.complete, block);
+        }
         Ok(())
     }
 
