@@ -37,10 +37,16 @@ enum Listed {
 }
 
 /// Keys with their serials, as a NameNode sends them.
-#[derive(Drop)]
 pub struct KeyList {
     keys: Listed,
     alloc: Global,
+}
+
+impl Drop for KeyList {
+    fn drop(self) {
+        let KeyList { keys, alloc: _ } = self;
+        drop(keys);
+    }
 }
 
 impl Model for KeyList {
