@@ -1,2 +1,3 @@
 pub mod Planned
 pub mod InTurn
+pub mod Reporting

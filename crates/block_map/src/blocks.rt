@@ -5,7 +5,6 @@ ghost use Rattle.new_blocks.specs.Behind.{IsFaultOf};
 ghost use Rattle.block_map.specs.BlockFacts.{newest_stamp, committed_length, recovering_since, expected_nodes, transfers_for, due_recoveries, refused_commit, refused_recovery, refused_recovered, known_block};
 ghost use Rattle.block_map.specs.BlockEffects as effect;
 ghost use Rattle.block_records.specs.Marks.{marks_for};
-ghost use Rattle.block_records.specs.Verdicts.{verdict_by};
 ghost use Rattle.block_records.specs.declared.block_record.BlockRecord.{BlockRecord};
 
 use begun_recoveries::{ends, recoveries};
@@ -394,16 +393,6 @@ impl Blocks {
 
     // ---- reports
 
-    // What a report amounts to.
-    fn verdict(&self, block: BlockId, stamp: Stamp, length: u64) -> ReportVerdict
-        ensures { result ≡ verdict_by (known_block self.now block) stamp length }
-    {
-        match self.known.get(block) {
-            Some(own) => own.verdict(stamp, length),
-            None => ReportVerdict::Invalid,
-        }
-    }
-
     // Has a node told to remove its replica, and ends its report where that has the newest stamp.
     fn invalidate(&mut self, node: NodeId, block: BlockId, stamp: Stamp) -> Result<(), AllocError>
         ensures ok { OnOk result (self.new ≡ effect.with_replica_invalid self.old node block stamp) }
@@ -433,10 +422,10 @@ impl Blocks {
         ensures ok { OnOk result (self.new ≡ effect.with_replica_reported self.old node block stamp length) }
         ensures err { OnErr result (self.new ≡ self.old) }
     {
-        match self.verdict(block, stamp, length) {
+        match self.known.report(block, node, stamp, length)? {
             ReportVerdict::Superseded => Ok(()),
             ReportVerdict::Invalid => self.invalidate(node, block, stamp),
-            ReportVerdict::Valid => self.known.hold(block, node, length),
+            ReportVerdict::Valid => Ok(()),
         }
     }
 

@@ -3,3 +3,4 @@ pub mod Held
 pub mod Loads
 pub mod Restored
 pub mod Chosen
+pub mod Reported

@@ -5,7 +5,10 @@ use Rattle.std.specs.Map.{set_value, remove_entry}
 use Rattle.std.specs.Ordering.{nat_cmp}
 use Rattle.block_records.specs.Numbers.{is_number, entry_at}
 use Rattle.block_records.specs.Reports.{agreeing_reports, with_reports_of}
+use Rattle.block_records.specs.Verdicts.{verdict_by}
 use Rattle.block_records.specs.declared.block_record.BlockRecord.{BlockRecord}
+use Rattle.block_records.specs.declared.report.ReportVerdict.{ReportVerdict}
+use Rattle.block_records.specs.declared.report.ReportVerdict.TheVariants.{Valid}
 
 -- the table with another record of a block that is known
 abbrev pub changed_by : (BlockRecord → BlockRecord) → ℕ → Option BlockRecord → List (ℕ × BlockRecord) → List (ℕ × BlockRecord)
@@ -17,6 +20,14 @@ with_record_changed change block table = changed_by change block (entry_at block
 
 abbrev pub with_report : ℕ → ℕ → BlockRecord → BlockRecord
 with_report node length own = record own { reports = insert_entry nat_cmp own.reports node length }
+
+abbrev pub valid_by : ReportVerdict → ℕ → ℕ → BlockRecord → BlockRecord
+valid_by Valid node length own = with_report node length own
+valid_by _ node length own = own
+
+-- the same where the report is valid, and else nothing
+abbrev pub with_valid_report : ℕ → ℕ → ℕ → BlockRecord → BlockRecord
+with_valid_report node stamp length own = valid_by (verdict_by (Some own) stamp length) node length own
 
 abbrev pub without_report : ℕ → BlockRecord → BlockRecord
 without_report node own = record own { reports = remove_entry (is_number node) own.reports }

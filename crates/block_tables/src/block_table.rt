@@ -4,13 +4,14 @@ ghost use Rattle.std.specs.List.{list_any};
 ghost use Rattle.std.specs.List.Sorted.{IsStrictlySortedBy};
 ghost use Rattle.std.specs.Map.{remove_entry, keys_of};
 ghost use Rattle.std.specs.Ordering.{nat_cmp};
+ghost use Rattle.block_records.specs.Verdicts.{verdict_by};
 ghost use Rattle.block_records.specs.Numbers.{is_number, has_number, entry_at};
 ghost use Rattle.block_placement.specs.Placement.{beside, is_chosen, targets};
 ghost use Rattle.block_placement.specs.declared.candidate.Candidate.{Candidate};
 ghost use Rattle.block_tables.specs.Kept.{holds, load, load_without, blocks_on};
 ghost use Rattle.block_index.specs.Relation.{relates};
 ghost use Rattle.block_tables.specs.Recovered.{AreRecovered, AreFresh, AreGone};
-ghost use Rattle.block_tables.specs.Changes.{with_record_changed, with_report, without_report, with_replication, with_length, without_blocks, with_recovery, with_recovered, with_hand_out, with_hand_outs};
+ghost use Rattle.block_tables.specs.Changes.{with_record_changed, with_valid_report, without_report, with_replication, with_length, without_blocks, with_recovery, with_recovered, with_hand_out, with_hand_outs};
 ghost use Rattle.block_records.specs.Marks.{with_marks};
 ghost use Rattle.block_records.specs.Reports.{others_of, agreeing_reports, with_reports_of};
 
@@ -19,6 +20,7 @@ use block_placement::candidate::{Candidate, last_chosen};
 use block_records::block_record::BlockRecord;
 use block_records::mark::{Mark, Marks};
 use block_records::node_set::NodeSet;
+use block_records::report::ReportVerdict;
 use block_records::reports::Reports;
 use hdfs_values::ids::{BlockId, Stamp};
 use hdfs_values::moment::Moment;
@@ -322,28 +324,39 @@ impl BlockTable {
         Ok(())
     }
 
-    /// Notes that a node reports a block with this length; of a block that isn't known nothing is noted. Costs a look-up of the
-    /// block, and one among its nodes.
+    /// What a node's report of a replica amounts to; where it is valid, it is noted that the node reports the block with this length.
+    /// Costs a look-up of the block, and one among its nodes.
     ///
     /// # Errors
     /// Out of memory. Nothing has changed then.
-    pub fn hold(&mut self, block: BlockId, node: NodeId, bytes: u64) -> Result<(), AllocError>
-        ensures ok { OnOk result (self.new ≡ with_record_changed (with_report node bytes) block self.old) }
+    pub fn report(
+        &mut self,
+        block: BlockId,
+        node: NodeId,
+        stamp: Stamp,
+        bytes: u64,
+    ) -> Result<ReportVerdict, AllocError>
+        ensures verdict { IfOk result (λ verdict. verdict ≡ verdict_by (entry_at block self.old) stamp bytes) }
+        ensures ok { OnOk result (self.new ≡ with_record_changed (with_valid_report node stamp bytes) block self.old) }
         ensures err { OnErr result (self.new ≡ self.old) }
     {
         let Some(own) = self.records.get_mut(&block) else {
-            return Ok(());
+            return Ok(ReportVerdict::Invalid);
+        };
+        let verdict = own.verdict(stamp, bytes);
+        let ReportVerdict::Valid = verdict else {
+            return Ok(verdict);
         };
         if own.holds(node) {
             own.reports.insert(node, bytes)?;
-            return Ok(());
+            return Ok(verdict);
         }
         self.held.insert(node, block)?;
         if let Err(fault) = own.reports.insert(node, bytes) {
             self.held.remove(node, block);
             return Err(fault);
         }
-        Ok(())
+        Ok(verdict)
     }
 
     /// Ends a node's report of a block. Costs a look-up of the block, and one among its nodes, and takes no memory.

@@ -10,7 +10,7 @@ ghost use Rattle.cluster_runs.specs.Output as spec;
 ghost use Rattle.cluster_runs.specs.Shown.{Shows, KeepsLines, ShowsFirst};
 
 use cluster_core::world::{NameCore, World};
-use cluster_text::event_line::read_event;
+use cluster_text::event_line::read_event_with;
 use cluster_text::told::{print_bad, print_told};
 use cluster_trace::event::Event;
 use cluster_trace::outcome::Outcome;
@@ -19,7 +19,7 @@ use hdfs_types::key::Key;
 use hdfs_values::fault::IllFormed;
 use hdfs_values::node_id::NodeId;
 use history::config::Config;
-use script_words::words::{is_skipped, without_return};
+use script_words::words::{is_skipped, no_words, without_return};
 use std::alloc::{AllocError, Global};
 use std::mem;
 
@@ -214,15 +214,24 @@ impl Session {
     }
 
     /// What a line says, where it is read behind those that were run.
-    fn read(&self, line: &str) -> Result<Result<Event, IllFormed>, AllocError>
+    fn read<'a>(
+        &self,
+        words: &mut Vec<&'a str>,
+        line: &'a str,
+    ) -> Result<Result<Event, IllFormed>, AllocError>
         ensures { IfOk result (λ said. said ≡ spec.event_in self.now.world line.now) }
     {
-        read_event(self.alloc, self.world.core().ledger().as_slice(), line)
+        read_event_with(
+            self.alloc,
+            self.world.core().ledger().as_slice(),
+            words,
+            line,
+        )
     }
 
-    /// Runs a line, and adds its answer to the output where it has one. Where memory runs out the line isn't counted, and the
-    /// output stays as it was.
-    fn serve(&mut self, line: &str) -> Result<(), AllocError>
+    /// Runs a line, and adds its answer to the output where it has one. The list is for the words of the line. Where memory runs out
+    /// the line isn't counted, and the output stays as it was.
+    fn serve<'a>(&mut self, words: &mut Vec<&'a str>, line: &'a str) -> Result<(), AllocError>
         requires { self.old.number + 1 < 2 ^ 64 }
         ensures number { OnOk result (self.new.number ≡ self.old.number + 1) }
         ensures ok { (state : spec.State) → Shows state self.old → OnOk result (Shows (spec.after_line state line.now) self.new) }
@@ -233,7 +242,7 @@ impl Session {
             self.number += 1;
             return Ok(());
         }
-        let said = self.read(line)?;
+        let said = self.read(words, line)?;
         self.answer(said)
     }
 
@@ -241,13 +250,14 @@ impl Session {
     ///
     /// # Errors
     /// Out of memory.
-    pub fn serve_all(&mut self, lines: &[&str]) -> Result<(), AllocError>
+    pub fn serve_all<'a>(&mut self, lines: &[&'a str]) -> Result<(), AllocError>
         requires { self.old.number + length lines.now < 2 ^ 64 }
         ensures ok { (state : spec.State) → Shows state self.old → OnOk result (Shows (spec.behind_lines state (map (λ line. line.now) lines.now)) self.new) }
         ensures err { (state : spec.State) → Shows state self.old → OnErr result (ShowsFirst state (map (λ line. line.now) lines.now) self.new) }
     {
+        let mut words = no_words(self.alloc)?;
         for line in lines {
-            self.serve(line)?;
+            self.serve(&mut words, line)?;
         }
         Ok(())
     }

@@ -18,7 +18,7 @@ use node_words::payload::bytes_word;
 use node_words::tokens::token_word;
 use script_text::line::request_of;
 use script_words::values::{moment_word, number_word, who_word};
-use script_words::words::{is_word, words_in};
+use script_words::words::{is_word, no_words, put_words};
 use std::alloc::{AllocError, Global};
 
 /// Who asks which DataNode, and when.
@@ -358,6 +358,27 @@ pub fn event_of(alloc: Global, ledger: &[LedgerRow], words: &[&str]) -> Result<E
     name_event(alloc, words)
 }
 
+/// The event that a line makes, where these tokens were granted before, or how the line is ill-formed. The list is for the words of
+/// the line, so that many lines are read with the memory of one.
+///
+/// # Errors
+/// Out of memory.
+pub fn read_event_with<'a>(
+    alloc: Global,
+    ledger: &[LedgerRow],
+    words: &mut Vec<&'a str>,
+    line: &'a str,
+) -> Result<Result<Event, IllFormed>, AllocError>
+    ensures { IfOk result (λ said. said ≡ spec.event_of ledger.now (words_of line.now)) }
+{
+    put_words(words, line)?;
+    match event_of(alloc, ledger, words) {
+        Ok(event) => Ok(Ok(event)),
+        Err(ParseFault::IllFormed(fault)) => Ok(Err(fault)),
+        Err(ParseFault::OutOfMemory) => Err(AllocError),
+    }
+}
+
 /// The event that a line makes, where these tokens were granted before, or how the line is ill-formed.
 ///
 /// # Errors
@@ -369,10 +390,6 @@ pub fn read_event(
 ) -> Result<Result<Event, IllFormed>, AllocError>
     ensures { IfOk result (λ said. said ≡ spec.event_of ledger.now (words_of line.now)) }
 {
-    let words = words_in(alloc, line)?;
-    match event_of(alloc, ledger, &words) {
-        Ok(event) => Ok(Ok(event)),
-        Err(ParseFault::IllFormed(fault)) => Ok(Err(fault)),
-        Err(ParseFault::OutOfMemory) => Err(AllocError),
-    }
+    let mut words = no_words(alloc)?;
+    read_event_with(alloc, ledger, &mut words, line)
 }

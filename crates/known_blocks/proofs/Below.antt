@@ -33,7 +33,7 @@ pub below_changed : (change : BlockRecord → BlockRecord) (block next : ℕ) (t
 below_changed change block next table new is below q there =
     below q (sym (ap (λ t. is_some (entry_at q t)) is ∙ some_changed change block q table (entry_at block table)) ∙ there)
 
-pub below_where_done : {E : Type 0} (r : Result (Unit {0}) E) (change : BlockRecord → BlockRecord) (block next : ℕ) (table new : List (ℕ × BlockRecord))
+pub below_where_done : {A E : Type 0} (r : Result A E) (change : BlockRecord → BlockRecord) (block next : ℕ) (table new : List (ℕ × BlockRecord))
     → OnOk r (new ≡ with_record_changed change block table) → OnErr r (new ≡ table) → AreBelow table next → AreBelow new next
 below_where_done (Ok u) change block next table new ok err below = below_changed change block next table new ok below
 below_where_done (Err e) change block next table new ok err below = λ q there. below q (ap (λ t. is_some (entry_at q t)) (sym err) ∙ there)

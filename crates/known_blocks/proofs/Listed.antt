@@ -44,7 +44,7 @@ listed_still change block table new running is still law q recovers =
 pub listed_alike : (table new : List (ℕ × BlockRecord)) (running : List ℕ) → new ≡ table → AreListed table running → AreListed new running
 listed_alike table new running is law q recovers = law q (sym (ap (λ t. is_recovering_by (entry_at q t)) is) ∙ recovers)
 
-pub listed_where_done : {E : Type 0} (r : Result (Unit {0}) E) (change : BlockRecord → BlockRecord) (block : ℕ) (table new : List (ℕ × BlockRecord)) (running : List ℕ)
+pub listed_where_done : {A E : Type 0} (r : Result A E) (change : BlockRecord → BlockRecord) (block : ℕ) (table new : List (ℕ × BlockRecord)) (running : List ℕ)
     → OnOk r (new ≡ with_record_changed change block table) → OnErr r (new ≡ table) → ((own : BlockRecord) → is_some (change own).recovering ≡ is_some own.recovering)
     → AreListed table running → AreListed new running
 listed_where_done (Ok u) change block table new running ok err still law = listed_still change block table new running ok still law

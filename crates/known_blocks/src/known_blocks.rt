@@ -6,8 +6,9 @@ ghost use Rattle.std.specs.Map.{keys_of};
 ghost use Rattle.std.specs.Ordering.{nat_cmp};
 ghost use Rattle.block_records.specs.Marks.{with_marks};
 ghost use Rattle.block_records.specs.Reports.{others_of};
+ghost use Rattle.block_records.specs.Verdicts.{verdict_by};
 ghost use Rattle.block_placement.specs.Placement.{targets};
-ghost use Rattle.block_tables.specs.Changes.{with_record_changed, with_report, without_report, with_replication, with_length, with_recovery, with_recovered};
+ghost use Rattle.block_tables.specs.Changes.{with_record_changed, with_valid_report, without_report, with_replication, with_length, with_recovery, with_recovered};
 ghost use Rattle.block_tables.specs.Kept.{load};
 ghost use Rattle.scarce_blocks.specs.Scarce.{CoversLacking};
 ghost use Rattle.recovery_queue.specs.Queue.{put, all_put};
@@ -20,6 +21,7 @@ use block_records::fault::{BlockRefusal, Counter};
 use block_records::last_block::LastBlock;
 use block_records::mark::{Mark, Marks};
 use block_records::node_set::NodeSet;
+use block_records::report::ReportVerdict;
 use block_records::reports::Reports;
 use hdfs_values::ids::{BlockId, Stamp};
 use hdfs_values::moment::Moment;
@@ -343,16 +345,23 @@ impl KnownBlocks {
         self.table.set_replication(block, replication);
     }
 
-    /// Notes that a node reports a block with this length; of a block that isn't known nothing is noted. Costs a look-up of the
-    /// block, and one among its nodes.
+    /// What a node's report of a replica amounts to; where it is valid, it is noted that the node reports the block with this length.
+    /// Costs a look-up of the block, and one among its nodes.
     ///
     /// # Errors
     /// Out of memory. Nothing has changed then.
-    pub fn hold(&mut self, block: BlockId, node: NodeId, bytes: u64) -> Result<(), AllocError>
-        ensures ok { OnOk result (self.new ≡ spec.with_block_changed (with_report node bytes) block self.old) }
+    pub fn report(
+        &mut self,
+        block: BlockId,
+        node: NodeId,
+        stamp: Stamp,
+        bytes: u64,
+    ) -> Result<ReportVerdict, AllocError>
+        ensures verdict { IfOk result (λ verdict. verdict ≡ verdict_by (spec.block_of self.old block) stamp bytes) }
+        ensures ok { OnOk result (self.new ≡ spec.with_block_changed (with_valid_report node stamp bytes) block self.old) }
         ensures err { OnErr result (self.new ≡ self.old) }
     {
-        self.table.hold(block, node, bytes)
+        self.table.report(block, node, stamp, bytes)
     }
 
     /// Ends a node's report of a block. Costs a look-up of the block, and one among its nodes, and takes no memory.

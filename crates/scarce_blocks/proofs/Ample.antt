@@ -7,10 +7,13 @@ use Rattle.std.specs.Ordering.{nat_cmp, match_ordering}
 use Rattle.std.specs.declared.cmp.Ordering.{Ordering}
 use Rattle.std.specs.declared.cmp.Ordering.TheVariants.{Less, Equal, Greater}
 use Rattle.block_records.specs.Numbers.{is_number, entry_at}
+use Rattle.block_records.specs.Verdicts.{verdict_by}
 use Rattle.block_records.specs.declared.block_record.BlockRecord.{BlockRecord}
+use Rattle.block_records.specs.declared.report.ReportVerdict.{ReportVerdict}
+use Rattle.block_records.specs.declared.report.ReportVerdict.TheVariants.{Superseded, Invalid, Valid}
 use Rattle.block_records.proofs.Numbers.{number_is}
 use Rattle.block_records.proofs.Standing.{inserted_ordered}
-use Rattle.block_tables.specs.Changes.{with_record_changed, changed_by, with_report, with_hand_out, with_hand_outs}
+use Rattle.block_tables.specs.Changes.{with_record_changed, changed_by, with_report, with_valid_report, valid_by, with_hand_out, with_hand_outs}
 use Rattle.scarce_blocks.specs.Scarce.{IsAmple, AreAmple, AreOthersAmple}
 use Rattle.scarce_blocks.proofs.Stays.{put_at, others_stay}
 
@@ -69,21 +72,29 @@ ample_reported node bytes own ample some =
     let more : length own.reports ≤ length (insert_entry nat_cmp own.reports node bytes) = longer node bytes own.reports in
     (omega (arith, enough, more), inserted_ordered node bytes own.reports (ample some).1)
 
-ample_behind : (node bytes block q : ℕ) (table : List (ℕ × BlockRecord)) (found : Option BlockRecord) → entry_at block table ≡ found → IsAmple (entry_at q table)
-    → IsAmple (entry_at q (changed_by (with_report node bytes) block found table))
-ample_behind node bytes block q table None there ample = ample
-ample_behind node bytes block q table (Some own) there ample = subst IsAmple (sym (put_at block q table own (with_report node bytes own) there)) (by (is_number block q) refl)
+-- and so does one that isn't valid
+ample_by : (verdict : ReportVerdict) (node bytes : ℕ) (own : BlockRecord) → IsAmple (Some own) → IsAmple (Some (valid_by verdict node bytes own))
+ample_by Superseded node bytes own ample = ample
+ample_by Invalid node bytes own ample = ample
+ample_by Valid node bytes own ample = ample_reported node bytes own ample
+
+ample_behind : (node stamp bytes block q : ℕ) (table : List (ℕ × BlockRecord)) (found : Option BlockRecord) → entry_at block table ≡ found → IsAmple (entry_at q table)
+    → IsAmple (entry_at q (changed_by (with_valid_report node stamp bytes) block found table))
+ample_behind node stamp bytes block q table None there ample = ample
+ample_behind node stamp bytes block q table (Some own) there ample =
+    subst IsAmple (sym (put_at block q table own (with_valid_report node stamp bytes own) there)) (by (is_number block q) refl)
   where
-    by : (b : Bool) → is_number block q ≡ b → IsAmple (cond b (Some (with_report node bytes own)) (entry_at q table))
+    by : (b : Bool) → is_number block q ≡ b → IsAmple (cond b (Some (with_valid_report node stamp bytes own)) (entry_at q table))
     by true at =
         let same : entry_at q table ≡ Some own = ap (λ n. entry_at n table) (sym (number_is block q at)) ∙ there in
         let whole : IsAmple (Some own) = subst IsAmple same ample in
-        ample_reported node bytes own whole
+        ample_by (verdict_by (Some own) stamp bytes) node bytes own whole
     by false apart = ample
 
-pub ample_held : (node bytes block : ℕ) (table new : List (ℕ × BlockRecord)) (scarce : List ℕ) → new ≡ with_record_changed (with_report node bytes) block table → AreAmple table scarce → AreAmple new scarce
-ample_held node bytes block table new scarce is law q unlisted =
-    subst (λ left. IsAmple (entry_at q left)) (sym is) (ample_behind node bytes block q table (entry_at block table) refl (law q unlisted))
+pub ample_held : (node stamp bytes block : ℕ) (table new : List (ℕ × BlockRecord)) (scarce : List ℕ) → new ≡ with_record_changed (with_valid_report node stamp bytes) block table
+    → AreAmple table scarce → AreAmple new scarce
+ample_held node stamp bytes block table new scarce is law q unlisted =
+    subst (λ left. IsAmple (entry_at q left)) (sym is) (ample_behind node stamp bytes block q table (entry_at block table) refl (law q unlisted))
 
 -- ---- hand-outs change nothing of it
 

@@ -7,8 +7,9 @@ ghost use Rattle.std.specs.Ordering.{nat_cmp};
 ghost use Rattle.block_records.specs.Marks.{with_marks};
 ghost use Rattle.block_records.specs.Numbers.{is_number, entry_at};
 ghost use Rattle.block_records.specs.Reports.{others_of};
+ghost use Rattle.block_records.specs.Verdicts.{verdict_by};
 ghost use Rattle.block_placement.specs.Placement.{targets};
-ghost use Rattle.block_tables.specs.Changes.{with_record_changed, with_report, without_report, with_replication, with_length, with_recovery, with_recovered, with_hand_outs};
+ghost use Rattle.block_tables.specs.Changes.{with_record_changed, with_valid_report, without_report, with_replication, with_length, with_recovery, with_recovered, with_hand_outs};
 ghost use Rattle.block_tables.specs.Kept.{load};
 ghost use Rattle.scarce_blocks.specs.Scarce.{IsAmple, AreAmple, AreOthersAmple, CoversLacking};
 
@@ -16,6 +17,7 @@ use block_index::node_blocks::BlockSet;
 use block_records::block_record::BlockRecord;
 use block_records::mark::{Mark, Marks};
 use block_records::node_set::NodeSet;
+use block_records::report::ReportVerdict;
 use block_tables::block_table::BlockTable;
 use hdfs_values::ids::{BlockId, Stamp};
 use hdfs_values::moment::Moment;
@@ -184,21 +186,28 @@ impl WatchedTable {
         Ok(())
     }
 
-    /// Notes that a node reports a block with this length; of a block that isn't known nothing is noted. Costs a look-up of the
-    /// block, and one among its nodes.
+    /// What a node's report of a replica amounts to; where it is valid, it is noted that the node reports the block with this length.
+    /// Costs a look-up of the block, and one among its nodes.
     ///
     /// # Errors
     /// Out of memory. Nothing has changed then.
-    pub fn hold(&mut self, block: BlockId, node: NodeId, bytes: u64) -> Result<(), AllocError>
-        ensures ok { OnOk result (self.new ≡ with_record_changed (with_report node bytes) block self.old) }
+    pub fn report(
+        &mut self,
+        block: BlockId,
+        node: NodeId,
+        stamp: Stamp,
+        bytes: u64,
+    ) -> Result<ReportVerdict, AllocError>
+        ensures verdict { IfOk result (λ verdict. verdict ≡ verdict_by (entry_at block self.old) stamp bytes) }
+        ensures ok { OnOk result (self.new ≡ with_record_changed (with_valid_report node stamp bytes) block self.old) }
         ensures err { OnErr result (self.new ≡ self.old) }
     {
-        self.table.hold(block, node, bytes)?;
+        let verdict = self.table.report(block, node, stamp, bytes)?;
         // a block that isn't listed has enough reports, and a report more leaves it enough
         if self.scarce.contains(block) {
             watch(&self.table, &mut self.scarce, &mut self.complete, block);
         }
-        Ok(())
+        Ok(verdict)
     }
 
     /// Ends a node's report of a block. Costs a look-up of the block, and one among its nodes. Where there is no memory, it needs none.

@@ -70,17 +70,42 @@ fn push_filled<'a>(words: &mut Vec<&'a str>, piece: &'a str) -> Result<(), Alloc
 /// As many words as nearly all lines have at most: a packet's has ten.
 const USUAL_WORDS: usize = 12;
 
+/// Has a list hold the words of a line, which spaces and tabs separate, in the place of what it held. Costs the line.
+///
+/// # Errors
+/// Out of memory. The list may hold some of the words then.
+pub fn put_words<'a>(words: &mut Vec<&'a str>, line: &'a str) -> Result<(), AllocError>
+    ensures { OnOk result (map (λ word. word.now) words.new.items ≡ spec.words_of line.now) }
+{
+    words.clear();
+    let mut rest = line;
+    while let Some((piece, behind)) = cut_at_blank(rest) {
+        push_filled(words, piece)?;
+        rest = behind;
+    }
+    push_filled(words, rest)?;
+    Ok(())
+}
+
+/// An empty list, with room for the words of nearly any line.
+///
+/// # Errors
+/// Out of memory.
+pub fn no_words<'a>(alloc: Global) -> Result<Vec<&'a str>, AllocError>
+    ensures { IfOk result (λ words. words.items ≡ []) }
+{
+    Ok(Vec::with_capacity(alloc, USUAL_WORDS)?)
+}
+
 /// The words of a line, which spaces and tabs separate. Costs the line.
+///
+/// # Errors
+/// Out of memory.
 pub fn words_in(alloc: Global, line: &str) -> Result<Vec<&str>, AllocError>
     ensures { IfOk result (λ words. map (λ word. word.now) words.items ≡ spec.words_of line.now) }
 {
-    let mut words = Vec::with_capacity(alloc, USUAL_WORDS)?;
-    let mut rest = line;
-    while let Some((piece, behind)) = cut_at_blank(rest) {
-        push_filled(&mut words, piece)?;
-        rest = behind;
-    }
-    push_filled(&mut words, rest)?;
+    let mut words = no_words(alloc)?;
+    put_words(&mut words, line)?;
     Ok(words)
 }
 

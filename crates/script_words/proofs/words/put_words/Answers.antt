@@ -2,7 +2,7 @@ use Rattle.std.proofs.Common.{◌∙◌, ◌++◌, Bor, List, ℕ, map, sym, ap}
 use Rattle.std.specs.Prelude.{filter}
 use Rattle.script_words.specs.Words.{is_filled}
 use Rattle.script_words.proofs.Blanks.{words_are}
-use Rattle.script_words.proofs.words.words_in.Goals as goal
+use Rattle.script_words.proofs.words.put_words.Goals as goal
 
 pub returns : goal.returns
 returns c =
