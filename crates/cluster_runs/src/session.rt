@@ -19,7 +19,7 @@ use hdfs_types::key::Key;
 use hdfs_values::fault::IllFormed;
 use hdfs_values::node_id::NodeId;
 use history::config::Config;
-use script_words::words::{is_skipped, no_words, without_return};
+use script_words::words::{is_skipped, without_return};
 use std::alloc::{AllocError, Global};
 use std::mem;
 
@@ -255,7 +255,7 @@ impl Session {
         ensures ok { (state : spec.State) → Shows state self.old → OnOk result (Shows (spec.behind_lines state (map (λ line. line.now) lines.now)) self.new) }
         ensures err { (state : spec.State) → Shows state self.old → OnErr result (ShowsFirst state (map (λ line. line.now) lines.now) self.new) }
     {
-        let mut words = no_words(self.alloc)?;
+        let mut words = Vec::new(self.alloc);
         for line in lines {
             self.serve(&mut words, line)?;
         }
