@@ -10,12 +10,12 @@ use Rattle.block_records.specs.declared.report.ReportVerdict.{ReportVerdict}
 use Rattle.block_records.specs.declared.report.ReportVerdict.TheVariants.{Superseded, Invalid, Valid}
 use Rattle.block_tables.specs.Changes.{with_report, without_report, with_replication, with_length, with_recovery, with_recovered, with_hand_out}
 use Rattle.recovery_queue.specs.declared.begun.BegunRecovery.{BegunRecovery}
-use Rattle.new_blocks.specs.Behind.{refused_length}
+use Rattle.block_changes.specs.Behind.{refused_length}
 use Rattle.known_blocks.specs.Known as known
 use Rattle.known_blocks.specs.Known.{KnownBlocks, block_of, with_block_changed, new_record}
 use Rattle.block_map.specs.BlockFacts.{Blocks, chosen_targets, newest_stamp, transfers_for}
 use Rattle.block_map.specs.BlockEffects.{with_length_committed, committed_last, with_recovery_begun, recoveries_begun, with_node_heard, without_report_at, reported_by}
-use Rattle.block_copies.specs.declared.transfer.Transfer.{Transfer}
+use Rattle.block_changes.specs.declared.transfer.Transfer.{Transfer}
 use Rattle.block_effect_laws.specs.Laws.{AgreeOn, IsSoundAt, IsSound, GoesOn, KeepsKnown, AdditionKeeps, RemovalKeeps, RemovalsKeep, ReplicationKeeps, CommitKeeps, RequestKeeps, BeginKeeps, BeginsKeep, RecoveryKeeps, HeartbeatKeeps, ReportKeeps}
 use Rattle.block_effect_laws.proofs.Orders.{put_in_order, taken_in_order, changed_in_order}
 use Rattle.block_effect_laws.proofs.Reports.{agreeing_have, reported_is, more_have, agree_on_put, agree_on_left, agree_on_none}

@@ -19,7 +19,7 @@ use hdfs_values::path::Path;
 use hdfs_values::replication::Repl;
 use hdfs_values::who::Who;
 use inode_tree::tree::Tree;
-use new_blocks::behind::NewBlock;
+use block_changes::behind::NewBlock;
 use node_commands::commands::granted_row;
 use permission_specs::modes::Modes;
 use std::alloc::{AllocError, Global};

@@ -10,7 +10,7 @@ use Rattle.block_records.specs.declared.block_record.BlockRecord.{BlockRecord}
 use Rattle.recovery_queue.specs.declared.begun.BegunRecovery.{BegunRecovery}
 use Rattle.heartbeats.specs.Live.{Heartbeats}
 use Rattle.known_blocks.specs.Known.{KnownBlocks, block_of, is_spent, with_stamps}
-use Rattle.begun_recoveries.specs.Leaders.{leader_of, blocks_with_leaders}
+use Rattle.block_changes.specs.Leaders.{leader_of, blocks_with_leaders}
 use Rattle.block_map.specs.BlockEffects.{with_recoveries_begun}
 use Rattle.namespace_rows.specs.declared.file_row.FileRow.{FileRow}
 use Rattle.namespace_rows.specs.declared.row.Row.{Row}

@@ -14,13 +14,13 @@ use Rattle.block_records.specs.declared.last_block.LastBlock.{LastBlock}
 use Rattle.block_records.specs.declared.report.ReportVerdict.{ReportVerdict}
 use Rattle.block_records.specs.declared.report.ReportVerdict.TheVariants.{Superseded, Invalid, Valid}
 use Rattle.block_records.proofs.Numbers.{number_is}
-use Rattle.block_copies.specs.declared.transfer.Transfer.{Transfer}
+use Rattle.block_changes.specs.declared.transfer.Transfer.{Transfer}
 use Rattle.recovery_queue.specs.declared.begun.BegunRecovery.{BegunRecovery}
 use Rattle.block_tables.specs.Changes.{with_record_changed, with_report, without_report, with_replication, with_length, with_recovery, with_recovered, with_hand_out}
 use Rattle.known_blocks.specs.Known as known
 use Rattle.known_blocks.specs.Known.{KnownBlocks, block_of, with_block_changed, new_record}
 use Rattle.known_blocks.proofs.Behind.{altered_behind}
-use Rattle.new_blocks.specs.Behind.{refused_length}
+use Rattle.block_changes.specs.Behind.{refused_length}
 use Rattle.block_map.specs.BlockFacts.{Blocks, newest_stamp, transfers_for, chosen_targets}
 use Rattle.block_map.specs.BlockEffects.{with_block_replication, with_recovery_begun, with_recoveries_begun, recoveries_begun, with_heartbeat_answered, with_node_heard, with_replica_reported, reported_by, without_report_at, committed_last, refused_last, added_behind}
 use Rattle.block_effect_laws.specs.Laws.{IsSound}

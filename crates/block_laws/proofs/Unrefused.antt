@@ -15,7 +15,7 @@ use Rattle.hdfs_types.specs.declared.reply.Reply.{Reply}
 use Rattle.hdfs_types.specs.declared.reply.Refusal.{Refusal}
 use Rattle.hdfs_types.specs.declared.reply.Refusal.TheVariants.{IsDirectory, NotDirectory, NotYetReplicated}
 use Rattle.hdfs_values.specs.Path.{is_prefix}
-use Rattle.begun_recoveries.specs.Ends.{refused_recovered_by}
+use Rattle.block_changes.specs.Ends.{refused_recovered_by}
 use Rattle.block_map.specs.BlockFacts.{refused_commit, refused_targets, refused_recovered}
 use Rattle.block_map.specs.BlockEffects as effect
 use Rattle.known_blocks.specs.Known.{KnownBlocks, block_of, refused_new_block}

@@ -13,7 +13,7 @@ use Rattle.recovery_queue.specs.declared.begun.BegunRecovery.{BegunRecovery}
 use Rattle.known_blocks.specs.Known as known
 use Rattle.known_blocks.specs.Known.{KnownBlocks, is_spent, with_stamps}
 use Rattle.scarce_blocks.proofs.Stays.{put_at}
-use Rattle.begun_recoveries.specs.Leaders.{expected_by, queued_for, blocks_with_leaders}
+use Rattle.block_changes.specs.Leaders.{expected_by, queued_for, blocks_with_leaders}
 use Rattle.block_map.specs.BlockFacts.{Blocks, leader}
 use Rattle.block_map.specs.BlockEffects.{with_recovery_begun, recoveries_begun, with_recoveries_begun}
 

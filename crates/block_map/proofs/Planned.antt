@@ -9,8 +9,8 @@ use Rattle.heartbeats.specs.Live.{live_nodes}
 use Rattle.known_blocks.specs.Known as known
 use Rattle.known_blocks.specs.Known.{KnownBlocks, refused_new_block}
 use Rattle.block_records.specs.declared.last_block.LastBlock.{LastBlock}
-use Rattle.new_blocks.specs.Behind as behind
-use Rattle.new_blocks.specs.Behind.{with_last_length, marks_behind}
+use Rattle.block_changes.specs.Behind as behind
+use Rattle.block_changes.specs.Behind.{with_last_length, marks_behind}
 use Rattle.block_map.specs.BlockFacts.{Blocks, refused_targets}
 use Rattle.block_map.specs.BlockEffects.{refused_last, refused_behind, given_behind, added_behind}
 

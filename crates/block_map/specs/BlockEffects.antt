@@ -12,20 +12,20 @@ use Rattle.block_records.specs.declared.fault.BlockRefusal.{BlockRefusal}
 use Rattle.block_records.specs.declared.report.ReportVerdict.{ReportVerdict}
 use Rattle.block_records.specs.declared.report.ReportVerdict.TheVariants.{Superseded, Invalid, Valid}
 use Rattle.block_records.specs.declared.mark.Mark.{Mark}
-use Rattle.block_copies.specs.declared.transfer.Transfer.{Transfer}
+use Rattle.block_changes.specs.declared.transfer.Transfer.{Transfer}
 use Rattle.block_tables.specs.Changes.{with_report, without_report, with_replication, with_length, with_recovered}
 use Rattle.recovery_queue.specs.Queue as queue
 use Rattle.recovery_queue.specs.declared.begun.BegunRecovery.{BegunRecovery}
-use Rattle.begun_recoveries.specs.Leaders as leaders
-use Rattle.begun_recoveries.specs.Ends as ends
-use Rattle.removed_blocks.specs.Removals as removals
+use Rattle.block_changes.specs.Leaders as leaders
+use Rattle.block_changes.specs.Ends as ends
+use Rattle.block_changes.specs.Removals as removals
 use Rattle.heartbeats.specs.Live as nodes
 use Rattle.known_blocks.specs.Known as known
 use Rattle.known_blocks.specs.Known.{KnownBlocks, with_block_changed, refused_new_block}
 use Rattle.block_records.specs.declared.last_block.LastBlock.{LastBlock}
-use Rattle.new_blocks.specs.Behind.{marks_of_others}
-use Rattle.new_blocks.specs.declared.behind.NewBlock.{NewBlock}
-use Rattle.node_orders.specs.Orders.{Instructions}
+use Rattle.block_changes.specs.Behind.{marks_of_others}
+use Rattle.block_changes.specs.declared.behind.NewBlock.{NewBlock}
+use Rattle.block_changes.specs.Orders.{Instructions}
 use Rattle.block_map.specs.BlockFacts.{Blocks, known_block, newest_stamp, leader, chosen_targets, recoveries_for, transfers_for, refused_targets, refused_commit}
 
 -- ---- effects

@@ -8,15 +8,15 @@ use Rattle.block_records.specs.declared.mark.Mark.{Mark}
 use Rattle.block_placement.specs.Placement.{targets}
 use Rattle.block_tables.specs.Kept.{load}
 use Rattle.heartbeats.specs.Live.{Heartbeats, live_nodes}
-use Rattle.begun_recoveries.specs.Leaders as leaders
-use Rattle.begun_recoveries.specs.Ends as ends
-use Rattle.block_copies.specs.Copies as copies
-use Rattle.block_copies.specs.declared.transfer.Transfer.{Transfer}
+use Rattle.block_changes.specs.Leaders as leaders
+use Rattle.block_changes.specs.Ends as ends
+use Rattle.block_changes.specs.Copies as copies
+use Rattle.block_changes.specs.declared.transfer.Transfer.{Transfer}
 use Rattle.known_blocks.specs.Known as known
 use Rattle.known_blocks.specs.Known.{KnownBlocks}
-use Rattle.node_orders.specs.Orders as orders
-use Rattle.node_orders.specs.declared.recovery.Recovery.{Recovery}
-use Rattle.new_blocks.specs.Behind.{reports_by, refused_length, refused_without_nodes}
+use Rattle.block_changes.specs.Orders as orders
+use Rattle.block_changes.specs.declared.recovery.Recovery.{Recovery}
+use Rattle.block_changes.specs.Behind.{reports_by, refused_length, refused_without_nodes}
 
 pub record Blocks : Type 0 where
   -- in milliseconds: a recovery or a copy is asked for again behind this time

@@ -1,14 +1,14 @@
 ghost use Rattle.std.specs.Prelude.{◌≡◌, [], None, Some, option_copied, OnOk, OnErr, IfOk, IfErr};
 ghost use Rattle.std.specs.Option.{option_map};
 ghost use Rattle.heartbeats.specs.Live.{is_live, live_nodes};
-ghost use Rattle.new_blocks.specs.Behind.{IsFaultOf};
+ghost use Rattle.block_changes.specs.Behind.{IsFaultOf};
 ghost use Rattle.block_map.specs.BlockFacts.{newest_stamp, committed_length, recovering_since, expected_nodes, transfers_for, due_recoveries, refused_commit, refused_recovery, refused_recovered, known_block};
 ghost use Rattle.block_map.specs.BlockEffects as effect;
 ghost use Rattle.block_records.specs.Marks.{marks_for};
 ghost use Rattle.block_records.specs.declared.block_record.BlockRecord.{BlockRecord};
 
-use begun_recoveries::{ends, recoveries};
-use block_copies::transfer::{HandOut, Transfer};
+use block_changes::{ends, recoveries};
+use block_changes::transfer::{HandOut, Transfer};
 use block_records::block_record::BlockRecord;
 use block_records::fault::BlockFault;
 use block_records::last_block::LastBlock;
@@ -22,13 +22,13 @@ use hdfs_values::node_id::NodeId;
 use hdfs_values::replication::Repl;
 use heartbeats::heartbeats::Heartbeats;
 use known_blocks::known_blocks::KnownBlocks;
-use new_blocks::behind;
-use new_blocks::behind::NewBlock;
-use node_orders::instructions;
-use node_orders::instructions::Instructions;
+use block_changes::behind;
+use block_changes::behind::NewBlock;
+use block_changes::instructions;
+use block_changes::instructions::Instructions;
 use recovery_queue::begun::BegunRecovery;
 use recovery_queue::queue::RecoveryQueue;
-use removed_blocks::removals;
+use block_changes::removals;
 use std::alloc::{AllocError, Global};
 use std::marker::Model;
 
@@ -458,7 +458,7 @@ impl Blocks {
             moment: now,
             retry: self.retry,
         };
-        block_copies::transfer::transfers_for(self.alloc, &self.known, &at, node)
+        block_changes::transfer::transfers_for(self.alloc, &self.known, &at, node)
     }
 
     /// Notes a node's heartbeat. Costs a look-up.

@@ -1,6 +1,6 @@
 // Calls of the map of blocks, and what is written of their answers.
 
-use block_copies::transfer::Transfer;
+use block_changes::transfer::Transfer;
 use block_map::begun::BegunRecovery;
 use block_map::behind::NewBlock;
 use block_map::blocks::Blocks;
@@ -13,7 +13,7 @@ use hdfs_values::ids::{BlockId, Stamp};
 use hdfs_values::moment::Moment;
 use hdfs_values::node_id::NodeId;
 use hdfs_values::replication::Repl;
-use node_orders::instructions::Instructions;
+use block_changes::instructions::Instructions;
 use std::alloc::Global;
 use std::fmt::Write;
 use std::test::Fail;

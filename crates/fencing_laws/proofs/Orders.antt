@@ -23,8 +23,8 @@ use Rattle.hdfs_types.specs.declared.op.Op.TheVariants as op
 use Rattle.hdfs_types.specs.declared.reply.Reply.{Reply}
 use Rattle.hdfs_types.specs.declared.reply.Reply.TheVariants as reply
 use Rattle.recovery_queue.specs.Queue as queue
-use Rattle.node_orders.specs.Orders.{recovery_by}
-use Rattle.node_orders.specs.declared.recovery.Recovery.{Recovery}
+use Rattle.block_changes.specs.Orders.{recovery_by}
+use Rattle.block_changes.specs.declared.recovery.Recovery.{Recovery}
 use Rattle.block_map.specs.BlockFacts.{Blocks, known_block, recoveries_for}
 use Rattle.block_map.specs.BlockEffects.{with_node_heard}
 use Rattle.block_effect_laws.proofs.Orders.{AreInOrder}

@@ -15,7 +15,7 @@ use Rattle.block_recovery.proofs.Tables.{itself}
 use Rattle.block_tables.specs.Changes.{with_recovery}
 use Rattle.recovery_queue.specs.Queue.{without_recovery, without_each, leads}
 use Rattle.recovery_queue.specs.declared.begun.BegunRecovery.{BegunRecovery}
-use Rattle.begun_recoveries.specs.Leaders.{queued_for}
+use Rattle.block_changes.specs.Leaders.{queued_for}
 use Rattle.block_map.specs.BlockFacts.{Blocks, known_block, leader}
 use Rattle.block_map.specs.BlockEffects.{with_blocks_removed, with_block_replication, with_recovery_begun, recoveries_begun, with_recovery_ended, reported_by}
 use Rattle.block_effect_laws.proofs.Orders.{AreInOrder, put_in_order, taken_in_order}

@@ -12,7 +12,7 @@ use hdfs_values::moment::Moment;
 use hdfs_values::path::Path;
 use hdfs_values::replication::Repl;
 use inode_tree::tree::Tree;
-use new_blocks::behind::NewBlock;
+use block_changes::behind::NewBlock;
 use std::alloc::AllocError;
 
 /// Puts a block at the end of a file that was planned for it, with the length of the one before committed, if the writer names one. What

@@ -8,7 +8,7 @@ use Rattle.hdfs_values.specs.PathOrder.{path_cmp, same_path}
 use Rattle.block_records.specs.declared.block_record.BlockRecord.{BlockRecord}
 use Rattle.block_records.specs.declared.fault.BlockRefusal.TheVariants.{StaleStamp, NotOpen}
 use Rattle.block_map.specs.BlockFacts.{Blocks, known_block, recovering_since, refused_recovered}
-use Rattle.begun_recoveries.specs.Ends.{refused_recovered_by}
+use Rattle.block_changes.specs.Ends.{refused_recovered_by}
 use Rattle.namespace_rows.specs.declared.file_row.FileRow.{FileRow}
 use Rattle.namespace_rows.specs.declared.row.Row.{Row}
 use Rattle.namespace_rows.specs.First.{first}

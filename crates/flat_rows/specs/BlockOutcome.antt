@@ -17,7 +17,7 @@ use Rattle.hdfs_types.specs.declared.reply.Refusal.TheVariants.{NotYetReplicated
 use Rattle.hdfs_types.specs.BlockRefusals.{refusal_of}
 use Rattle.block_records.specs.declared.block_record.BlockRecord.{BlockRecord}
 use Rattle.block_records.specs.declared.fault.BlockRefusal.{BlockRefusal}
-use Rattle.new_blocks.specs.declared.behind.NewBlock.{NewBlock}
+use Rattle.block_changes.specs.declared.behind.NewBlock.{NewBlock}
 use Rattle.block_map.specs.BlockFacts.{Blocks, known_block, refused_commit}
 use Rattle.block_map.specs.BlockEffects.{refused_behind, given_behind}
 use Rattle.namespace_rows.specs.declared.file_row.FileBlock.{FileBlock}

@@ -12,8 +12,8 @@ use Rattle.hdfs_types.specs.declared.commands.CopyOrder.{CopyOrder}
 use Rattle.hdfs_types.specs.declared.reply.Reply.{Reply}
 use Rattle.hdfs_types.specs.declared.reply.Reply.TheVariants as reply
 use Rattle.block_records.specs.declared.mark.Mark.{Mark}
-use Rattle.block_copies.specs.declared.transfer.Transfer.{Transfer}
-use Rattle.node_orders.specs.declared.recovery.Recovery.{Recovery}
+use Rattle.block_changes.specs.declared.transfer.Transfer.{Transfer}
+use Rattle.block_changes.specs.declared.recovery.Recovery.{Recovery}
 use Rattle.block_records.specs.Marks.{marks_for}
 use Rattle.block_map.specs.BlockFacts.{Blocks, recoveries_for, transfers_for}
 use Rattle.block_map.specs.BlockEffects.{with_node_heard}

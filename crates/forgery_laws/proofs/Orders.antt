@@ -4,8 +4,8 @@ use Rattle.std.specs.Bool.{⊤}
 use Rattle.std.specs.List.{AllByRecursion}
 use Rattle.permission_specs.specs.Modes.{modes}
 use Rattle.block_records.specs.declared.last_block.LastBlock.{LastBlock}
-use Rattle.block_copies.specs.declared.transfer.Transfer.{Transfer}
-use Rattle.node_orders.specs.declared.recovery.Recovery.{Recovery}
+use Rattle.block_changes.specs.declared.transfer.Transfer.{Transfer}
+use Rattle.block_changes.specs.declared.recovery.Recovery.{Recovery}
 use Rattle.block_tokens.specs.Ring.{KeyRing, grant_of}
 use Rattle.grant_ledger.specs.declared.ledger.LedgerRow.{LedgerRow}
 use Rattle.hdfs_values.specs.NodeId.{node_of}

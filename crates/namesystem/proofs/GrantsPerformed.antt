@@ -9,7 +9,7 @@ use Rattle.hdfs_types.specs.declared.reply.Reply.{Reply}
 use Rattle.hdfs_types.specs.declared.reply.Reply.TheVariants as reply
 use Rattle.block_records.specs.declared.last_block.LastBlock.{LastBlock}
 use Rattle.block_tokens.specs.Ring.{KeyRing}
-use Rattle.new_blocks.specs.declared.behind.NewBlock.{NewBlock}
+use Rattle.block_changes.specs.declared.behind.NewBlock.{NewBlock}
 use Rattle.block_map.specs.BlockFacts.{Blocks}
 use Rattle.block_map.specs.BlockEffects.{added_behind, given_behind}
 use Rattle.grant_ledger.specs.declared.ledger.LedgerRow.{LedgerRow}

@@ -5,8 +5,8 @@ use Rattle.hdfs_types.specs.declared.commands.Recover.{Recover}
 use Rattle.hdfs_types.specs.declared.commands.CopyOrder.{CopyOrder}
 use Rattle.block_tokens.specs.Ring.{KeyRing}
 use Rattle.grant_ledger.specs.declared.ledger.LedgerRow.{LedgerRow}
-use Rattle.block_copies.specs.declared.transfer.Transfer.{Transfer}
-use Rattle.node_orders.specs.declared.recovery.Recovery.{Recovery}
+use Rattle.block_changes.specs.declared.transfer.Transfer.{Transfer}
+use Rattle.block_changes.specs.declared.recovery.Recovery.{Recovery}
 use Rattle.flat_rows.specs.NodeOutcome.{recover_command, copy_command}
 use Rattle.history.specs.Grants.{BlockModes, ledger_row, granted_with}
 use Rattle.node_commands.specs.Granted.{tokens_of, recovery_row, copy_row}

@@ -2,9 +2,9 @@
 use Rattle.std.specs.Prelude.{ℕ, List}
 use Rattle.permission_specs.specs.Modes.{modes}
 use Rattle.block_tokens.specs.Ring.{KeyRing, grant_of}
-use Rattle.block_copies.specs.declared.transfer.Transfer.{Transfer}
+use Rattle.block_changes.specs.declared.transfer.Transfer.{Transfer}
 use Rattle.flat_rows.specs.NodeOutcome.{Tokens}
-use Rattle.node_orders.specs.declared.recovery.Recovery.{Recovery}
+use Rattle.block_changes.specs.declared.recovery.Recovery.{Recovery}
 use Rattle.grant_ledger.specs.declared.ledger.LedgerRow.{LedgerRow}
 use Rattle.history.specs.Grants.{BlockModes, ledger_row}
 

@@ -6,7 +6,7 @@ ghost use Rattle.history.specs.Grants.{ledger_row, granted_with};
 ghost use Rattle.node_commands.specs.Granted.{tokens_of, recovery_row, copy_row};
 
 use bitflags::Flags;
-use block_copies::transfer::Transfer;
+use block_changes::transfer::Transfer;
 use block_map::instructions::Instructions;
 use block_map::recovery::Recovery;
 use block_records::mark::Mark;

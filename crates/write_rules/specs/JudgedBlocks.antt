@@ -3,7 +3,7 @@ use Rattle.std.specs.Prelude.{◌≡◌, ℕ, false, List, Option, Some, None}
 use Rattle.block_records.specs.declared.last_block.LastBlock.{LastBlock}
 use Rattle.block_map.specs.BlockFacts.{Blocks}
 use Rattle.block_map.specs.BlockEffects.{refused_behind, given_behind}
-use Rattle.new_blocks.specs.declared.behind.NewBlock.{NewBlock}
+use Rattle.block_changes.specs.declared.behind.NewBlock.{NewBlock}
 use Rattle.namespace_rows.specs.declared.row.Row.{Row}
 use Rattle.flat_rows.specs.declared.verdict.Verdict as answer
 use Rattle.flat_rows.specs.declared.verdict.Verdict.TheVariants.{Done}

@@ -25,7 +25,7 @@ use hdfs_values::replication::Repl;
 use hdfs_values::who::Who;
 use inode_tree::tree::Tree;
 use namespace_rows::file_row::FileRow;
-use new_blocks::behind::NewBlock;
+use block_changes::behind::NewBlock;
 use perm_walk::found::{FoundFile, standing_file};
 use perm_walk::walk::{Walked, walk_along};
 use principals::caller::Caller;

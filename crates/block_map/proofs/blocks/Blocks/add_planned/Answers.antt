@@ -1,6 +1,6 @@
 use Rattle.std.proofs.Common.{◌≡◌, None, OnOk, subst, sym}
 use Rattle.known_blocks.specs.Known.{refused_new_block}
-use Rattle.new_blocks.specs.Behind.{refused_last_length}
+use Rattle.block_changes.specs.Behind.{refused_last_length}
 use Rattle.block_map.specs.BlockFacts.{Blocks}
 use Rattle.block_map.specs.BlockEffects.{given_behind, added_behind}
 use Rattle.block_map.proofs.Planned.{allowed, planned_where_done}

@@ -1,5 +1,5 @@
 use Rattle.std.proofs.Common.{◌≡◌, ◌∙◌, OnOk, ap, subst, sym}
-use Rattle.begun_recoveries.specs.Leaders.{blocks_with_leaders}
+use Rattle.block_changes.specs.Leaders.{blocks_with_leaders}
 use Rattle.block_map.specs.BlockFacts.{Blocks}
 use Rattle.block_map.specs.BlockEffects.{recoveries_begun, with_recoveries_begun}
 use Rattle.block_map.proofs.InTurn.{all_begun_where_done}

@@ -1,5 +1,5 @@
 use Rattle.std.proofs.Common.{IfErr, subst}
-use Rattle.new_blocks.specs.Behind.{IsFaultOf}
+use Rattle.block_changes.specs.Behind.{IsFaultOf}
 use Rattle.block_map.specs.BlockFacts.{Blocks, refused_recovered}
 use Rattle.block_map.proofs.blocks.Blocks.commit_recovery.Goals as goal
 

@@ -1,6 +1,6 @@
 use Rattle.std.proofs.Common.{◌≡◌, ◌∙◌, IfOk, subst, ap}
-use Rattle.new_blocks.specs.Behind as behind
-use Rattle.new_blocks.specs.declared.behind.NewBlock.{NewBlock}
+use Rattle.block_changes.specs.Behind as behind
+use Rattle.block_changes.specs.declared.behind.NewBlock.{NewBlock}
 use Rattle.block_map.specs.BlockFacts.{Blocks}
 use Rattle.block_map.specs.BlockEffects.{given_behind}
 use Rattle.block_map.proofs.Planned.{given_same}

@@ -1,6 +1,0 @@
-use Rattle.std.proofs.Common.{◌≡◌, ◌++◌, drop}
-use Rattle.begun_recoveries.specs.Leaders.{blocks_with_leaders}
-use Rattle.begun_recoveries.proofs.recoveries.led.Given as goal
-
-abbrev pub invariant-loop-block : goal.invariant-loop-block
-invariant-loop-block l = l.led.items ++ blocks_with_leaders l.known l.nodes (drop l.block-index l.blocks) l.now ≡ blocks_with_leaders l.known l.nodes l.blocks l.now

@@ -1,6 +1,0 @@
-use Rattle.std.proofs.Common.{◌≡◌, ◌≤◌, filter, length, take}
-use Rattle.block_copies.specs.Copies.{reports}
-use Rattle.block_copies.proofs.transfer.count_reporting.Given as goal
-
-abbrev pub invariant-loop-node : goal.invariant-loop-node
-invariant-loop-node l = (l.count ≡ length (filter (reports l.own) (take l.node-index l.nodes))) × (l.count ≤ l.node-index)

@@ -1,7 +1,0 @@
-use Rattle.std.proofs.Common.{◌≡◌, drop}
-use Rattle.known_blocks.specs.Known.{with_copies_told}
-use Rattle.node_orders.specs.Orders.{copied_blocks}
-use Rattle.node_orders.proofs.instructions.note_copies.Given as goal
-
-abbrev pub invariant-loop-copy : goal.invariant-loop-copy
-invariant-loop-copy l = with_copies_told l.known (copied_blocks (drop l.copy-index l.copies)) l.now ≡ with_copies_told l.initial.known (copied_blocks l.copies) l.now
