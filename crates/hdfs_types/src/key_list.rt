@@ -1,7 +1,7 @@
 ghost use Rattle.std.specs.Prelude.{◌≡◌, ◌++◌, [], ◌∷◌, IfOk, OnOk, OnErr};
 ghost use Rattle.hdfs_types.specs.KeyList as spec;
 
-use crate::key::Key;
+use block_keys::key::Key;
 use hdfs_values::ids::Serial;
 use hdfs_values::moment::Moment;
 use std::alloc::{AllocError, Global};

@@ -5,7 +5,6 @@
 pub mod commands;
 pub mod file;
 pub mod given_name;
-pub mod key;
 pub mod key_list;
 pub mod located;
 pub mod op;
@@ -14,5 +13,6 @@ pub mod reply;
 pub mod token_bytes;
 pub mod verb;
 
+pub use block_keys::key;
 pub use hdfs_values::{fault, groups, ids, moment, name, node_id, number, path, replication, who};
 pub use permission_specs::{acl_change, entry, mode, modes, rights, spec};

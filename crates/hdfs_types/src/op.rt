@@ -4,7 +4,7 @@ ghost use Rattle.hdfs_types.specs.declared.op.Op.TheVariants as made;
 
 use crate::file::LastBlock;
 use crate::given_name::GivenName;
-use crate::key::Key;
+use block_keys::key::Key;
 use crate::replica::{RecoveredBlock, ReportedReplica};
 use hdfs_values::groups::Groups;
 use hdfs_values::moment::Moment;

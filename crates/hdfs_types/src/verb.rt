@@ -3,7 +3,7 @@ ghost use Rattle.hdfs_types.specs.Verb.{op_of};
 
 use crate::file::LastBlock;
 use crate::given_name::GivenName;
-use crate::key::Key;
+use block_keys::key::Key;
 use crate::op::Op;
 use crate::replica::{RecoveredBlock, ReportedReplica};
 use hdfs_values::groups::Groups;

@@ -1,0 +1,4 @@
+//! The secret keys under which the codes of block access tokens are made.
+#![tactic(auto)]
+
+pub mod key;
