@@ -1,8 +1,8 @@
 ghost use Rattle.std.specs.Prelude.{◌≡◌};
 ghost use Rattle.std.specs.Bool.{Decides};
 
-use crate::commands::{are_same_nodes, is_same_token};
 use hdfs_types::located::{AddedBlock, LocatedBlock, OpenedFile};
+use same_requests::commands::{are_same_nodes, is_same_token};
 
 /// Whether two new blocks are one.
 pub(crate) fn is_same_added(added: &AddedBlock, other: &AddedBlock) -> bool

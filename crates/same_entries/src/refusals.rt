@@ -2,12 +2,12 @@ ghost use Rattle.std.specs.Prelude.{◌≡◌};
 ghost use Rattle.std.specs.Bool.{Decides};
 ghost use Rattle.hdfs_types.specs.declared.reply.Refusal.TheVariants as made;
 
-use crate::names::{is_same_path, is_same_who};
 use hdfs_types::reply::{Counter, Refusal};
 use hdfs_values::fault::AclFault;
 use hdfs_values::ids::Stamp;
 use hdfs_values::path::Path;
 use hdfs_values::who::Who;
+use same_requests::names::{is_same_path, is_same_who};
 
 fn is_not_directory(file: &Path, other: &Refusal) -> bool
     ensures { Decides result (made.NotDirectory file.now ≡ other.now) }

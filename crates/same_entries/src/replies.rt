@@ -2,9 +2,7 @@ ghost use Rattle.std.specs.Prelude.{◌≡◌};
 ghost use Rattle.std.specs.Bool.{Decides};
 ghost use Rattle.hdfs_types.specs.declared.reply.Reply.TheVariants as made;
 
-use crate::commands::are_same_commands;
 use crate::located::{is_same_added, is_same_opened};
-use crate::names::{are_same_names, is_same_who};
 use crate::rows::is_same_state;
 use hdfs_types::commands::Commands;
 use hdfs_types::file::FileDetail;
@@ -13,6 +11,8 @@ use hdfs_types::reply::{
     AclStatus, BoxedAcl, BoxedStatus, ContentSummary, Expired, FileStatus, Names, Reply,
 };
 use hdfs_values::ids::{BlockId, Serial, Stamp};
+use same_requests::commands::are_same_commands;
+use same_requests::names::{are_same_names, is_same_who};
 
 fn is_same_detail(detail: &FileDetail, other: &FileDetail) -> bool
     ensures { Decides result (detail.now ≡ other.now) }

@@ -9,7 +9,7 @@ use hdfs_types::token_bytes::TokenBytes;
 use hdfs_values::ids::Serial;
 use hdfs_values::node_id::NodeId;
 
-pub(crate) fn is_same_token(token: &TokenBytes, other: &TokenBytes) -> bool
+pub fn is_same_token(token: &TokenBytes, other: &TokenBytes) -> bool
     ensures { Decides result (token.now ≡ other.now) }
 {
     token.as_bytes() == other.as_bytes()
@@ -29,7 +29,7 @@ fn are_same_ids(nodes: &[NodeId], others: &[NodeId]) -> bool
     true
 }
 
-pub(crate) fn are_same_nodes(nodes: &NodeSet, other: &NodeSet) -> bool
+pub fn are_same_nodes(nodes: &NodeSet, other: &NodeSet) -> bool
     ensures { Decides result (nodes.now ≡ other.now) }
 {
     are_same_ids(nodes.as_slice(), other.as_slice())
