@@ -10,3 +10,5 @@ pub mod Safe
 pub mod Held
 pub mod Told
 pub mod Listed
+pub mod Carried
+pub mod NotedCommits

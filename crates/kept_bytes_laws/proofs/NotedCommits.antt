@@ -22,8 +22,8 @@ use Rattle.fencing_laws.proofs.OnePlan.{all_ordered, updates_follow}
 use Rattle.kept_bytes_laws.proofs.Noted.{NotedBy, Noted, all_noted}
 use Rattle.kept_bytes_laws.proofs.Sent.{is_driven, Leads, Does, does}
 use Rattle.kept_bytes_laws.proofs.Told.{HadOrNow, had_or_now}
-use Rattle.carried_laws.specs.Carried.{HasUpdated, CommitsNameTheUpdated}
-use Rattle.carried_laws.proofs.Carried.{CarriesHeld, all_carried}
+use Rattle.kept_bytes_laws.specs.Carried.{HasUpdated, CommitsNameTheUpdated}
+use Rattle.kept_bytes_laws.proofs.Carried.{CarriesHeld, all_carried}
 
 abbrev HasNoted : ℕ → Plan → Type 0
 HasNoted node own = list_any (is_number node) own.updated ≡ true

@@ -41,7 +41,7 @@ use Rattle.kept_bytes_laws.proofs.Held.{IsFinal, update_leaves}
 use Rattle.kept_bytes_laws.proofs.Sent.{Calls, event_sends, entry_sends}
 use Rattle.kept_bytes_laws.proofs.Told.{blocks_left, asked_stamp}
 use Rattle.kept_bytes_laws.proofs.Since.{served_at, answered_at, ids_stand}
-use Rattle.carried_laws.specs.Carried.{HasAnswered, HasUpdated, AnswersAreHeld}
+use Rattle.kept_bytes_laws.specs.Carried.{HasAnswered, HasUpdated, AnswersAreHeld}
 
 -- ---- a call that is served
 

@@ -1,6 +1,6 @@
 //! A law about what messages carry in clusters. The function does nothing: what it ensures follows from the definitions.
 
-ghost use Rattle.carried_laws.specs.Carried as law;
+ghost use Rattle.kept_bytes_laws.specs.Carried as law;
 
 /// Whatever messages are lost, repeated or late, and whatever tokens are forged, what a leading node is told of a replica was held when its
 /// DataNode let the recovery begin, and each DataNode that the NameNode is told of at the end of a recovery has updated its replica to the

@@ -1,9 +1,0 @@
-use Rattle.carried_laws.proofs.Carried.{answers_are_held}
-use Rattle.carried_laws.proofs.Noted.{commits_name_the_updated}
-use Rattle.carried_laws.proofs.laws.messages_carry_what_was_held.Goals as goal
-
-pub returns-clause-answers : goal.returns-clause-answers
-returns-clause-answers c = answers_are_held
-
-pub returns-clause-commits : goal.returns-clause-commits
-returns-clause-commits c = commits_name_the_updated

@@ -1,4 +1,0 @@
-//! A law about clusters: messages carry what was held.
-#![tactic(auto)]
-
-pub mod laws;
