@@ -1,4 +1,4 @@
-use Rattle.std.proofs.Common.{◌≡◌, ◌∙◌, List, ℕ, sym, ap, subst, length}
+use Rattle.std.proofs.Common.{◌≡◌, ◌∙◌, List, ℕ, sym, ap, subst, length, rules}
 use Rattle.std.specs.List.Sorted.{IsStrictlySortedBy}
 use Rattle.std.specs.Ordering.{nat_cmp}
 use Rattle.block_index.specs.Relation.{blocks_at}
@@ -19,3 +19,6 @@ returns-in-Ok-clause-ascending c =
 pub returns-in-Err-clause-ascending : goal.returns-in-Err-clause-ascending
 returns-in-Err-clause-ascending c =
     subst (λ (blocks : List ℕ). IsStrictlySortedBy nat_cmp blocks) (sym (blocks_absent c.args.node c.self.inside.nodes.items c.in-Err.field-0 c.self.invariant (rw (← c.deref.ensures.value) c.in-Err.ensures.absent)) ∙ ap (λ (table : List (ℕ × List ℕ)). blocks_at table c.args.node) c.self.view_is) none_ascending
+
+pub returns-in-Err-clause-count : goal.returns-in-Err-clause-count
+returns-in-Err-clause-count c = search rules

@@ -1,0 +1,5 @@
+use Rattle.std.proofs.Common.{rules}
+use Rattle.required_rights.proofs.demand.Demand.listing.Goals as goal
+
+pub returns : goal.returns
+returns c = search rules
