@@ -5,12 +5,12 @@ ghost use Rattle.known_blocks.specs.Known.{block_of, with_block_changed};
 ghost use Rattle.block_changes.specs.Behind.{IsFaultOf};
 ghost use Rattle.block_changes.specs.Ends as spec;
 
+use crate::behind;
 use block_records::fault::{BlockFault, BlockRefusal};
 use block_records::mark::{Mark, Marks};
 use block_records::node_set::NodeSet;
 use hdfs_values::ids::{BlockId, Stamp};
 use known_blocks::known_blocks::KnownBlocks;
-use crate::behind;
 use std::alloc::{AllocError, Global};
 
 // Whether a recovery of a block runs under this stamp.

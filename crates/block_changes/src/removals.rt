@@ -4,11 +4,11 @@ ghost use Rattle.recovery_queue.specs.Queue.{without_recovery, without_each};
 ghost use Rattle.known_blocks.specs.Known.{block_of, without_block, without_each_block};
 ghost use Rattle.block_changes.specs.Removals as spec;
 
+use crate::behind;
 use block_records::mark::{Mark, Marks};
 use hdfs_values::ids::BlockId;
 use hdfs_values::node_id::NodeId;
 use known_blocks::known_blocks::KnownBlocks;
-use crate::behind;
 use recovery_queue::queue::RecoveryQueue;
 use std::alloc::{AllocError, Global};
 

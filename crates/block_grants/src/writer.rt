@@ -8,6 +8,7 @@ ghost use Rattle.node_commands.specs.Granted.{tokens_of};
 ghost use Rattle.block_grants.specs.Granted.{writer_row};
 
 use bitflags::Flags;
+use block_changes::behind::NewBlock;
 use block_map::blocks::Blocks;
 use block_tokens::ring::KeyRing;
 use file_effects::blocks::add_block;
@@ -19,7 +20,6 @@ use hdfs_values::path::Path;
 use hdfs_values::replication::Repl;
 use hdfs_values::who::Who;
 use inode_tree::tree::Tree;
-use block_changes::behind::NewBlock;
 use node_commands::commands::granted_row;
 use permission_specs::modes::Modes;
 use std::alloc::{AllocError, Global};

@@ -7,8 +7,10 @@ ghost use Rattle.block_map.specs.BlockEffects as effect;
 ghost use Rattle.block_records.specs.Marks.{marks_for};
 ghost use Rattle.block_records.specs.declared.block_record.BlockRecord.{BlockRecord};
 
-use block_changes::{ends, recoveries};
+use block_changes::behind::NewBlock;
+use block_changes::instructions::Instructions;
 use block_changes::transfer::{HandOut, Transfer};
+use block_changes::{behind, ends, instructions, recoveries, removals};
 use block_records::block_record::BlockRecord;
 use block_records::fault::BlockFault;
 use block_records::last_block::LastBlock;
@@ -22,13 +24,8 @@ use hdfs_values::node_id::NodeId;
 use hdfs_values::replication::Repl;
 use heartbeats::heartbeats::Heartbeats;
 use known_blocks::known_blocks::KnownBlocks;
-use block_changes::behind;
-use block_changes::behind::NewBlock;
-use block_changes::instructions;
-use block_changes::instructions::Instructions;
 use recovery_queue::begun::BegunRecovery;
 use recovery_queue::queue::RecoveryQueue;
-use block_changes::removals;
 use std::alloc::{AllocError, Global};
 use std::marker::Model;
 

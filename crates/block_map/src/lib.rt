@@ -5,7 +5,6 @@
 
 pub mod blocks;
 
+pub use block_changes::{behind, instructions, recovery};
 pub use block_records::last_block;
-pub use block_changes::behind;
-pub use block_changes::{instructions, recovery};
 pub use recovery_queue::begun;

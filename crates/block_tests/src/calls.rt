@@ -1,5 +1,6 @@
 // Calls of the map of blocks, and what is written of their answers.
 
+use block_changes::instructions::Instructions;
 use block_changes::transfer::Transfer;
 use block_map::begun::BegunRecovery;
 use block_map::behind::NewBlock;
@@ -13,7 +14,6 @@ use hdfs_values::ids::{BlockId, Stamp};
 use hdfs_values::moment::Moment;
 use hdfs_values::node_id::NodeId;
 use hdfs_values::replication::Repl;
-use block_changes::instructions::Instructions;
 use std::alloc::Global;
 use std::fmt::Write;
 use std::test::Fail;

@@ -6,13 +6,13 @@ ghost use Rattle.lease_manager.specs.declared.writers.Writers.{Writers};
 ghost use Rattle.namespace_rows.specs.Rows.{row_at};
 ghost use Rattle.file_effects.specs.Effected.{IsExact};
 
+use block_changes::behind::NewBlock;
 use block_map::blocks::Blocks;
 use hdfs_types::file::LastBlock;
 use hdfs_values::moment::Moment;
 use hdfs_values::path::Path;
 use hdfs_values::replication::Repl;
 use inode_tree::tree::Tree;
-use block_changes::behind::NewBlock;
 use std::alloc::AllocError;
 
 /// Puts a block at the end of a file that was planned for it, with the length of the one before committed, if the writer names one. What

@@ -4,8 +4,8 @@ ghost use Rattle.hdfs_types.specs.declared.op.Op.TheVariants as made;
 
 use crate::file::LastBlock;
 use crate::given_name::GivenName;
-use block_keys::key::Key;
 use crate::replica::{RecoveredBlock, ReportedReplica};
+use block_keys::key::Key;
 use hdfs_values::groups::Groups;
 use hdfs_values::moment::Moment;
 use hdfs_values::path::Path;

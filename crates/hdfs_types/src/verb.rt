@@ -3,9 +3,9 @@ ghost use Rattle.hdfs_types.specs.Verb.{op_of};
 
 use crate::file::LastBlock;
 use crate::given_name::GivenName;
-use block_keys::key::Key;
 use crate::op::Op;
 use crate::replica::{RecoveredBlock, ReportedReplica};
+use block_keys::key::Key;
 use hdfs_values::groups::Groups;
 use hdfs_values::path::Path;
 use hdfs_values::replication::Repl;

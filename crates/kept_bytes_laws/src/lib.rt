@@ -1,5 +1,5 @@
 //! Laws about clusters: what was acknowledged to a writer stays, readers are told of replicas that were there, and messages carry what was held.
 #![tactic(auto)]
 
-pub mod carried;
 pub mod laws;
+pub mod messages;

@@ -13,6 +13,7 @@ ghost use Rattle.write_rules.specs.Judged.{refused_or};
 ghost use Rattle.write_rules.specs.JudgedBlocks.{verdict_of_new, verdict_of_open, IsPlanned, IsGiven, DoesNothing};
 
 use crate::ends::refusal_of_write;
+use block_changes::behind::NewBlock;
 use block_map::blocks::Blocks;
 use block_records::fault::BlockFault;
 use flat_rows::verdict::Verdict;
@@ -25,7 +26,6 @@ use hdfs_values::replication::Repl;
 use hdfs_values::who::Who;
 use inode_tree::tree::Tree;
 use namespace_rows::file_row::FileRow;
-use block_changes::behind::NewBlock;
 use perm_walk::found::{FoundFile, standing_file};
 use perm_walk::walk::{Walked, walk_along};
 use principals::caller::Caller;

@@ -1,6 +1,6 @@
 use Rattle.kept_bytes_laws.proofs.Carried.{answers_are_held}
 use Rattle.kept_bytes_laws.proofs.NotedCommits.{commits_name_the_updated}
-use Rattle.kept_bytes_laws.proofs.carried.messages_carry_what_was_held.Goals as goal
+use Rattle.kept_bytes_laws.proofs.messages.messages_carry_what_was_held.Goals as goal
 
 pub returns-clause-answers : goal.returns-clause-answers
 returns-clause-answers c = answers_are_held
