@@ -86,20 +86,24 @@ def goals_in(said):
             if hole: found[path][hole.group(1)] = hole.group(2)
     return found
 
+def imported(text, module, names):
+    """The text with these names among its imports of the module."""
+    if not names: return text
+    line = re.search(rf"^use {re.escape(module)}\.\{{([^}}]*)\}}", text, re.M)
+    if not line: return f"use {module}.{{{', '.join(names)}}}\n{text}"
+    have = [it.strip() for it in line.group(1).split(",")]
+    return text[:line.start(1)] + ", ".join(have + [it for it in names if it not in have]) + text[line.end(1):]
+
 def text_of(crate, path, answers):
     """The file with these answers behind those that it has."""
     at = f"{crate.folder}/{path}"
     old = open(at).read() if os.path.isfile(at) else ""
     module = path[len("proofs/"):-len("/Answers.antt")].replace("/", ".")
-    names = {it for _, how in answers.values() for it in (["rules"] if how == TRIES[0] else ["arith", "common_steps"])}
+    ways = {how for _, how in answers.values()}
+    old = imported(old, "Rattle.std.proofs.Common", (["rules"] if TRIES[0] in ways else []) + (["arith"] if TRIES[1] in ways else []))
+    old = imported(old, "Rattle.std.proofs.lemmas.Grind", ["common_steps"] if TRIES[1] in ways else [])
     body = "".join(f"\npub {goal} : goal.{goal}\n{goal}{between} = {how}\n" for goal, (between, how) in answers.items())
-    common, own = "Rattle.std.proofs.Common", f"use Rattle.{crate.name}.proofs.{module}.Goals as goal\n"
-    if not old: return f"use {common}.{{{', '.join(sorted(names))}}}\n{own}{body}"
-    line = re.search(rf"^use {re.escape(common)}\.\{{([^}}]*)\}}", old, re.M)
-    if line:
-        have = [it.strip() for it in line.group(1).split(",")]
-        old = old[:line.start(1)] + ", ".join(have + [it for it in sorted(names) if it not in have]) + old[line.end(1):]
-    else: old = f"use {common}.{{{', '.join(sorted(names))}}}\n{old}"
+    own = f"use Rattle.{crate.name}.proofs.{module}.Goals as goal\n"
     if " as goal" not in old:
         last = [*re.finditer(r"^use .*\n", old, re.M)][-1]
         old = old[:last.end()] + own + old[last.end():]
