@@ -8,12 +8,12 @@ ghost use Rattle.node_commands.specs.Granted.{tokens_of};
 ghost use Rattle.block_grants.specs.Granted.{reader_row};
 
 use bitflags::Flags;
+use block_answers::located::{LocatedBlock, OpenedFile};
 use block_map::blocks::Blocks;
 use block_records::block_record::BlockRecord;
 use block_records::node_set::NodeSet;
 use block_tokens::ring::KeyRing;
 use grant_ledger::ledger::{Ledger, LedgerRow};
-use hdfs_types::located::{LocatedBlock, OpenedFile};
 use hdfs_values::ids::BlockId;
 use hdfs_values::moment::Moment;
 use hdfs_values::who::Who;

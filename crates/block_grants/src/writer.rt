@@ -8,13 +8,13 @@ ghost use Rattle.node_commands.specs.Granted.{tokens_of};
 ghost use Rattle.block_grants.specs.Granted.{writer_row};
 
 use bitflags::Flags;
+use block_answers::located::AddedBlock;
 use block_changes::behind::NewBlock;
 use block_map::blocks::Blocks;
 use block_tokens::ring::KeyRing;
 use file_effects::blocks::add_block;
 use grant_ledger::ledger::{Ledger, LedgerRow};
 use hdfs_types::file::LastBlock;
-use hdfs_types::located::AddedBlock;
 use hdfs_values::moment::Moment;
 use hdfs_values::path::Path;
 use hdfs_values::replication::Repl;

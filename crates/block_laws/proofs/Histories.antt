@@ -9,7 +9,7 @@ use Rattle.std.specs.Option.{option_map, option_and_then}
 use Rattle.std.specs.Ordering.{nat_cmp, MatchOrdering}
 use Rattle.std.specs.declared.cmp.Ordering.{Ordering}
 use Rattle.std.specs.declared.cmp.Ordering.TheVariants.{Less, Equal, Greater}
-use Rattle.hdfs_types.specs.LocatedBlocks.{AddedBlock}
+use Rattle.block_answers.specs.LocatedBlocks.{AddedBlock}
 use Rattle.block_records.specs.Numbers.{has_number}
 use Rattle.block_records.specs.declared.block_record.BlockRecord.{BlockRecord}
 use Rattle.known_blocks.specs.Known.{KnownBlocks, block_of}

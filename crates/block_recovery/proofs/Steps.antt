@@ -15,7 +15,7 @@ use Rattle.block_recovery.specs.declared.decision.Decision.{Decision}
 use Rattle.block_recovery.specs.declared.fault.PlanRefusal.{PlanRefusal}
 use Rattle.block_recovery.specs.declared.fault.PlanRefusal.TheVariants.{AlreadyBegun, Stranger}
 use Rattle.block_recovery.specs.declared.plan.Plan.{Plan}
-use Rattle.hdfs_types.specs.declared.commands.Recover.{Recover}
+use Rattle.block_answers.specs.declared.commands.Recover.{Recover}
 use Rattle.block_recovery.proofs.Lookups.{lookup_inserted, lookup_altered, inserted_ascending, has_inserted}
 use Rattle.block_recovery.proofs.Tables.{has_entry}
 

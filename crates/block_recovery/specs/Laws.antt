@@ -12,7 +12,7 @@ use Rattle.block_recovery.specs.declared.decision.Decision.{Decision}
 use Rattle.block_recovery.specs.declared.fault.PlanRefusal.{PlanRefusal}
 use Rattle.block_recovery.specs.declared.fault.PlanRefusal.TheVariants.{AlreadyBegun}
 use Rattle.block_recovery.specs.declared.plan.Plan.{Plan}
-use Rattle.hdfs_types.specs.declared.commands.Recover.{Recover}
+use Rattle.block_answers.specs.declared.commands.Recover.{Recover}
 
 -- ---- what a decision keeps
 

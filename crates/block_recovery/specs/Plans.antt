@@ -17,7 +17,7 @@ use Rattle.block_recovery.specs.declared.fault.PlanFault.TheVariants.{Refused, O
 use Rattle.block_recovery.specs.declared.fault.PlanRefusal.{PlanRefusal}
 use Rattle.block_recovery.specs.declared.fault.PlanRefusal.TheVariants.{AlreadyBegun, Stranger, Doubled, NoReplicaAnswered}
 use Rattle.block_recovery.specs.declared.plan.Plan.{Plan}
-use Rattle.hdfs_types.specs.declared.commands.Recover.{Recover}
+use Rattle.block_answers.specs.declared.commands.Recover.{Recover}
 
 -- a call that is refused says why; out of memory may come in the place of any other answer
 abbrev pub IsPlanFaultOf : Option PlanRefusal → PlanFault → Type 0

@@ -8,8 +8,8 @@ use crate::decision::{Commit, Decision};
 use crate::fault::{PlanFault, PlanRefusal};
 use crate::recover::Recover;
 use crate::updated::UpdatedNodes;
+use block_answers::token_bytes::TokenBytes;
 use block_records::node_set::NodeSet;
-use hdfs_types::token_bytes::TokenBytes;
 use hdfs_values::node_id::NodeId;
 use std::alloc::{AllocError, Global};
 

@@ -1,1 +1,1 @@
-pub use hdfs_types::commands::Recover;
+pub use block_answers::commands::Recover;

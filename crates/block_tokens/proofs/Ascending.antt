@@ -12,7 +12,7 @@ use Rattle.std.specs.Ordering.{nat_cmp}
 use Rattle.std.specs.declared.cmp.Ordering.TheVariants.{Less}
 use Rattle.block_tokens.specs.KeyList.{KeyList, AreKeys, usable_keys, expires_after}
 use Rattle.block_tokens.specs.Ring.{next_serial}
-use Rattle.hdfs_types.specs.declared.key_list.HeldKey.{HeldKey}
+use Rattle.block_answers.specs.declared.key_list.HeldKey.{HeldKey}
 
 all_push : (P : ℕ → Type 0) (ks : List ℕ) (t : ℕ) → AllByRecursion P ks → P t → AllByRecursion P (ks ++ t ∷ [])
 all_push P [] t h p = (p, tt)

@@ -8,7 +8,7 @@ use Rattle.std.specs.declared.cmp.Ordering.TheVariants.{Less}
 use Rattle.block_tokens.specs.KeyList.{KeyList, AreKeys, key_with, usable_keys, unless_expired, merged_keys}
 use Rattle.block_tokens.specs.Laws.{IsKeyHeld}
 use Rattle.block_tokens.specs.Ring.{KeyRing, IsRing, ring_keys, update_of}
-use Rattle.hdfs_types.specs.declared.key_list.HeldKey.{HeldKey}
+use Rattle.block_answers.specs.declared.key_list.HeldKey.{HeldKey}
 use Rattle.block_tokens.proofs.Ascending.{usable_ascend, less_is}
 use Rattle.block_tokens.proofs.Expiries.{brought}
 use Rattle.block_tokens.proofs.Updates.{at_same, at_other, merged_ascend}

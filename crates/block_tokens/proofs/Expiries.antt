@@ -9,7 +9,7 @@ use Rattle.std.specs.declared.cmp.Ordering.TheVariants.{Less}
 use Rattle.std.proofs.lemmas.Bool.{cases_eq, le-ltb}
 use Rattle.block_tokens.specs.KeyList.{KeyList, AreKeys, key_with, usable_keys, unless_expired, learned_key, with_merged_key, merged_keys}
 use Rattle.block_tokens.specs.Laws.{IsKnownUntil}
-use Rattle.hdfs_types.specs.declared.key_list.HeldKey.{HeldKey}
+use Rattle.block_answers.specs.declared.key_list.HeldKey.{HeldKey}
 use Rattle.block_tokens.proofs.Ascending.{less_is}
 use Rattle.block_tokens.proofs.Updates.{at_same, at_other, inserted_same, inserted_other, all_merged_ascend}
 use Rattle.block_tokens.proofs.Usable.{usable_key}

@@ -17,7 +17,7 @@ use Rattle.block_tokens.specs.Reading.{parts_of}
 use Rattle.block_tokens.specs.Ring.{KeyRing, parts_with, coded_token, grant_of}
 use Rattle.block_tokens.specs.TokenTest.{Access, access_test, has_code, code_test, parts_test, token_test}
 use Rattle.block_tokens.specs.TokenText.{Body, TokenText, version_1_fields, coded_bytes, before_code}
-use Rattle.hdfs_types.specs.declared.key_list.HeldKey.{HeldKey}
+use Rattle.block_answers.specs.declared.key_list.HeldKey.{HeldKey}
 use Rattle.block_tokens.specs.declared.refusal.TokenRefusal.{TokenRefusal}
 use Rattle.block_tokens.specs.declared.refusal.TokenRefusal.TheVariants.{UnknownKey, CodeMismatch, Expired, WrongUser, WrongBlock, WrongMode}
 use Rattle.block_tokens.proofs.Fields.{IsBytes}

@@ -9,7 +9,7 @@ use Rattle.std.specs.Ordering.{nat_cmp, is_eq, match_ordering}
 use Rattle.std.specs.declared.cmp.Ordering.TheVariants.{Less, Equal, Greater}
 use Rattle.std.proofs.lemmas.Bool.Decides.{nat_tests}
 use Rattle.block_tokens.specs.KeyList.{KeyList, AreKeys, key_with, learned_key, with_merged_key, merged_keys}
-use Rattle.hdfs_types.specs.declared.key_list.HeldKey.{HeldKey}
+use Rattle.block_answers.specs.declared.key_list.HeldKey.{HeldKey}
 use Rattle.block_tokens.proofs.Ascending.{less, less_is}
 
 equal_is : (a b : ℕ) → nat_cmp a b ≡ Equal → a ≡ b

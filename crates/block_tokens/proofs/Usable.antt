@@ -7,7 +7,7 @@ use Rattle.std.proofs.lemmas.Cmp.{nat_cmp_total}
 use Rattle.std.proofs.lemmas.Map.Entries.{lookup-filter-values, option_filter}
 use Rattle.std.proofs.lemmas.Map.Keys.{IsDistinct-from_sorted}
 use Rattle.block_tokens.specs.KeyList.{KeyList, AreKeys, key_with, usable_keys, unless_expired, expires_after}
-use Rattle.hdfs_types.specs.declared.key_list.HeldKey.{HeldKey}
+use Rattle.block_answers.specs.declared.key_list.HeldKey.{HeldKey}
 
 as_filter : (now : ℕ) (known : Option HeldKey) → option_filter (λ (held : HeldKey). expires_after now held.expiry) known ≡ unless_expired now known
 as_filter now None = refl

@@ -6,8 +6,8 @@ use Rattle.std.specs.List.Sorted.{IsStrictlySortedBy}
 use Rattle.std.specs.Map.{keys_of, lookup}
 use Rattle.std.specs.Option.{option_or}
 use Rattle.std.specs.Ordering.{nat_cmp}
-use Rattle.hdfs_types.specs.declared.key_list.HeldKey.{HeldKey}
-pub use Rattle.hdfs_types.specs.KeyList.{KeyList, expires_after}
+use Rattle.block_answers.specs.declared.key_list.HeldKey.{HeldKey}
+pub use Rattle.block_answers.specs.KeyList.{KeyList, expires_after}
 
 -- serials ascend
 abbrev pub AreKeys : KeyList → Type 0

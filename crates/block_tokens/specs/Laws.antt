@@ -9,7 +9,7 @@ use Rattle.block_tokens.specs.KeyList.{KeyList, AreKeys, key_with, usable_keys, 
 use Rattle.block_tokens.specs.Ring.{KeyRing, IsRing, update_of, grant_of}
 use Rattle.block_tokens.specs.TokenTest.{Access, token_test}
 use Rattle.block_tokens.specs.TokenText.{Body, AreParts, TokenText, coded_bytes}
-use Rattle.hdfs_types.specs.declared.key_list.HeldKey.{HeldKey}
+use Rattle.block_answers.specs.declared.key_list.HeldKey.{HeldKey}
 use Rattle.block_tokens.specs.declared.refusal.TokenRefusal.TheVariants.{UnknownKey}
 
 -- ---- texts

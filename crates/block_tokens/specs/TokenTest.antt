@@ -7,7 +7,7 @@ use Rattle.block_tokens.specs.Hmac.{hmac_sha1}
 use Rattle.block_tokens.specs.KeyList.{KeyList, key_with, usable_keys}
 use Rattle.block_tokens.specs.Reading.{parts_of}
 use Rattle.block_tokens.specs.TokenText.{Body, before_code}
-use Rattle.hdfs_types.specs.declared.key_list.HeldKey.{HeldKey}
+use Rattle.block_answers.specs.declared.key_list.HeldKey.{HeldKey}
 use Rattle.block_tokens.specs.declared.refusal.TokenRefusal.{TokenRefusal}
 use Rattle.block_tokens.specs.declared.refusal.TokenRefusal.TheVariants.{Malformed, UnknownKey, CodeMismatch, Expired, WrongUser, WrongBlock, WrongMode}
 

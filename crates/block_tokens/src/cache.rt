@@ -24,7 +24,7 @@ struct CachedKey {
 }
 
 impl Model for CachedKey {
-    ghost use Rattle.hdfs_types.specs.declared.key_list.HeldKey.{HeldKey};
+    ghost use Rattle.block_answers.specs.declared.key_list.HeldKey.{HeldKey};
 
     ghost Value = { HeldKey };
 

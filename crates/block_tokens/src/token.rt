@@ -4,7 +4,7 @@ ghost use Rattle.block_tokens.specs.TokenText.{Body, TokenText, coded_bytes, tok
 ghost use Rattle.block_tokens.specs.Reading.{parts_of};
 
 use crate::reading;
-pub use hdfs_types::token_bytes::TokenBytes;
+pub use block_answers::token_bytes::TokenBytes;
 use hdfs_values::ids::{BlockId, Serial};
 use permission_specs::modes::Modes;
 use std::alloc::{AllocError, Global};

@@ -3,7 +3,7 @@ use Rattle.std.proofs.Common.{◌≡◌, ℕ, suc, ◌+◌, ◌<◌, List, ◌++
 use Rattle.std.specs.Prelude.{slice_get, option_map}
 use Rattle.std.proofs.lemmas.List.{length-map}
 use Rattle.std.proofs.lemmas.Option.{slice_get-map}
-use Rattle.hdfs_types.specs.Commands.{Commands}
+use Rattle.block_answers.specs.Commands.{Commands}
 use Rattle.node_calls.specs.declared.message.Message.{Message}
 use Rattle.cluster_trace.specs.Trace.{recover_message, removal_message, copy_message, command_messages}
 use Rattle.cluster_parts.proofs.Gets.{get_left, get_right}

@@ -4,9 +4,9 @@ ghost use Rattle.cluster_parts.specs.Sent.{messages_at, messages_of, AreLaid};
 ghost use Rattle.cluster_parts.specs.Carried.{message_of_found, commands_seen, commands_for};
 
 use crate::sent::{Sent, Source, begun_near};
+use block_answers::commands::{Commands, CopyOrder, Recover, Removal};
+use block_answers::key_list::KeyList;
 use flat_rows::verdict::Verdict;
-use hdfs_types::commands::{Commands, CopyOrder, Recover, Removal};
-use hdfs_types::key_list::KeyList;
 use hdfs_types::reply::Reply;
 use hdfs_values::node_id::{NodeId, node_of};
 use history::entry::HistoryEntry;

@@ -8,8 +8,6 @@ mod lines;
 #[cfg(test)]
 mod outside;
 #[cfg(test)]
-mod random;
-#[cfg(test)]
 mod recoveries;
 #[cfg(test)]
 mod runs;

@@ -3,7 +3,7 @@ use Rattle.std.proofs.Common.{◌≡◌, ℕ, zero, suc, Bool, true, false, cond
 use Rattle.std.specs.List.{AllByRecursion}
 use Rattle.block_records.specs.Numbers.{entry_at}
 use Rattle.hdfs_values.specs.NodeId.{node_of}
-use Rattle.hdfs_types.specs.declared.key_list.HeldKey.{HeldKey}
+use Rattle.block_answers.specs.declared.key_list.HeldKey.{HeldKey}
 use Rattle.hdfs_types.specs.declared.op.Request.{Request}
 use Rattle.history.specs.Keys.{ring_of}
 use Rattle.node_calls.specs.declared.call.NodeCall.{NodeCall}

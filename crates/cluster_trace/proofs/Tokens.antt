@@ -6,9 +6,9 @@ use Rattle.std.specs.List.{AllByRecursion}
 use Rattle.std.proofs.lemmas.List.{length-append}
 use Rattle.permission_specs.specs.Modes.{is_modes, modes}
 use Rattle.permission_specs.specs.declared.modes.Modes.{Modes}
-use Rattle.hdfs_types.specs.declared.commands.CopyOrder.{CopyOrder}
-use Rattle.hdfs_types.specs.declared.commands.Recover.{Recover}
-use Rattle.hdfs_types.specs.declared.located.LocatedBlock.{LocatedBlock}
+use Rattle.block_answers.specs.declared.commands.CopyOrder.{CopyOrder}
+use Rattle.block_answers.specs.declared.commands.Recover.{Recover}
+use Rattle.block_answers.specs.declared.located.LocatedBlock.{LocatedBlock}
 use Rattle.hdfs_types.specs.declared.op.Op.{Op}
 use Rattle.hdfs_types.specs.declared.op.Op.TheVariants as op
 use Rattle.hdfs_types.specs.declared.reply.Reply.{Reply}

@@ -7,7 +7,7 @@ use Rattle.std.specs.Bool.{⊤}
 use Rattle.permission_specs.specs.Rights.{covers}
 use Rattle.block_records.specs.Numbers.{entry_at}
 use Rattle.hdfs_types.specs.declared.op.Request.{Request}
-use Rattle.hdfs_types.specs.declared.key_list.HeldKey.{HeldKey}
+use Rattle.block_answers.specs.declared.key_list.HeldKey.{HeldKey}
 use Rattle.block_tokens.specs.Hmac.{hmac_sha1}
 use Rattle.block_tokens.specs.Ring.{ring_keys}
 use Rattle.block_tokens.specs.TokenText.{Body, TokenText, coded_bytes}

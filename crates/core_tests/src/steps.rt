@@ -1,9 +1,9 @@
 //! What is done to a core, step by step, and what it answers.
 
+use block_answers::commands::Commands;
 use block_records::node_set::NodeSet;
 use block_tokens::key::KeyList;
 use flat_rows::verdict::Verdict;
-use hdfs_types::commands::Commands;
 use hdfs_types::key::Key;
 use hdfs_types::op::{Op, Request};
 use hdfs_types::replica::{RecoveredBlock, ReportedReplica};

@@ -9,7 +9,7 @@ use Rattle.std.specs.Map.{keys_of}
 use Rattle.permission_specs.specs.Modes.{modes}
 use Rattle.hdfs_types.specs.declared.file.FileState.TheVariants.{Closed}
 use Rattle.block_records.specs.declared.last_block.LastBlock.{LastBlock}
-use Rattle.hdfs_types.specs.declared.located.LocatedBlock.{LocatedBlock}
+use Rattle.block_answers.specs.declared.located.LocatedBlock.{LocatedBlock}
 use Rattle.hdfs_types.specs.declared.reply.Reply.{Reply}
 use Rattle.hdfs_types.specs.declared.reply.Reply.TheVariants as reply
 use Rattle.hdfs_types.specs.declared.reply.Refusal.{Refusal}

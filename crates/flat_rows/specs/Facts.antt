@@ -2,7 +2,7 @@
 -- keys under which tokens are issued.
 use Rattle.std.specs.Prelude.{ℕ, List, Option}
 use Rattle.permission_specs.specs.declared.modes.Modes.{Modes}
-use Rattle.hdfs_types.specs.KeyList.{KeyList}
+use Rattle.block_answers.specs.KeyList.{KeyList}
 use Rattle.block_map.specs.BlockFacts.{Blocks}
 use Rattle.flat_rows.specs.FileOutcome.{LeaseFacts}
 

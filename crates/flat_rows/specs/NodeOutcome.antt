@@ -4,11 +4,11 @@
 use Rattle.std.specs.Prelude.{ℕ, List, map, Option, Some, None}
 use Rattle.permission_specs.specs.Modes.{modes}
 use Rattle.permission_specs.specs.declared.modes.Modes.{Modes}
-use Rattle.hdfs_types.specs.KeyList.{KeyList}
-use Rattle.hdfs_types.specs.Commands.{Commands}
-use Rattle.hdfs_types.specs.declared.commands.Recover.{Recover}
-use Rattle.hdfs_types.specs.declared.commands.Removal.{Removal}
-use Rattle.hdfs_types.specs.declared.commands.CopyOrder.{CopyOrder}
+use Rattle.block_answers.specs.KeyList.{KeyList}
+use Rattle.block_answers.specs.Commands.{Commands}
+use Rattle.block_answers.specs.declared.commands.Recover.{Recover}
+use Rattle.block_answers.specs.declared.commands.Removal.{Removal}
+use Rattle.block_answers.specs.declared.commands.CopyOrder.{CopyOrder}
 use Rattle.hdfs_types.specs.declared.reply.Reply.{Reply}
 use Rattle.hdfs_types.specs.declared.reply.Reply.TheVariants as reply
 use Rattle.block_records.specs.declared.mark.Mark.{Mark}

@@ -9,9 +9,9 @@ use Rattle.block_changes.specs.declared.recovery.Recovery.{Recovery}
 use Rattle.block_tokens.specs.Ring.{KeyRing, grant_of}
 use Rattle.grant_ledger.specs.declared.ledger.LedgerRow.{LedgerRow}
 use Rattle.hdfs_values.specs.NodeId.{node_of}
-use Rattle.hdfs_types.specs.Commands.{Commands}
-use Rattle.hdfs_types.specs.declared.commands.CopyOrder.{CopyOrder}
-use Rattle.hdfs_types.specs.declared.commands.Recover.{Recover}
+use Rattle.block_answers.specs.Commands.{Commands}
+use Rattle.block_answers.specs.declared.commands.CopyOrder.{CopyOrder}
+use Rattle.block_answers.specs.declared.commands.Recover.{Recover}
 use Rattle.hdfs_types.specs.declared.op.Op.{Op}
 use Rattle.hdfs_types.specs.declared.op.Op.TheVariants as op
 use Rattle.hdfs_types.specs.declared.op.Request.{Request}

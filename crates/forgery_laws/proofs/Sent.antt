@@ -6,10 +6,10 @@ use Rattle.std.specs.List.{AllByRecursion}
 use Rattle.block_records.specs.Numbers.{entry_at}
 use Rattle.grant_ledger.specs.declared.ledger.LedgerRow.{LedgerRow}
 use Rattle.hdfs_values.specs.NodeId.{node_of, node_principal}
-use Rattle.hdfs_types.specs.Commands.{Commands}
-use Rattle.hdfs_types.specs.declared.commands.CopyOrder.{CopyOrder}
-use Rattle.hdfs_types.specs.declared.commands.Recover.{Recover}
-use Rattle.hdfs_types.specs.declared.commands.Removal.{Removal}
+use Rattle.block_answers.specs.Commands.{Commands}
+use Rattle.block_answers.specs.declared.commands.CopyOrder.{CopyOrder}
+use Rattle.block_answers.specs.declared.commands.Recover.{Recover}
+use Rattle.block_answers.specs.declared.commands.Removal.{Removal}
 use Rattle.hdfs_types.specs.declared.op.Request.{Request}
 use Rattle.hdfs_types.specs.declared.reply.Reply.{Reply}
 use Rattle.hdfs_types.specs.declared.reply.Reply.TheVariants as reply

@@ -1,6 +1,3 @@
-pub mod KeyList
-pub mod Commands
-pub mod LocatedBlocks
 pub mod Request
 pub mod File
 pub mod Reply

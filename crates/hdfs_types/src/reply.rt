@@ -2,9 +2,9 @@ ghost use Rattle.std.specs.Prelude.{◌≡◌, Some, IfOk};
 ghost use Rattle.std.specs.String.{string_bytes};
 ghost use Rattle.hdfs_types.specs.BlockRefusals as block;
 
-use crate::commands::Commands;
 use crate::file::FileDetail;
-use crate::located::{AddedBlock, OpenedFile};
+use block_answers::commands::Commands;
+use block_answers::located::{AddedBlock, OpenedFile};
 use block_records::fault::{self as block_fault, BlockRefusal};
 use hdfs_values::fault::AclFault;
 use hdfs_values::ids::{BlockId, Serial, Stamp};

@@ -2,7 +2,9 @@
 #![tactic(auto)]
 
 use clap::error::ErrorKind;
-use clap::{Arg, ArgAction, ArgMatches, Command, Error, value_parser};
+use clap::{ArgMatches, Error};
+use command_line::command::command;
+use command_line::words::{has_hints, line_number, word};
 use hdfs_cli::audit::audit;
 use hdfs_cli::explain::{Explained, explain};
 use hdfs_cli::explain_hints::hints_on_explained;
@@ -10,13 +12,10 @@ use hdfs_cli::hints::hints_on_script;
 use hdfs_cli::script::{ScriptFault, Status, run_script};
 use hdfs_cli::token::show_token;
 use hdfs_cli::verbs::help_text;
-use std::alloc::{AllocError, Global};
+use std::alloc::AllocError;
 use std::io::Read;
 use std::process::ExitCode;
 use std::{env, fs, io};
-
-/// The program's version, and the one line that `rt version` prints of the kit that proves and builds it.
-const VERSION: &str = "1.0.0 (rattle-kit-13f)";
 
 /// The exit status where a line of the script, or the token, was ill-formed.
 const ILL_FORMED: u8 = 1;
@@ -26,99 +25,6 @@ const BAD_COMMAND_LINE: u8 = 2;
 
 /// The exit status where memory ran out, the script couldn't be read, or not all that is printed was written.
 const FAULT: u8 = 3;
-
-fn script<'a>(alloc: Global) -> Arg<'a> {
-    Arg::new(alloc, "SCRIPT")
-        .help("The script: a file, or - for standard input")
-        .required(true)
-}
-
-fn hints<'a>(alloc: Global, help: &'a str) -> Arg<'a> {
-    Arg::new(alloc, "hints")
-        .long("hints")
-        .action(ArgAction::SetTrue)
-        .help(help)
-}
-
-fn run_command<'a>(alloc: Global, verbs: &'a str) -> Result<Command<'a>, AllocError> {
-    let hints = hints(
-        alloc,
-        "Also says on standard error what is wrong with each ill-formed line",
-    );
-    Command::new(alloc, "run")
-        .about("Runs a script of requests, and prints an answer for each line")
-        .after_help(verbs)
-        .arg(script(alloc))?
-        .arg(hints)
-}
-
-fn line<'a>(alloc: Global) -> Arg<'a> {
-    Arg::new(alloc, "LINE")
-        .help("The line's number; all lines count, from 1 on")
-        .required(true)
-        .value_parser(value_parser!(u32).range(1..))
-}
-
-fn explain_command<'a>(alloc: Global) -> Result<Command<'a>, AllocError> {
-    let hints = hints(
-        alloc,
-        "Also says on standard error what the answer leaves open, such as why a line is no request",
-    );
-    Command::new(alloc, "explain")
-        .about(
-            "Runs the lines before a line, and prints each need of its request up to the first that fails",
-        )
-        .arg(script(alloc))?
-        .arg(line(alloc))?
-        .arg(hints)
-}
-
-fn audit_command<'a>(alloc: Global) -> Result<Command<'a>, AllocError> {
-    Command::new(alloc, "audit")
-        .about(
-            "Runs a script of requests, and prints their history: for each an object of JSON on a line of its own",
-        )
-        .arg(script(alloc))
-}
-
-fn digits<'a>(alloc: Global) -> Arg<'a> {
-    Arg::new(alloc, "HEX")
-        .help("The token's bytes in hexadecimal digits")
-        .required(true)
-}
-
-fn token_command<'a>(alloc: Global) -> Result<Command<'a>, AllocError> {
-    Command::new(alloc, "token")
-        .about("Prints what a block access token says")
-        .arg(digits(alloc))
-}
-
-/// The command line with the first of the subcommands. Each of them is added in a function of its own: a function that has
-/// all at once takes far longer to prove.
-fn with_run<'a>(alloc: Global, verbs: &'a str) -> Result<Command<'a>, AllocError> {
-    let run = run_command(alloc, verbs)?;
-    Command::new(alloc, "hdfsns")
-        .about("The namesystem of HDFS, proved")
-        .version(VERSION)
-        .subcommand_required(true)
-        .subcommand(run)
-}
-
-fn with_explain<'a>(alloc: Global, verbs: &'a str) -> Result<Command<'a>, AllocError> {
-    let explain = explain_command(alloc)?;
-    with_run(alloc, verbs)?.subcommand(explain)
-}
-
-fn with_audit<'a>(alloc: Global, verbs: &'a str) -> Result<Command<'a>, AllocError> {
-    let audit = audit_command(alloc)?;
-    with_explain(alloc, verbs)?.subcommand(audit)
-}
-
-/// The whole command line. The text is the help on the verbs of scripts.
-fn command<'a>(alloc: Global, verbs: &'a str) -> Result<Command<'a>, AllocError> {
-    let token = token_command(alloc)?;
-    with_audit(alloc, verbs)?.subcommand(token)
-}
 
 /// Runs the script that a path or `-` names.
 fn run(rt: &HostRuntime, path: &str) -> Result<Status, ScriptFault> {
@@ -307,28 +213,6 @@ fn answer_token(rt: &HostRuntime, digits: &str) -> ExitCode {
         return ExitCode::from(ILL_FORMED);
     }
     ExitCode::SUCCESS
-}
-
-/// The word that a subcommand was given, where it is the one that was called.
-fn word<'a>(matches: &'a ArgMatches, subcommand: &str, name: &str) -> Option<&'a str> {
-    matches.subcommand_matches(subcommand)?.get_str(name)
-}
-
-fn has_hints(matches: &ArgMatches, subcommand: &str) -> bool {
-    match matches.subcommand_matches(subcommand) {
-        Some(found) => found.get_flag("hints"),
-        None => false,
-    }
-}
-
-/// The number of the line that is to be explained: digits alone, without the sign that a parsed number may have.
-fn line_number(matches: &ArgMatches, digits: &str) -> Option<u32> {
-    if !digits.as_bytes().iter().all(|byte| byte.is_ascii_digit()) {
-        return None;
-    }
-    matches
-        .subcommand_matches("explain")?
-        .get_one::<u32>("LINE")
 }
 
 fn refuse_number(rt: &HostRuntime, word: &str) -> ExitCode {

@@ -3,10 +3,10 @@
 use Rattle.std.specs.Prelude.{ℕ, List, [], ◌∷◌, ◌++◌, map}
 use Rattle.permission_specs.specs.Modes.{modes}
 use Rattle.permission_specs.specs.declared.modes.Modes.{Modes}
-use Rattle.hdfs_types.specs.Commands.{Commands}
-use Rattle.hdfs_types.specs.declared.commands.Recover.{Recover}
-use Rattle.hdfs_types.specs.declared.commands.CopyOrder.{CopyOrder}
-use Rattle.hdfs_types.specs.declared.located.LocatedBlock.{LocatedBlock}
+use Rattle.block_answers.specs.Commands.{Commands}
+use Rattle.block_answers.specs.declared.commands.Recover.{Recover}
+use Rattle.block_answers.specs.declared.commands.CopyOrder.{CopyOrder}
+use Rattle.block_answers.specs.declared.located.LocatedBlock.{LocatedBlock}
 use Rattle.hdfs_types.specs.declared.op.Op.{Op}
 use Rattle.hdfs_types.specs.declared.op.Op.TheVariants as op
 use Rattle.hdfs_types.specs.declared.reply.Reply.{Reply}

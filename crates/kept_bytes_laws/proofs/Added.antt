@@ -3,7 +3,7 @@ use Rattle.std.proofs.Common.{◌≡◌, ℕ, ◌<◌, ◌≤◌, true, ◌⊎�
 use Rattle.std.specs.List.{AllByRecursion}
 use Rattle.block_records.specs.Numbers.{has_number}
 use Rattle.known_blocks.specs.Known.{KnownBlocks}
-use Rattle.hdfs_types.specs.LocatedBlocks.{AddedBlock}
+use Rattle.block_answers.specs.LocatedBlocks.{AddedBlock}
 use Rattle.history.specs.Config as name
 use Rattle.history.specs.LegalHistory.{IsLegal, now_at}
 use Rattle.history.specs.State.{rows_of, users_of, blocks_of, facts_of}

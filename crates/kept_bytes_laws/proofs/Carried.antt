@@ -9,7 +9,7 @@ use Rattle.block_recovery.proofs.Tables.{itself}
 use Rattle.block_tokens.specs.TokenTest.{token_test}
 use Rattle.datanode_laws.proofs.Nodes.{replica_passes}
 use Rattle.datanode_laws.proofs.Steps.{never}
-use Rattle.hdfs_types.specs.declared.commands.Recover.{Recover}
+use Rattle.block_answers.specs.declared.commands.Recover.{Recover}
 use Rattle.node_calls.specs.declared.call.NodeCall.{NodeCall}
 use Rattle.node_calls.specs.declared.call.NodeCall.TheVariants.{Presenting}
 use Rattle.node_calls.specs.declared.call.PlanCall.{PlanCall}

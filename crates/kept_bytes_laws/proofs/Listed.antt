@@ -23,7 +23,7 @@ use Rattle.block_map.specs.BlockFacts.{known_block, committed_length}
 use Rattle.hdfs_values.specs.NodeId.{is_node_id, node_of}
 use Rattle.hdfs_values.specs.PathOrder.{same_path}
 use Rattle.hdfs_values.proofs.Nodes.{principal_read}
-use Rattle.hdfs_types.specs.declared.located.LocatedBlock.{LocatedBlock}
+use Rattle.block_answers.specs.declared.located.LocatedBlock.{LocatedBlock}
 use Rattle.hdfs_types.specs.declared.op.Op.{Op}
 use Rattle.hdfs_types.specs.declared.op.Op.TheVariants as op
 use Rattle.hdfs_types.specs.declared.replica.RecoveredBlock.{RecoveredBlock}

@@ -12,7 +12,7 @@ use Rattle.block_recovery.specs.Plans.{PlanTable, plan_at, refused_plan_commit, 
 use Rattle.block_recovery.specs.declared.decision.Decision.{Decision}
 use Rattle.block_recovery.specs.declared.plan.Plan.{Plan}
 use Rattle.block_recovery.proofs.Deciding.{holds}
-use Rattle.hdfs_types.specs.declared.commands.Recover.{Recover}
+use Rattle.block_answers.specs.declared.commands.Recover.{Recover}
 use Rattle.node_calls.specs.declared.message.Message.{Message}
 use Rattle.node_calls.specs.declared.message.Message.TheVariants as message
 use Rattle.plan_steps.specs.PlanStep.{plan_refusal, plan_there, no_plan, commit_there}

@@ -19,7 +19,7 @@ use Rattle.block_map.specs.BlockEffects.{with_block_replication, committed_last,
 use Rattle.block_effect_laws.proofs.Orders.{AreInOrder, taken_in_order}
 use Rattle.block_effect_laws.proofs.Looking.{added_at, changed_at, removed_at}
 use Rattle.hdfs_values.specs.NodeId.{node_of}
-use Rattle.hdfs_types.specs.LocatedBlocks.{AddedBlock}
+use Rattle.block_answers.specs.LocatedBlocks.{AddedBlock}
 use Rattle.hdfs_types.specs.declared.op.Op.{Op}
 use Rattle.hdfs_types.specs.declared.op.Op.TheVariants as op
 use Rattle.hdfs_types.specs.declared.replica.RecoveredBlock.{RecoveredBlock}

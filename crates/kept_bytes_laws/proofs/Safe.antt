@@ -10,8 +10,8 @@ use Rattle.block_recovery.specs.Decision.{least_of, finalized_of}
 use Rattle.block_recovery.specs.declared.decision.Decision.{Decision}
 use Rattle.block_recovery.specs.declared.plan.Plan.{Plan}
 use Rattle.block_recovery.proofs.Deciding.{none_lost, lost_by_none}
-use Rattle.hdfs_types.specs.LocatedBlocks.{AddedBlock}
-use Rattle.hdfs_types.specs.declared.commands.Recover.{Recover}
+use Rattle.block_answers.specs.LocatedBlocks.{AddedBlock}
+use Rattle.block_answers.specs.declared.commands.Recover.{Recover}
 use Rattle.node_calls.specs.declared.call.NodeCall.{NodeCall}
 use Rattle.node_calls.specs.declared.call.NodeCall.TheVariants.{Presenting}
 use Rattle.node_calls.specs.declared.call.ReplicaState.TheVariants.{Writing}

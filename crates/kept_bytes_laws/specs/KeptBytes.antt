@@ -7,7 +7,7 @@ use Rattle.std.specs.Option.{option_and_then}
 use Rattle.block_records.specs.Numbers.{has_number}
 use Rattle.block_laws.specs.Laws.{new_blocks}
 use Rattle.block_recovery.specs.declared.decision.Decision.{Decision}
-use Rattle.hdfs_types.specs.LocatedBlocks.{AddedBlock}
+use Rattle.block_answers.specs.LocatedBlocks.{AddedBlock}
 use Rattle.node_calls.specs.declared.call.NodeCall.TheVariants.{Invalidate}
 use Rattle.node_calls.specs.declared.call.TokenCall.TheVariants as call
 use Rattle.node_calls.specs.declared.presented.Presented.{Presented}

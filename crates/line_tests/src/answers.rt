@@ -1,8 +1,8 @@
+use block_answers::located::{AddedBlock, LocatedBlock, OpenedFile};
+use block_answers::token_bytes::TokenBytes;
 use block_records::node_set::NodeSet;
 use flat_rows::verdict::Verdict;
-use hdfs_types::located::{AddedBlock, LocatedBlock, OpenedFile};
 use hdfs_types::reply::{Counter, Refusal, Reply};
-use hdfs_types::token_bytes::TokenBytes;
 use hdfs_values::fault::IllFormed;
 use hdfs_values::ids::{BlockId, Stamp};
 use hdfs_values::node_id::NodeId;

@@ -1,7 +1,7 @@
 ghost use Rattle.std.specs.Prelude.{◌≡◌, IfOk};
 
+use block_answers::token_bytes::TokenBytes;
 use bytes::Bytes;
-use hdfs_types::token_bytes::TokenBytes;
 use hdfs_values::ids::{BlockId, Stamp};
 use hdfs_values::who::Who;
 use std::alloc::{AllocError, Global};

@@ -6,13 +6,13 @@ ghost use Rattle.history.specs.Grants.{ledger_row, granted_with};
 ghost use Rattle.node_commands.specs.Granted.{tokens_of, recovery_row, copy_row};
 
 use bitflags::Flags;
+use block_answers::commands::{Commands, CopyOrder, Recover, Removal};
 use block_changes::transfer::Transfer;
 use block_map::instructions::Instructions;
 use block_map::recovery::Recovery;
 use block_records::mark::Mark;
 use block_tokens::ring::KeyRing;
 use grant_ledger::ledger::LedgerRow;
-use hdfs_types::commands::{Commands, CopyOrder, Recover, Removal};
 use hdfs_values::ids::BlockId;
 use hdfs_values::moment::Moment;
 use hdfs_values::who::Who;

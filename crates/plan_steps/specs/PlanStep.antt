@@ -4,7 +4,7 @@
 -- tells the NameNode.)
 use Rattle.std.specs.Prelude.{ℕ, Bool, true, false, List, [], ◌∷◌, map, length, Option, Some, None, unwrap_or, Result, Ok, Err}
 use Rattle.hdfs_values.specs.NodeId.{node_principal}
-use Rattle.hdfs_types.specs.declared.commands.Recover.{Recover}
+use Rattle.block_answers.specs.declared.commands.Recover.{Recover}
 use Rattle.node_calls.specs.declared.call.NodeCall.TheVariants.{Presenting}
 use Rattle.node_calls.specs.declared.call.PlanCall.{PlanCall}
 use Rattle.node_calls.specs.declared.call.PlanCall.TheVariants as plan

@@ -2,7 +2,7 @@ ghost use Rattle.std.specs.Prelude.{◌≡◌, IfOk};
 ghost use Rattle.node_calls.specs.declared.call.TokenCall.TheVariants as made;
 ghost use Rattle.plan_steps.specs.PlanStep as spec;
 
-use hdfs_types::token_bytes::TokenBytes;
+use block_answers::token_bytes::TokenBytes;
 use hdfs_values::ids::{BlockId, Stamp};
 use hdfs_values::node_id::NodeId;
 use node_calls::call::{NodeCall, TokenCall};

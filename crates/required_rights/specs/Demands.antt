@@ -27,6 +27,6 @@ abbrev pub IsDemand : Demand → Type 0
 IsDemand demand = IsTrue (is_path demand.path && suits_role demand.need demand.role)
 
 -- the needs that a value lists
-abbrev pub listed : Listed → List Demand
-listed (One demand) = demand ∷ []
-listed (Several demands) = demands.items
+abbrev pub listed_demands : Listed → List Demand
+listed_demands (One demand) = demand ∷ []
+listed_demands (Several demands) = demands.items

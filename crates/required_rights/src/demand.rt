@@ -1,7 +1,7 @@
 ghost use Rattle.std.specs.Prelude.{◌≡◌, ◌∷◌, ◌++◌, [], Some, IfOk, OnOk};
 ghost use Rattle.hdfs_values.specs.Path.{IsPath};
 ghost use Rattle.permission_specs.specs.Rights.{rights};
-ghost use Rattle.required_rights.specs.Demands.{listed};
+ghost use Rattle.required_rights.specs.Demands.{listed_demands};
 ghost use Rattle.required_rights.specs.RequiredRights as spec;
 
 use crate::need::Need;
@@ -299,11 +299,11 @@ pub struct Needs<'a> {
 impl<'a> Model for Needs<'a> {
     ghost use Rattle.std.specs.Prelude.{List};
     ghost use Rattle.required_rights.specs.RequiredRights as spec;
-    ghost use Rattle.required_rights.specs.Demands.{listed};
+    ghost use Rattle.required_rights.specs.Demands.{listed_demands};
 
     ghost Value = { List spec.Demand };
 
-    ghost view = { λ needs. listed needs.demands };
+    ghost view = { λ needs. listed_demands needs.demands };
 }
 
 impl<'a> Needs<'a> {
@@ -352,7 +352,7 @@ fn needs_of_owner<'a>(
     owner: &GivenName,
     group: &GivenName,
 ) -> Result<Listed<'a>, AllocError>
-    ensures { IfOk result (λ demands. listed demands ≡ spec.strict_traversal path.now ∷ spec.ownership path.now ∷ (spec.owner_demands path.now owner.now ++ spec.group_demands path.now group.now)) }
+    ensures { IfOk result (λ demands. listed_demands demands ≡ spec.strict_traversal path.now ∷ spec.ownership path.now ∷ (spec.owner_demands path.now owner.now ++ spec.group_demands path.now group.now)) }
 {
     let mut demands = vec![in alloc; Demand::strict_traversal(path), Demand::ownership(path)]?;
     add_owner_needs(&mut demands, path, owner)?;
@@ -362,7 +362,7 @@ fn needs_of_owner<'a>(
 
 /// What making a file needs, and also replacing one where that is asked.
 fn needs_of_file<'a>(alloc: Global, path: &'a Path, over: bool) -> Result<Listed<'a>, AllocError>
-    ensures { IfOk result (λ demands. listed demands ≡ spec.traversal path.now ∷ spec.write_above path.now ∷ spec.over_demands path.now over) }
+    ensures { IfOk result (λ demands. listed_demands demands ≡ spec.traversal path.now ∷ spec.write_above path.now ∷ spec.over_demands path.now over) }
 {
     let mut demands = vec![in alloc; Demand::traversal(path), Demand::write_above(path)]?;
     if over {
@@ -373,25 +373,25 @@ fn needs_of_file<'a>(alloc: Global, path: &'a Path, over: bool) -> Result<Listed
 
 /// What only needs to get to the path.
 fn needs_of_traversal<'a>(path: &'a Path) -> Listed<'a>
-    ensures { listed result ≡ spec.traversal path.now ∷ [] }
+    ensures { listed_demands result ≡ spec.traversal path.now ∷ [] }
 {
     Listed::One(Demand::traversal(path))
 }
 
 fn needs_of_mkdirs<'a>(alloc: Global, path: &'a Path) -> Result<Listed<'a>, AllocError>
-    ensures { IfOk result (λ demands. listed demands ≡ spec.traversal path.now ∷ spec.creation path.now ∷ []) }
+    ensures { IfOk result (λ demands. listed_demands demands ≡ spec.traversal path.now ∷ spec.creation path.now ∷ []) }
 {
     Ok(Listed::Several(vec![in alloc; Demand::traversal(path), Demand::creation(path)]?))
 }
 
 fn needs_of_list<'a>(alloc: Global, path: &'a Path) -> Result<Listed<'a>, AllocError>
-    ensures { IfOk result (λ demands. listed demands ≡ spec.traversal path.now ∷ spec.listing path.now ∷ []) }
+    ensures { IfOk result (λ demands. listed_demands demands ≡ spec.traversal path.now ∷ spec.listing path.now ∷ []) }
 {
     Ok(Listed::Several(vec![in alloc; Demand::traversal(path), Demand::listing(path)]?))
 }
 
 fn needs_of_summary<'a>(alloc: Global, path: &'a Path) -> Result<Listed<'a>, AllocError>
-    ensures { IfOk result (λ demands. listed demands ≡ spec.traversal path.now ∷ spec.sub_tree (rights 5) path.now ∷ []) }
+    ensures { IfOk result (λ demands. listed_demands demands ≡ spec.traversal path.now ∷ spec.sub_tree (rights 5) path.now ∷ []) }
 {
     Ok(Listed::Several(vec![in alloc;
         Demand::traversal(path),
@@ -400,7 +400,7 @@ fn needs_of_summary<'a>(alloc: Global, path: &'a Path) -> Result<Listed<'a>, All
 }
 
 fn needs_of_delete<'a>(alloc: Global, path: &'a Path) -> Result<Listed<'a>, AllocError>
-    ensures { IfOk result (λ demands. listed demands ≡ spec.traversal path.now ∷ spec.sticky_bit path.now ∷ spec.removal path.now ∷ spec.sub_tree (rights 7) path.now ∷ []) }
+    ensures { IfOk result (λ demands. listed_demands demands ≡ spec.traversal path.now ∷ spec.sticky_bit path.now ∷ spec.removal path.now ∷ spec.sub_tree (rights 7) path.now ∷ []) }
 {
     Ok(Listed::Several(vec![in alloc;
         Demand::traversal(path),
@@ -415,7 +415,7 @@ fn needs_of_rename<'a>(
     from: &'a Path,
     to: &'a Path,
 ) -> Result<Listed<'a>, AllocError>
-    ensures { IfOk result (λ demands. listed demands ≡ spec.traversal from.now ∷ spec.traversal to.now ∷ spec.sticky_bit from.now ∷ spec.write_above to.now ∷ spec.removal from.now ∷ []) }
+    ensures { IfOk result (λ demands. listed_demands demands ≡ spec.traversal from.now ∷ spec.traversal to.now ∷ spec.sticky_bit from.now ∷ spec.write_above to.now ∷ spec.removal from.now ∷ []) }
 {
     Ok(Listed::Several(vec![in alloc;
         Demand::traversal(from),
@@ -428,7 +428,7 @@ fn needs_of_rename<'a>(
 
 /// What only the owner does.
 fn needs_of_ownership<'a>(alloc: Global, path: &'a Path) -> Result<Listed<'a>, AllocError>
-    ensures { IfOk result (λ demands. listed demands ≡ spec.strict_traversal path.now ∷ spec.ownership path.now ∷ []) }
+    ensures { IfOk result (λ demands. listed_demands demands ≡ spec.strict_traversal path.now ∷ spec.ownership path.now ∷ []) }
 {
     Ok(Listed::Several(vec![in alloc; Demand::strict_traversal(path), Demand::ownership(path)]?))
 }
@@ -439,21 +439,21 @@ fn needs_of_access<'a>(
     rights: Rights,
     path: &'a Path,
 ) -> Result<Listed<'a>, AllocError>
-    ensures { IfOk result (λ demands. listed demands ≡ spec.traversal path.now ∷ spec.access rights path.now ∷ []) }
+    ensures { IfOk result (λ demands. listed_demands demands ≡ spec.traversal path.now ∷ spec.access rights path.now ∷ []) }
 {
     Ok(Listed::Several(vec![in alloc; Demand::traversal(path), Demand::access(rights, path)]?))
 }
 
 /// What only a superuser does.
 fn needs_of_administration<'a>() -> Listed<'a>
-    ensures { listed result ≡ spec.administration ∷ [] }
+    ensures { listed_demands result ≡ spec.administration ∷ [] }
 {
     Listed::One(Demand::administration())
 }
 
 /// What only a DataNode does.
 fn needs_of_node<'a>() -> Listed<'a>
-    ensures { listed result ≡ spec.node_identity ∷ [] }
+    ensures { listed_demands result ≡ spec.node_identity ∷ [] }
 {
     Listed::One(Demand::node_principal())
 }
@@ -461,7 +461,7 @@ fn needs_of_node<'a>() -> Listed<'a>
 /// The one table of required rights. Each line is one call: a function in which the needs themselves are made takes far longer
 /// to prove.
 fn demands_of<'a>(alloc: Global, op: &'a Op) -> Result<Listed<'a>, AllocError>
-    ensures { IfOk result (λ demands. listed demands ≡ spec.required_rights op.now) }
+    ensures { IfOk result (λ demands. listed_demands demands ≡ spec.required_rights op.now) }
 {
     match op {
         Op::Mkdirs(path, _) => needs_of_mkdirs(alloc, path),

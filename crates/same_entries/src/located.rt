@@ -1,7 +1,7 @@
 ghost use Rattle.std.specs.Prelude.{◌≡◌};
 ghost use Rattle.std.specs.Bool.{Decides};
 
-use hdfs_types::located::{AddedBlock, LocatedBlock, OpenedFile};
+use block_answers::located::{AddedBlock, LocatedBlock, OpenedFile};
 use same_requests::commands::{are_same_nodes, is_same_token};
 
 /// Whether two new blocks are one.

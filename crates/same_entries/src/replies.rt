@@ -4,9 +4,9 @@ ghost use Rattle.hdfs_types.specs.declared.reply.Reply.TheVariants as made;
 
 use crate::located::{is_same_added, is_same_opened};
 use crate::rows::is_same_state;
-use hdfs_types::commands::Commands;
+use block_answers::commands::Commands;
+use block_answers::located::{AddedBlock, OpenedFile};
 use hdfs_types::file::FileDetail;
-use hdfs_types::located::{AddedBlock, OpenedFile};
 use hdfs_types::reply::{
     AclStatus, BoxedAcl, BoxedStatus, ContentSummary, Expired, FileStatus, Names, Reply,
 };

@@ -2,10 +2,10 @@ ghost use Rattle.std.specs.Prelude.{◌≡◌};
 ghost use Rattle.std.specs.Bool.{Decides};
 
 use crate::requests::is_same_key;
+use block_answers::commands::{Commands, CopyOrder, Recover, Removal};
+use block_answers::key_list::{HeldKey, KeyList};
+use block_answers::token_bytes::TokenBytes;
 use block_records::node_set::NodeSet;
-use hdfs_types::commands::{Commands, CopyOrder, Recover, Removal};
-use hdfs_types::key_list::{HeldKey, KeyList};
-use hdfs_types::token_bytes::TokenBytes;
 use hdfs_values::ids::Serial;
 use hdfs_values::node_id::NodeId;
 

@@ -1,6 +1,6 @@
 -- The text of one block more.
 use Rattle.std.proofs.Common.{◌≡◌, ℕ, zero, suc, ◌+◌, ◌<◌, List, [], ◌∷◌, ◌++◌, take, length, get_or, refl, sym, ap, ◌∙◌, append-nil, append_assoc, arith}
-use Rattle.hdfs_types.specs.declared.located.LocatedBlock.{LocatedBlock}
+use Rattle.block_answers.specs.declared.located.LocatedBlock.{LocatedBlock}
 use Rattle.script_text.specs.BlockText.{located_text, blocks_text}
 
 next : (row : ℕ) (blocks : List LocatedBlock) (i : ℕ) (d : LocatedBlock) → i < length blocks

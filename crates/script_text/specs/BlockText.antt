@@ -3,8 +3,8 @@
 use Rattle.std.specs.Prelude.{ℕ, ◌+◌, List, [], ◌∷◌, ◌++◌, codes}
 use Rattle.std.specs.Fmt.{decimal}
 use Rattle.std.specs.List.{join_by}
-use Rattle.hdfs_types.specs.LocatedBlocks.{AddedBlock, OpenedFile}
-use Rattle.hdfs_types.specs.declared.located.LocatedBlock.{LocatedBlock}
+use Rattle.block_answers.specs.LocatedBlocks.{AddedBlock, OpenedFile}
+use Rattle.block_answers.specs.declared.located.LocatedBlock.{LocatedBlock}
 
 -- ids with a comma between each two, and `-` where there are none
 abbrev pub nodes_text : List ℕ → List ℕ

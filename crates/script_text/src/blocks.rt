@@ -1,7 +1,7 @@
 ghost use Rattle.std.specs.Prelude.{◌+◌, Some};
 
+use block_answers::located::{AddedBlock, LocatedBlock, OpenedFile};
 use block_records::node_set::NodeSet;
-use hdfs_types::located::{AddedBlock, LocatedBlock, OpenedFile};
 use hdfs_values::node_id::NodeId;
 use std::fmt;
 

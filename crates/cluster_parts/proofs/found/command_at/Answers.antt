@@ -1,9 +1,9 @@
 use Rattle.std.proofs.Common.{◌≡◌, ℕ, ◌+◌, ◌-◌, ◌<◌, List, suc, length, refl, sym, ap, ◌∙◌, Some, arith}
 use Rattle.std.specs.Prelude.{slice_get, option_map}
 use Rattle.std.proofs.lemmas.Option.{slice_get_past, slice_get_read}
-use Rattle.hdfs_types.specs.declared.commands.CopyOrder.{CopyOrder}
-use Rattle.hdfs_types.specs.declared.commands.Recover.{Recover}
-use Rattle.hdfs_types.specs.declared.commands.Removal.{Removal}
+use Rattle.block_answers.specs.declared.commands.CopyOrder.{CopyOrder}
+use Rattle.block_answers.specs.declared.commands.Recover.{Recover}
+use Rattle.block_answers.specs.declared.commands.Removal.{Removal}
 use Rattle.cluster_trace.specs.Trace.{recover_message, removal_message, copy_message, command_messages}
 use Rattle.cluster_parts.proofs.Commands.{at_recovery, at_removal, at_copy}
 use Rattle.cluster_parts.proofs.found.command_at.Goals as goal

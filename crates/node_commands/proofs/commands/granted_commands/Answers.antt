@@ -1,5 +1,5 @@
 use Rattle.std.proofs.Common.{◌++◌, map, ap, ◌∙◌}
-use Rattle.hdfs_types.specs.Commands.{Commands}
+use Rattle.block_answers.specs.Commands.{Commands}
 use Rattle.node_commands.specs.Granted.{recovery_row, copy_row}
 use Rattle.node_commands.proofs.Rows.{rows_are}
 use Rattle.node_commands.proofs.commands.granted_commands.Goals as goal

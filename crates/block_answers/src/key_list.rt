@@ -1,5 +1,5 @@
 ghost use Rattle.std.specs.Prelude.{◌≡◌, ◌++◌, [], ◌∷◌, IfOk, OnOk, OnErr};
-ghost use Rattle.hdfs_types.specs.KeyList as spec;
+ghost use Rattle.block_answers.specs.KeyList as spec;
 
 use block_keys::key::Key;
 use hdfs_values::ids::Serial;
@@ -50,11 +50,11 @@ impl Drop for KeyList {
 }
 
 impl Model for KeyList {
-    ghost use Rattle.hdfs_types.specs.KeyList.{KeyList, listed};
+    ghost use Rattle.block_answers.specs.KeyList.{KeyList, listed_keys};
 
     ghost Value = { KeyList };
 
-    ghost view = { λ list. listed list.keys };
+    ghost view = { λ list. listed_keys list.keys };
 }
 
 impl KeyList {

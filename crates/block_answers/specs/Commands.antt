@@ -2,10 +2,10 @@
 -- replicas that it is to copy.
 -- (HDFS Architecture, "Data Disk Failure, Heartbeats and Re-Replication"; the DataNode protocol.)
 use Rattle.std.specs.Prelude.{List}
-use Rattle.hdfs_types.specs.KeyList.{KeyList}
-use Rattle.hdfs_types.specs.declared.commands.Recover.{Recover}
-use Rattle.hdfs_types.specs.declared.commands.Removal.{Removal}
-use Rattle.hdfs_types.specs.declared.commands.CopyOrder.{CopyOrder}
+use Rattle.block_answers.specs.KeyList.{KeyList}
+use Rattle.block_answers.specs.declared.commands.Recover.{Recover}
+use Rattle.block_answers.specs.declared.commands.Removal.{Removal}
+use Rattle.block_answers.specs.declared.commands.CopyOrder.{CopyOrder}
 
 pub record Commands : Type 0 where
   pub keys : KeyList

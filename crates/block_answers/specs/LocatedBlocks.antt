@@ -1,7 +1,7 @@
 -- Blocks as their writers and readers are told of them.
 -- (HDFS Architecture, "Data Replication" and "Replication Pipelining"; HADOOP-4359 for the tokens.)
 use Rattle.std.specs.Prelude.{ℕ, List}
-use Rattle.hdfs_types.specs.declared.located.LocatedBlock.{LocatedBlock}
+use Rattle.block_answers.specs.declared.located.LocatedBlock.{LocatedBlock}
 
 -- a new block, the nodes that are to hold it, and the token with which it is written
 pub record AddedBlock : Type 0 where

@@ -30,7 +30,7 @@ impl Drop for AddedBlock {
 }
 
 impl Model for AddedBlock {
-    ghost use Rattle.hdfs_types.specs.LocatedBlocks.{AddedBlock};
+    ghost use Rattle.block_answers.specs.LocatedBlocks.{AddedBlock};
 
     ghost Value = { AddedBlock };
 
@@ -150,7 +150,7 @@ impl Drop for OpenedFile {
 }
 
 impl Model for OpenedFile {
-    ghost use Rattle.hdfs_types.specs.LocatedBlocks.{OpenedFile};
+    ghost use Rattle.block_answers.specs.LocatedBlocks.{OpenedFile};
 
     ghost Value = { OpenedFile };
 

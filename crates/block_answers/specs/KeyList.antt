@@ -1,9 +1,9 @@
 -- Keys by their serials, as a NameNode sends them and a DataNode holds them. (HADOOP-4359: keys roll, and DataNodes learn
 -- them with heartbeats.)
 use Rattle.std.specs.Prelude.{ℕ, Bool, true, List, [], ◌∷◌, Option, Some, None, nat_lt}
-use Rattle.hdfs_types.specs.declared.key_list.HeldKey.{HeldKey}
-use Rattle.hdfs_types.specs.declared.key_list.Listed.{Listed}
-use Rattle.hdfs_types.specs.declared.key_list.Listed.TheVariants.{Nothing, One, Several}
+use Rattle.block_answers.specs.declared.key_list.HeldKey.{HeldKey}
+use Rattle.block_answers.specs.declared.key_list.Listed.{Listed}
+use Rattle.block_answers.specs.declared.key_list.Listed.TheVariants.{Nothing, One, Several}
 
 -- each key with its serial before it
 abbrev pub KeyList : Type 0
@@ -15,7 +15,7 @@ expires_after now None = true
 expires_after now (Some expiry) = nat_lt now expiry
 
 -- the keys that a value lists
-abbrev pub listed : Listed → KeyList
-listed Nothing = []
-listed (One key) = key ∷ []
-listed (Several keys) = keys.items
+abbrev pub listed_keys : Listed → KeyList
+listed_keys Nothing = []
+listed_keys (One key) = key ∷ []
+listed_keys (Several keys) = keys.items

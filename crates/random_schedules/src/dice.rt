@@ -1,7 +1,6 @@
-//! Numbers that look random, and are the same again for the same seed.
-
 ghost use Rattle.std.specs.Prelude.{◌<◌};
 
+/// Numbers that look random, and are the same again for the same seed.
 #[derive(Drop)]
 pub struct Dice {
     state: u64,

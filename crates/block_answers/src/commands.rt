@@ -89,7 +89,7 @@ impl Drop for Commands {
 }
 
 impl Model for Commands {
-    ghost use Rattle.hdfs_types.specs.Commands.{Commands};
+    ghost use Rattle.block_answers.specs.Commands.{Commands};
 
     ghost Value = { Commands };
 

@@ -1,0 +1,3 @@
+pub mod KeyList
+pub mod Commands
+pub mod LocatedBlocks

@@ -1,0 +1,101 @@
+use clap::{Arg, ArgAction, Command, value_parser};
+use std::alloc::{AllocError, Global};
+
+/// The program's version, and the one line that `rt version` prints of the kit that proves and builds it.
+const VERSION: &str = "1.0.0 (rattle-kit-13f)";
+
+fn script<'a>(alloc: Global) -> Arg<'a> {
+    Arg::new(alloc, "SCRIPT")
+        .help("The script: a file, or - for standard input")
+        .required(true)
+}
+
+fn hints<'a>(alloc: Global, help: &'a str) -> Arg<'a> {
+    Arg::new(alloc, "hints")
+        .long("hints")
+        .action(ArgAction::SetTrue)
+        .help(help)
+}
+
+fn run_command<'a>(alloc: Global, verbs: &'a str) -> Result<Command<'a>, AllocError> {
+    let hints = hints(
+        alloc,
+        "Also says on standard error what is wrong with each ill-formed line",
+    );
+    Command::new(alloc, "run")
+        .about("Runs a script of requests, and prints an answer for each line")
+        .after_help(verbs)
+        .arg(script(alloc))?
+        .arg(hints)
+}
+
+fn line<'a>(alloc: Global) -> Arg<'a> {
+    Arg::new(alloc, "LINE")
+        .help("The line's number; all lines count, from 1 on")
+        .required(true)
+        .value_parser(value_parser!(u32).range(1..))
+}
+
+fn explain_command<'a>(alloc: Global) -> Result<Command<'a>, AllocError> {
+    let hints = hints(
+        alloc,
+        "Also says on standard error what the answer leaves open, such as why a line is no request",
+    );
+    Command::new(alloc, "explain")
+        .about(
+            "Runs the lines before a line, and prints each need of its request up to the first that fails",
+        )
+        .arg(script(alloc))?
+        .arg(line(alloc))?
+        .arg(hints)
+}
+
+fn audit_command<'a>(alloc: Global) -> Result<Command<'a>, AllocError> {
+    Command::new(alloc, "audit")
+        .about(
+            "Runs a script of requests, and prints their history: for each an object of JSON on a line of its own",
+        )
+        .arg(script(alloc))
+}
+
+fn digits<'a>(alloc: Global) -> Arg<'a> {
+    Arg::new(alloc, "HEX")
+        .help("The token's bytes in hexadecimal digits")
+        .required(true)
+}
+
+fn token_command<'a>(alloc: Global) -> Result<Command<'a>, AllocError> {
+    Command::new(alloc, "token")
+        .about("Prints what a block access token says")
+        .arg(digits(alloc))
+}
+
+// The command line with the first of the subcommands. Each of them is added in a function of its own: a function that has
+// all at once takes far longer to prove.
+fn with_run<'a>(alloc: Global, verbs: &'a str) -> Result<Command<'a>, AllocError> {
+    let run = run_command(alloc, verbs)?;
+    Command::new(alloc, "hdfsns")
+        .about("The namesystem of HDFS, proved")
+        .version(VERSION)
+        .subcommand_required(true)
+        .subcommand(run)
+}
+
+fn with_explain<'a>(alloc: Global, verbs: &'a str) -> Result<Command<'a>, AllocError> {
+    let explain = explain_command(alloc)?;
+    with_run(alloc, verbs)?.subcommand(explain)
+}
+
+fn with_audit<'a>(alloc: Global, verbs: &'a str) -> Result<Command<'a>, AllocError> {
+    let audit = audit_command(alloc)?;
+    with_explain(alloc, verbs)?.subcommand(audit)
+}
+
+/// The command line of the program, with the help on the verbs of scripts behind that of `run`.
+///
+/// # Errors
+/// Out of memory.
+pub fn command<'a>(alloc: Global, verbs: &'a str) -> Result<Command<'a>, AllocError> {
+    let token = token_command(alloc)?;
+    with_audit(alloc, verbs)?.subcommand(token)
+}

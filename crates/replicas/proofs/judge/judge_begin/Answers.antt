@@ -1,0 +1,5 @@
+use Rattle.std.proofs.Common.{rules}
+use Rattle.replicas.proofs.judge.judge_begin.Goals as goal
+
+pub returns : goal.returns
+returns c = search rules
