@@ -22,9 +22,9 @@ use Rattle.block_effect_laws.proofs.Reports.{agreeing_have, reported_is, more_ha
 use Rattle.block_effect_laws.proofs.Looking.{added_at, changed_at, removed_at}
 use Rattle.block_effect_laws.proofs.Turning.{kept_same, kept_in_turn, kept_changed, kept_removed, kept_added}
 
--- the stamp stays, and what is committed
-goes : (before : KnownBlocks) (own later : BlockRecord) → later.stamp ≡ own.stamp → later.committed ≡ own.committed → GoesOn before own later
-goes before own later stamp committed = record { stamp = inl stamp; committed = λ length is. committed ∙ is }
+-- the stamp stays, what is committed, and a recovery that runs
+goes : (before : KnownBlocks) (own later : BlockRecord) → later.stamp ≡ own.stamp → later.committed ≡ own.committed → later.recovering ≡ own.recovering → GoesOn before own later
+goes before own later stamp committed recovering = record { stamp = inl stamp; committed = λ length is. committed ∙ is; recovering = λ since is. inl (sym recovering ∙ is, stamp) }
 
 -- ---- a record given anew
 
@@ -61,7 +61,7 @@ removals_keep facts blocks sound = removals facts.known blocks sound
 
 pub replication_keeps : ReplicationKeeps
 replication_keeps facts block replication sound =
-    altered_keeps (with_replication replication) block facts.known sound (λ own is was. goes facts.known own (with_replication replication own) refl refl) (λ own was. refl) (λ own is was. was.agreed)
+    altered_keeps (with_replication replication) block facts.known sound (λ own is was. goes facts.known own (with_replication replication own) refl refl refl) (λ own was. refl) (λ own is was. was.agreed)
 
 -- ---- lengths
 
@@ -84,7 +84,7 @@ committed_is (Some committed) own length reports agreed some is = ap (λ l. Some
 pub commit_keeps : CommitKeeps
 commit_keeps facts block length allowed sound =
     altered_keeps (with_length length) block facts.known sound
-    (λ own is was. record { stamp = inl refl; committed = λ bytes before. committed_is own.committed bytes length own.reports was.agreed (allowed_length (block_of facts.known block) own length is allowed) before })
+    (λ own is was. record { stamp = inl refl; committed = λ bytes before. committed_is own.committed bytes length own.reports was.agreed (allowed_length (block_of facts.known block) own length is allowed) before; recovering = λ since is. inl (is, refl) })
     (λ own was. refl) (λ own is was. agreeing_have length own.reports)
 
 pub request_keeps : RequestKeeps
@@ -102,7 +102,7 @@ begin_keeps facts block now sound =
     let before = facts.known in
     kept_changed before (known.with_next_recovery before block now) sound (changed_in_order (with_recovery before.next_stamp now) block before.blocks sound.once) block (with_recovery before.next_stamp now)
     (omega arith) (omega arith) (changed_at (with_recovery before.next_stamp now) block before.blocks)
-    (λ own is was. record { goes_on = record { stamp = inr (omega arith); committed = λ length committed. committed }; stamped = omega arith; agreed = agree_on_none own.committed })
+    (λ own is was. record { goes_on = record { stamp = inr (omega arith); committed = λ length committed. committed; recovering = λ since is. inr (omega arith) }; stamped = omega arith; agreed = agree_on_none own.committed })
 
 begun_in_turn : (facts : Blocks) (recoveries : List BegunRecovery) (now : ℕ) → IsSound facts.known → KeepsKnown facts.known (fold (λ left (own : BegunRecovery). with_recovery_begun left own.block now) facts recoveries).known
 begun_in_turn facts [] now sound = kept_same facts.known sound
@@ -128,7 +128,7 @@ never (Some other) length {A} none some = cc
 pub recovery_keeps : RecoveryKeeps
 recovery_keeps facts block length nodes none sound =
     altered_keeps (with_recovered length nodes) block facts.known sound
-    (λ own is was. record { stamp = inl refl; committed = λ bytes before. never own.committed bytes (uncommitted (block_of facts.known block) own is none) before })
+    (λ own is was. record { stamp = inl refl; committed = λ bytes before. never own.committed bytes (uncommitted (block_of facts.known block) own is none) before; recovering = λ since is. cc })
     (λ own was. refl) (λ own is was. more_have length nodes (agreeing_reports length own.reports) (agreeing_have length own.reports))
 
 -- ---- nodes
@@ -137,7 +137,7 @@ told_in_turn : (before : KnownBlocks) (blocks : List ℕ) (now : ℕ) → IsSoun
 told_in_turn before [] now sound = kept_same before sound
 told_in_turn before (block ∷ blocks) now sound =
     let between = with_block_changed (with_hand_out now) block before in
-    let first = altered_keeps (with_hand_out now) block before sound (λ own is was. goes before own (with_hand_out now own) refl refl) (λ own was. refl) (λ own is was. was.agreed) in
+    let first = altered_keeps (with_hand_out now) block before sound (λ own is was. goes before own (with_hand_out now own) refl refl refl) (λ own was. refl) (λ own is was. was.agreed) in
     kept_in_turn before between (known.with_copies_told between blocks now) sound first (told_in_turn between blocks now first.sound)
 
 pub heartbeat_keeps : HeartbeatKeeps
@@ -151,7 +151,7 @@ unreported (Some newest) stamp node block before sound = by (newest == stamp)
   where
     by : (b : Bool) → KeepsKnown before (cond b (with_block_changed (without_report node) block before) before)
     by true =
-        altered_keeps (without_report node) block before sound (λ own is was. goes before own (without_report node own) refl refl) (λ own was. refl)
+        altered_keeps (without_report node) block before sound (λ own is was. goes before own (without_report node own) refl refl refl) (λ own was. refl)
         (λ own is was. agree_on_left own.committed (is_number node) own.reports was.agreed)
     by false = kept_same before sound
 
@@ -174,7 +174,7 @@ by_verdict : (facts : Blocks) (node block stamp length : ℕ) (verdict : ReportV
 by_verdict facts node block stamp length Superseded is sound = kept_same facts.known sound
 by_verdict facts node block stamp length Invalid is sound = unreported (newest_stamp facts block) stamp node block facts.known sound
 by_verdict facts node block stamp length Valid valid sound =
-    altered_keeps (with_report node length) block facts.known sound (λ own is was. goes facts.known own (with_report node length own) refl refl) (λ own was. refl)
+    altered_keeps (with_report node length) block facts.known sound (λ own is was. goes facts.known own (with_report node length own) refl refl refl) (λ own was. refl)
     (λ own is was. agree_on_put own.committed length node own.reports (valid_agrees (block_of facts.known block) own stamp length is valid) was.agreed)
 
 pub report_keeps : ReportKeeps

@@ -12,7 +12,7 @@ one : (own other : BlockRecord) → Some own ≡ Some other → own ≡ other
 one own other e = cc
 
 stays : (before : KnownBlocks) (own : BlockRecord) → GoesOn before own own
-stays before own = record { stamp = inl refl; committed = λ length is. is }
+stays before own = record { stamp = inl refl; committed = λ length is. is; recovering = λ since is. inl (is, refl) }
 
 pub becomes_itself : (before : KnownBlocks) (block : ℕ) (found : Option BlockRecord) → Becomes before block found found
 becomes_itself before block None = tt
@@ -33,6 +33,17 @@ new_still : (mid late first second : ℕ) → first ≤ mid → (late ≡ mid) �
 new_still mid late first second h (inl k) le = omega (arith, h, k)
 new_still mid late first second h (inr k) le = omega (arith, k, le)
 
+-- a recovery that runs did before under this stamp, or has a new one, twice
+recovering_on : (before between : KnownBlocks) (own mid late : BlockRecord) (since : ℕ) → before.next_stamp ≤ between.next_stamp
+    → (mid.recovering ≡ Some since → ((own.recovering ≡ Some since) × (mid.stamp ≡ own.stamp)) ⊎ (before.next_stamp ≤ mid.stamp))
+    → ((mid.recovering ≡ Some since) × (late.stamp ≡ mid.stamp)) ⊎ (between.next_stamp ≤ late.stamp) → ((own.recovering ≡ Some since) × (late.stamp ≡ own.stamp)) ⊎ (before.next_stamp ≤ late.stamp)
+recovering_on before between own mid late since le first (inr new) = inr (omega (arith, le, new))
+recovering_on before between own mid late since le first (inl same) = by (first same.0)
+  where
+    by : ((own.recovering ≡ Some since) × (mid.stamp ≡ own.stamp)) ⊎ (before.next_stamp ≤ mid.stamp) → ((own.recovering ≡ Some since) × (late.stamp ≡ own.stamp)) ⊎ (before.next_stamp ≤ late.stamp)
+    by (inl was) = inl (was.0, same.1 ∙ was.1)
+    by (inr new) = let is = same.1 in inr (omega (arith, new, is))
+
 module _ (before between later : KnownBlocks) (sound : IsSound before) (first : KeepsKnown before between) (second : KeepsKnown between later) where
   in_turn : (block : ℕ) (a b c : Option BlockRecord) → block_of before block ≡ a → block_of between block ≡ b → block_of later block ≡ c
       → Becomes before block a b → Becomes between block b c → Becomes before block a c
@@ -45,6 +56,7 @@ module _ (before between later : KnownBlocks) (sound : IsSound before) (first : 
   in_turn block (Some own) (Some mid) (Some late) x y z f s = record {
     stamp = stamp_on own.stamp mid.stamp late.stamp before.next_stamp between.next_stamp f.stamp s.stamp first.next_stamp;
     committed = λ length is. s.committed length (f.committed length is);
+    recovering = λ since is. recovering_on before between own mid late since first.next_stamp (f.recovering since) (s.recovering since is);
   }
 
   pub kept_in_turn : KeepsKnown before later

@@ -37,10 +37,12 @@ pub record IsSound (known : KnownBlocks) : Type 0 where
 
 -- ---- what becomes of it
 
--- the newest stamp stays, or is one that wasn't given before; and a committed length stays
+-- the newest stamp stays, or is one that wasn't given before; a committed length stays; and a recovery that runs did before under this stamp, or
+-- has one that wasn't given before
 pub record GoesOn (before : KnownBlocks) (own later : BlockRecord) : Type 0 where
   pub stamp : (later.stamp ≡ own.stamp) ⊎ (before.next_stamp ≤ later.stamp)
   pub committed : (length : ℕ) → own.committed ≡ Some length → later.committed ≡ Some length
+  pub recovering : (since : ℕ) → later.recovering ≡ Some since → ((own.recovering ≡ Some since) × (later.stamp ≡ own.stamp)) ⊎ (before.next_stamp ≤ later.stamp)
 
 -- a block may go; one that comes has a number and a stamp that weren't given before
 abbrev pub Becomes : KnownBlocks → ℕ → Option BlockRecord → Option BlockRecord → Type 0

@@ -15,13 +15,15 @@ use Rattle.block_records.specs.declared.block_record.BlockRecord.{BlockRecord}
 use Rattle.known_blocks.specs.Known.{KnownBlocks, block_of}
 use Rattle.block_map.specs.BlockFacts.{Blocks, newest_stamp}
 use Rattle.block_effect_laws.specs.Laws.{Becomes, KeepsKnown}
+use Rattle.hdfs_types.specs.declared.file.FileState.{FileState}
+use Rattle.hdfs_types.specs.declared.file.FileState.TheVariants.{Recovering}
 use Rattle.namespace_rows.specs.declared.file_row.FileBlock.{FileBlock}
 use Rattle.namespace_rows.specs.declared.row.Row.{Row}
 use Rattle.history.specs.declared.entry.HistoryEntry.{HistoryEntry}
 use Rattle.history.specs.Config.{Opening}
 use Rattle.history.specs.LegalHistory.{now_at, IsLegal}
 use Rattle.history.specs.State.{users_of, rows_of, blocks_of, facts_of}
-use Rattle.block_laws.specs.Laws.{blocks_given_by, new_blocks, ids_given, stamps_given, LengthsAre, IdsAscend, StampsAscend, KnownBlocksWereGiven, StampsAreOwn, StampsAreOwnAtAllTimes, StampsNeverFall, LengthsStay, BlocksStandOnce, BlocksAreBelow, FilesTellLengths, RowsAreNamespace}
+use Rattle.block_laws.specs.Laws.{blocks_given_by, new_blocks, ids_given, stamps_given, LengthsAre, running_since, RecoveriesHaveNewStamps, IdsAscend, StampsAscend, KnownBlocksWereGiven, StampsAreOwn, StampsAreOwnAtAllTimes, StampsAreNew, StampsNeverFall, LengthsStay, BlocksStandOnce, BlocksAreBelow, FilesTellLengths, RowsAreNamespace}
 use Rattle.block_laws.proofs.Totals.{bit, total, own, in_rows, times_in}
 use Rattle.block_laws.proofs.Told.{told_by, told}
 use Rattle.block_laws.proofs.Standing.{same_length, length_told, length_of, wrong}
@@ -243,6 +245,60 @@ stamps_are_own_ever opening later earlier block other stamp legal x y =
     let own = with_stamp stamp (block_of (known_behind opening earlier) block) x in
     let less : stamp < (known_behind opening earlier).next_stamp = below own.0.stamp stamp (known_behind opening earlier).next_stamp own.2 ((stands opening earlier before).sound.each block own.0 own.1).stamped in
     stamps_are_own opening earlier block other stamp before x (had_stamp opening earlier later other stamp legal less y)
+  where
+    below : (a b c : ℕ) → a ≡ b → a < c → b < c
+    below a b c h k = omega (arith, h, k)
+
+pub stamps_are_new : StampsAreNew
+stamps_are_new opening entry later earlier block other stamp legal x y =
+    let before = legal_before opening earlier later legal.2 in
+    let own = with_stamp stamp (block_of (known_behind opening earlier) other) x in
+    let less : stamp < (known_behind opening earlier).next_stamp = below own.0.stamp stamp (known_behind opening earlier).next_stamp own.2 ((stands opening earlier before).sound.each other own.0 own.1).stamped in
+    was_stamp (known_behind opening (later ++ earlier)) block (known_behind opening earlier).next_stamp stamp (stamps_go_on opening earlier later legal.2) less
+    (block_of (known_behind opening (later ++ earlier)) block) (block_of (known_behind opening (entry ∷ (later ++ earlier))) block)
+    ((turns opening entry (later ++ earlier) legal).kept.blocks block) y
+  where
+    below : (a b c : ℕ) → a ≡ b → a < c → b < c
+    below a b c h k = omega (arith, h, k)
+
+-- of a recovery that runs
+running_parts : (block own stamp since : ℕ) (found : Option ℕ) → option_map (Recovering block own) found ≡ Some (Recovering block stamp since) → (own ≡ stamp) × (found ≡ Some since)
+running_parts block own stamp since None h = cc
+running_parts block own stamp since (Some begun) h = (first h, ap (λ n. Some n) (second h))
+  where
+    first : Some (Recovering block own begun) ≡ Some (Recovering block stamp since) → own ≡ stamp
+    first e = cc
+
+    second : Some (Recovering block own begun) ≡ Some (Recovering block stamp since) → begun ≡ since
+    second e = cc
+
+abbrev running_in : ℕ → Option BlockRecord → Option FileState
+running_in block found = option_and_then (λ (own : BlockRecord). running_since block own.stamp own.recovering) found
+
+was_running : (before : KnownBlocks) (block bound stamp since : ℕ) → bound ≤ before.next_stamp → stamp < bound → (a b : Option BlockRecord) → Becomes before block a b
+    → running_in block b ≡ Some (Recovering block stamp since) → running_in block a ≡ Some (Recovering block stamp since)
+was_running before block bound stamp since le less a None turn y = cc
+was_running before block bound stamp since le less None (Some own) turn y =
+    let is : own.stamp ≡ stamp = (running_parts block own.stamp stamp since own.recovering y).0 in
+    let new = turn.1 in
+    absurd (omega (arith, le, less, is, new))
+was_running before block bound stamp since le less (Some old) (Some own) turn y = by (turn.recovering since parts.1)
+  where
+    parts : (own.stamp ≡ stamp) × (own.recovering ≡ Some since)
+    parts = running_parts block own.stamp stamp since own.recovering y
+
+    by : ((old.recovering ≡ Some since) × (own.stamp ≡ old.stamp)) ⊎ (before.next_stamp ≤ own.stamp) → option_map (Recovering block old.stamp) old.recovering ≡ Some (Recovering block stamp since)
+    by (inl was) = ap (option_map (Recovering block old.stamp)) was.0 ∙ ap (λ n. Some (Recovering block n since)) (sym was.1 ∙ parts.0)
+    by (inr new) = let is = parts.0 in absurd (omega (arith, le, less, is, new))
+
+pub recoveries_have_new : RecoveriesHaveNewStamps
+recoveries_have_new opening entry later earlier block other stamp since legal x y =
+    let before = legal_before opening earlier later legal.2 in
+    let own = with_stamp stamp (block_of (known_behind opening earlier) other) x in
+    let less : stamp < (known_behind opening earlier).next_stamp = below own.0.stamp stamp (known_behind opening earlier).next_stamp own.2 ((stands opening earlier before).sound.each other own.0 own.1).stamped in
+    was_running (known_behind opening (later ++ earlier)) block (known_behind opening earlier).next_stamp stamp since (stamps_go_on opening earlier later legal.2) less
+    (block_of (known_behind opening (later ++ earlier)) block) (block_of (known_behind opening (entry ∷ (later ++ earlier))) block)
+    ((turns opening entry (later ++ earlier) legal).kept.blocks block) y
   where
     below : (a b c : ℕ) → a ≡ b → a < c → b < c
     below a b c h k = omega (arith, h, k)

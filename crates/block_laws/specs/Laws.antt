@@ -81,6 +81,12 @@ abbrev pub StampsAreOwnAtAllTimes : Type 0
 StampsAreOwnAtAllTimes = (opening : Opening) (later earlier : List HistoryEntry) (block other stamp : ℕ) → IsLegal opening (later ++ earlier)
     → newest_stamp (blocks_of opening earlier) block ≡ Some stamp → newest_stamp (blocks_of opening (later ++ earlier)) other ≡ Some stamp → block ≡ other
 
+-- and a stamp that some block had at any time before is no block's new one
+abbrev pub StampsAreNew : Type 0
+StampsAreNew = (opening : Opening) (entry : HistoryEntry) (later earlier : List HistoryEntry) (block other stamp : ℕ) → IsLegal opening (entry ∷ (later ++ earlier))
+    → newest_stamp (blocks_of opening earlier) other ≡ Some stamp → newest_stamp (blocks_of opening (entry ∷ (later ++ earlier))) block ≡ Some stamp
+    → newest_stamp (blocks_of opening (later ++ earlier)) block ≡ Some stamp
+
 -- behind an entry more the newest stamp of a block isn't less
 abbrev pub StampsNeverFall : Type 0
 StampsNeverFall = (opening : Opening) (entry : HistoryEntry) (earlier : List HistoryEntry) (block stamp later : ℕ) → IsLegal opening (entry ∷ earlier)
@@ -144,6 +150,12 @@ RecoveriesAreThoseOfFiles = (opening : Opening) (entries : List HistoryEntry) (b
 abbrev pub OneFileRecovers : Type 0
 OneFileRecovers = (opening : Opening) (entries : List HistoryEntry) (path : List (List ℕ)) (row : Row) (block : ℕ) → IsLegal opening entries
     → row_at path (rows_of opening entries) ≡ Some row → is_recovered block row.file ≡ true → recovers_nowhere_else path block (rows_of opening entries) ≡ true
+
+-- a recovery that begins has a stamp that no block had at any time before: one whose stamp some block had ran before this entry too
+abbrev pub RecoveriesHaveNewStamps : Type 0
+RecoveriesHaveNewStamps = (opening : Opening) (entry : HistoryEntry) (later earlier : List HistoryEntry) (block other stamp since : ℕ) → IsLegal opening (entry ∷ (later ++ earlier))
+    → newest_stamp (blocks_of opening earlier) other ≡ Some stamp → running_recovery (blocks_of opening (entry ∷ (later ++ earlier))) block ≡ Some (Recovering block stamp since)
+    → running_recovery (blocks_of opening (later ++ earlier)) block ≡ Some (Recovering block stamp since)
 
 -- a file that is in recovery recovers its last block, whose length isn't committed
 abbrev pub RecoversLast : Option ℕ → FileState → Type 0

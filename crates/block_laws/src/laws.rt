@@ -3,14 +3,16 @@
 ghost use Rattle.block_laws.specs.Laws as law;
 
 /// No id of a block and no generation stamp is given twice, also once a block is deleted: both ascend from one new block to the next.
-/// No block is known whose id no writer was given, and no two have one newest stamp, also at different times (HDFS Architecture, "Data
-/// Replication").
+/// No block is known whose id no writer was given, and no two have one newest stamp, also at different times; a stamp that a block has newly,
+/// from a new block or from a recovery, no block had before, nor does a recovery begin under a stamp that was given (HDFS Architecture, "Data Replication").
 pub fn numbers_are_given_once()
     ensures ids { law.IdsAscend }
     ensures stamps { law.StampsAscend }
     ensures known { law.KnownBlocksWereGiven }
     ensures own { law.StampsAreOwn }
     ensures ever { law.StampsAreOwnAtAllTimes }
+    ensures fresh { law.StampsAreNew }
+    ensures recoveries { law.RecoveriesHaveNewStamps }
 {}
 
 /// From one step to the next, while a block is known: its newest stamp doesn't fall, and a length that is committed stays (HDFS-265).

@@ -2,7 +2,4 @@
 #![tactic(auto)]
 
 pub mod event_line;
-pub mod node_reply;
-mod numbers;
-pub mod plan_reply;
 pub mod told;

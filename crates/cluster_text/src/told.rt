@@ -3,13 +3,13 @@ ghost use Rattle.std.specs.String.{string_bytes};
 ghost use Rattle.cluster_trace.specs.Refusals.{cluster_refusal_text};
 ghost use Rattle.cluster_text.specs.ToldText as spec;
 
-use crate::node_reply::print_called;
-use crate::numbers::push_number;
-use crate::plan_reply::print_led;
 use cluster_trace::outcome::{ClusterRefusal, EventAnswer, Outcome};
 use flat_rows::verdict::Verdict;
 use hdfs_values::fault::IllFormed;
 use itoa::Buffer;
+use node_text::node_reply::print_called;
+use node_text::numbers::push_number;
+use node_text::plan_reply::print_led;
 use script_text::answer::Answer;
 use std::alloc::{AllocError, Global};
 

@@ -2,6 +2,10 @@
 use Rattle.std.proofs.Common.{◌≡◌, ℕ, List, [], ◌∷◌, ◌++◌, map, refl, ◌⊎◌, inl, inr}
 use Rattle.std.specs.List.{AllByRecursion}
 use Rattle.permission_specs.specs.Modes.{modes}
+use Rattle.permission_specs.specs.declared.modes.Modes.{Modes}
+use Rattle.block_answers.specs.Commands.{Commands}
+use Rattle.block_answers.specs.declared.commands.Recover.{Recover}
+use Rattle.block_answers.specs.declared.commands.CopyOrder.{CopyOrder}
 use Rattle.block_answers.specs.declared.located.LocatedBlock.{LocatedBlock}
 use Rattle.hdfs_types.specs.declared.op.Op.{Op}
 use Rattle.hdfs_types.specs.declared.op.Op.TheVariants as op
@@ -15,8 +19,8 @@ use Rattle.history.specs.declared.entry.HistoryEntry.{HistoryEntry}
 use Rattle.history.specs.Config.{Opening}
 use Rattle.history.specs.ClockAndLease.{clock_of}
 use Rattle.history.specs.Keys.{ring_of}
-use Rattle.history.specs.Grants.{BlockModes, granted_by, ledger_row, rows_granted, ledger_of}
-use Rattle.history.specs.GrantLaws.{IsToldOf, Lets, LetsBy, IsGrantOf, IsGrantOfAny, GrantsWereAsked}
+use Rattle.history.specs.Grants.{BlockModes, granted_with, granted_by, ledger_row, rows_granted, ledger_of}
+use Rattle.history.specs.GrantLaws.{IsAmong, Lets, LetsBy, IsGrantOf, IsGrantOfAny, GrantsWereAsked}
 
 all_joined : {X : Type 0} (P : X → Type 0) (xs ys : List X) → AllByRecursion P xs → AllByRecursion P ys → AllByRecursion P (xs ++ ys)
 all_joined P [] ys h k = k
@@ -30,25 +34,34 @@ all_mapped : {X Y : Type 0} (P : Y → Type 0) (f : X → Y) (xs : List X) → A
 all_mapped P f [] h = tt
 all_mapped P f (x ∷ xs) h = (h.0, all_mapped P f xs h.1)
 
-each : {X : Type 0} (P : X → Type 0) → ((x : X) → P x) → (xs : List X) → AllByRecursion P xs
-each P h [] = tt
-each P h (x ∷ xs) = (h x, each P h xs)
-
 -- what an operation lets its caller do, of each access that it grants
 abbrev Given : Op → Reply → BlockModes → Type 0
 Given what told own = Lets what told own.block own.modes
 
-of_reader : (all blocks : List LocatedBlock) → ((block : ℕ) → IsToldOf block blocks → IsToldOf block all)
-    → AllByRecursion (λ (own : BlockModes). IsToldOf own.block all × (own.modes ≡ modes 1)) (map (λ (block : LocatedBlock). record { block = block.block; modes = modes 1 }) blocks)
-of_reader all [] among = tt
-of_reader all (own ∷ blocks) among = ((among own.block (inl refl), refl), of_reader all blocks (λ block told. among block (inr told)))
+-- the same modes of each block of these
+of_each : {X : Type 0} (number : X → ℕ) (granted : Modes) (all : List ℕ) (own : List X) → ((block : ℕ) → IsAmong block (map number own) → IsAmong block all)
+    → AllByRecursion (λ (given : BlockModes). IsAmong given.block all × (given.modes ≡ granted)) (map (λ (one : X). record { block = number one; modes = granted }) own)
+of_each number granted all [] among = tt
+of_each number granted all (one ∷ own) among = ((among (number one) (inl refl), refl), of_each number granted all own (λ block told. among block (inr told)))
+
+of_commands : (commands : Commands) → AllByRecursion (Given op.Heartbeat (reply.Commands commands)) (granted_with commands)
+of_commands commands =
+    all_joined (Given op.Heartbeat (reply.Commands commands)) (map (λ (own : Recover). record { block = own.block; modes = modes 2 }) commands.recoveries)
+    (map (λ (own : CopyOrder). record { block = own.block; modes = modes 3 }) commands.copies)
+    (all_weaker (λ (given : BlockModes). IsAmong given.block (map (λ (own : Recover). own.block) commands.recoveries) × (given.modes ≡ modes 2))
+    (Given op.Heartbeat (reply.Commands commands)) (λ given. inl) (map (λ (own : Recover). record { block = own.block; modes = modes 2 }) commands.recoveries)
+    (of_each (λ (own : Recover). own.block) (modes 2) (map (λ (own : Recover). own.block) commands.recoveries) commands.recoveries (λ block told. told)))
+    (all_weaker (λ (given : BlockModes). IsAmong given.block (map (λ (own : CopyOrder). own.block) commands.copies) × (given.modes ≡ modes 3))
+    (Given op.Heartbeat (reply.Commands commands)) (λ given. inr) (map (λ (own : CopyOrder). record { block = own.block; modes = modes 3 }) commands.copies)
+    (of_each (λ (own : CopyOrder). own.block) (modes 3) (map (λ (own : CopyOrder). own.block) commands.copies) commands.copies (λ block told. told)))
 
 lets_each : (what : Op) (told : Reply) → AllByRecursion (Given what told) (granted_by what told)
 lets_each (op.AddBlock path last) (reply.Added added) = ((refl, refl), tt)
 lets_each (op.AddBlock path last) _ = tt
-lets_each (op.Open path) (reply.Opened opened) = of_reader opened.blocks opened.blocks (λ block told. told)
+lets_each (op.Open path) (reply.Opened opened) =
+    of_each (λ (own : LocatedBlock). own.block) (modes 1) (map (λ (own : LocatedBlock). own.block) opened.blocks) opened.blocks (λ block told. told)
 lets_each (op.Open path) _ = tt
-lets_each op.Heartbeat (reply.Commands commands) = each (Given op.Heartbeat (reply.Commands commands)) (λ own. tt) (granted_by op.Heartbeat (reply.Commands commands))
+lets_each op.Heartbeat (reply.Commands commands) = of_commands commands
 lets_each op.Heartbeat _ = tt
 lets_each _ told = tt
 

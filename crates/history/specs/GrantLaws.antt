@@ -1,8 +1,10 @@
 -- Laws about grants over histories.
-use Rattle.std.specs.Prelude.{◌≡◌, ℕ, List, [], ◌∷◌, ◌⊎◌}
+use Rattle.std.specs.Prelude.{◌≡◌, ℕ, List, [], ◌∷◌, ◌⊎◌, map}
 use Rattle.std.specs.List.{AllByRecursion}
 use Rattle.permission_specs.specs.Modes.{modes}
 use Rattle.permission_specs.specs.declared.modes.Modes.{Modes}
+use Rattle.block_answers.specs.declared.commands.Recover.{Recover}
+use Rattle.block_answers.specs.declared.commands.CopyOrder.{CopyOrder}
 use Rattle.block_answers.specs.declared.located.LocatedBlock.{LocatedBlock}
 use Rattle.hdfs_types.specs.declared.op.Op.{Op}
 use Rattle.hdfs_types.specs.declared.op.Op.TheVariants as op
@@ -17,17 +19,19 @@ use Rattle.history.specs.Grants.{ledger_of}
 
 -- ---- who was granted what
 
--- a reader was told of the block
-abbrev pub IsToldOf : ℕ → List LocatedBlock → Type 0
-IsToldOf block [] = ⊥
-IsToldOf block (own ∷ others) = (block ≡ own.block) ⊎ IsToldOf block others
+-- a block is among these
+abbrev pub IsAmong : ℕ → List ℕ → Type 0
+IsAmong block [] = ⊥
+IsAmong block (own ∷ others) = (block ≡ own) ⊎ IsAmong block others
 
--- what an operation with this reply lets its caller do: one who asked for a new block writes it, one who opened a file reads its blocks,
--- and a DataNode does what its heartbeat was answered
+-- what an operation with this reply lets its caller do: one who asked for a new block writes it, one who opened a file reads the blocks that
+-- he is told of, and a DataNode writes those whose recovery it is to lead, and reads and writes those that it is to copy
 abbrev pub Lets : Op → Reply → ℕ → Modes → Type 0
 Lets (op.AddBlock path last) (reply.Added added) block granted = (block ≡ added.block) × (granted ≡ modes 2)
-Lets (op.Open path) (reply.Opened opened) block granted = IsToldOf block opened.blocks × (granted ≡ modes 1)
-Lets op.Heartbeat (reply.Commands commands) block granted = Unit {0}
+Lets (op.Open path) (reply.Opened opened) block granted = IsAmong block (map (λ (own : LocatedBlock). own.block) opened.blocks) × (granted ≡ modes 1)
+Lets op.Heartbeat (reply.Commands commands) block granted =
+    (IsAmong block (map (λ (own : Recover). own.block) commands.recoveries) × (granted ≡ modes 2))
+    ⊎ (IsAmong block (map (λ (own : CopyOrder). own.block) commands.copies) × (granted ≡ modes 3))
 Lets _ told block granted = ⊥
 
 abbrev pub LetsBy : Op → Verdict → ℕ → Modes → Type 0

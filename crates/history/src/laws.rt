@@ -23,7 +23,8 @@ pub fn nothing_changes()
 {}
 
 /// Each token in the ledger was granted at the place of an entry to its caller: to write the new block that he was given, to read a block of
-/// the file that he opened, or with the answer to his heartbeat. What was denied or refused granted nothing.
+/// the file that he opened, or to a DataNode, with a command of the answer to its heartbeat: to write a block whose recovery it is to lead, or
+/// to read and write one that it is to copy. What was denied or refused granted nothing.
 #[tactic(auto, using(crate::proofs::Granted::grants_were_asked))]
 pub fn grants_were_asked()
     ensures { grant.GrantsWereAsked }

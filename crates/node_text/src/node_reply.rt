@@ -4,7 +4,7 @@ ghost use Rattle.std.specs.List.{flat_map};
 ghost use Rattle.std.specs.String.{string_bytes};
 ghost use Rattle.hex.specs.Hex.{encode_lower, lower_digits};
 ghost use Rattle.node_calls.specs.declared.reply.NodeReply.TheVariants as reply;
-ghost use Rattle.cluster_text.specs.ToldText as spec;
+ghost use Rattle.node_text.specs.ReplyText as spec;
 
 use crate::numbers::push_number;
 use bytes::Bytes;

@@ -3,7 +3,7 @@ use Rattle.std.proofs.lemmas.List.{length-set}
 use Rattle.std.proofs.lemmas.Nat.{and_mask}
 use Rattle.hex.proofs.Pairs.{encode_step, encode_done}
 use Rattle.hex.specs.Hex.{lower_digits}
-use Rattle.cluster_text.proofs.node_reply.spell.Goals as goal
+use Rattle.node_text.proofs.node_reply.spell.Goals as goal
 
 pub loop-i-preserved : goal.loop-i-preserved
 loop-i-preserved c =

@@ -2,7 +2,7 @@ use Rattle.std.proofs.Common.{◌≡◌, ◌++◌, take}
 use Rattle.std.specs.List.{flat_map}
 use Rattle.std.specs.String.{string_bytes}
 use Rattle.hex.specs.Hex.{encode_lower}
-use Rattle.cluster_text.proofs.node_reply.push_pieces.Given as goal
+use Rattle.node_text.proofs.node_reply.push_pieces.Given as goal
 
 -- the digits of the pieces so far
 abbrev pub invariant-loop-piece : goal.invariant-loop-piece

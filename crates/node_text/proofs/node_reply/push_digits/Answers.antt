@@ -1,8 +1,8 @@
 use Rattle.std.proofs.Common.{◌++◌, drop, sym, ap, ◌∙◌}
 use Rattle.std.specs.String.{string_bytes}
 use Rattle.std.proofs.lemmas.List.{take-append-drop}
-use Rattle.cluster_text.proofs.Digits.{front_spelled}
-use Rattle.cluster_text.proofs.node_reply.push_digits.Goals as goal
+use Rattle.node_text.proofs.Digits.{front_spelled}
+use Rattle.node_text.proofs.node_reply.push_digits.Goals as goal
 
 pub loop-rest-preserved : goal.loop-rest-preserved
 loop-rest-preserved c =

@@ -1,6 +1,6 @@
 use Rattle.std.proofs.Common.{◌≡◌, ◌*◌, ◌++◌, take, drop, length}
 use Rattle.hex.specs.Hex.{encode_lower}
-use Rattle.cluster_text.proofs.node_reply.spell.Given as goal
+use Rattle.node_text.proofs.node_reply.spell.Given as goal
 
 -- the digits so far, and those of the bytes that are left
 abbrev pub invariant-loop-i : goal.invariant-loop-i

@@ -4,7 +4,7 @@ ghost use Rattle.std.specs.List.{flat_map};
 ghost use Rattle.std.specs.String.{string_bytes};
 ghost use Rattle.script_text.specs.BlockText.{nodes_text};
 ghost use Rattle.plan_steps.specs.declared.answered.PlanReply.TheVariants as reply;
-ghost use Rattle.cluster_text.specs.ToldText as spec;
+ghost use Rattle.node_text.specs.ReplyText as spec;
 
 use block_records::node_set::NodeSet;
 use block_recovery::decision::Decision;

@@ -1,8 +1,8 @@
 use Rattle.std.proofs.Common.{◌++◌, sym, ap, ◌∙◌, append-nil, arith}
 use Rattle.std.specs.String.{string_bytes}
 use Rattle.hex.specs.Hex.{encode_lower}
-use Rattle.cluster_text.proofs.Digits.{no_digits, piece_more}
-use Rattle.cluster_text.proofs.node_reply.push_pieces.Goals as goal
+use Rattle.node_text.proofs.Digits.{no_digits, piece_more}
+use Rattle.node_text.proofs.node_reply.push_pieces.Goals as goal
 
 pub loop-piece-init : goal.loop-piece-init
 loop-piece-init c = sym (ap (λ digits. string_bytes c.args.line.now ++ digits) no_digits ∙ append-nil (string_bytes c.args.line.now))

@@ -6,7 +6,10 @@ use itoa::Buffer;
 use std::alloc::AllocError;
 
 /// Adds a number in decimal.
-pub(crate) fn push_number(number: u64, line: &mut String) -> Result<(), AllocError>
+///
+/// # Errors
+/// Out of memory.
+pub fn push_number(number: u64, line: &mut String) -> Result<(), AllocError>
     ensures { OnOk result (string_bytes line.new ≡ string_bytes line.old ++ decimal number) }
 {
     line.push_str(Buffer::new().format(number))

@@ -1,8 +1,8 @@
 use Rattle.std.proofs.Common.{◌≡◌, ◌++◌, ◌∙◌, OnOk, sym, ap, subst, arith}
 use Rattle.std.specs.Prelude.{codes}
 use Rattle.std.specs.String.{string_bytes}
-use Rattle.cluster_text.proofs.Digits.{nothing_behind, read_text}
-use Rattle.cluster_text.proofs.node_reply.print_read.Goals as goal
+use Rattle.node_text.proofs.Digits.{nothing_behind, read_text}
+use Rattle.node_text.proofs.node_reply.print_read.Goals as goal
 
 pub returns-then-not-has_bytes : goal.returns-then-not-has_bytes
 returns-then-not-has_bytes c =

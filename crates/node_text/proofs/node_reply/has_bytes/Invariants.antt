@@ -1,6 +1,6 @@
 use Rattle.std.proofs.Common.{◌≡◌, drop}
 use Rattle.std.specs.List.{flat_map}
-use Rattle.cluster_text.proofs.node_reply.has_bytes.Given as goal
+use Rattle.node_text.proofs.node_reply.has_bytes.Given as goal
 
 -- the pieces so far have no byte
 abbrev pub invariant-loop-piece : goal.invariant-loop-piece
