@@ -12,9 +12,9 @@ use Rattle.flat_rows.specs.Decision.{decision}
 use Rattle.flat_rows.specs.Facts.{Facts}
 use Rattle.flat_rows.specs.Outcome.{step, denied_or_outcome, refused_or_done, first_refusal, rows_after, users_after}
 use Rattle.flat_rows.specs.Verdicts.{is_done}
-use Rattle.permission_laws.specs.Attempt.{administers}
+use Rattle.permission_laws.specs.Attempt.{is_about_users}
 
-same_after : (op : Op) → administers op ≡ false → (users : Users) → users_after op users ≡ users
+same_after : (op : Op) → is_about_users op ≡ false → (users : Users) → users_after op users ≡ users
 same_after (op.AddUser user groups) h users = cc
 same_after (op.SetGroups user groups) h users = cc
 same_after _ h users = refl
@@ -73,8 +73,8 @@ module _ (facts : Facts) (rows : List Row) (users : Users) (caller : List ℕ) (
   pub unchanged_users : is_done (step facts rows users caller op).verdict ≡ false → (step facts rows users caller op).users ≡ users
   unchanged_users h = ended.same_users h
 
-  -- users change by administration alone
-  pub users_stay : administers op ≡ false → (step facts rows users caller op).users ≡ users
+  -- users change by what is about them alone
+  pub users_stay : is_about_users op ≡ false → (step facts rows users caller op).users ≡ users
   users_stay plain = by (is_done (step facts rows users caller op).verdict) refl
     where
       by : (b : Bool) → is_done (step facts rows users caller op).verdict ≡ b → (step facts rows users caller op).users ≡ users

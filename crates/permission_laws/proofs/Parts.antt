@@ -1,5 +1,5 @@
 -- What a change of one part leaves of a row.
-use Rattle.std.proofs.Common.{◌≡◌, ℕ, Bool, true, false, List, Option, Some, None, map, refl, sym, ap, ◌∙◌, cond}
+use Rattle.std.proofs.Common.{◌≡◌, ℕ, Bool, true, false, ◌||◌, List, Option, Some, None, is_some, map, refl, sym, ap, ◌∙◌, cond}
 use Rattle.std.specs.Prelude.{unwrap_or, Result, Ok, Err}
 use Rattle.std.specs.Option.{option_map}
 use Rattle.hdfs_values.specs.PathOrder.{same_path}
@@ -51,10 +51,19 @@ edits_one top f edits row = by (same_path top row.path)
     by true = edits row
     by false = refl
 
+-- rows that are given anew, each with its path
+mapped_stand : (path : List (List ℕ)) (f : Row → Row) → ((row : Row) → (f row).path ≡ row.path) → (rows : List Row) → is_some (row_at path (map f rows)) ≡ is_some (row_at path rows)
+mapped_stand path f paths rows = ap is_some (at_map path f paths rows) ∙ still (row_at path rows)
+  where
+    still : (o : Option Row) → is_some (option_map f o) ≡ is_some o
+    still None = refl
+    still (Some row) = refl
+
 -- what stands at a path in the rows before is what stands there in those after, but for the file
 pub record FilesAlone (path : List (List ℕ)) (rows after : List Row) : Type 0 where
   pub alone : (row later : Row) → row_at path rows ≡ Some row → row_at path after ≡ Some later → with_file_of row later ≡ row
   pub stands : (row : Row) → row_at path rows ≡ Some row → (later : Row) × (row_at path after ≡ Some later)
+  pub alike : is_some (row_at path after) ≡ is_some (row_at path rows)
 
 edited_alone : (path : List (List ℕ)) (rows : List Row) (f : Row → Row) → EditsFiles f → FilesAlone path rows (map f rows)
 edited_alone path rows f edits = record {
@@ -62,13 +71,14 @@ edited_alone path rows f edits = record {
       let is : f row ≡ later = one (f row) later (sym (stands row there) ∙ after) in
       ap (with_file_of row) (sym is) ∙ ap (with_file_of row) (edits row);
   stands = λ row there. (f row, stands row there);
+  alike = mapped_stand path f (λ r. ap (λ (x : Row). x.path) (edits r)) rows;
 }
   where
     stands : (row : Row) → row_at path rows ≡ Some row → row_at path (map f rows) ≡ Some (f row)
     stands row there = at_map path f (λ r. ap (λ (x : Row). x.path) (edits r)) rows ∙ ap (option_map f) there
 
 same_files : (path : List (List ℕ)) (rows : List Row) → FilesAlone path rows rows
-same_files path rows = record { alone = λ row later there after. ap (with_file_of row) (one later row (sym after ∙ there)); stands = λ row there. (row, there) }
+same_files path rows = record { alone = λ row later there after. ap (with_file_of row) (one later row (sym after ∙ there)); stands = λ row there. (row, there); alike = refl }
 
 both_alone : (path : List (List ℕ)) (rows next after : List Row) → FilesAlone path rows next → FilesAlone path next after → FilesAlone path rows after
 both_alone path rows next after p q = record {
@@ -76,6 +86,7 @@ both_alone path rows next after p q = record {
       let mid = p.stands row there in
       ap (with_file_of row) (q.alone mid.0 later mid.1 last) ∙ p.alone row mid.0 there mid.1;
   stands = λ row there. let mid = p.stands row there in q.stands mid.0 mid.1;
+  alike = q.alike ∙ p.alike;
 }
 
 committed_alone : (path top : List (List ℕ)) (last : Option LastBlock) (rows : List Row) → FilesAlone path rows (last_committed top last rows)
@@ -164,3 +175,61 @@ module _ (rows : List Row) (path : List (List ℕ)) (row later : Row) (there : r
   -- where nothing was done
   pub undone_alone : (part : Row → Row → Row) → ((r : Row) → part r r ≡ r) → row_at path rows ≡ Some later → part row later ≡ row
   undone_alone part same after = same_row part same after
+
+-- ---- nothing comes or goes
+
+module _ (rows : List Row) (path : List (List ℕ)) (facts : Facts) (name : List ℕ) where
+  abbrev Alike : List Row → Type 0
+  Alike after = is_some (row_at path after) ≡ is_some (row_at path rows)
+
+  rewritten_alike : (top : List (List ℕ)) (given : Change) → ((r : Row) → (with_change given r).path ≡ r.path) → Alike (row_rewritten top given rows)
+  rewritten_alike top given paths = mapped_stand path (λ r. cond (same_path top r.path) (with_change given r) r) keeps rows
+    where
+      keeps : (r : Row) → (cond (same_path top r.path) (with_change given r) r).path ≡ r.path
+      keeps r = by (same_path top r.path)
+        where
+          by : (b : Bool) → (cond b (with_change given r) r).path ≡ r.path
+          by true = paths r
+          by false = refl
+
+  files_alike : (what : Op) → is_about_files what ≡ true → Alike (rows_after facts what name rows)
+  files_alike (op.Append top) h = rewritten_alike top (change.State (state_after_append facts.blocks facts.now name (holder_at (row_at top rows)) (unfinished_at (row_at top rows)))) (λ r. refl)
+  files_alike (op.AddBlock top last) h = (added_alone path top last facts.blocks.known.next_block rows).alike
+  files_alike (op.Complete top last) h = (ended_alone path top last rows).alike
+  files_alike (op.SetReplication top replication) h = rewritten_alike top (change.Replication replication) (λ r. refl)
+  files_alike op.Tick h = (edited_alone path rows (row_ticked facts (begun_in facts rows)) (λ r. taken_edits (begun_in facts rows) facts.now (sought_in facts r) r)).alike
+  files_alike (op.CommitRecovery own) h = (edited_alone path rows (file_edited (recovered_at own.block own.length)) (λ r. refl)).alike
+  files_alike _ h = cc
+
+  lists_alike : (what : Op) → is_about_lists what ≡ true → Alike (rows_after facts what name rows)
+  lists_alike (op.SetMode top mode) h = by (row_at top rows)
+    where
+      by : (o : Option Row) → Alike (with_mode_at top mode o rows)
+      by None = refl
+      by (Some r) = rewritten_alike top (change.List (with_mode mode r.kind r.acl)) (λ r. refl)
+  lists_alike (op.SetAcl top form) h = by (row_at top rows)
+    where
+      by_made : (made : Result Acl Refusal) → Alike (with_list_at top made rows)
+      by_made (Ok acl) = rewritten_alike top (change.List acl) (λ r. refl)
+      by_made (Err refusal) = refl
+
+      by : (o : Option Row) → Alike (with_acl_at top form o rows)
+      by None = refl
+      by (Some r) = by_made (acl_change form r.kind r.acl)
+  lists_alike _ h = cc
+
+  owners_alike : (what : Op) → is_about_owners what ≡ true → Alike (rows_after facts what name rows)
+  owners_alike (op.SetOwner top owner group) h = by (row_at top rows)
+    where
+      by : (o : Option Row) → Alike (with_owner_at top owner group o rows)
+      by None = refl
+      by (Some r) = rewritten_alike top (change.Owner (unwrap_or owner r.owner) (unwrap_or group r.group)) (λ r. refl)
+  owners_alike _ h = cc
+
+  pub all_alike : (what : Op) → (is_about_files what || (is_about_lists what || is_about_owners what)) ≡ true → Alike (rows_after facts what name rows)
+  all_alike what h = by (is_about_files what) refl (is_about_lists what) refl h
+    where
+      by : (b : Bool) → is_about_files what ≡ b → (c : Bool) → is_about_lists what ≡ c → (b || (c || is_about_owners what)) ≡ true → Alike (rows_after facts what name rows)
+      by true e c k h = files_alike what e
+      by false e true k h = lists_alike what k
+      by false e false k h = owners_alike what h

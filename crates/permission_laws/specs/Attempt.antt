@@ -149,6 +149,12 @@ abbrev pub is_about_owners : Op → Bool
 is_about_owners (op.SetOwner path owner group) = true
 is_about_owners _ = false
 
+-- or about users and their groups
+abbrev pub is_about_users : Op → Bool
+is_about_users (op.AddUser user groups) = true
+is_about_users (op.SetGroups user groups) = true
+is_about_users _ = false
+
 -- an operation that is about the NameNode as a whole
 abbrev pub administers : Op → Bool
 administers (op.AddUser user groups) = true

@@ -18,7 +18,7 @@ use Rattle.flat_rows.specs.declared.verdict.Verdict.TheVariants.{Denied}
 use Rattle.flat_rows.specs.Denial.{Denial}
 use Rattle.flat_rows.specs.FileOutcome.{holder_at}
 use Rattle.flat_rows.specs.Verdicts.{is_done, is_denied}
-use Rattle.permission_laws.specs.Attempt.{Attempt, IsRightAbove, IsLastAbove, attempt_step, IsDone, row_before, row_after, by_superuser, may, owns, is_impassable, is_named, is_above_named, is_above_another, taken_path, managed_path, made_path, altered_path, is_about_files, is_about_lists, is_about_owners, administers, written_path, concerns}
+use Rattle.permission_laws.specs.Attempt.{Attempt, IsRightAbove, IsLastAbove, attempt_step, IsDone, row_before, row_after, by_superuser, may, owns, is_impassable, is_named, is_above_named, is_above_another, taken_path, managed_path, made_path, altered_path, is_about_users, is_about_files, is_about_lists, is_about_owners, administers, written_path, concerns}
 
 -- ---- superusers
 
@@ -42,9 +42,9 @@ OthersDoNotAdminister = (attempt : Attempt) → IsNamespace attempt.rows → IsD
 abbrev pub OthersAreNoNodes : Type 0
 OthersAreNoNodes = (attempt : Attempt) → IsNamespace attempt.rows → IsDone attempt → is_for_nodes attempt.op ≡ true → is_some (node_of attempt.caller) ≡ true
 
--- users and their groups change by nothing else
+-- users and their groups change by what is about them alone
 abbrev pub UsersStay : Type 0
-UsersStay = (attempt : Attempt) → administers attempt.op ≡ false → (attempt_step attempt).users ≡ attempt.users
+UsersStay = (attempt : Attempt) → is_about_users attempt.op ≡ false → (attempt_step attempt).users ≡ attempt.users
 
 -- ---- directories that the caller can't traverse
 
@@ -197,3 +197,8 @@ ListsChangeAlone = (attempt : Attempt) (path : List (List ℕ)) (row later : Row
 abbrev pub OwnersChangeAlone : Type 0
 OwnersChangeAlone = (attempt : Attempt) (path : List (List ℕ)) (row later : Row)
     → is_about_owners attempt.op ≡ true → row_before attempt path ≡ Some row → row_after attempt path ≡ Some later → record later { owner = row.owner; group = row.group } ≡ row
+
+-- nothing comes or goes by any of them
+abbrev pub NothingComesOrGoes : Type 0
+NothingComesOrGoes = (attempt : Attempt) (path : List (List ℕ))
+    → (is_about_files attempt.op || (is_about_lists attempt.op || is_about_owners attempt.op)) ≡ true → is_some (row_after attempt path) ≡ is_some (row_before attempt path)

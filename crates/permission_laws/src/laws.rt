@@ -15,8 +15,8 @@ pub fn nodes_act_for_themselves()
     ensures { law.OthersAreNoNodes }
 {}
 
-/// Only superusers make users known, give them groups, make keys and have leases expire; users and groups change by nothing else (HDFS Permissions
-/// Guide, "The Super-User").
+/// Only superusers make users known, give them groups, make keys and have leases expire; users and groups change by the first two alone (HDFS
+/// Permissions Guide, "The Super-User").
 pub fn superusers_administer()
     ensures others { law.OthersDoNotAdminister }
     ensures users { law.UsersStay }
@@ -81,9 +81,11 @@ pub fn deletions_and_renames_take_all()
     ensures left { law.RenamesLeaveNothing }
 {}
 
-/// A change of one part of what stands leaves its other parts: of a file's own parts, of the access list, of owner and group.
+/// A change of one part of what stands leaves its other parts: of a file's own parts, of the access list, of owner and group. Nothing comes or
+/// goes by it.
 pub fn parts_change_alone()
     ensures files { law.FilesChangeAlone }
     ensures lists { law.ListsChangeAlone }
     ensures owners { law.OwnersChangeAlone }
+    ensures stand { law.NothingComesOrGoes }
 {}
