@@ -9,7 +9,6 @@ use flat_rows::ask::asks_of;
 use flat_rows::demand::{Demand, Role, needs_of};
 use flat_rows::trail::Judged;
 use hdfs_types::op::{Op, Request};
-use hdfs_values::path::{Path, is_same};
 use namespace_rows::row::Row;
 use script_words::words::{pieces_between, without_return, words_in};
 use std::alloc::{AllocError, Global};
@@ -33,17 +32,8 @@ fn role_name(role: Role) -> &'static str {
     }
 }
 
-fn side_of(demand: &Demand<'_>, from: &Path) -> Side {
-    let path = if is_same(demand.path(), from.names()) {
-        "from"
-    } else {
-        "to"
-    };
-    Side {
-        path,
-        role: role_name(demand.role()),
-    }
-}
+// The needs of a rename are of its two paths by turns, also where it names one path twice.
+static RENAMED: [&str; 5] = ["from", "to", "from", "to", "from"];
 
 /// Adds a side for each component that a need is asked at on these rows.
 fn push_sides(
@@ -60,11 +50,14 @@ fn push_sides(
 }
 
 /// The sides of all that a rename is asked for on these rows, in the order of judging.
-fn sides_of(alloc: Global, rows: &[Row], op: &Op, from: &Path) -> Result<Vec<Side>, AllocError> {
+fn sides_of(alloc: Global, rows: &[Row], op: &Op) -> Result<Vec<Side>, AllocError> {
     let needs = needs_of(alloc, op)?;
     let mut sides = Vec::new(alloc);
-    for demand in needs.as_slice() {
-        let side = side_of(demand, from);
+    for (demand, path) in needs.as_slice().iter().zip(&RENAMED) {
+        let side = Side {
+            path: *path,
+            role: role_name(demand.role()),
+        };
         push_sides(alloc, rows, slice::from_ref(demand), side, &mut sides)?;
     }
     Ok(sides)
@@ -97,11 +90,11 @@ fn add_rename_hints(
     request: &Request,
     out: &mut String,
 ) -> Result<(), AllocError> {
-    let Op::Rename(from, _) = &request.op else {
+    let Op::Rename(_, _) = &request.op else {
         return Ok(());
     };
     let rows = rows_of(alloc, session.world().core().tree())?;
-    let sides = sides_of(alloc, rows.as_slice(), &request.op, from)?;
+    let sides = sides_of(alloc, rows.as_slice(), &request.op)?;
     let needs = trail_on(alloc, session, request)?;
     add_sides(line, &needs, &sides, out)
 }
