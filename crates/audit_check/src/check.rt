@@ -14,6 +14,7 @@ use receipt_checks::pair::Pair;
 use receipt_checks::placed::find_misplaced;
 use receipt_checks::receipts::Receipts;
 use std::alloc::{AllocError, Global};
+use thiserror::Error;
 
 /// What a NameNode opened with, and the entries that its history had when the passes began, the oldest first.
 pub struct Opening {
@@ -35,10 +36,12 @@ impl Drop for Opening {
 }
 
 /// Why a history and the answers that were kept of it aren't known to agree.
-#[derive(Clone, Copy, Debug, PartialEq, Eq)]
+#[derive(Clone, Copy, Debug, PartialEq, Eq, Error)]
 pub enum CheckFault {
     /// What is told of the receipt of this pass that has so many before it doesn't agree: the receipt itself, or an entry that names it.
+    #[error("what is told of receipt {index} of pass {pass} doesn't agree")]
     Disagreement { pass: u64, index: u64 },
+    #[error("out of memory")]
     OutOfMemory,
 }
 

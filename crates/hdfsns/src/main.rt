@@ -64,10 +64,8 @@ fn audit_script(rt: &HostRuntime, path: &str) -> Result<Status, ScriptFault> {
 
 fn report(rt: &HostRuntime, fault: ScriptFault, path: &str) {
     let _ = match fault {
-        ScriptFault::OutOfMemory { .. } => eprintln!(rt; "hdfsns: out of memory"),
         ScriptFault::CannotRead => eprintln!(rt; "hdfsns: cannot read {path}"),
-        ScriptFault::NotUtf8 => eprintln!(rt; "hdfsns: not UTF-8"),
-        ScriptFault::CannotWrite => eprintln!(rt; "hdfsns: cannot write"),
+        other => eprintln!(rt; "hdfsns: {other}"),
     };
 }
 

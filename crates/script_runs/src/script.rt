@@ -6,6 +6,7 @@ ghost use Rattle.script_runs.specs.Status as spec;
 use crate::channel::{ReadFault, read_all};
 use std::alloc::Global;
 use std::io::Read;
+use thiserror::Error;
 
 /// How a script ended that was run to its end.
 #[derive(Clone, Copy, Debug, PartialEq, Eq)]
@@ -29,12 +30,16 @@ impl Status {
 }
 
 /// Why a script was not run to its end, or not all that it prints was written.
-#[derive(Clone, Copy, Debug, PartialEq, Eq)]
+#[derive(Clone, Copy, Debug, PartialEq, Eq, Error)]
 pub enum ScriptFault {
     /// Memory ran out behind so many lines: all of them were run. `explain` writes no answers, and says 0.
+    #[error("out of memory")]
     OutOfMemory { served: usize },
+    #[error("cannot read")]
     CannotRead,
+    #[error("not UTF-8")]
     NotUtf8,
+    #[error("cannot write")]
     CannotWrite,
 }
 
