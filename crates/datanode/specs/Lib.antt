@@ -1,1 +1,3 @@
 pub mod NodeStep
+pub mod Kept
+pub mod Laws

@@ -1,9 +1,10 @@
-ghost use Rattle.std.specs.Prelude.{◌≡◌, [], IfOk, OnOk, OnErr, option_copied};
+ghost use Rattle.std.specs.Prelude.{◌≡◌, ℕ, ◌<◌, [], None, IfOk, OnOk, OnErr, option_copied, slice_index};
 ghost use Rattle.hdfs_values.specs.NodeId.{node_principal};
 ghost use Rattle.node_calls.specs.declared.call.NodeCall.TheVariants as asked;
 ghost use Rattle.node_calls.specs.declared.call.TokenCall.TheVariants as made;
 ghost use Rattle.replicas.specs.ReplicaStep.{held_at};
 ghost use Rattle.node_replies.specs.Asking.{record_of};
+ghost use Rattle.datanode.specs.Kept.{AreBelow, AreCovered};
 ghost use Rattle.datanode.specs.NodeStep as spec;
 
 use crate::answered::Answered;
@@ -65,8 +66,7 @@ impl Drop for DataNode {
 }
 
 impl Model for DataNode {
-    ghost use Rattle.std.specs.Prelude.{◌≡◌};
-    ghost use Rattle.hdfs_values.specs.NodeId.{node_principal};
+    ghost use Rattle.datanode.specs.Kept.{IsKept};
     ghost use Rattle.datanode.specs.NodeStep.{DataNode};
 
     ghost Value = { DataNode };
@@ -80,7 +80,14 @@ impl Model for DataNode {
       log = node.log;
     } };
 
-    ghost invariant = { λ node. node.principal ≡ node_principal node.id };
+    ghost invariant = { IsKept };
+}
+
+// What is a byte is below 256. Does nothing.
+fn read_bytes(bytes: &[u8])
+    ensures { (index : ℕ) → slice_index bytes.now index < 256 }
+{
+    let _bytes = bytes;
 }
 
 impl DataNode {
@@ -117,19 +124,23 @@ impl DataNode {
         self.replicas.replica(block)
     }
 
-    /// The greatest stamp of a block that was ever held or promised; 0 before any. Costs a look-up, and takes no memory.
+    /// The greatest stamp of a block that was ever held or promised; 0 before any. No replica of the block stands above it. Costs a look-up,
+    /// and takes no memory.
     pub fn stamp_floor(&self, block: BlockId) -> Stamp
-        ensures { result ≡ (held_at block self.now.blocks).promised }
+        ensures floor { result ≡ (held_at block self.now.blocks).promised }
+        ensures below { AreBelow self.now.blocks }
     {
         self.replicas.stamp_floor(block)
     }
 
-    /// A copy of what was noted down so far. Costs the records.
+    /// A copy of what was noted down so far. Each record has the text of a token of its caller, for its block and its access, whose expiry is
+    /// above the record's moment (HADOOP-4359). Costs the records.
     ///
     /// # Errors
     /// Out of memory.
     pub fn log(&self) -> Result<AccessLog, AllocError>
-        ensures { IfOk result (λ log. log ≡ self.now.log) }
+        ensures log { IfOk result (λ log. log ≡ self.now.log) }
+        ensures covered { AreCovered self.now.log }
     {
         self.log.clone()
     }
@@ -208,16 +219,20 @@ impl DataNode {
         presented: &Presented,
         call: &TokenCall,
     ) -> Result<(), AllocError>
+        requires { spec.call_refusal self.old clock presented.now call.now ≡ None }
         ensures ok { OnOk result (self.new ≡ spec.call_served self.old clock presented.now call.now) }
         ensures err { OnErr result (self.new ≡ self.old) }
     {
+        read_bytes(presented.token.as_bytes());
         let entry = self.record(clock, presented, call)?;
         self.log.push(entry)?;
-        let applied = self.replicas.apply(call, presented.stamp, presented.block);
-        if applied.is_err() {
-            self.log.take_back();
+        match self.replicas.apply(call, presented.stamp, presented.block) {
+            Ok(()) => Ok(()),
+            Err(fault) => {
+                self.log.take_back();
+                Err(fault)
+            }
         }
-        applied
     }
 
     // What is answered to a call that isn't refused.

@@ -3,3 +3,4 @@
 
 pub mod answered;
 pub mod datanode;
+pub mod laws;

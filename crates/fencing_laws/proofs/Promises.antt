@@ -7,8 +7,9 @@ use Rattle.replicas.specs.ReplicaStep.{held_at}
 use Rattle.replicas.specs.declared.held.Held.{Held}
 use Rattle.replicas.specs.declared.replica.Replica.{Replica}
 use Rattle.datanode.specs.NodeStep.{DataNode, node_after}
-use Rattle.datanode_laws.specs.Laws.{IsBelow, StandBelow}
-use Rattle.datanode_laws.proofs.Nodes as one_call
+use Rattle.datanode.specs.Kept.{IsBelow}
+use Rattle.datanode.specs.Laws.{StandBelow}
+use Rattle.datanode.proofs.Nodes as one_call
 use Rattle.cluster_trace.specs.Trace.{Cluster, ClusterOpening, start, new_node, with_new_node, after}
 use Rattle.cluster_trace.specs.declared.event.Event.{Event}
 use Rattle.cluster_trace.proofs.Each.{some_is, never_some, AllValues, values_at, values_inserted}

@@ -22,8 +22,8 @@ use Rattle.replicas.specs.ReplicaStep.{Replicas, nothing, held_at, refused_or_la
 use Rattle.replicas.specs.declared.held.Held.{Held}
 use Rattle.replicas.specs.declared.replica.Replica.{Replica}
 use Rattle.datanode.specs.NodeStep.{DataNode, node_after, presented_after, presented_by, removed_by, clock_with, call_refusal, access_of}
-use Rattle.datanode_laws.proofs.Nodes.{replica_passes}
-use Rattle.datanode_laws.proofs.Steps.{never, passed, not_so}
+use Rattle.datanode.proofs.Nodes.{replica_passes}
+use Rattle.datanode.proofs.Steps.{never, passed, not_so}
 use Rattle.fencing_laws.proofs.Behind.{set_there}
 
 -- ---- what holds of the block that a call changes, holds of each

@@ -16,9 +16,9 @@ use Rattle.node_calls.specs.declared.reply.NodeReply.{NodeReply}
 use Rattle.replicas.specs.ReplicaStep.{Replicas, nothing, held_at, replica_refusal, with_promise, held_changed_by}
 use Rattle.replicas.specs.declared.held.Held.{Held}
 use Rattle.datanode.specs.NodeStep.{DataNode, node_after, node_answer, presented_after, presented_answer, presented_by, told_by, clock_with, call_refusal, access_of}
-use Rattle.datanode_laws.proofs.Nodes.{replica_passes}
-use Rattle.datanode_laws.proofs.Records.{fenced}
-use Rattle.datanode_laws.proofs.Steps.{never}
+use Rattle.datanode.proofs.Nodes.{replica_passes}
+use Rattle.datanode.proofs.Records.{fenced}
+use Rattle.datanode.proofs.Steps.{never}
 use Rattle.cluster_trace.specs.DataCall.{as_message}
 use Rattle.cluster_trace.specs.Provenance.{CallAt, call_brought, call_of}
 use Rattle.cluster_trace.specs.Trace.{Cluster, Happened, node_called, called_at, message_delivered, message_at, event_happened, after}

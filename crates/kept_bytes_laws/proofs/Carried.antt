@@ -7,8 +7,8 @@ use Rattle.std.specs.Option.{option_and_then}
 use Rattle.block_records.specs.Numbers.{entry_at}
 use Rattle.block_recovery.proofs.Tables.{itself}
 use Rattle.block_tokens.specs.TokenTest.{token_test}
-use Rattle.datanode_laws.proofs.Nodes.{replica_passes}
-use Rattle.datanode_laws.proofs.Steps.{never}
+use Rattle.datanode.proofs.Nodes.{replica_passes}
+use Rattle.datanode.proofs.Steps.{never}
 use Rattle.block_answers.specs.declared.commands.Recover.{Recover}
 use Rattle.node_calls.specs.declared.call.NodeCall.{NodeCall}
 use Rattle.node_calls.specs.declared.call.NodeCall.TheVariants.{Presenting}

@@ -26,8 +26,8 @@ use Rattle.replicas.specs.ReplicaStep.{Replicas, nothing, held_at, refused_new_r
 use Rattle.replicas.specs.declared.held.Held.{Held}
 use Rattle.replicas.specs.declared.replica.Replica.{Replica}
 use Rattle.datanode.specs.NodeStep.{DataNode, node_after, node_answer, presented_after, presented_answer, presented_by, told_by, removed_by, removal_told, clock_with, call_refusal, access_of}
-use Rattle.datanode_laws.proofs.Nodes.{replica_passes}
-use Rattle.datanode_laws.proofs.Steps.{never, passed}
+use Rattle.datanode.proofs.Nodes.{replica_passes}
+use Rattle.datanode.proofs.Steps.{never, passed}
 use Rattle.fencing_laws.proofs.Behind.{set_there}
 
 -- a call that isn't refused is answered

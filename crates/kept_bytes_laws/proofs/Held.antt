@@ -7,8 +7,8 @@ use Rattle.std.specs.Ordering.{nat_cmp}
 use Rattle.block_records.specs.Numbers.{entry_at}
 use Rattle.block_recovery.proofs.Lookups.{lookup_inserted}
 use Rattle.block_recovery.proofs.Tables.{itself}
-use Rattle.datanode_laws.specs.Laws.{IsBelow}
-use Rattle.datanode_laws.proofs.Steps.{never, passed, not_so}
+use Rattle.datanode.specs.Kept.{IsBelow}
+use Rattle.datanode.proofs.Steps.{never, passed, not_so}
 use Rattle.node_calls.specs.declared.call.ReplicaState.TheVariants.{Finalized}
 use Rattle.node_calls.specs.declared.call.TokenCall.TheVariants as call
 use Rattle.node_calls.specs.declared.refusal.ReplicaRefusal.TheVariants.{NoReplica, StampDiffers, OutOfRange, NotWritable, OffsetGap}

@@ -14,7 +14,7 @@ use Rattle.block_recovery.proofs.Lookups.{has_inserted}
 use Rattle.block_recovery.proofs.Steps.{plan_changed, plan_begun}
 use Rattle.block_recovery.proofs.Tables.{itself}
 use Rattle.block_tokens.specs.TokenTest.{token_test}
-use Rattle.datanode_laws.proofs.Nodes.{replica_passes}
+use Rattle.datanode.proofs.Nodes.{replica_passes}
 use Rattle.block_answers.specs.declared.commands.Recover.{Recover}
 use Rattle.node_calls.specs.declared.call.NodeCall.{NodeCall}
 use Rattle.node_calls.specs.declared.call.NodeCall.TheVariants.{Presenting}

@@ -1,6 +1,6 @@
 //! Laws about a DataNode. Each function does nothing: what it ensures follows from the definitions.
 
-ghost use Rattle.datanode_laws.specs.Laws as law;
+ghost use Rattle.datanode.specs.Laws as law;
 
 /// Whatever a DataNode is asked, a stamp that it promised never falls, no replica stands above it, and of a replica that stays the stamp
 /// doesn't fall and the bytes are appended to, or cut to the length of a recovery (HDFS-265: generation stamps fence old writers).

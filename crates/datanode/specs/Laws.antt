@@ -2,10 +2,6 @@
 -- (HDFS-265: generation stamps fence old writers, and a recovery cuts replicas to one length. HADOOP-4359: tokens.)
 use Rattle.std.specs.Prelude.{◌≡◌, ℕ, ◌≤◌, ◌<◌, ◌⊎◌, true, List, [], ◌++◌, take, Option, Some, None, Ok, Err, slice_index}
 use Rattle.std.specs.Bool.{⊤}
-use Rattle.std.specs.List.{AllByRecursion}
-use Rattle.permission_specs.specs.Rights.{covers}
-use Rattle.block_tokens.specs.TokenText.{Body, TokenText}
-use Rattle.node_calls.specs.declared.access_log.AccessRecord.{AccessRecord}
 use Rattle.node_calls.specs.declared.call.NodeCall.{NodeCall}
 use Rattle.node_calls.specs.declared.call.NodeCall.TheVariants.{Presenting, Invalidate, Keys}
 use Rattle.node_calls.specs.declared.call.TokenCall.{TokenCall}
@@ -15,19 +11,16 @@ use Rattle.node_calls.specs.declared.refusal.NodeRefusal.{NodeRefusal}
 use Rattle.node_calls.specs.declared.reply.NodeReply.{NodeReply}
 use Rattle.replicas.specs.ReplicaStep.{held_at}
 use Rattle.replicas.specs.declared.replica.Replica.{Replica}
+use Rattle.datanode.specs.Kept.{AreBelow, AreCovered}
 use Rattle.datanode.specs.NodeStep.{DataNode, node_after, node_answer}
 
 -- a promised stamp never falls, also where the replica is removed
 abbrev pub NodeKeepsPromises : Type 0
 NodeKeepsPromises = (node : DataNode) (now : ℕ) (asked : NodeCall) (block : ℕ) → (held_at block node.blocks).promised ≤ (held_at block (node_after node now asked).blocks).promised
 
-abbrev pub IsBelow : ℕ → Option Replica → Type 0
-IsBelow promised None = ⊤
-IsBelow promised (Some replica) = replica.stamp ≤ promised
-
 -- no replica stands above the stamp that is promised
 abbrev pub StandBelow : DataNode → Type 0
-StandBelow node = (block : ℕ) → IsBelow (held_at block node.blocks).promised (held_at block node.blocks).replica
+StandBelow node = AreBelow node.blocks
 
 abbrev pub ReplicasStandBelow : Type 0
 ReplicasStandBelow = (node : DataNode) (now : ℕ) (asked : NodeCall) → StandBelow node → StandBelow (node_after node now asked)
@@ -75,19 +68,10 @@ RefusalsChangeNothing = (node : DataNode) (now : ℕ) (asked : NodeCall) (refusa
 
 -- ---- the log
 
--- what is noted down presented a token of its caller, for its block and its access, before the token's expiry
-pub record HasFittingToken (entry : AccessRecord) : Type 0 where
-  pub parts : Body
-  pub text : TokenText entry.token parts
-  pub user : parts.user ≡ entry.caller
-  pub block : parts.block ≡ entry.block
-  pub allowed : covers parts.modes entry.mode.0 ≡ true
-  pub in_time : entry.moment < parts.expiry
-
 abbrev pub IsPresented : NodeCall → Type 0
 IsPresented (Presenting presented asked) = (i : ℕ) → slice_index presented.token i < 256
 IsPresented (Invalidate block stamp) = ⊤
 IsPresented (Keys update) = ⊤
 
 abbrev pub RecordsAreCovered : Type 0
-RecordsAreCovered = (node : DataNode) (now : ℕ) (asked : NodeCall) → IsPresented asked → AllByRecursion HasFittingToken node.log → AllByRecursion HasFittingToken (node_after node now asked).log
+RecordsAreCovered = (node : DataNode) (now : ℕ) (asked : NodeCall) → IsPresented asked → AreCovered node.log → AreCovered (node_after node now asked).log

@@ -1,5 +1,5 @@
-use Rattle.datanode_laws.proofs.Nodes.{after}
-use Rattle.datanode_laws.proofs.laws.promises_and_bytes_stay.Goals as goal
+use Rattle.datanode.proofs.Nodes.{after}
+use Rattle.datanode.proofs.laws.promises_and_bytes_stay.Goals as goal
 
 pub returns-clause-promises : goal.returns-clause-promises
 returns-clause-promises c = λ node now asked block. (after node now asked block).promise

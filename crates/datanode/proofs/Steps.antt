@@ -18,7 +18,8 @@ use Rattle.node_calls.specs.declared.refusal.ReplicaRefusal.TheVariants.{NoRepli
 use Rattle.replicas.specs.ReplicaStep.{Replicas, nothing, held_at, refused_or_later, replica_refusal, newly_held, with_bytes_appended, with_replica_finalized, with_promise, with_replica_recovered, with_no_replica, with_held_changed, held_changed_by, replicas_after}
 use Rattle.replicas.specs.declared.held.Held.{Held}
 use Rattle.replicas.specs.declared.replica.Replica.{Replica}
-use Rattle.datanode_laws.specs.Laws.{IsBelow, KeepsBytes, AreKept, given_length}
+use Rattle.datanode.specs.Kept.{IsBelow}
+use Rattle.datanode.specs.Laws.{KeepsBytes, AreKept, given_length}
 
 -- ---- what is left of one block follows from what was held of it
 

@@ -11,8 +11,8 @@ use Rattle.node_calls.specs.declared.refusal.ReplicaRefusal.{ReplicaRefusal}
 use Rattle.node_replies.specs.Asking.{asked_by}
 use Rattle.replicas.specs.ReplicaStep.{held_at, replica_refusal, removal_refusal, with_no_replica}
 use Rattle.datanode.specs.NodeStep.{DataNode, node_after, presented_after, presented_by, removed_by, clock_with, call_refusal, token_or_replica, access_of}
-use Rattle.datanode_laws.specs.Laws.{given_length, recovered_length}
-use Rattle.datanode_laws.proofs.Steps.{Follows, same, removes, change, called}
+use Rattle.datanode.specs.Laws.{given_length, recovered_length}
+use Rattle.datanode.proofs.Steps.{Follows, same, removes, change, called}
 
 -- a token that is taken leaves the judgement to the replica
 pub replica_passes : (token : Option TokenRefusal) (replica : Option ReplicaRefusal) → token_or_replica token replica ≡ None → replica ≡ None

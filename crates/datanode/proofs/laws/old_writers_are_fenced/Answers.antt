@@ -1,5 +1,5 @@
-use Rattle.datanode_laws.proofs.Records.{fenced, unchanged}
-use Rattle.datanode_laws.proofs.laws.old_writers_are_fenced.Goals as goal
+use Rattle.datanode.proofs.Records.{fenced, unchanged}
+use Rattle.datanode.proofs.laws.old_writers_are_fenced.Goals as goal
 
 pub returns-clause-fenced : goal.returns-clause-fenced
 returns-clause-fenced c = fenced

@@ -1,3 +1,4 @@
 pub mod Steps
 pub mod Nodes
 pub mod Records
+pub mod Kept

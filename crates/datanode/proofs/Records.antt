@@ -1,7 +1,6 @@
 -- What is refused, and what is noted down.
 use Rattle.std.proofs.Common.{◌≡◌, ℕ, ◌<◌, ◌==◌, Bool, true, false, ◌||◌, not, nat_lt, List, [], ◌∷◌, ◌++◌, length, Option, Some, None, Ok, Err, refl, cond, slice_index, ◌+◌}
 use Rattle.std.proofs.lemmas.Bool.{eqb-true}
-use Rattle.std.specs.List.{AllByRecursion}
 use Rattle.block_tokens.specs.KeyList.{usable_keys, merged_keys}
 use Rattle.block_tokens.specs.TokenTest.{token_test}
 use Rattle.block_tokens.specs.declared.refusal.TokenRefusal.{TokenRefusal}
@@ -24,9 +23,11 @@ use Rattle.replicas.specs.ReplicaState.{is_writing}
 use Rattle.replicas.specs.ReplicaStep.{held_at, refused_or_later, replica_refusal, removal_refusal, packet_limit}
 use Rattle.replicas.specs.declared.replica.Replica.{Replica}
 use Rattle.datanode.specs.NodeStep.{DataNode, node_after, node_answer, presented_after, presented_answer, presented_by, told_by, removed_by, removal_told, clock_with, call_refusal, token_or_replica, access_of}
-use Rattle.datanode_laws.specs.Laws.{HasFittingToken, IsPresented}
-use Rattle.datanode_laws.proofs.Steps.{passed, not_so, never}
-use Rattle.datanode_laws.proofs.Nodes.{replica_passes}
+use Rattle.datanode.specs.Kept.{HasFittingToken, AreCovered}
+use Rattle.datanode.specs.Laws.{IsPresented}
+use Rattle.datanode.proofs.Steps.{passed, not_so, never}
+use Rattle.datanode.proofs.Nodes.{replica_passes}
+use Rattle.datanode.proofs.Kept.{noted_covered}
 
 differ : (told : NodeReply) (refusal : NodeRefusal) → Ok told ≡ Err refusal → ⊥
 differ told refusal e = cc
@@ -84,36 +85,24 @@ unchanged node now (Invalidate block stamp) refusal e = by (removal_refusal stam
 
 -- ---- records
 
-token_passes : (token : Option TokenRefusal) (replica : Option ReplicaRefusal) → token_or_replica token replica ≡ None → token ≡ None
-token_passes (Some refusal) replica e = cc
-token_passes None replica e = refl
-
-all_more : (log : List AccessRecord) (entry : AccessRecord) → AllByRecursion HasFittingToken log → HasFittingToken entry → AllByRecursion HasFittingToken (log ++ entry ∷ [])
-all_more [] entry all one = (one, tt)
-all_more (first ∷ log) entry all one = (all.0, all_more log entry all.1 one)
-
-presented_covered : (node : DataNode) (clock : ℕ) (own : Presented) (asked : TokenCall) → ((i : ℕ) → slice_index own.token i < 256) → AllByRecursion HasFittingToken node.log → AllByRecursion HasFittingToken (presented_after node clock own asked).log
+presented_covered : (node : DataNode) (clock : ℕ) (own : Presented) (asked : TokenCall) → ((i : ℕ) → slice_index own.token i < 256) → AreCovered node.log → AreCovered (presented_after node clock own asked).log
 unfolding presented_after
 presented_covered node clock own asked bytes all = by (call_refusal node clock own asked) refl
   where
-    by : (refused : Option NodeRefusal) → call_refusal node clock own asked ≡ refused → AllByRecursion HasFittingToken (presented_by node clock own asked refused).log
+    by : (refused : Option NodeRefusal) → call_refusal node clock own asked ≡ refused → AreCovered (presented_by node clock own asked refused).log
     by (Some refusal) e = all
-    by None e =
-        let taken = test_tells node.keys (access_of clock own asked) own.token bytes
-        (token_passes (token_test node.keys (access_of clock own asked) own.token) (replica_refusal node.limit asked own.stamp (held_at own.block node.blocks)) e) in
-        all_more node.log (record_of node.id clock own asked (held_at own.block node.blocks)) all
-        (record { parts = taken.0; text = taken.2.text; user = taken.2.user; block = taken.2.block; allowed = taken.2.allowed; in_time = taken.2.in_time })
+    by None e = noted_covered node clock own asked e bytes all
 
 own_bytes : (b : Bool) (given : Presented) (principal : List ℕ) → ((i : ℕ) → slice_index given.token i < 256) → (i : ℕ) → slice_index (cond b (record given { caller = principal }) given).token i < 256
 own_bytes true given principal h = h
 own_bytes false given principal h = h
 
-pub covered : (node : DataNode) (now : ℕ) (asked : NodeCall) → IsPresented asked → AllByRecursion HasFittingToken node.log → AllByRecursion HasFittingToken (node_after node now asked).log
+pub covered : (node : DataNode) (now : ℕ) (asked : NodeCall) → IsPresented asked → AreCovered node.log → AreCovered (node_after node now asked).log
 unfolding node_after
 covered node now (Presenting given asked) bytes all = presented_covered node (clock_with node now) (asked_by node.id given asked) asked (own_bytes (sends_copy asked) given (node_principal node.id) bytes) all
 covered node now (Keys update) bytes all = all
 covered node now (Invalidate block stamp) bytes all = by (removal_refusal stamp (held_at block node.blocks).replica)
   where
-    by : (refused : Option ReplicaRefusal) → AllByRecursion HasFittingToken (removed_by node block refused).log
+    by : (refused : Option ReplicaRefusal) → AreCovered (removed_by node block refused).log
     by (Some refusal) = all
     by None = all
