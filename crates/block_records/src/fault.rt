@@ -3,16 +3,17 @@ ghost use Rattle.block_records.specs.declared.fault.BlockFault.TheVariants.{OutO
 
 use hdfs_values::ids::Stamp;
 use std::alloc::{AllocError, AllocFailed};
+use thiserror::Error;
 
 /// A counter of numbers that are never given twice.
-#[derive(Clone, Copy, PartialEq, Eq)]
+#[derive(Clone, Copy, Debug, PartialEq, Eq)]
 pub enum Counter {
     BlockId,
     Stamp,
 }
 
 /// Why the map of blocks doesn't do what it is asked to do.
-#[derive(Clone, Copy, PartialEq, Eq)]
+#[derive(Clone, Copy, Debug, PartialEq, Eq)]
 pub enum BlockRefusal {
     /// The block isn't known.
     NotFound,
@@ -29,9 +30,11 @@ pub enum BlockRefusal {
 }
 
 /// Why a call didn't do what it was asked to do. Nothing has changed then.
-#[derive(Clone, Copy, PartialEq, Eq)]
+#[derive(Clone, Copy, Debug, PartialEq, Eq, Error)]
 pub enum BlockFault {
+    #[error("refused {0:?}")]
     Refused(BlockRefusal),
+    #[error("out of memory")]
     OutOfMemory,
 }
 

@@ -4,9 +4,10 @@ ghost use Rattle.block_recovery.specs.declared.fault.PlanFault.TheVariants.{OutO
 use hdfs_values::ids::Stamp;
 use std::alloc::AllocError;
 use std::fmt;
+use thiserror::Error;
 
 /// Why a plan doesn't do what it is asked to do.
-#[derive(Clone, Copy, PartialEq, Eq)]
+#[derive(Clone, Copy, Debug, PartialEq, Eq)]
 pub enum PlanRefusal {
     /// A recovery of the block has begun with this stamp, which is as great or greater: P1 AlreadyBegun.
     AlreadyBegun(Stamp),
@@ -35,9 +36,11 @@ impl fmt::Display for PlanRefusal {
 }
 
 /// Why a call didn't do what it was asked to do. Nothing has changed then.
-#[derive(Clone, Copy, PartialEq, Eq)]
+#[derive(Clone, Copy, Debug, PartialEq, Eq, Error)]
 pub enum PlanFault {
+    #[error("refused {0}")]
     Refused(PlanRefusal),
+    #[error("out of memory")]
     OutOfMemory,
 }
 

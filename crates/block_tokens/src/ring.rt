@@ -14,12 +14,15 @@ use hdfs_values::who::Who;
 use permission_specs::modes::Modes;
 use std::alloc::{AllocError, Global};
 use std::marker::Model;
+use thiserror::Error;
 
 /// Why a ring doesn't roll.
-#[derive(Clone, Copy, Debug, PartialEq, Eq)]
+#[derive(Clone, Copy, Debug, PartialEq, Eq, Error)]
 pub enum RollFault {
     /// The next serial would be the greatest `u32`, which is never given.
+    #[error("no serial is left")]
     SpentSerial,
+    #[error("out of memory")]
     OutOfMemory,
 }
 

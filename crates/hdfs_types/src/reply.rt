@@ -616,6 +616,13 @@ impl Refusal {
     }
 }
 
+/// Prints the same as `Display`, for faults that hold a refusal.
+impl fmt::Debug for Refusal {
+    fn fmt<W: fmt::Write>(&self, f: &mut fmt::Formatter<W>) -> fmt::Result {
+        write!(f, "{self}")
+    }
+}
+
 /// Prints the code, the name and the detail, as `3 NotDirectory /d/f`.
 impl fmt::Display for Refusal {
     ghost use Rattle.hdfs_types.specs.Reply.{refusal_text};

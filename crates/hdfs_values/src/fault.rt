@@ -3,6 +3,7 @@ ghost use Rattle.hdfs_values.specs.declared.fault.ParseFault.TheVariants.{OutOfM
 
 use std::alloc::{AllocError, AllocFailed};
 use std::fmt;
+use thiserror::Error;
 
 /// What is wrong with a list of access entries, or with a change by it (HDFS Permissions Guide, "ACLs Shell Commands").
 #[derive(Clone, Copy, Debug, PartialEq, Eq)]
@@ -92,9 +93,11 @@ impl fmt::Display for IllFormed {
 }
 
 /// Why a text was not read.
-#[derive(Clone, Copy, Debug, PartialEq, Eq)]
+#[derive(Clone, Copy, Debug, PartialEq, Eq, Error)]
 pub enum ParseFault {
+    #[error("bad {0}")]
     IllFormed(IllFormed),
+    #[error("out of memory")]
     OutOfMemory,
 }
 

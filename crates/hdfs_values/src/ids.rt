@@ -34,7 +34,7 @@ impl BlockId {
 
 /// The generation stamp of a block: the newest is that of the last time that the block was begun or recovered (HDFS
 /// Architecture, "Data Blocks").
-#[derive(Clone, Copy, PartialEq, Eq, PartialOrd, Ord)]
+#[derive(Clone, Copy, Debug, PartialEq, Eq, PartialOrd, Ord)]
 pub struct Stamp {
     number: u64,
 }

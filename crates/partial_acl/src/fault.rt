@@ -3,11 +3,14 @@ ghost use Rattle.partial_acl.specs.declared.fault.AclChangeFault.TheVariants.{Ou
 
 use hdfs_types::reply::Refusal;
 use std::alloc::{AllocError, AllocFailed};
+use thiserror::Error;
 
 /// Why an access control list was not changed.
-#[derive(Drop)]
+#[derive(Debug, Drop, Error)]
 pub enum AclChangeFault {
+    #[error("refused {0}")]
     Refused(Refusal),
+    #[error("out of memory")]
     OutOfMemory,
 }
 

@@ -11,11 +11,14 @@ use hdfs_values::who::Who;
 use std::alloc::{AllocError, AllocFailed, Global};
 use std::collections::BTreeMap;
 use std::marker::Model;
+use thiserror::Error;
 
 /// Why a user was not made known, or its groups not set.
-#[derive(Drop)]
+#[derive(Debug, Drop, Error)]
 pub enum UserFault {
+    #[error("refused {0}")]
     Refused(Refusal),
+    #[error("out of memory")]
     OutOfMemory,
 }
 
