@@ -26,8 +26,9 @@ use inode_tree::inode::Inode;
 use inode_tree::tree::Tree;
 use namespace_rows::row::Change;
 use partial_acl::fault::AclChangeFault;
-use perm_walk::found::{Found, FoundFile, standing, standing_file};
+use perm_walk::found::{Found, standing};
 use perm_walk::reach::Reach;
+use perm_walk::target::{Target, TargetFile, walk_to, walk_to_file};
 use perm_walk::walk::{Walked, WalkedBoth, walk, walk_along, walk_along_both};
 use permission_specs::acl_change::AclChange;
 use permission_specs::mode::Mode;
@@ -79,13 +80,10 @@ fn set_mode(
     ensures ok { (facts : Facts) (users : Users) → IfOk result (λ verdict. record { verdict = verdict; rows = tree.new; users = users } ≡ judged_step facts tree.old users caller.now needs.now (Op.SetMode path.now mode)) }
     ensures err { OnErr result (tree.new ≡ tree.old) }
 {
-    let reach = match walk_along(alloc, tree, caller, needs, path)? {
-        Walked::Denied(denial) => return Ok(Verdict::Denied(denial)),
-        Walked::Reached(reach) => reach,
-    };
-    let inode = match standing(alloc, reach)? {
-        Found::There(component) => component.inode(),
-        Found::Refused(refusal) => return Ok(Verdict::Refused(refusal)),
+    let inode = match walk_to(alloc, tree, caller, needs, path)? {
+        Target::Denied(denial) => return Ok(Verdict::Denied(denial)),
+        Target::Refused(refusal) => return Ok(Verdict::Refused(refusal)),
+        Target::There(component) => component.inode(),
     };
     let mut acl = inode.acl().clone()?;
     chmod(&mut acl, mode, inode.kind());
@@ -123,13 +121,10 @@ fn set_acl(
     ensures ok { (facts : Facts) (users : Users) → IfOk result (λ verdict. record { verdict = verdict; rows = tree.new; users = users } ≡ judged_step facts tree.old users caller.now needs.now (Op.SetAcl path.now change.now)) }
     ensures err { OnErr result (tree.new ≡ tree.old) }
 {
-    let reach = match walk_along(alloc, tree, caller, needs, path)? {
-        Walked::Denied(denial) => return Ok(Verdict::Denied(denial)),
-        Walked::Reached(reach) => reach,
-    };
-    let inode = match standing(alloc, reach)? {
-        Found::There(component) => component.inode(),
-        Found::Refused(refusal) => return Ok(Verdict::Refused(refusal)),
+    let inode = match walk_to(alloc, tree, caller, needs, path)? {
+        Target::Denied(denial) => return Ok(Verdict::Denied(denial)),
+        Target::Refused(refusal) => return Ok(Verdict::Refused(refusal)),
+        Target::There(component) => component.inode(),
     };
     let acl = match changed(alloc, inode.acl(), inode.kind(), change)? {
         Ok(acl) => acl,
@@ -177,13 +172,10 @@ fn set_owner(
     ensures ok { (facts : Facts) (users : Users) → IfOk result (λ verdict. record { verdict = verdict; rows = tree.new; users = users } ≡ judged_step facts tree.old users caller.now needs.now (Op.SetOwner path.now owner.now group.now)) }
     ensures err { OnErr result (tree.new ≡ tree.old) }
 {
-    let reach = match walk_along(alloc, tree, caller, needs, path)? {
-        Walked::Denied(denial) => return Ok(Verdict::Denied(denial)),
-        Walked::Reached(reach) => reach,
-    };
-    let inode = match standing(alloc, reach)? {
-        Found::There(component) => component.inode(),
-        Found::Refused(refusal) => return Ok(Verdict::Refused(refusal)),
+    let inode = match walk_to(alloc, tree, caller, needs, path)? {
+        Target::Denied(denial) => return Ok(Verdict::Denied(denial)),
+        Target::Refused(refusal) => return Ok(Verdict::Refused(refusal)),
+        Target::There(component) => component.inode(),
     };
     let (owner, group) = owners_due(inode, owner, group)?;
     tree.rewrite(path, Change::Owner(owner, group));
@@ -203,12 +195,10 @@ fn set_replication(
     ensures ok { (facts : Facts) (users : Users) → IfOk result (λ verdict. record { verdict = verdict; rows = tree.new; users = users } ≡ judged_step facts tree.old users caller.now needs.now (Op.SetReplication path.now replication)) }
     ensures err { OnErr result (tree.new ≡ tree.old) }
 {
-    let reach = match walk_along(alloc, tree, caller, needs, path)? {
-        Walked::Denied(denial) => return Ok(Verdict::Denied(denial)),
-        Walked::Reached(reach) => reach,
-    };
-    if let FoundFile::Refused(refusal) = standing_file(alloc, reach)? {
-        return Ok(Verdict::Refused(refusal));
+    match walk_to_file(alloc, tree, caller, needs, path)? {
+        TargetFile::Denied(denial) => return Ok(Verdict::Denied(denial)),
+        TargetFile::Refused(refusal) => return Ok(Verdict::Refused(refusal)),
+        TargetFile::There(_) => {}
     }
     tree.rewrite(path, Change::Replication(replication));
     Ok(Verdict::Done(Reply::Empty))

@@ -24,8 +24,8 @@ use hdfs_values::who::Who;
 use inode_tree::tree::Tree;
 use namespace_rows::file_row::FileRow;
 use perm_walk::component::Component;
-use perm_walk::found::{Found, counts_at, length_told, standing};
-use perm_walk::walk::{Walked, walk_along};
+use perm_walk::found::{counts_at, length_told};
+use perm_walk::target::{Target, walk_to};
 use principals::caller::Caller;
 use principals::users::Users;
 use required_rights::demand::Needs;
@@ -71,13 +71,10 @@ fn stat(
     requires { AreOn path.now needs.now }
     ensures { (facts : Facts) (users : Users) → IfOk result (λ verdict. record { verdict = verdict; rows = tree.now; users = users } ≡ judged_step facts tree.now users caller.now needs.now (Op.Stat path.now)) }
 {
-    let reach = match walk_along(alloc, tree, caller, needs, path)? {
-        Walked::Denied(denial) => return Ok(Verdict::Denied(denial)),
-        Walked::Reached(reach) => reach,
-    };
-    match standing(alloc, reach)? {
-        Found::There(component) => Ok(Verdict::Done(status_of(alloc, &component)?)),
-        Found::Refused(refusal) => Ok(Verdict::Refused(refusal)),
+    match walk_to(alloc, tree, caller, needs, path)? {
+        Target::Denied(denial) => Ok(Verdict::Denied(denial)),
+        Target::Refused(refusal) => Ok(Verdict::Refused(refusal)),
+        Target::There(component) => Ok(Verdict::Done(status_of(alloc, &component)?)),
     }
 }
 
@@ -103,13 +100,10 @@ fn get_acl(
     requires { AreOn path.now needs.now }
     ensures { (facts : Facts) (users : Users) → IfOk result (λ verdict. record { verdict = verdict; rows = tree.now; users = users } ≡ judged_step facts tree.now users caller.now needs.now (Op.GetAcl path.now)) }
 {
-    let reach = match walk_along(alloc, tree, caller, needs, path)? {
-        Walked::Denied(denial) => return Ok(Verdict::Denied(denial)),
-        Walked::Reached(reach) => reach,
-    };
-    match standing(alloc, reach)? {
-        Found::There(component) => Ok(Verdict::Done(acl_status_of(alloc, &component)?)),
-        Found::Refused(refusal) => Ok(Verdict::Refused(refusal)),
+    match walk_to(alloc, tree, caller, needs, path)? {
+        Target::Denied(denial) => Ok(Verdict::Denied(denial)),
+        Target::Refused(refusal) => Ok(Verdict::Refused(refusal)),
+        Target::There(component) => Ok(Verdict::Done(acl_status_of(alloc, &component)?)),
     }
 }
 
@@ -159,16 +153,13 @@ fn list(
     requires { AreOn path.now needs.now }
     ensures { (facts : Facts) (users : Users) → IfOk result (λ verdict. record { verdict = verdict; rows = tree.now; users = users } ≡ judged_step facts tree.now users caller.now needs.now (Op.List path.now)) }
 {
-    let reach = match walk_along(alloc, tree, caller, needs, path)? {
-        Walked::Denied(denial) => return Ok(Verdict::Denied(denial)),
-        Walked::Reached(reach) => reach,
-    };
-    match standing(alloc, reach)? {
-        Found::There(component) => {
+    match walk_to(alloc, tree, caller, needs, path)? {
+        Target::Denied(denial) => Ok(Verdict::Denied(denial)),
+        Target::Refused(refusal) => Ok(Verdict::Refused(refusal)),
+        Target::There(component) => {
             let names = listed(alloc, tree, path, &component)?;
             Ok(Verdict::Done(Reply::Names(Names::new(names))))
         }
-        Found::Refused(refusal) => Ok(Verdict::Refused(refusal)),
     }
 }
 
@@ -198,14 +189,11 @@ fn summary(
     requires { AreOn path.now needs.now }
     ensures { (facts : Facts) (users : Users) → IfOk result (λ verdict. record { verdict = verdict; rows = tree.now; users = users } ≡ judged_step facts tree.now users caller.now needs.now (Op.Summary path.now)) }
 {
-    let reach = match walk_along(alloc, tree, caller, needs, path)? {
-        Walked::Denied(denial) => return Ok(Verdict::Denied(denial)),
-        Walked::Reached(reach) => reach,
-    };
-    if let Found::Refused(refusal) = standing(alloc, reach)? {
-        return Ok(Verdict::Refused(refusal));
+    match walk_to(alloc, tree, caller, needs, path)? {
+        Target::Denied(denial) => Ok(Verdict::Denied(denial)),
+        Target::Refused(refusal) => Ok(Verdict::Refused(refusal)),
+        Target::There(_) => Ok(Verdict::Done(Reply::Summary(content_at(tree, path)?))),
     }
-    Ok(Verdict::Done(Reply::Summary(content_at(tree, path)?)))
 }
 
 /// Answers a verb that changes nothing, with its needs, over what is lent: the first need that fails, or else the first refusal of the

@@ -4,3 +4,4 @@ pub mod Reached
 pub mod Walked
 pub mod JudgedStep
 pub mod Found
+pub mod Target

@@ -5,7 +5,7 @@ ghost use Rattle.namespace_rows.specs.Files.{length_of, told_length};
 ghost use Rattle.flat_rows.specs.Outcome as spec;
 ghost use Rattle.namespace_rows.specs.Rows as rows_spec;
 ghost use Rattle.perm_walk.specs.Reached.{IsReach};
-ghost use Rattle.perm_walk.specs.Found.{IsFound, IsFoundFile};
+ghost use Rattle.perm_walk.specs.Found.{IsFound};
 
 use crate::component::Component;
 use crate::reach::Reach;
@@ -33,27 +33,6 @@ pub fn standing<'a>(alloc: Global, reach: Reach<'a>) -> Result<Found<'a>, AllocE
     match reach.at {
         Some(component) => Ok(Found::There(component)),
         None => Ok(Found::Refused(Refusal::NotFound)),
-    }
-}
-
-/// The file that has a path, or why none has.
-#[derive(Drop)]
-pub enum FoundFile<'a> {
-    There(&'a FileRow),
-    Refused(Refusal),
-}
-
-/// The file that has a path that leads so far.
-pub fn standing_file<'a>(alloc: Global, reach: Reach<'a>) -> Result<FoundFile<'a>, AllocError>
-    ensures { (path : List (List ℕ)) → (rows : List Row) → IsReach path rows reach.entry → IfOk result (IsFoundFile path rows) }
-{
-    let component = match standing(alloc, reach)? {
-        Found::There(component) => component,
-        Found::Refused(refusal) => return Ok(FoundFile::Refused(refusal)),
-    };
-    match component.inode().file() {
-        Some(file) => Ok(FoundFile::There(file)),
-        None => Ok(FoundFile::Refused(Refusal::IsDirectory)),
     }
 }
 

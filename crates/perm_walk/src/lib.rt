@@ -6,4 +6,5 @@ pub mod component;
 pub mod found;
 mod judge;
 pub mod reach;
+pub mod target;
 pub mod walk;

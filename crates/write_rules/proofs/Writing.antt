@@ -21,7 +21,7 @@ use Rattle.flat_rows.specs.Facts.{Facts}
 use Rattle.required_rights.specs.RequiredRights.{Demand, required_rights}
 use Rattle.flat_rows.specs.Decision.{asking_caller, denial_among}
 use Rattle.flat_rows.specs.Outcome.{Step, step, first_some, beneath_file, nothing_at, refusals_of_file, first_refusal, reply_of, refused_or_done, denied_or_outcome}
-use Rattle.perm_walk.specs.Found.{file_at_row, IsFileThere}
+use Rattle.perm_walk.specs.Target.{file_at_row, IsFileThere}
 use Rattle.perm_walk.specs.JudgedStep.{judged_step}
 use Rattle.perm_walk.proofs.Steps.{as_step}
 use Rattle.write_rules.specs.Judged.{refused_or}

@@ -20,8 +20,7 @@ use hdfs_values::path::Path;
 use hdfs_values::who::Who;
 use inode_tree::tree::Tree;
 use namespace_rows::file_row::FileRow;
-use perm_walk::found::{FoundFile, standing_file};
-use perm_walk::walk::{Walked, walk_along};
+use perm_walk::target::{TargetFile, walk_to_file};
 use principals::caller::Caller;
 use principals::users::Users;
 use required_rights::demand::Needs;
@@ -76,13 +75,10 @@ fn append_judged(
     ensures verdict { (facts : Facts) (users : Users) → IfOk result (λ judged. verdict_of_append facts judged ≡ (judged_step facts tree.now users caller.now needs.now (Append path.now)).verdict) }
     ensures found { IfOk result (IsJudgedAt path.now tree.now) }
 {
-    let reach = match walk_along(alloc, tree, caller, needs, path)? {
-        Walked::Denied(denial) => return Ok(JudgedAppend::Verdict(Verdict::Denied(denial))),
-        Walked::Reached(reach) => reach,
-    };
-    match standing_file(alloc, reach)? {
-        FoundFile::There(file) => appended(caller.name(), file),
-        FoundFile::Refused(refusal) => Ok(JudgedAppend::Verdict(Verdict::Refused(refusal))),
+    match walk_to_file(alloc, tree, caller, needs, path)? {
+        TargetFile::Denied(denial) => Ok(JudgedAppend::Verdict(Verdict::Denied(denial))),
+        TargetFile::Refused(refusal) => Ok(JudgedAppend::Verdict(Verdict::Refused(refusal))),
+        TargetFile::There(file) => appended(caller.name(), file),
     }
 }
 

@@ -26,8 +26,7 @@ use hdfs_values::replication::Repl;
 use hdfs_values::who::Who;
 use inode_tree::tree::Tree;
 use namespace_rows::file_row::FileRow;
-use perm_walk::found::{FoundFile, standing_file};
-use perm_walk::walk::{Walked, walk_along};
+use perm_walk::target::{TargetFile, walk_to_file};
 use principals::caller::Caller;
 use principals::users::Users;
 use required_rights::demand::Needs;
@@ -83,13 +82,10 @@ fn add_block_judged<'a>(
     ensures verdict { (facts : Facts) (users : Users) → facts.blocks ≡ blocks.now → facts.now ≡ now → IfOk result (λ judged. verdict_of_new facts.token caller.now.name judged ≡ (judged_step facts tree.now users caller.now needs.now (Op.AddBlock path.now last)).verdict) }
     ensures planned { IfOk result (IsPlanned blocks.now now last (row_at path.now tree.now)) }
 {
-    let reach = match walk_along(alloc, tree, caller, needs, path)? {
-        Walked::Denied(denial) => return Ok(JudgedBlock::Verdict(Verdict::Denied(denial))),
-        Walked::Reached(reach) => reach,
-    };
-    let file = match standing_file(alloc, reach)? {
-        FoundFile::There(file) => file,
-        FoundFile::Refused(refusal) => return Ok(JudgedBlock::Verdict(Verdict::Refused(refusal))),
+    let file = match walk_to_file(alloc, tree, caller, needs, path)? {
+        TargetFile::Denied(denial) => return Ok(JudgedBlock::Verdict(Verdict::Denied(denial))),
+        TargetFile::Refused(refusal) => return Ok(JudgedBlock::Verdict(Verdict::Refused(refusal))),
+        TargetFile::There(file) => file,
     };
     if let Some(refusal) = refusal_of_write(caller.name(), last, file) {
         return Ok(JudgedBlock::Verdict(Verdict::Refused(refusal)));
@@ -109,13 +105,10 @@ fn open_judged<'a>(
     ensures verdict { (facts : Facts) (users : Users) → IfOk result (λ judged. verdict_of_open facts.token caller.now.name facts.blocks judged ≡ (judged_step facts tree.now users caller.now needs.now (Op.Open path.now)).verdict) }
     ensures undone { IfOk result DoesNothing }
 {
-    let reach = match walk_along(alloc, tree, caller, needs, path)? {
-        Walked::Denied(denial) => return Ok(JudgedOpen::Verdict(Verdict::Denied(denial))),
-        Walked::Reached(reach) => reach,
-    };
-    match standing_file(alloc, reach)? {
-        FoundFile::There(file) => Ok(JudgedOpen::File(file)),
-        FoundFile::Refused(refusal) => Ok(JudgedOpen::Verdict(Verdict::Refused(refusal))),
+    match walk_to_file(alloc, tree, caller, needs, path)? {
+        TargetFile::Denied(denial) => Ok(JudgedOpen::Verdict(Verdict::Denied(denial))),
+        TargetFile::Refused(refusal) => Ok(JudgedOpen::Verdict(Verdict::Refused(refusal))),
+        TargetFile::There(file) => Ok(JudgedOpen::File(file)),
     }
 }
 

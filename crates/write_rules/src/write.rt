@@ -27,8 +27,9 @@ use hdfs_values::node_id::node_of;
 use hdfs_values::path::Path;
 use hdfs_values::who::Who;
 use inode_tree::tree::Tree;
-use perm_walk::found::{Found, FoundFile, counts_at, standing, standing_file};
+use perm_walk::found::{Found, counts_at, standing};
 use perm_walk::reach::Reach;
+use perm_walk::target::{TargetFile, walk_to_file};
 use perm_walk::walk::{Walked, walk, walk_along};
 use principals::caller::Caller;
 use principals::users::Users;
@@ -103,13 +104,10 @@ pub fn judge_complete(
     requires { AreOn path.now needs.now }
     ensures { (facts : Facts) (users : Users) → facts.blocks ≡ blocks.now → IfOk result (λ verdict. verdict ≡ (judged_step facts tree.now users caller.now needs.now (Op.Complete path.now last)).verdict) }
 {
-    let reach = match walk_along(alloc, tree, caller, needs, path)? {
-        Walked::Denied(denial) => return Ok(Verdict::Denied(denial)),
-        Walked::Reached(reach) => reach,
-    };
-    let file = match standing_file(alloc, reach)? {
-        FoundFile::There(file) => file,
-        FoundFile::Refused(refusal) => return Ok(Verdict::Refused(refusal)),
+    let file = match walk_to_file(alloc, tree, caller, needs, path)? {
+        TargetFile::Denied(denial) => return Ok(Verdict::Denied(denial)),
+        TargetFile::Refused(refusal) => return Ok(Verdict::Refused(refusal)),
+        TargetFile::There(file) => file,
     };
     completed(caller.name(), blocks, last, file)
 }
