@@ -4,8 +4,8 @@ use Rattle.std.specs.Prelude.{filter, unwrap_or, if◌then◌else◌}
 use Rattle.std.specs.List.{find, slice_get}
 use Rattle.std.specs.Option.{option_map, option_map_or, option_or, option_copied}
 use Rattle.hdfs_values.specs.Groups.{has_group}
-use Rattle.permission_specs.specs.Rights.{covers}
-use Rattle.permission_specs.specs.declared.rights.Rights.{Rights}
+use Rattle.permission_bits.specs.Rights.{covers}
+use Rattle.permission_bits.specs.declared.rights.Rights.{Rights}
 use Rattle.permission_specs.specs.declared.entry.EntryKind.TheVariants.{Group, Other}
 use Rattle.permission_specs.specs.declared.entry.Scope.TheVariants.{Access}
 use Rattle.acl_entries.specs.declared.entry_list.NamedEntry.{NamedEntry}

@@ -7,9 +7,9 @@ use Rattle.std.specs.Option.{is_some, is_none, option_map_or}
 use Rattle.std.specs.Ordering.{is_lt}
 use Rattle.std.specs.Int.RustNames.{bit_and, bit_or}
 use Rattle.hdfs_values.specs.Text.{text_cmp}
-use Rattle.permission_specs.specs.Mode.{user_bits, group_bits, other_bits, is_sticky}
-use Rattle.permission_specs.specs.Rights.{rights}
-use Rattle.permission_specs.specs.declared.rights.Rights.{Rights}
+use Rattle.permission_bits.specs.Mode.{user_bits, group_bits, other_bits, is_sticky}
+use Rattle.permission_bits.specs.Rights.{rights}
+use Rattle.permission_bits.specs.declared.rights.Rights.{Rights}
 use Rattle.permission_specs.specs.declared.entry.Entry.{Entry}
 use Rattle.permission_specs.specs.declared.entry.EntryKind.{EntryKind}
 use Rattle.permission_specs.specs.declared.entry.EntryKind.TheVariants.{User, Group, Mask, Other}

@@ -5,8 +5,8 @@ use Rattle.std.specs.List.{find, slice_get}
 use Rattle.std.specs.Option.{option_map_or, option_or}
 use Rattle.hdfs_values.specs.Text.{same}
 use Rattle.hdfs_values.specs.Groups.{has_group}
-use Rattle.permission_specs.specs.Rights.{covers}
-use Rattle.permission_specs.specs.declared.rights.Rights.{Rights}
+use Rattle.permission_bits.specs.Rights.{covers}
+use Rattle.permission_bits.specs.declared.rights.Rights.{Rights}
 use Rattle.permission_specs.specs.declared.entry.Entry.{Entry}
 use Rattle.permission_specs.specs.declared.entry.EntryKind.TheVariants.{User, Group, Other}
 use Rattle.permission_specs.specs.declared.entry.Scope.TheVariants.{Access}

@@ -2,10 +2,10 @@
 use Rattle.std.specs.Prelude.{ℕ, List, [], Option, IsTrue}
 use Rattle.std.specs.Option.{option_copied, option_map, option_map_or}
 use Rattle.acl_entries.specs.declared.entry_list.EntryList.TheInside as list
-use Rattle.permission_specs.specs.Mode.{user_bits, group_bits, other_bits}
-use Rattle.permission_specs.specs.Rights.{rights}
+use Rattle.permission_bits.specs.Mode.{user_bits, group_bits, other_bits}
+use Rattle.permission_bits.specs.Rights.{rights}
 use Rattle.permission_specs.specs.declared.entry.Scope.TheVariants.{Access}
-use Rattle.permission_specs.specs.declared.rights.Rights.{Rights}
+use Rattle.permission_bits.specs.declared.rights.Rights.{Rights}
 use Rattle.acl_entries.specs.declared.acl.Acl.TheInside as acl
 use Rattle.acl_entries.specs.declared.deciding_entry.Chosen.TheInside as chosen
 use Rattle.acl_entries.specs.declared.entry_list.Bases.{Bases}

@@ -3,7 +3,7 @@ ghost use Rattle.std.specs.List.{find};
 ghost use Rattle.std.specs.Option.{option_copied};
 ghost use Rattle.hdfs_values.specs.Groups.{has_group as is_member};
 ghost use Rattle.hdfs_values.specs.Text.{same};
-ghost use Rattle.permission_specs.specs.Rights.{covers};
+ghost use Rattle.permission_bits.specs.Rights.{covers};
 ghost use Rattle.acl_entries.specs.JudgedEntry.{judged_entry, judged_by_groups, effective_rights};
 
 use crate::acl::Acl;
@@ -11,8 +11,8 @@ use crate::deciding_entry::{Chosen, grants};
 use crate::entry_list::{EntryList, NamedEntry};
 use hdfs_values::groups::has_group;
 use hdfs_values::who::Who;
+use permission_bits::rights::Rights;
 use permission_specs::entry::EntryKind;
-use permission_specs::rights::Rights;
 
 /// The entry of a named user, where there is one.
 fn entry_of<'a>(users: &'a [NamedEntry], caller: &Who) -> Option<&'a NamedEntry>

@@ -5,8 +5,8 @@ ghost use Rattle.acl_entries.specs.Kept.{AreBases, bases_of_mode, list_of_parts}
 
 use crate::entry_list::{Bases, EntryList};
 use hdfs_types::reply::ObjectKind;
-use permission_specs::mode::Mode;
-use permission_specs::rights::Rights;
+use permission_bits::mode::Mode;
+use permission_bits::rights::Rights;
 use std::alloc::{AllocError, Global};
 use std::marker::Model;
 

@@ -1,13 +1,13 @@
 ghost use Rattle.std.specs.Prelude.{◌≡◌, IfOk};
-ghost use Rattle.permission_specs.specs.Rights.{covers};
+ghost use Rattle.permission_bits.specs.Rights.{covers};
 ghost use Rattle.permission_specs.specs.declared.entry.Scope.TheVariants.{Access};
 ghost use Rattle.acl_entries.specs.JudgedEntry.{effective_rights};
 
 use crate::entry_list::NamedEntry;
 use bitflags::Flags;
 use hdfs_values::who::Who;
+use permission_bits::rights::Rights;
 use permission_specs::entry::{Entry, EntryKind, Scope};
-use permission_specs::rights::Rights;
 use std::alloc::AllocError;
 use std::marker::Model;
 

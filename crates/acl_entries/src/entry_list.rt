@@ -3,7 +3,7 @@ ghost use Rattle.acl_entries.specs.Acl.{IsEntryList, base_entries};
 ghost use Rattle.acl_entries.specs.Kept.{AreBases, list_of_parts};
 
 use hdfs_values::who::Who;
-use permission_specs::rights::Rights;
+use permission_bits::rights::Rights;
 use std::alloc::{AllocError, Global};
 use std::marker::Model;
 

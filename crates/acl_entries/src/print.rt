@@ -7,8 +7,8 @@ ghost use Rattle.acl_entries.specs.Printed.{text_in, acl_text};
 
 use crate::acl::Acl;
 use crate::entry_list::{EntryList, NamedEntry};
+use permission_bits::rights::Rights;
 use permission_specs::entry::{EntryKind, Scope};
-use permission_specs::rights::Rights;
 use std::alloc::{AllocError, Global};
 use std::fmt;
 

@@ -2,8 +2,8 @@ ghost use Rattle.std.specs.Prelude.{◌≡◌, Some, None};
 ghost use Rattle.std.specs.Option.{option_copied};
 ghost use Rattle.audit_text.specs.AuditText as spec;
 
+use file_paths::path::Path;
 use hdfs_types::op::Op;
-use hdfs_values::path::Path;
 
 /// What a line tells of an operation: its name, which is its verb in scripts, and the paths that it names.
 #[derive(Clone, Copy)]

@@ -7,9 +7,9 @@ ghost use Rattle.audit_text.specs.JsonText.{object_text};
 ghost use Rattle.audit_text.specs.Tokens.{Tells, TellsObject};
 
 use crate::asked::asked_of;
+use file_paths::path::Path;
 use flat_rows::verdict::Verdict;
 use hdfs_types::op::Request;
-use hdfs_values::path::Path;
 use history::entry::HistoryEntry;
 use json::Writer;
 use std::alloc::{AllocError, Global};

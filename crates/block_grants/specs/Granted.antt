@@ -1,6 +1,6 @@
 -- The ledger's rows of what writers and readers are granted.
 use Rattle.std.specs.Prelude.{ℕ, List}
-use Rattle.permission_specs.specs.Modes.{modes}
+use Rattle.permission_bits.specs.Modes.{modes}
 use Rattle.block_answers.specs.declared.located.LocatedBlock.{LocatedBlock}
 use Rattle.block_tokens.specs.Ring.{KeyRing}
 use Rattle.grant_ledger.specs.declared.ledger.LedgerRow.{LedgerRow}

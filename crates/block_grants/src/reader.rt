@@ -19,7 +19,7 @@ use hdfs_values::moment::Moment;
 use hdfs_values::who::Who;
 use namespace_rows::file_row::{FileBlock, FileBlocks};
 use node_commands::commands::granted_row;
-use permission_specs::modes::Modes;
+use permission_bits::modes::Modes;
 use std::alloc::{AllocError, Global};
 
 /// What a reader is told of a file, once for the history and once for him.

@@ -13,15 +13,15 @@ use block_changes::behind::NewBlock;
 use block_map::blocks::Blocks;
 use block_tokens::ring::KeyRing;
 use file_effects::blocks::add_block;
+use file_paths::path::Path;
 use grant_ledger::ledger::{Ledger, LedgerRow};
 use hdfs_types::file::LastBlock;
 use hdfs_values::moment::Moment;
-use hdfs_values::path::Path;
 use hdfs_values::replication::Repl;
 use hdfs_values::who::Who;
 use inode_tree::tree::Tree;
 use node_commands::commands::granted_row;
-use permission_specs::modes::Modes;
+use permission_bits::modes::Modes;
 use std::alloc::{AllocError, Global};
 
 /// What a writer is told of a new block, once for the history and once for him.

@@ -1,7 +1,7 @@
 -- The rows that an operation leaves are a namespace where those before it are.
 use Rattle.std.proofs.Common.{◌≡◌, ℕ, Bool, true, false, ◌||◌, ◌&&◌, List, [], ◌∷◌, length, take, drop, filter, Option, Some, None, Result, Ok, Err, refl, sym, ap, ◌∙◌, cond}
 use Rattle.std.specs.Prelude.{unwrap_or}
-use Rattle.hdfs_values.specs.PathOrder.{same_path}
+use Rattle.file_paths.specs.PathOrder.{same_path}
 use Rattle.hdfs_values.proofs.Texts.{same_self}
 use Rattle.permission_specs.specs.declared.acl_change.AclChange.{AclChange}
 use Rattle.hdfs_types.specs.declared.file.FileState.TheVariants.{Closed}

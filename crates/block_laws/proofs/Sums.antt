@@ -2,8 +2,8 @@
 use Rattle.std.proofs.Common.{◌≡◌, ℕ, ◌+◌, ◌-◌, ◌≤◌, Bool, true, false, ◌&&◌, not, List, [], ◌∷◌, ◌++◌, map, filter, length, drop, cond, Option, Some, None, refl, sym, ap, ◌∙◌, subst, Ordering, Less, Equal, Greater, is_gt, is_lt, arith}
 use Rattle.std.proofs.lemmas.List.{take-append-drop}
 use Rattle.std.specs.Ordering.{is_eq}
-use Rattle.hdfs_values.specs.Path.{is_prefix}
-use Rattle.hdfs_values.specs.PathOrder.{path_cmp, same_path}
+use Rattle.file_paths.specs.Path.{is_prefix}
+use Rattle.file_paths.specs.PathOrder.{path_cmp, same_path}
 use Rattle.namespace_rows.specs.declared.file_row.FileRow.{FileRow}
 use Rattle.namespace_rows.specs.declared.row.Row.{Row}
 use Rattle.namespace_rows.specs.declared.row.Change.{Change}

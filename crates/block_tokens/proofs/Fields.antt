@@ -6,7 +6,7 @@ use Rattle.std.proofs.lemmas.Bool.{cases_lt, eqb-true, ltb-false, le-ltb}
 use Rattle.std.proofs.lemmas.Bool.Decides.{nat_tests}
 use Rattle.std.proofs.lemmas.List.{take_at, drop_at, take-append-drop, length-append, length-take, length-drop, get_or-drop, get_or-take, get_or_past}
 use Rattle.std.proofs.lemmas.Nat.{be_bytes_4, be_bytes_8, from_be_bytes-to_be_bytes_4, from_be_bytes-to_be_bytes_8}
-use Rattle.permission_specs.specs.Modes.{is_modes}
+use Rattle.permission_bits.specs.Modes.{is_modes}
 use Rattle.hdfs_values.specs.Who.{IsWho, is_who, who_of}
 use Rattle.block_tokens.specs.Reading.{◌>>=◌, number_at, modes_at, user_at}
 

@@ -1,6 +1,6 @@
 -- A grant is made of its parts.
 use Rattle.std.proofs.Common.{◌≡◌, ℕ, ◌+◌, List, [], refl, sym, ap, ◌∙◌}
-use Rattle.permission_specs.specs.declared.modes.Modes.{Modes}
+use Rattle.permission_bits.specs.declared.modes.Modes.{Modes}
 use Rattle.block_tokens.specs.Ring.{KeyRing, grant_of, coded_token, parts_with}
 use Rattle.block_tokens.specs.TokenText.{Body, version_1_fields, coded_bytes}
 use Rattle.block_tokens.specs.declared.grant.Grant.{Grant}

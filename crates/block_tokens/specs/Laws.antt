@@ -1,9 +1,9 @@
 -- Laws about tokens and keys, which follow from their definitions.
 use Rattle.std.specs.Prelude.{◌≡◌, ℕ, ◌+◌, ◌<◌, ◌≤◌, ◌^◌, true, List, [], ◌++◌, Some, None, fold, IsTrue, slice_index}
-use Rattle.permission_specs.specs.Modes.{is_modes}
-use Rattle.permission_specs.specs.Rights.{covers}
+use Rattle.permission_bits.specs.Modes.{is_modes}
+use Rattle.permission_bits.specs.Rights.{covers}
 use Rattle.hdfs_values.specs.Who.{IsWho}
-use Rattle.permission_specs.specs.declared.modes.Modes.{Modes}
+use Rattle.permission_bits.specs.declared.modes.Modes.{Modes}
 use Rattle.block_tokens.specs.Hmac.{hmac_sha1}
 use Rattle.block_tokens.specs.KeyList.{KeyList, AreKeys, key_with, usable_keys, merged_keys}
 use Rattle.block_tokens.specs.Ring.{KeyRing, IsRing, update_of, grant_of}

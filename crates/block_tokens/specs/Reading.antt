@@ -1,7 +1,7 @@
 -- A token's text read from left to right: each field is a value and the bytes behind it.
 use Rattle.std.specs.Prelude.{◌≡◌, ℕ, ◌+◌, List, [], ◌∷◌, length, take, drop, Option, Some, None, nat_lt, ◌==◌, if◌then◌else◌}
 use Rattle.std.specs.Int.{Width, w32, w64, byte_len, from_be_bytes}
-use Rattle.permission_specs.specs.Modes.{is_modes}
+use Rattle.permission_bits.specs.Modes.{is_modes}
 use Rattle.hdfs_values.specs.Who.{who_of}
 use Rattle.block_tokens.specs.TokenText.{Body}
 

@@ -1,7 +1,7 @@
 -- The keys under which a NameNode issues tokens: those before, each with its expiry, and the current one, which has none yet.
 -- (HADOOP-4359: the NameNode rolls its keys, and old ones serve until the tokens under them have expired.)
 use Rattle.std.specs.Prelude.{ℕ, ◌+◌, List, [], ◌∷◌, ◌++◌, Option, Some, None, nat_lt, if◌then◌else◌}
-use Rattle.permission_specs.specs.declared.modes.Modes.{Modes}
+use Rattle.permission_bits.specs.declared.modes.Modes.{Modes}
 use Rattle.block_tokens.specs.Hmac.{hmac_sha1}
 use Rattle.block_tokens.specs.KeyList.{KeyList, AreKeys, usable_keys}
 use Rattle.block_tokens.specs.TokenText.{Body, coded_bytes}

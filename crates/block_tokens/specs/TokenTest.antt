@@ -1,7 +1,7 @@
 -- The test of a token that is presented: the first refusal that applies, or none. (HADOOP-4359: a DataNode checks the code,
 -- the expiry, the user, the block and the mode.)
 use Rattle.std.specs.Prelude.{◌≡◌, ℕ, Bool, List, Option, Some, None, Result, Ok, Err, nat_le, ◌==◌, not, if◌then◌else◌}
-use Rattle.permission_specs.specs.Rights.{covers}
+use Rattle.permission_bits.specs.Rights.{covers}
 use Rattle.hdfs_values.specs.Text.{same}
 use Rattle.block_tokens.specs.Hmac.{hmac_sha1}
 use Rattle.block_tokens.specs.KeyList.{KeyList, key_with, usable_keys}

@@ -4,7 +4,7 @@
 -- (HADOOP-4359 says what a token holds; the layout is this project's own.)
 use Rattle.std.specs.Prelude.{◌≡◌, ℕ, ◌-◌, ◌<◌, ◌^◌, List, ◌∷◌, ◌++◌, length, take, IsTrue}
 use Rattle.std.specs.Int.{w32, w64, to_be_bytes}
-use Rattle.permission_specs.specs.Modes.{is_modes}
+use Rattle.permission_bits.specs.Modes.{is_modes}
 use Rattle.hdfs_values.specs.Who.{IsWho}
 
 -- what a token says

@@ -11,7 +11,7 @@ use crate::token::{Body, decode};
 use hdfs_values::ids::{BlockId, Serial};
 use hdfs_values::moment::Moment;
 use hdfs_values::who::Who;
-use permission_specs::modes::Modes;
+use permission_bits::modes::Modes;
 use std::alloc::{AllocError, Global};
 use std::collections::BTreeMap;
 use std::marker::Model;

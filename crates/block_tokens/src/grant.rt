@@ -1,7 +1,7 @@
 use crate::token::TokenBytes;
 use hdfs_values::ids::{BlockId, Serial};
 use hdfs_values::who::Who;
-use permission_specs::modes::Modes;
+use permission_bits::modes::Modes;
 
 /// What a token grants: these modes of a block to a user, before the expiry in milliseconds, under the key with this serial.
 #[derive(Drop)]

@@ -1,7 +1,7 @@
 ghost use Rattle.std.specs.Prelude.{◌≡◌, length, IfSome, IsTrue};
 ghost use Rattle.std.specs.List.{list_all};
 ghost use Rattle.std.specs.Int.{w32, w64};
-ghost use Rattle.permission_specs.specs.Modes.{is_modes};
+ghost use Rattle.permission_bits.specs.Modes.{is_modes};
 ghost use Rattle.hdfs_values.specs.Who as who;
 ghost use Rattle.block_tokens.specs.Reading as spec;
 ghost use Rattle.block_tokens.specs.Reading.{Gives};
@@ -9,7 +9,7 @@ ghost use Rattle.block_tokens.specs.Reading.{Gives};
 use crate::token::Body;
 use hdfs_values::ids::{BlockId, Serial};
 use hdfs_values::who::Who;
-use permission_specs::modes::Modes;
+use permission_bits::modes::Modes;
 
 fn u64_at(bytes: &[u8]) -> Option<(u64, &[u8])>
     ensures { Gives (λ x. (x.0, x.1.now)) result (spec.number_at w64 bytes.now) }

@@ -1,5 +1,5 @@
 ghost use Rattle.std.specs.Prelude.{◌≡◌, ◌+◌, ◌↔◌, Err, [], Some, None, IfOk, OnErr, IsTrue};
-ghost use Rattle.permission_specs.specs.Modes.{is_modes};
+ghost use Rattle.permission_bits.specs.Modes.{is_modes};
 ghost use Rattle.block_tokens.specs.KeyList.{AreKeys};
 ghost use Rattle.block_tokens.specs.Ring as spec;
 ghost use Rattle.block_tokens.specs.declared.ring.RollFault.TheVariants.{OutOfMemory};
@@ -11,7 +11,7 @@ use crate::token::{Body, TokenBytes, coded};
 use hdfs_values::ids::{BlockId, Serial};
 use hdfs_values::moment::Moment;
 use hdfs_values::who::Who;
-use permission_specs::modes::Modes;
+use permission_bits::modes::Modes;
 use std::alloc::{AllocError, Global};
 use std::marker::Model;
 use thiserror::Error;

@@ -1,12 +1,12 @@
 ghost use Rattle.std.specs.Prelude.{◌≡◌, Some, IfOk, IfSome, IsTrue};
-ghost use Rattle.permission_specs.specs.Modes.{is_modes};
+ghost use Rattle.permission_bits.specs.Modes.{is_modes};
 ghost use Rattle.block_tokens.specs.TokenText.{Body, TokenText, coded_bytes, token_bytes};
 ghost use Rattle.block_tokens.specs.Reading.{parts_of};
 
 use crate::reading;
 pub use block_answers::token_bytes::TokenBytes;
 use hdfs_values::ids::{BlockId, Serial};
-use permission_specs::modes::Modes;
+use permission_bits::modes::Modes;
 use std::alloc::{AllocError, Global};
 use std::marker::Model;
 
@@ -26,7 +26,7 @@ pub struct Body<'a> {
 
 impl<'a> Model for Body<'a> {
     ghost use Rattle.std.specs.Prelude.{IsTrue};
-    ghost use Rattle.permission_specs.specs.Modes.{is_modes};
+    ghost use Rattle.permission_bits.specs.Modes.{is_modes};
     ghost use Rattle.hdfs_values.specs.Who.{IsWho};
     ghost use Rattle.block_tokens.specs.TokenText.{Body};
 

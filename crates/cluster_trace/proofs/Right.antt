@@ -9,7 +9,7 @@ use Rattle.block_records.proofs.Numbers.{number_is}
 use Rattle.hdfs_values.specs.NodeId.{node_principal}
 use Rattle.hdfs_values.specs.Text.{same}
 use Rattle.hdfs_values.proofs.Texts.{same_is, same_self}
-use Rattle.permission_specs.specs.Rights.{covers}
+use Rattle.permission_bits.specs.Rights.{covers}
 use Rattle.block_answers.specs.declared.key_list.HeldKey.{HeldKey}
 use Rattle.hdfs_types.specs.declared.op.Request.{Request}
 use Rattle.block_tokens.specs.KeyList.{KeyList, key_with, usable_keys}

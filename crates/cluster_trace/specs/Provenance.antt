@@ -4,7 +4,7 @@
 -- (HADOOP-4359: a DataNode takes a token by the keys that the NameNode sends it, and asks nobody.)
 use Rattle.std.specs.Prelude.{◌≡◌, ℕ, ◌+◌, ◌<◌, ◌⊎◌, true, if◌then◌else◌, List, [], ◌∷◌, map, length, Option, Some, None, Ok, Err}
 use Rattle.std.specs.Bool.{⊤}
-use Rattle.permission_specs.specs.Rights.{covers}
+use Rattle.permission_bits.specs.Rights.{covers}
 use Rattle.block_records.specs.Numbers.{entry_at}
 use Rattle.hdfs_types.specs.declared.op.Request.{Request}
 use Rattle.block_answers.specs.declared.key_list.HeldKey.{HeldKey}

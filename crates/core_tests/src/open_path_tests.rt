@@ -1,6 +1,6 @@
 //! Where the files are that clients have open.
 
-use hdfs_values::path::Path;
+use file_paths::path::Path;
 use hdfs_values::who::Who;
 use lease_manager::open_paths::OpenPaths;
 use std::alloc::Global;

@@ -4,7 +4,7 @@ use Rattle.std.specs.Prelude.{◌≡◌, ℕ, ◌≤◌, ◌<◌, true, List, Op
 use Rattle.std.specs.Bool.{⊤}
 use Rattle.std.specs.List.{AllByRecursion}
 use Rattle.hdfs_values.specs.NodeId.{node_principal}
-use Rattle.permission_specs.specs.Rights.{covers}
+use Rattle.permission_bits.specs.Rights.{covers}
 use Rattle.block_tokens.specs.TokenText.{Body, TokenText}
 use Rattle.node_calls.specs.declared.access_log.AccessRecord.{AccessRecord}
 use Rattle.replicas.specs.ReplicaStep.{Replicas, held_at}

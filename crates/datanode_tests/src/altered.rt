@@ -4,7 +4,7 @@ use block_tokens::refusal::TokenRefusal;
 use block_tokens::ring::KeyRing;
 use datanode::datanode::DataNode;
 use node_calls::presented::PresentedToken;
-use permission_specs::modes::Modes;
+use permission_bits::modes::Modes;
 use std::alloc::Global;
 
 // As many bytes as bob's token has: a version, an expiry, a serial number, a block, the modes, his name with its length, and a code.

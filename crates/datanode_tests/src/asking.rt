@@ -1,5 +1,5 @@
 ghost use Rattle.std.specs.Prelude.{IsTrue};
-ghost use Rattle.permission_specs.specs.Modes.{is_modes};
+ghost use Rattle.permission_bits.specs.Modes.{is_modes};
 
 use block_tokens::key::Key;
 use block_tokens::refusal::TokenRefusal;
@@ -15,7 +15,7 @@ use node_calls::node_list::NodeList;
 use node_calls::presented::{Presented, PresentedToken};
 use node_calls::refusal::{NodeRefusal, ReplicaRefusal};
 use node_calls::reply::NodeReply;
-use permission_specs::modes::Modes;
+use permission_bits::modes::Modes;
 use std::alloc::{AllocError, Global};
 
 // What the tests ask of a node, and whether it answers what the rules say. Nothing is said of what these functions return, so that each

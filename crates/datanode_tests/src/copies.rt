@@ -13,7 +13,7 @@ use node_calls::message::Message;
 use node_calls::node_list::NodeList;
 use node_calls::presented::{Presented, PresentedToken};
 use node_calls::refusal::ReplicaRefusal;
-use permission_specs::modes::Modes;
+use permission_bits::modes::Modes;
 use std::alloc::Global;
 
 fn block() -> BlockId {

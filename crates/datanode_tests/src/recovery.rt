@@ -10,7 +10,7 @@ use node_calls::message::Message;
 use node_calls::presented::Presented;
 use node_calls::refusal::ReplicaRefusal;
 use node_calls::reply::NodeReply;
-use permission_specs::modes::Modes;
+use permission_bits::modes::Modes;
 use std::alloc::Global;
 
 // Alice writes 900 bytes of block 1 at stamp 1001, and would write on.

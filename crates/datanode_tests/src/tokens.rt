@@ -11,7 +11,7 @@ use node_calls::message::Message;
 use node_calls::presented::Presented;
 use node_calls::refusal::ReplicaRefusal;
 use node_calls::reply::NodeReply;
-use permission_specs::modes::Modes;
+use permission_bits::modes::Modes;
 use std::alloc::Global;
 
 // Alice writes two bytes, `aa`, of block 1 at stamp 1001.

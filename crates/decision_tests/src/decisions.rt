@@ -1,6 +1,7 @@
 ghost use Rattle.std.specs.Prelude.{◌≡◌, true};
 ghost use Rattle.hdfs_types.specs.Request.{is_look};
 
+use file_paths::path::Path;
 use flat_rows::decision::verdict;
 use flat_rows::denial::{Denial, granted};
 use flat_rows::verdict::Verdict;
@@ -8,7 +9,6 @@ use fs_operations::apply::answer_look;
 use hdfs_types::op::{Op, Request};
 use hdfs_types::reply::Reply;
 use hdfs_values::groups::Groups;
-use hdfs_values::path::Path;
 use hdfs_values::who::Who;
 use inode_tree::tree::Tree;
 use namespace_rows::rows::Rows;

@@ -3,7 +3,7 @@ use Rattle.std.proofs.Common.{◌≡◌, ◌<◌, Bool, true, false, ◌&&◌, c
 use Rattle.std.specs.Option.{option_map_or, is_some, is_none}
 use Rattle.permission_specs.specs.declared.entry.Scope.TheVariants.{Access, Default}
 use Rattle.permission_specs.specs.declared.entry.EntryKind.TheVariants.{Mask}
-use Rattle.permission_specs.specs.declared.rights.Rights.{Rights}
+use Rattle.permission_bits.specs.declared.rights.Rights.{Rights}
 use Rattle.permission_specs.specs.declared.acl_change.AclChange.{AclChange}
 use Rattle.permission_specs.specs.declared.acl_change.AclChange.TheVariants.{Set, Modify, Remove, RemoveDefault, Clear}
 use Rattle.hdfs_values.specs.declared.fault.AclFault.{AclFault}

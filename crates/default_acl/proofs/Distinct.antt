@@ -5,7 +5,7 @@ use Rattle.std.specs.Option.{option_eq}
 use Rattle.std.specs.Ordering.{is_lt}
 use Rattle.hdfs_values.specs.Text.{same, text_cmp}
 use Rattle.permission_specs.specs.Spec.{IsSpec, has_duplicate, is_named_base, same_key, same_kind, same_scope}
-use Rattle.permission_specs.specs.declared.rights.Rights.{Rights}
+use Rattle.permission_bits.specs.declared.rights.Rights.{Rights}
 use Rattle.permission_specs.specs.declared.entry.Entry.{Entry}
 use Rattle.permission_specs.specs.declared.entry.EntryKind.{EntryKind}
 use Rattle.permission_specs.specs.declared.entry.EntryKind.TheVariants.{User, Group, Mask, Other}

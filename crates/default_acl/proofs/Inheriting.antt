@@ -1,9 +1,9 @@
 -- What a default list leaves to what is made below it.
 use Rattle.std.proofs.Common.{◌≡◌, ℕ, Bool, List, true, Option, Some, None, refl, ◌∙◌}
 use Rattle.std.specs.Option.{option_map, option_map_or, is_some}
-use Rattle.permission_specs.specs.Mode.{user_bits, group_bits, other_bits}
-use Rattle.permission_specs.specs.Rights.{rights}
-use Rattle.permission_specs.specs.declared.rights.Rights.{Rights}
+use Rattle.permission_bits.specs.Mode.{user_bits, group_bits, other_bits}
+use Rattle.permission_bits.specs.Rights.{rights}
+use Rattle.permission_bits.specs.declared.rights.Rights.{Rights}
 use Rattle.hdfs_types.specs.declared.reply.ObjectKind.{ObjectKind}
 use Rattle.hdfs_types.specs.declared.reply.ObjectKind.TheVariants.{File, Directory}
 use Rattle.acl_entries.specs.declared.entry_list.Bases.{Bases}

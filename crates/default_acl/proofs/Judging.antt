@@ -9,8 +9,8 @@ use Rattle.std.proofs.lemmas.Bool.Decides.{nat_tests}
 use Rattle.std.proofs.lemmas.Nat.{and_assoc, and_le_r}
 use Rattle.hdfs_values.specs.Text.{same}
 use Rattle.hdfs_values.specs.Groups.{has_group}
-use Rattle.permission_specs.specs.Rights.{covers}
-use Rattle.permission_specs.specs.declared.rights.Rights.{Rights}
+use Rattle.permission_bits.specs.Rights.{covers}
+use Rattle.permission_bits.specs.declared.rights.Rights.{Rights}
 use Rattle.permission_specs.specs.declared.entry.Entry.{Entry}
 use Rattle.permission_specs.specs.declared.entry.EntryKind.TheVariants.{User, Group, Other}
 use Rattle.permission_specs.specs.declared.entry.Scope.TheVariants.{Access}

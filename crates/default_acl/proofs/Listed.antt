@@ -4,9 +4,9 @@ use Rattle.std.specs.Prelude.{filter}
 use Rattle.std.specs.List.{list_any, find, filter_map}
 use Rattle.std.specs.Option.{is_some, option_map, option_map_or}
 use Rattle.std.proofs.lemmas.Bool.Decides.{nat_tests}
-use Rattle.permission_specs.specs.Rights.{rights}
+use Rattle.permission_bits.specs.Rights.{rights}
 use Rattle.permission_specs.specs.Spec.{same_kind, same_scope}
-use Rattle.permission_specs.specs.declared.rights.Rights.{Rights}
+use Rattle.permission_bits.specs.declared.rights.Rights.{Rights}
 use Rattle.permission_specs.specs.declared.entry.Entry.{Entry}
 use Rattle.permission_specs.specs.declared.entry.EntryKind.{EntryKind}
 use Rattle.permission_specs.specs.declared.entry.EntryKind.TheVariants.{User, Group, Mask, Other}

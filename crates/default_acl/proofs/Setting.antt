@@ -8,9 +8,9 @@ use Rattle.std.specs.Int.Bits.{and_self}
 use Rattle.std.proofs.lemmas.Bool.Decides.{nat_tests}
 use Rattle.std.proofs.lemmas.Cmp.{nat_list_cmp_total}
 use Rattle.hdfs_values.specs.Text.{text_cmp}
-use Rattle.permission_specs.specs.Rights.{rights}
+use Rattle.permission_bits.specs.Rights.{rights}
 use Rattle.permission_specs.specs.Spec.{IsSpec, has_duplicate, is_named_base}
-use Rattle.permission_specs.specs.declared.rights.Rights.{Rights}
+use Rattle.permission_bits.specs.declared.rights.Rights.{Rights}
 use Rattle.permission_specs.specs.declared.entry.Entry.{Entry}
 use Rattle.permission_specs.specs.declared.entry.EntryKind.TheVariants.{User, Group, Mask, Other}
 use Rattle.permission_specs.specs.declared.entry.Scope.{Scope}

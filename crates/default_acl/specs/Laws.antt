@@ -4,10 +4,10 @@ use Rattle.std.specs.List.{list_all, list_any}
 use Rattle.std.specs.Option.{is_some, option_map_or, option_or}
 use Rattle.hdfs_values.specs.Text.{same}
 use Rattle.hdfs_values.specs.Groups.{has_group}
-use Rattle.permission_specs.specs.Mode.{is_mode, without_sticky}
-use Rattle.permission_specs.specs.Rights.{covers}
+use Rattle.permission_bits.specs.Mode.{is_mode, without_sticky}
+use Rattle.permission_bits.specs.Rights.{covers}
 use Rattle.permission_specs.specs.Spec.{IsSpec, same_kind}
-use Rattle.permission_specs.specs.declared.rights.Rights.{Rights}
+use Rattle.permission_bits.specs.declared.rights.Rights.{Rights}
 use Rattle.permission_specs.specs.declared.entry.Entry.{Entry}
 use Rattle.permission_specs.specs.declared.entry.EntryKind.TheVariants.{Group, Other}
 use Rattle.permission_specs.specs.declared.entry.Scope.TheVariants.{Access}

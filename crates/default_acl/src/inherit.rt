@@ -1,7 +1,7 @@
 ghost use Rattle.std.specs.Prelude.{◌≡◌, None, IfOk, IsOk};
 ghost use Rattle.std.specs.Option.{option_map};
-ghost use Rattle.permission_specs.specs.Mode.{group_bits};
-ghost use Rattle.permission_specs.specs.Rights.{rights};
+ghost use Rattle.permission_bits.specs.Mode.{group_bits};
+ghost use Rattle.permission_bits.specs.Rights.{rights};
 ghost use Rattle.acl_entries.specs.Acl.{intersection};
 ghost use Rattle.partial_acl.specs.AclChange.{as_kept};
 ghost use Rattle.default_acl.specs.Inheritance as definition;
@@ -12,8 +12,8 @@ use bitflags::Flags;
 use hdfs_types::reply::ObjectKind;
 use partial_acl::completed::copy_of;
 use partial_acl::named::copies;
-use permission_specs::mode::Mode;
-use permission_specs::rights::Rights;
+use permission_bits::mode::Mode;
+use permission_bits::rights::Rights;
 use std::alloc::{AllocError, Global};
 
 /// A mask of which a mode leaves what it grants the group.

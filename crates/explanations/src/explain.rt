@@ -13,9 +13,9 @@ ghost use Rattle.cluster_runs.specs.Shown.{Shows};
 
 use cluster_runs::script::run_lines;
 use cluster_runs::session::Session;
+use file_paths::path::Path;
 use flat_rows::trail::{Judged, trail};
 use hdfs_types::op::Request;
-use hdfs_values::path::Path;
 use inode_tree::tree::Tree;
 use namespace_rows::rows::Rows;
 use script_runs::channel::write_text;

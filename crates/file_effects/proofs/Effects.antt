@@ -4,7 +4,7 @@ use Rattle.std.specs.List.{list_all}
 use Rattle.std.specs.Option.{option_or, option_map}
 use Rattle.hdfs_values.specs.Text.{same}
 use Rattle.hdfs_values.proofs.Texts.{same_is, same_symm}
-use Rattle.hdfs_values.specs.PathOrder.{same_path}
+use Rattle.file_paths.specs.PathOrder.{same_path}
 use Rattle.hdfs_types.specs.declared.op.Op.TheVariants as op
 use Rattle.hdfs_types.specs.declared.file.FileState.{FileState}
 use Rattle.hdfs_types.specs.declared.file.FileState.TheVariants.{Closed, Open, Recovering}

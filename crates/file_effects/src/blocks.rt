@@ -8,9 +8,9 @@ ghost use Rattle.file_effects.specs.Effected.{IsExact};
 
 use block_changes::behind::NewBlock;
 use block_map::blocks::Blocks;
+use file_paths::path::Path;
 use hdfs_types::file::LastBlock;
 use hdfs_values::moment::Moment;
-use hdfs_values::path::Path;
 use hdfs_values::replication::Repl;
 use inode_tree::tree::Tree;
 use std::alloc::AllocError;

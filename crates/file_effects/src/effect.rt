@@ -23,18 +23,18 @@ ghost use Rattle.lease_manager.specs.Writers.{count_of, renewal_moment_of, CanCo
 use crate::make::make_file;
 use block_map::blocks::Blocks;
 use block_records::fault::BlockFault;
+use file_paths::path::Path;
 use hdfs_types::file::{FileState, LastBlock};
 use hdfs_types::verb::Write;
 use hdfs_values::ids::BlockId;
 use hdfs_values::moment::Moment;
-use hdfs_values::path::Path;
 use hdfs_values::replication::Repl;
 use hdfs_values::who::Who;
 use inode_tree::tree::Tree;
 use lease_manager::open_paths::OpenPaths;
 use lease_manager::writers::Writers;
 use namespace_rows::row::Change;
-use permission_specs::mode::Mode;
+use permission_bits::mode::Mode;
 use std::alloc::{AllocError, Global};
 
 // ---- questions

@@ -11,14 +11,14 @@ ghost use Rattle.file_effects.specs.Inheriting.{IsInherited};
 use acl_entries::acl::Acl;
 use block_map::blocks::Blocks;
 use default_acl::inherit::inherit;
+use file_paths::path::Path;
 use hdfs_types::reply::ObjectKind;
 use hdfs_values::ids::BlockId;
-use hdfs_values::path::Path;
 use hdfs_values::replication::Repl;
 use hdfs_values::who::Who;
 use inode_tree::tree::Tree;
 use namespace_rows::file_row::FileRow;
-use permission_specs::mode::Mode;
+use permission_bits::mode::Mode;
 use std::alloc::{AllocError, Global};
 
 /// What a file has beside its mode and what files alone have: its owner, and what it takes over from the directory that holds it.

@@ -4,7 +4,7 @@ use Rattle.std.proofs.lemmas.List.{append_assoc, take-append-drop}
 use Rattle.std.proofs.lemmas.List.Folds.{list_any-append}
 use Rattle.std.specs.List.{list_any}
 use Rattle.std.specs.Option.{IsSome, is_some, option_map, option_and_then}
-use Rattle.hdfs_values.specs.PathOrder.{path_cmp, same_path}
+use Rattle.file_paths.specs.PathOrder.{path_cmp, same_path}
 use Rattle.block_records.specs.declared.block_record.BlockRecord.{BlockRecord}
 use Rattle.block_records.specs.declared.fault.BlockRefusal.TheVariants.{StaleStamp, NotOpen}
 use Rattle.block_map.specs.BlockFacts.{Blocks, known_block, recovering_since, refused_recovered}

@@ -2,7 +2,7 @@ ghost use Rattle.std.specs.Prelude.{◌≡◌, option_copied};
 ghost use Rattle.namespace_rows.specs.Rows.{row_at};
 ghost use Rattle.file_takeovers.specs.Found.{file_in};
 
-use hdfs_values::path::Path;
+use file_paths::path::Path;
 use inode_tree::tree::Tree;
 use namespace_rows::file_row::FileRow;
 

@@ -9,11 +9,11 @@ ghost use Rattle.file_takeovers.specs.Expiry as spec;
 
 use crate::found::file_at;
 use block_map::blocks::Blocks;
+use file_paths::path::Path;
 use flat_rows::takeover::Sought;
 use hdfs_types::file::FileState;
 use hdfs_values::ids::BlockId;
 use hdfs_values::moment::Moment;
-use hdfs_values::path::Path;
 use hdfs_values::who::Who;
 use inode_tree::tree::Tree;
 use lease_manager::open_paths::OpenPaths;

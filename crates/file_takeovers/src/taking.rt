@@ -15,12 +15,12 @@ ghost use Rattle.file_takeovers.specs.Taken.{IsClosedFile, refused_or_taken, rec
 use block_map::blocks::Blocks;
 use block_records::fault::BlockFault;
 use file_effects::effect::end_writing;
+use file_paths::path::Path;
 use flat_rows::verdict::Verdict;
 use hdfs_types::file::FileState;
 use hdfs_types::reply::{Refusal, Reply};
 use hdfs_values::ids::BlockId;
 use hdfs_values::moment::Moment;
-use hdfs_values::path::Path;
 use hdfs_values::who::Who;
 use inode_tree::tree::Tree;
 use lease_manager::open_paths::OpenPaths;

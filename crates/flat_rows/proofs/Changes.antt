@@ -6,9 +6,9 @@ use Rattle.std.specs.Prelude.{filter, not}
 use Rattle.std.specs.List.{list_all, list_any}
 use Rattle.std.specs.Cmp.{tied_itself}
 use Rattle.std.specs.Ordering.{is_lt, is_eq}
-use Rattle.hdfs_values.specs.Path.{is_path, is_prefix}
-use Rattle.hdfs_values.specs.PathOrder.{path_cmp, same_path, paths_total}
-use Rattle.hdfs_values.proofs.Fronts.{front_path}
+use Rattle.file_paths.specs.Path.{is_path, is_prefix}
+use Rattle.file_paths.specs.PathOrder.{path_cmp, same_path, paths_total}
+use Rattle.file_paths.proofs.Fronts.{front_path}
 use Rattle.acl_entries.specs.Acl.{Acl}
 use Rattle.namespace_rows.specs.declared.file_row.FileRow.{FileRow}
 use Rattle.namespace_rows.specs.declared.row.Row.{Row}

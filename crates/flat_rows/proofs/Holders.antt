@@ -7,8 +7,8 @@ use Rattle.std.specs.Ordering.{is_gt, is_lt}
 use Rattle.std.proofs.lemmas.Bool.{false≢true, lt-ltb}
 use Rattle.std.proofs.lemmas.List.{take-append-drop}
 use Rattle.hdfs_values.specs.Text.{same}
-use Rattle.hdfs_values.specs.Path.{is_prefix, is_beneath}
-use Rattle.hdfs_values.specs.PathOrder.{path_cmp, same_path, paths_total}
+use Rattle.file_paths.specs.Path.{is_prefix, is_beneath}
+use Rattle.file_paths.specs.PathOrder.{path_cmp, same_path, paths_total}
 use Rattle.hdfs_types.specs.declared.file.FileState.{FileState}
 use Rattle.hdfs_types.specs.declared.file.FileState.TheVariants.{Closed}
 use Rattle.namespace_rows.specs.declared.file_row.FileRow.{FileRow}

@@ -3,8 +3,8 @@
 use Rattle.std.specs.Prelude.{ℕ, Bool, true, false, ◌||◌, not, List, [], ◌∷◌, ◌++◌, map, filter, length, drop, if◌then◌else◌, Option, Some, None}
 use Rattle.std.specs.List.{list_all}
 use Rattle.std.specs.Option.{option_map}
-use Rattle.hdfs_values.specs.Path.{is_path, is_prefix}
-use Rattle.hdfs_values.specs.PathOrder.{same_path}
+use Rattle.file_paths.specs.Path.{is_path, is_prefix}
+use Rattle.file_paths.specs.PathOrder.{same_path}
 use Rattle.acl_entries.specs.Acl.{suits_file}
 use Rattle.namespace_rows.specs.declared.row.Row.{Row}
 use Rattle.namespace_rows.specs.declared.row.Change.{Change}

@@ -1,6 +1,6 @@
 -- How a denial and a judged need are printed.
 use Rattle.std.specs.Prelude.{ℕ, List, ◌∷◌, ◌++◌, codes, if◌then◌else◌}
-use Rattle.hdfs_values.specs.Path.{path_text}
+use Rattle.file_paths.specs.Path.{path_text}
 use Rattle.flat_rows.specs.Denial.{Denial}
 use Rattle.flat_rows.specs.declared.trail.Judged.{Judged}
 use Rattle.required_rights.specs.NeedText.{need_text, by_text}

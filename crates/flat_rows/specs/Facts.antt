@@ -1,7 +1,7 @@
 -- What an outcome asks beside the namespace and the users: the moment, how leases stand, what is known of blocks and DataNodes, and the
 -- keys under which tokens are issued.
 use Rattle.std.specs.Prelude.{ℕ, List, Option}
-use Rattle.permission_specs.specs.declared.modes.Modes.{Modes}
+use Rattle.permission_bits.specs.declared.modes.Modes.{Modes}
 use Rattle.block_answers.specs.KeyList.{KeyList}
 use Rattle.block_map.specs.BlockFacts.{Blocks}
 use Rattle.flat_rows.specs.FileOutcome.{LeaseFacts}

@@ -2,8 +2,8 @@
 -- live again, and told so. Tokens of its commands are granted to the node's own principal.
 -- (HDFS Architecture, "Data Disk Failure, Heartbeats and Re-Replication"; HDFS-265 for recoveries; HADOOP-4359 for keys and tokens.)
 use Rattle.std.specs.Prelude.{ℕ, List, map, Option, Some, None}
-use Rattle.permission_specs.specs.Modes.{modes}
-use Rattle.permission_specs.specs.declared.modes.Modes.{Modes}
+use Rattle.permission_bits.specs.Modes.{modes}
+use Rattle.permission_bits.specs.declared.modes.Modes.{Modes}
 use Rattle.block_answers.specs.KeyList.{KeyList}
 use Rattle.block_answers.specs.Commands.{Commands}
 use Rattle.block_answers.specs.declared.commands.Recover.{Recover}

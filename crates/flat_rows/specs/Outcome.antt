@@ -5,9 +5,9 @@
 use Rattle.std.specs.Prelude.{ℕ, ◌+◌, Bool, true, false, ◌&&◌, ◌||◌, not, List, [], ◌∷◌, ◌++◌, map, filter, length, drop, if◌then◌else◌, Option, Some, None, unwrap_or, Result, Ok, Err}
 use Rattle.std.specs.Option.{option_map}
 use Rattle.std.specs.Result.{result_err}
-use Rattle.permission_specs.specs.Mode.{for_missing_parent}
+use Rattle.permission_bits.specs.Mode.{for_missing_parent}
 use Rattle.hdfs_values.specs.NodeId.{node_of}
-use Rattle.hdfs_values.specs.Path.{is_prefix}
+use Rattle.file_paths.specs.Path.{is_prefix}
 use Rattle.hdfs_types.specs.declared.op.Op.{Op}
 use Rattle.hdfs_types.specs.declared.op.Op.TheVariants as op
 use Rattle.permission_specs.specs.declared.acl_change.AclChange.{AclChange}

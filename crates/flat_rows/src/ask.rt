@@ -4,8 +4,8 @@ ghost use Rattle.std.specs.Option.{option_copied, option_to_list};
 ghost use Rattle.namespace_rows.specs.Rows as rows_spec;
 ghost use Rattle.flat_rows.specs.Decision as spec;
 
-use hdfs_values::name::Name;
-use hdfs_values::path::{is_prefix, is_proper_prefix};
+use file_paths::name::Name;
+use file_paths::path::{is_prefix, is_proper_prefix};
 use hdfs_values::who::Who;
 use namespace_rows::row::Row;
 use namespace_rows::rows::{ancestor, directory_of, owner_above, row_at};

@@ -1,9 +1,9 @@
 ghost use Rattle.std.specs.Prelude.{◌≡◌, false, Some, IfOk};
 ghost use Rattle.flat_rows.specs.Denial.{IsDenied, need_decided, denial_at};
 
+use file_paths::path::Path;
 use hdfs_values::groups::{Groups, has_group};
 use hdfs_values::node_id::node_of;
-use hdfs_values::path::Path;
 use hdfs_values::who::Who;
 use namespace_rows::row::Row;
 use required_rights::need::{By, Need};

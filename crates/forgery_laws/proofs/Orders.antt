@@ -2,7 +2,7 @@
 use Rattle.std.proofs.Common.{◌≡◌, ℕ, List, map, refl, sym, subst, Option, Some, None}
 use Rattle.std.specs.Bool.{⊤}
 use Rattle.std.specs.List.{AllByRecursion}
-use Rattle.permission_specs.specs.Modes.{modes}
+use Rattle.permission_bits.specs.Modes.{modes}
 use Rattle.block_records.specs.declared.last_block.LastBlock.{LastBlock}
 use Rattle.block_changes.specs.declared.transfer.Transfer.{Transfer}
 use Rattle.block_changes.specs.declared.recovery.Recovery.{Recovery}

@@ -11,6 +11,8 @@ ghost use Rattle.perm_walk.specs.Walked.{AreOn};
 ghost use Rattle.perm_walk.specs.JudgedStep.{judged_step};
 
 use acl_entries::print::print;
+use file_paths::name::Name;
+use file_paths::path::Path;
 use flat_rows::verdict::Verdict;
 use hdfs_types::file::FileDetail;
 use hdfs_types::op::Op;
@@ -18,8 +20,6 @@ use hdfs_types::reply::{
     AclStatus, BoxedAcl, BoxedStatus, ContentSummary, FileStatus, Names, ObjectKind, Reply,
 };
 use hdfs_types::verb::Read;
-use hdfs_values::name::Name;
-use hdfs_values::path::Path;
 use hdfs_values::who::Who;
 use inode_tree::tree::Tree;
 use namespace_rows::file_row::FileRow;

@@ -2,8 +2,8 @@
 use Rattle.std.specs.Prelude.{ℕ, Bool, true, false, List, [], ◌∷◌, ◌++◌, Option, Some, None, codes}
 use Rattle.std.specs.Fmt.{decimal}
 use Rattle.std.specs.List.{flat_map}
-use Rattle.permission_specs.specs.Mode.{mode_text}
-use Rattle.hdfs_values.specs.Path.{path_text}
+use Rattle.permission_bits.specs.Mode.{mode_text}
+use Rattle.file_paths.specs.Path.{path_text}
 use Rattle.hdfs_types.specs.AclStatus.{AclStatus}
 use Rattle.hdfs_values.specs.Faults.{acl_fault_text}
 use Rattle.hdfs_types.specs.declared.reply.ObjectKind.{ObjectKind}

@@ -11,5 +11,7 @@ pub mod verb;
 
 pub use block_answers::{commands, key_list, located, token_bytes};
 pub use block_keys::key;
-pub use hdfs_values::{fault, groups, ids, moment, name, node_id, number, path, replication, who};
-pub use permission_specs::{acl_change, entry, mode, modes, rights, spec};
+pub use file_paths::{name, path};
+pub use hdfs_values::{fault, groups, ids, moment, node_id, number, replication, who};
+pub use permission_bits::{mode, modes, rights};
+pub use permission_specs::{acl_change, entry, spec};

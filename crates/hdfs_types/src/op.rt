@@ -6,13 +6,13 @@ use crate::file::LastBlock;
 use crate::given_name::GivenName;
 use crate::replica::{RecoveredBlock, ReportedReplica};
 use block_keys::key::Key;
+use file_paths::path::Path;
 use hdfs_values::groups::Groups;
 use hdfs_values::moment::Moment;
-use hdfs_values::path::Path;
 use hdfs_values::replication::Repl;
 use hdfs_values::who::Who;
+use permission_bits::mode::Mode;
 use permission_specs::acl_change::AclChange;
-use permission_specs::mode::Mode;
 use std::alloc::AllocError;
 
 /// What a request to the NameNode asks for, one variant a verb.

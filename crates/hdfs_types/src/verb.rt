@@ -6,12 +6,12 @@ use crate::given_name::GivenName;
 use crate::op::Op;
 use crate::replica::{RecoveredBlock, ReportedReplica};
 use block_keys::key::Key;
+use file_paths::path::Path;
 use hdfs_values::groups::Groups;
-use hdfs_values::path::Path;
 use hdfs_values::replication::Repl;
 use hdfs_values::who::Who;
+use permission_bits::mode::Mode;
 use permission_specs::acl_change::AclChange;
-use permission_specs::mode::Mode;
 
 /// A verb that changes nothing and grants nothing: a look.
 #[derive(Clone, Copy)]

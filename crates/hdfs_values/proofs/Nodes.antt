@@ -11,7 +11,7 @@ use Rattle.hdfs_values.specs.Number.{number_of, is_number_text}
 use Rattle.hdfs_values.specs.NodeId.{is_node_id, node_principal, node_of}
 use Rattle.hdfs_values.proofs.Numbers.{numerals}
 use Rattle.hdfs_values.proofs.Texts.{same_is, same_self}
-use Rattle.hdfs_values.proofs.Paths.{guard_some}
+use Rattle.hdfs_values.proofs.Texts.{guard_some}
 
 guard_false : {X : Type 0} (b : Bool) (x : X) → (b ≡ true → ⊥) → cond b (Some x) None ≡ None
 guard_false true x h = absurd (h refl)

@@ -1,5 +1,5 @@
--- Two texts that compare as equal are one.
-use Rattle.std.proofs.Common.{◌≡◌, ℕ, true, List, refl, sym, ◌∙◌}
+-- Two texts that compare as equal are one; and what a guarded answer tells.
+use Rattle.std.proofs.Common.{◌≡◌, ℕ, Bool, true, false, List, Some, None, cond, refl, sym, ◌∙◌}
 use Rattle.std.specs.Bool.{Decides}
 use Rattle.std.specs.Cmp.Lexicographic.{pointwise, texts_ties, pointwise_decides}
 use Rattle.std.specs.Prelude.{nat_eq}
@@ -18,3 +18,11 @@ same_self a = sym (texts_ties a a) ∙ (decided a a).1 refl
 
 pub same_symm : (a b : List ℕ) → same a b ≡ same b a
 same_symm a b = sym (texts_ties a b) ∙ nat_list_eq_equiv.symm a b ∙ texts_ties b a
+
+pub guard_some : {X : Type 0} (b : Bool) (x y : X) → cond b (Some x) None ≡ Some y → (b ≡ true) × (x ≡ y)
+guard_some true x y e = (refl, cc)
+guard_some false x y e = cc
+
+pub guard_none : {X : Type 0} (b : Bool) (x : X) → cond b (Some x) None ≡ None → b ≡ false
+guard_none true x e = cc
+guard_none false x e = refl

@@ -4,9 +4,6 @@ pub mod Faults
 pub mod Number
 pub mod Moment
 pub mod Replication
-pub mod Name
-pub mod Path
-pub mod PathOrder
 pub mod Who
 pub mod ShortText
 pub mod Groups

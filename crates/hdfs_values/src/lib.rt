@@ -1,16 +1,14 @@
-//! The plain values of the namesystem: texts as bytes and decimal numbers, what reading one answers, paths, names of users, groups and
-//! DataNodes, moments, replications, and the numbers of blocks, stamps and keys.
+//! The plain values of the namesystem: texts as bytes and decimal numbers, what reading one answers, names of users, groups and DataNodes,
+//! moments, replications, and the numbers of blocks, stamps and keys.
 #![tactic(auto)]
 
 pub mod fault;
 pub mod groups;
 pub mod ids;
 pub mod moment;
-pub mod name;
 pub mod node_id;
 pub mod number;
-pub mod path;
 pub mod pieces;
 pub mod replication;
-mod short_text;
+pub mod short_text;
 pub mod who;

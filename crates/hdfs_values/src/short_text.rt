@@ -26,7 +26,7 @@ enum Held {
 
 /// A text. One of at most 14 bytes takes no memory.
 #[derive(Drop)]
-pub(crate) struct ShortText {
+pub struct ShortText {
     held: Held,
 }
 
@@ -120,7 +120,7 @@ impl ShortText {
     ///
     /// # Errors
     /// Out of memory, where the text has more than 14 bytes.
-    pub(crate) fn copied(alloc: Global, text: &str) -> Result<ShortText, AllocError>
+    pub fn copied(alloc: Global, text: &str) -> Result<ShortText, AllocError>
         ensures ok { IfOk result (λ copy. copy ≡ text.now) }
         ensures short { length text.now ≤ 14 → IsOk result }
     {
@@ -134,7 +134,7 @@ impl ShortText {
     }
 
     /// The text.
-    pub(crate) fn as_str(&self) -> &str
+    pub fn as_str(&self) -> &str
         ensures { result.now ≡ self.now }
     {
         match &self.held {

@@ -4,8 +4,8 @@ use Rattle.std.specs.List.{list_all, list_any, last_or}
 use Rattle.std.specs.Ordering.{is_lt, ordering_reverse}
 use Rattle.std.specs.Cmp.{tied_itself}
 use Rattle.hdfs_values.proofs.Texts.{same_self as name_self}
-use Rattle.hdfs_values.specs.Path.{is_prefix, is_beneath}
-use Rattle.hdfs_values.specs.PathOrder.{path_cmp, same_path, paths_total}
+use Rattle.file_paths.specs.Path.{is_prefix, is_beneath}
+use Rattle.file_paths.specs.PathOrder.{path_cmp, same_path, paths_total}
 use Rattle.hdfs_types.specs.declared.reply.Refusal.TheVariants.{IsDirectory}
 use Rattle.namespace_rows.specs.declared.row.Row.{Row}
 use Rattle.namespace_rows.specs.First.{first}

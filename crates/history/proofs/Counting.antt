@@ -4,8 +4,8 @@ use Rattle.std.proofs.lemmas.List.Elements.{filter-append}
 use Rattle.std.proofs.lemmas.List.{length-append}
 use Rattle.std.specs.List.{list_all}
 use Rattle.std.specs.Ordering.{is_lt, is_gt}
-use Rattle.hdfs_values.specs.Path.{is_prefix}
-use Rattle.hdfs_values.specs.PathOrder.{path_cmp}
+use Rattle.file_paths.specs.Path.{is_prefix}
+use Rattle.file_paths.specs.PathOrder.{path_cmp}
 use Rattle.namespace_rows.specs.declared.row.Row.{Row}
 use Rattle.namespace_rows.specs.Rows.{is_before, is_beyond, rows_replaced}
 use Rattle.flat_rows.specs.Changes.{rows_under, without}

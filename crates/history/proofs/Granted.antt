@@ -1,8 +1,8 @@
 -- Each row of the ledger stands for what an entry granted.
 use Rattle.std.proofs.Common.{◌≡◌, ℕ, List, [], ◌∷◌, ◌++◌, map, refl, ◌⊎◌, inl, inr}
 use Rattle.std.specs.List.{AllByRecursion}
-use Rattle.permission_specs.specs.Modes.{modes}
-use Rattle.permission_specs.specs.declared.modes.Modes.{Modes}
+use Rattle.permission_bits.specs.Modes.{modes}
+use Rattle.permission_bits.specs.declared.modes.Modes.{Modes}
 use Rattle.block_answers.specs.Commands.{Commands}
 use Rattle.block_answers.specs.declared.commands.Recover.{Recover}
 use Rattle.block_answers.specs.declared.commands.CopyOrder.{CopyOrder}

@@ -5,8 +5,8 @@ use Rattle.std.specs.Option.{option_map, option_to_list}
 use Rattle.std.proofs.lemmas.Bool.{lt-ltb}
 use Rattle.std.specs.Ordering.{is_lt, is_eq}
 use Rattle.hdfs_values.specs.Text.{same}
-use Rattle.hdfs_values.specs.Path.{is_prefix}
-use Rattle.hdfs_values.specs.PathOrder.{path_cmp, same_path}
+use Rattle.file_paths.specs.Path.{is_prefix}
+use Rattle.file_paths.specs.PathOrder.{path_cmp, same_path}
 use Rattle.hdfs_types.specs.declared.file.FileState.{FileState}
 use Rattle.hdfs_types.specs.declared.file.FileState.TheVariants.{Closed}
 use Rattle.namespace_rows.specs.declared.file_row.FileRow.{FileRow}

@@ -1,8 +1,8 @@
 -- Laws about grants over histories.
 use Rattle.std.specs.Prelude.{◌≡◌, ℕ, List, [], ◌∷◌, ◌⊎◌, map}
 use Rattle.std.specs.List.{AllByRecursion}
-use Rattle.permission_specs.specs.Modes.{modes}
-use Rattle.permission_specs.specs.declared.modes.Modes.{Modes}
+use Rattle.permission_bits.specs.Modes.{modes}
+use Rattle.permission_bits.specs.declared.modes.Modes.{Modes}
 use Rattle.block_answers.specs.declared.commands.Recover.{Recover}
 use Rattle.block_answers.specs.declared.commands.CopyOrder.{CopyOrder}
 use Rattle.block_answers.specs.declared.located.LocatedBlock.{LocatedBlock}

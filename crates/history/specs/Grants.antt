@@ -1,8 +1,8 @@
 -- The ledger: every token that was ever granted, with the place of the entry that granted it. The oldest stands first.
 -- (HADOOP-4359: the NameNode grants block access tokens; that it keeps a ledger of them is this project's own rule.)
 use Rattle.std.specs.Prelude.{ℕ, List, [], ◌∷◌, ◌++◌, map}
-use Rattle.permission_specs.specs.Modes.{modes}
-use Rattle.permission_specs.specs.declared.modes.Modes.{Modes}
+use Rattle.permission_bits.specs.Modes.{modes}
+use Rattle.permission_bits.specs.declared.modes.Modes.{Modes}
 use Rattle.block_answers.specs.Commands.{Commands}
 use Rattle.block_answers.specs.declared.commands.Recover.{Recover}
 use Rattle.block_answers.specs.declared.commands.CopyOrder.{CopyOrder}

@@ -6,7 +6,7 @@ use Rattle.std.specs.List.Sorted.{IsStrictlySortedBy}
 use Rattle.std.specs.Map.{keys_of, lookup, set_value, remove_entry}
 use Rattle.std.specs.BTreeMap.{insert_entry}
 use Rattle.std.specs.Ordering.{is_eq, is_gt, is_lt}
-use Rattle.hdfs_values.specs.PathOrder.{path_cmp, same_path}
+use Rattle.file_paths.specs.PathOrder.{path_cmp, same_path}
 use Rattle.namespace_rows.specs.declared.row.Change.{Change}
 use Rattle.namespace_rows.specs.declared.row.Change.TheVariants as change
 use Rattle.namespace_rows.specs.declared.row.Row.{Row}

@@ -6,8 +6,8 @@ use Rattle.std.specs.List.{filter, last_or}
 use Rattle.std.specs.Map.{lookup, set_value}
 use Rattle.std.specs.BTreeMap.{insert_entry}
 use Rattle.std.specs.Option.{option_map}
-use Rattle.permission_specs.specs.Mode.{for_missing_parent}
-use Rattle.hdfs_values.specs.Path.{is_beneath}
+use Rattle.permission_bits.specs.Mode.{for_missing_parent}
+use Rattle.file_paths.specs.Path.{is_beneath}
 use Rattle.hdfs_types.specs.declared.reply.ObjectKind.TheVariants.{Directory}
 use Rattle.acl_entries.specs.Acl.{Acl}
 use Rattle.default_acl.specs.Inheritance.{inherited_acl}

@@ -5,7 +5,7 @@ use Rattle.std.specs.Map.{lookup, set_value, remove_entry}
 use Rattle.std.proofs.lemmas.Bool.{false≢true}
 use Rattle.std.specs.BTreeMap.{BTreeMap, insert_entry}
 use Rattle.std.proofs.lemmas.List.{map-append}
-use Rattle.hdfs_values.specs.PathOrder.{same_path}
+use Rattle.file_paths.specs.PathOrder.{same_path}
 use Rattle.std.proofs.lemmas.Map.Steps.{set_value_same}
 use Rattle.std.specs.Option.{option_copied_mut}
 use Rattle.std.specs.Borrow.{MutBor}

@@ -8,8 +8,8 @@ ghost use Rattle.inode_nodes.specs.Node.{rows, row_of, top_of, flatten};
 ghost use Rattle.inode_nodes.specs.Kept.{kind_of, file_of, rows_in, IsSorted};
 
 use crate::node::{Held, Node};
+use file_paths::name::Name;
 use hdfs_values::ids::BlockId;
-use hdfs_values::name::Name;
 use std::alloc::AllocError;
 use std::collections::BTreeMap;
 

@@ -1,7 +1,7 @@
 ghost use Rattle.std.specs.Prelude.{◌≡◌, ◌∷◌, [], ◌++◌, true, false, None, Some, option_map, map, if◌then◌else◌, IfOk, OnOk, OnErr, IsTrue};
 ghost use Rattle.std.specs.List.Sorted.{IsStrictlySortedBy};
 ghost use Rattle.std.specs.Map.{keys_of};
-ghost use Rattle.hdfs_values.specs.Path.{is_prefix};
+ghost use Rattle.file_paths.specs.Path.{is_prefix};
 ghost use Rattle.hdfs_values.specs.Text.{text_cmp};
 ghost use Rattle.namespace_rows.specs.Rows.{is_missing, file_above, ancestor};
 ghost use Rattle.namespace_rows.specs.Namespace.{has_parent};
@@ -16,15 +16,15 @@ ghost use Rattle.inode_nodes.specs.Kept.{kind_of as kind_of_held, file_of, rows_
 use crate::node::{Held, Node};
 use acl_entries::acl::Acl;
 use default_acl::inherit::inherit;
+use file_paths::name::Name;
 use hdfs_types::file::FileState;
 use hdfs_types::reply::ObjectKind;
 use hdfs_values::ids::BlockId;
-use hdfs_values::name::Name;
 use hdfs_values::replication::Repl;
 use hdfs_values::who::Who;
 use namespace_rows::file_row::FileRow;
 use namespace_rows::row::Change;
-use permission_specs::mode::Mode;
+use permission_bits::mode::Mode;
 use std::alloc::{AllocError, Global};
 use std::collections::BTreeMap;
 

@@ -3,7 +3,7 @@ use Rattle.std.proofs.Common.{◌≡◌, ℕ, Bool, true, not, List, [], ◌∷�
 use Rattle.std.proofs.lemmas.List.{length-map}
 use Rattle.std.specs.List.{filter, list_all}
 use Rattle.std.specs.Option.{option_map}
-use Rattle.hdfs_values.specs.Path.{is_path, IsPath}
+use Rattle.file_paths.specs.Path.{is_path, IsPath}
 use Rattle.namespace_rows.specs.declared.row.Row.{Row}
 use Rattle.namespace_rows.specs.Files.{told_length, holders}
 use Rattle.flat_rows.specs.Outcome.{bytes_in}
@@ -16,10 +16,10 @@ use Rattle.namespace_rows.proofs.Namespaces.{namespace_tests}
 use Rattle.inode_nodes.specs.Node.{Node, rows, rows_or, row_placed}
 use Rattle.inode_nodes.specs.Part.{IsWhole}
 use Rattle.inode_tree.specs.Tree.{IsTree}
-use Rattle.inode_tree.specs.Visits.{told_number, counts_of}
-use Rattle.inode_tree.specs.declared.visit.Counts.{Counts}
+use Rattle.inode_visits.specs.Visits.{told_number, counts_of}
+use Rattle.inode_visits.specs.declared.visit.Counts.{Counts}
 use Rattle.inode_nodes.proofs.Filters.{filter-map, inside}
-use Rattle.inode_tree.proofs.Visits.{bytes_map, holders_map}
+use Rattle.inode_visits.proofs.Visits.{bytes_map, holders_map}
 use Rattle.inode_nodes.proofs.Children.{part_ascending, child_names_whole}
 
 abbrev made : ℕ → ℕ → ℕ → Counts

@@ -1,4 +1,3 @@
-pub mod Visits
 pub mod Limits
 pub mod Trees
 pub mod Asked

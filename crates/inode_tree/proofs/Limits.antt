@@ -5,8 +5,8 @@ use Rattle.std.specs.List.{list_all, flat_map}
 use Rattle.std.proofs.lemmas.Bool.Decides.{nat_tests}
 use Rattle.std.proofs.lemmas.List.{take_more}
 use Rattle.std.proofs.lemmas.List.Folds.{list_all-append}
-use Rattle.hdfs_values.specs.Name.{is_name}
-use Rattle.hdfs_values.specs.Path.{IsPath, is_path, path_text, component}
+use Rattle.file_paths.specs.Name.{is_name}
+use Rattle.file_paths.specs.Path.{IsPath, is_path, path_text, component}
 use Rattle.namespace_rows.specs.declared.row.Row.{Row}
 use Rattle.flat_rows.specs.Changes.{rows_under, moved_row, are_paths}
 use Rattle.namespace_rows.proofs.Tests.{both, and, all_imp, all_kept}

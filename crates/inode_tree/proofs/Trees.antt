@@ -3,7 +3,7 @@ use Rattle.std.proofs.Common.{◌≡◌, ℕ, Bool, true, false, ◌||◌, not, 
 use Rattle.std.proofs.lemmas.Bool.{false≢true}
 use Rattle.std.proofs.lemmas.List.{append-nil}
 use Rattle.std.specs.declared.alloc.AllocError.{AllocError}
-use Rattle.hdfs_values.specs.Path.{IsPath, is_prefix}
+use Rattle.file_paths.specs.Path.{IsPath, is_prefix}
 use Rattle.hdfs_types.specs.declared.file.FileState.TheVariants.{Closed}
 use Rattle.acl_entries.specs.Acl.{Acl, suits_file}
 use Rattle.namespace_rows.specs.declared.file_row.FileRow.{FileRow}

@@ -1,3 +1,2 @@
-pub mod Visits
 pub mod Limits
 pub mod Tree

@@ -1,7 +1,7 @@
 -- Whether paths stay within the limits behind another front.
 use Rattle.std.specs.Prelude.{ℕ, ◌+◌, Bool, ◌&&◌, nat_le, List, length}
 use Rattle.std.specs.List.{flat_map}
-use Rattle.hdfs_values.specs.Path.{component}
+use Rattle.file_paths.specs.Path.{component}
 use Rattle.namespace_rows.specs.declared.row.Row.{Row}
 
 -- the bytes of a path's text, a slash before each name

@@ -2,8 +2,8 @@ ghost use Rattle.std.specs.Prelude.{◌≡◌, ◌++◌, map, IfOk, OnOk};
 ghost use Rattle.namespace_rows.specs.Files.{blocks_in};
 ghost use Rattle.inode_nodes.specs.Node.{rows, flatten};
 
+use file_paths::name::Name;
 use hdfs_values::ids::BlockId;
-use hdfs_values::name::Name;
 use inode_nodes::node::{Held, Node};
 use namespace_rows::file_row::FileBlock;
 use std::alloc::{AllocError, Global};

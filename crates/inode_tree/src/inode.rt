@@ -7,12 +7,12 @@ ghost use Rattle.inode_tree.specs.Tree.{branch_at};
 
 use acl_entries::acl::Acl;
 use acl_entries::deciding_entry::Chosen;
+use file_paths::name::Name;
 use hdfs_types::reply::ObjectKind;
-use hdfs_values::name::Name;
 use hdfs_values::who::Who;
 use inode_nodes::node::Node;
 use namespace_rows::file_row::FileRow;
-use permission_specs::rights::Rights;
+use permission_bits::rights::Rights;
 use std::alloc::AllocError;
 
 /// A file or a directory of a tree, lent with all that is beneath it (HDFS Architecture, "The File System Namespace").

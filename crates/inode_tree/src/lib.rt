@@ -6,4 +6,3 @@ pub mod blocks;
 pub mod inode;
 pub mod limit;
 pub mod tree;
-pub mod visit;

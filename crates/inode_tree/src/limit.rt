@@ -1,11 +1,11 @@
 ghost use Rattle.std.specs.Prelude.{◌≡◌, ◌≤◌};
 ghost use Rattle.std.specs.List.{list_all};
-ghost use Rattle.hdfs_values.specs.Path.{IsPath};
+ghost use Rattle.file_paths.specs.Path.{IsPath};
 ghost use Rattle.inode_nodes.specs.Node.{rows, flatten};
 ghost use Rattle.inode_tree.specs.Limits.{bytes_of, fits_behind};
 
-use hdfs_values::name::Name;
-use hdfs_values::path::Path;
+use file_paths::name::Name;
+use file_paths::path::Path;
 use inode_nodes::node::{Held, Node};
 use std::collections::BTreeMap;
 

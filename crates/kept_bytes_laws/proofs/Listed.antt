@@ -21,7 +21,7 @@ use Rattle.block_recovery.proofs.Lookups.{lookup_inserted}
 use Rattle.block_effect_laws.specs.Laws.{AgreeOn}
 use Rattle.block_map.specs.BlockFacts.{known_block, committed_length}
 use Rattle.hdfs_values.specs.NodeId.{is_node_id, node_of}
-use Rattle.hdfs_values.specs.PathOrder.{same_path}
+use Rattle.file_paths.specs.PathOrder.{same_path}
 use Rattle.hdfs_values.proofs.Nodes.{principal_read}
 use Rattle.block_answers.specs.declared.located.LocatedBlock.{LocatedBlock}
 use Rattle.hdfs_types.specs.declared.op.Op.{Op}

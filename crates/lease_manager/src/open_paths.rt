@@ -1,7 +1,7 @@
+use file_paths::name::Name;
+use file_paths::path::Path;
 use hdfs_values::fault::ParseFault;
 use hdfs_values::ids::BlockId;
-use hdfs_values::name::Name;
-use hdfs_values::path::Path;
 use hdfs_values::who::Who;
 use std::alloc::{AllocError, Global};
 use std::collections::{BTreeMap, BTreeSet};

@@ -1,17 +1,17 @@
+use file_paths::name::Name;
+use file_paths::path::Path;
 use hdfs_types::op::{Op, Request, is_look};
 use hdfs_types::reply::{Names, Refusal};
 use hdfs_values::fault::IllFormed;
 use hdfs_values::groups::Groups;
 use hdfs_values::ids::{BlockId, Serial};
 use hdfs_values::moment::Moment;
-use hdfs_values::name::Name;
 use hdfs_values::node_id::{NodeId, node_of};
-use hdfs_values::path::Path;
 use hdfs_values::who::Who;
+use permission_bits::mode::Mode;
+use permission_bits::modes::Modes;
+use permission_bits::rights::Rights;
 use permission_specs::entry::{Entry, EntryKind, Scope};
-use permission_specs::mode::Mode;
-use permission_specs::modes::Modes;
-use permission_specs::rights::Rights;
 use std::alloc::{AllocError, Global};
 
 // The helpers answer none, or that it isn't so, where memory is out.

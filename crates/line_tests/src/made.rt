@@ -1,15 +1,15 @@
+use file_paths::path::Path;
 use hdfs_types::file::LastBlock;
 use hdfs_types::given_name::GivenName;
 use hdfs_types::key::Key;
 use hdfs_types::op::{Op, Request};
 use hdfs_values::fault::ParseFault;
 use hdfs_values::groups::Groups;
-use hdfs_values::path::Path;
 use hdfs_values::replication::Repl;
 use hdfs_values::who::Who;
+use permission_bits::mode::Mode;
 use permission_specs::acl_change::AclChange;
 use permission_specs::entry::Entry;
-use permission_specs::mode::Mode;
 use permission_specs::spec::Spec;
 use script_text::line::request_of;
 use std::alloc::{AllocError, Global};

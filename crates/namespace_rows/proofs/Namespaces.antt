@@ -4,8 +4,8 @@ use Rattle.std.specs.Prelude.{filter, not}
 use Rattle.std.specs.List.{list_all, list_any}
 use Rattle.std.specs.Ordering.{is_gt, is_lt}
 use Rattle.std.proofs.lemmas.List.Folds.{list_any-append}
-use Rattle.hdfs_values.specs.Path.{is_prefix}
-use Rattle.hdfs_values.specs.PathOrder.{path_cmp, same_path, paths_total}
+use Rattle.file_paths.specs.Path.{is_prefix}
+use Rattle.file_paths.specs.PathOrder.{path_cmp, same_path, paths_total}
 use Rattle.namespace_rows.specs.declared.row.Row.{Row}
 use Rattle.namespace_rows.specs.Rows.{is_directory, is_before, is_beyond, rows_replaced, with_sub_tree}
 use Rattle.namespace_rows.specs.Namespace.{IsNamespace, is_ascending, is_before_all, is_child, has_parent, is_root, is_rooted, have_parents, suits_kind, is_sub_tree, fits}

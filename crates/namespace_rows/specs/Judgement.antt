@@ -1,6 +1,6 @@
 -- What an entry of a row's access list says of a caller.
 use Rattle.std.specs.Prelude.{ℕ, List}
-use Rattle.permission_specs.specs.declared.rights.Rights as bits
+use Rattle.permission_bits.specs.declared.rights.Rights as bits
 use Rattle.acl_entries.specs.JudgedEntry.{Chosen, judged_entry}
 use Rattle.namespace_rows.specs.declared.row.Row.{Row}
 

@@ -3,9 +3,9 @@
 use Rattle.std.specs.Prelude.{ℕ, Bool, true, false, ◌&&◌, ◌||◌, List, [], ◌∷◌, IsTrue, Option, Some, None}
 use Rattle.std.specs.List.{list_all, list_any}
 use Rattle.std.specs.Ordering.{is_lt}
-use Rattle.hdfs_values.specs.Path.{is_prefix}
+use Rattle.file_paths.specs.Path.{is_prefix}
 use Rattle.hdfs_values.specs.Text.{same}
-use Rattle.hdfs_values.specs.PathOrder.{path_cmp, same_path}
+use Rattle.file_paths.specs.PathOrder.{path_cmp, same_path}
 use Rattle.acl_entries.specs.Acl.{Acl, suits_file}
 use Rattle.namespace_rows.specs.declared.file_row.FileRow.{FileRow}
 use Rattle.namespace_rows.specs.declared.row.Row.{Row}

@@ -6,13 +6,13 @@ use crate::file_row::FileRow;
 use acl_entries::access_check::chosen;
 use acl_entries::acl::Acl;
 use acl_entries::deciding_entry::Chosen;
+use file_paths::path::Path;
 use hdfs_types::file::FileState;
 use hdfs_types::reply::ObjectKind;
 use hdfs_values::ids::BlockId;
-use hdfs_values::path::Path;
 use hdfs_values::replication::Repl;
 use hdfs_values::who::Who;
-use permission_specs::rights::Rights;
+use permission_bits::rights::Rights;
 use std::alloc::AllocError;
 
 /// A file or a directory, by its path (HDFS Architecture, "The File System Namespace").

@@ -6,11 +6,11 @@ ghost use Rattle.namespace_rows.specs.Opening.{root_row};
 
 use crate::row::Row;
 use acl_entries::acl::Acl;
+use file_paths::name::Name;
+use file_paths::path::{Path, is_proper_prefix, is_same};
 use hdfs_types::reply::ObjectKind;
-use hdfs_values::name::Name;
-use hdfs_values::path::{Path, is_proper_prefix, is_same};
 use hdfs_values::who::Who;
-use permission_specs::mode::Mode;
+use permission_bits::mode::Mode;
 use std::alloc::{AllocError, Global};
 use std::marker::Model;
 

@@ -2,15 +2,15 @@ ghost use Rattle.std.specs.Prelude.{◌≡◌, true, IsTrue, IfOk};
 ghost use Rattle.namespace_rows.specs.Namespace.{has_parent, suits_kind};
 
 use acl_entries::acl::Acl;
+use file_paths::path::Path;
 use hdfs_types::reply::ObjectKind;
-use hdfs_values::path::Path;
 use hdfs_values::replication::Repl;
 use hdfs_values::who::Who;
 use inode_tree::tree::Tree;
 use namespace_rows::file_row::FileRow;
 use namespace_rows::row::Row;
 use namespace_rows::rows::{Rows, directory_of, file_above};
-use permission_specs::mode::Mode;
+use permission_bits::mode::Mode;
 use std::alloc::{AllocError, Global};
 
 // These have no clauses, so that no proof of a test computes what they read. They answer none where memory is out.

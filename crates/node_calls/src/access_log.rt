@@ -5,7 +5,7 @@ use hdfs_values::ids::BlockId;
 use hdfs_values::moment::Moment;
 use hdfs_values::node_id::NodeId;
 use hdfs_values::who::Who;
-use permission_specs::modes::Modes;
+use permission_bits::modes::Modes;
 use std::alloc::{AllocError, Global};
 use std::marker::Model;
 

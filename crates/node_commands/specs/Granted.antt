@@ -1,6 +1,6 @@
 -- The tokens of a heartbeat's commands.
 use Rattle.std.specs.Prelude.{ℕ, List}
-use Rattle.permission_specs.specs.Modes.{modes}
+use Rattle.permission_bits.specs.Modes.{modes}
 use Rattle.block_tokens.specs.Ring.{KeyRing, grant_of}
 use Rattle.block_changes.specs.declared.transfer.Transfer.{Transfer}
 use Rattle.flat_rows.specs.NodeOutcome.{Tokens}

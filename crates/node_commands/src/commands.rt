@@ -1,5 +1,5 @@
 ghost use Rattle.std.specs.Prelude.{◌≡◌, ◌++◌, map, IsTrue, IfOk, OnOk};
-ghost use Rattle.permission_specs.specs.Modes.{is_modes, modes};
+ghost use Rattle.permission_bits.specs.Modes.{is_modes, modes};
 ghost use Rattle.block_tokens.specs.Ring.{update_of};
 ghost use Rattle.flat_rows.specs.NodeOutcome.{recover_command, removal_of, copy_command, commands_of};
 ghost use Rattle.history.specs.Grants.{ledger_row, granted_with};
@@ -16,7 +16,7 @@ use grant_ledger::ledger::LedgerRow;
 use hdfs_values::ids::BlockId;
 use hdfs_values::moment::Moment;
 use hdfs_values::who::Who;
-use permission_specs::modes::Modes;
+use permission_bits::modes::Modes;
 use std::alloc::{AllocError, Global};
 
 /// The commands of a heartbeat, and the ledger's rows of the tokens in them.

@@ -2,8 +2,8 @@
 -- (HADOOP-4359: a token allows its user to read or to write a block.)
 use Rattle.std.specs.Prelude.{ℕ, Bool, true, false, length, if◌then◌else◌}
 use Rattle.hdfs_values.specs.NodeId.{node_principal}
-use Rattle.permission_specs.specs.Modes.{modes}
-use Rattle.permission_specs.specs.declared.modes.Modes.{Modes}
+use Rattle.permission_bits.specs.Modes.{modes}
+use Rattle.permission_bits.specs.declared.modes.Modes.{Modes}
 use Rattle.node_calls.specs.declared.access_log.AccessRecord.{AccessRecord}
 use Rattle.node_calls.specs.declared.call.TokenCall.{TokenCall}
 use Rattle.node_calls.specs.declared.call.TokenCall.TheVariants as call

@@ -4,7 +4,7 @@ ghost use Rattle.node_replies.specs.Asking as spec;
 
 use hdfs_values::ids::BlockId;
 use node_calls::call::TokenCall;
-use permission_specs::modes::Modes;
+use permission_bits::modes::Modes;
 use replicas::replicas::Replicas;
 
 /// Whether the call is one that a node makes in its own name: to send a copy. Takes no memory.

@@ -7,7 +7,7 @@ use Rattle.std.proofs.lemmas.Bool.Decides.{nat_tests}
 use Rattle.std.proofs.lemmas.Nat.{or_lt, and_le_l}
 use Rattle.std.specs.Int.RustNames.{bit_and, bit_or}
 use Rattle.permission_specs.specs.declared.entry.Scope.TheVariants.{Access}
-use Rattle.permission_specs.specs.declared.rights.Rights.{Rights}
+use Rattle.permission_bits.specs.declared.rights.Rights.{Rights}
 use Rattle.acl_entries.specs.declared.entry_list.NamedEntry.{NamedEntry}
 use Rattle.acl_entries.specs.declared.entry_list.Bases.{Bases}
 use Rattle.acl_entries.specs.Kept.{list_of_parts}

@@ -7,10 +7,10 @@ use Rattle.std.specs.List.{list_any, find, fold, filter_map}
 use Rattle.std.specs.Option.{is_some, is_none, option_map, option_map_or, option_or}
 use Rattle.std.specs.Ordering.{is_lt}
 use Rattle.hdfs_values.specs.Text.{same, text_cmp}
-use Rattle.permission_specs.specs.Mode.{user_bits, group_bits, other_bits}
-use Rattle.permission_specs.specs.Rights.{rights}
+use Rattle.permission_bits.specs.Mode.{user_bits, group_bits, other_bits}
+use Rattle.permission_bits.specs.Rights.{rights}
 use Rattle.permission_specs.specs.Spec.{same_scope, same_kind}
-use Rattle.permission_specs.specs.declared.rights.Rights.{Rights}
+use Rattle.permission_bits.specs.declared.rights.Rights.{Rights}
 use Rattle.permission_specs.specs.declared.entry.Entry.{Entry}
 use Rattle.permission_specs.specs.declared.entry.EntryKind.{EntryKind}
 use Rattle.permission_specs.specs.declared.entry.EntryKind.TheVariants.{User, Group, Mask, Other}

@@ -8,8 +8,8 @@ use crate::named::{copies, put_each, without};
 use crate::scope::{given, has_base};
 use acl_entries::entry_list::{EntryList, NamedEntry};
 use hdfs_types::reply::Refusal;
+use permission_bits::rights::Rights;
 use permission_specs::entry::{Entry, EntryKind, Scope};
-use permission_specs::rights::Rights;
 use std::alloc::{AllocError, Global};
 use std::marker::Model;
 

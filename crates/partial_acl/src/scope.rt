@@ -5,8 +5,8 @@ ghost use Rattle.permission_specs.specs.Spec as spec;
 ghost use Rattle.partial_acl.specs.AclChange as definition;
 
 use bitflags::Flags;
+use permission_bits::rights::Rights;
 use permission_specs::entry::{Entry, EntryKind, Scope};
-use permission_specs::rights::Rights;
 
 /// Whether an entry stands in a scope.
 fn is_in(entry: &Entry, scope: Scope) -> bool

@@ -3,13 +3,13 @@ use Rattle.std.proofs.Common.{◌≡◌, ℕ, Bool, true, false, ◌&&◌, List,
 use Rattle.std.specs.Prelude.{not, unwrap_or}
 use Rattle.std.specs.List.{filter, flat_map}
 use Rattle.std.specs.Option.{option_and_then, option_map, option_or, option_to_list}
-use Rattle.permission_specs.specs.declared.rights.Rights as bits
+use Rattle.permission_bits.specs.declared.rights.Rights as bits
 use Rattle.principals.specs.Users.{Caller}
 use Rattle.namespace_rows.specs.declared.row.Row.{Row}
 use Rattle.required_rights.specs.declared.need.Need.{Need}
 use Rattle.required_rights.specs.declared.need.Need.TheVariants.{Rights, Sticky, Owner, Member, Superuser, Node}
-use Rattle.hdfs_values.specs.Path.{is_path, is_prefix}
-use Rattle.hdfs_values.specs.PathOrder.{same_path}
+use Rattle.file_paths.specs.Path.{is_path, is_prefix}
+use Rattle.file_paths.specs.PathOrder.{same_path}
 use Rattle.namespace_rows.specs.First.{first, first_answer}
 use Rattle.required_rights.specs.declared.demand.Role.{Role}
 use Rattle.required_rights.specs.declared.demand.Role.TheVariants.{Final}

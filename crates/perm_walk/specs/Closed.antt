@@ -1,6 +1,6 @@
 -- Components that don't grant rights to a caller.
 use Rattle.std.specs.Prelude.{Bool, false, not, List, Option, Some, None, filter}
-use Rattle.permission_specs.specs.declared.rights.Rights.{Rights}
+use Rattle.permission_bits.specs.declared.rights.Rights.{Rights}
 use Rattle.principals.specs.Users.{Caller}
 use Rattle.namespace_rows.specs.declared.row.Row.{Row}
 use Rattle.namespace_rows.specs.First.{first}

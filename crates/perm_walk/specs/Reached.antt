@@ -1,6 +1,6 @@
 -- How far a path leads, and where a descent along it ends.
 use Rattle.std.specs.Prelude.{◌≡◌, if◌then◌else◌, ℕ, List, Option, Some, None}
-use Rattle.permission_specs.specs.declared.rights.Rights.{Rights}
+use Rattle.permission_bits.specs.declared.rights.Rights.{Rights}
 use Rattle.principals.specs.Users.{Caller}
 use Rattle.namespace_rows.specs.declared.row.Row.{Row}
 use Rattle.namespace_rows.specs.Rows.{is_directory, row_at, directory_of, ancestor, file_above, directories_above}

@@ -1,8 +1,8 @@
 -- What a walk finds: the first need that fails, or where none does how far paths lead.
 use Rattle.std.specs.Prelude.{◌≡◌, ℕ, List, Some, None, IfSome}
 use Rattle.std.specs.List.{All}
-use Rattle.permission_specs.specs.declared.rights.Rights as bits
-use Rattle.hdfs_values.specs.Path.{IsPath}
+use Rattle.permission_bits.specs.declared.rights.Rights as bits
+use Rattle.file_paths.specs.Path.{IsPath}
 use Rattle.principals.specs.Users.{Caller}
 use Rattle.namespace_rows.specs.declared.row.Row.{Row}
 use Rattle.required_rights.specs.declared.demand.Role.TheVariants.{Traversed}

@@ -1,5 +1,5 @@
-use hdfs_values::name::Name;
-use hdfs_values::path::Path;
+use file_paths::name::Name;
+use file_paths::path::Path;
 use hdfs_values::who::Who;
 use inode_tree::inode::Inode;
 use namespace_rows::row::Row;
@@ -18,7 +18,7 @@ impl<'a> Model for Component<'a> {
 
     ghost Value = { Row };
 
-    ghost use Rattle.hdfs_values.specs.Path.{IsPath};
+    ghost use Rattle.file_paths.specs.Path.{IsPath};
     ghost use Rattle.perm_walk.specs.Kept.{row_at_top};
 
     ghost view = { row_at_top };
@@ -28,7 +28,7 @@ impl<'a> Model for Component<'a> {
 
 impl<'a> Component<'a> {
     ghost use Rattle.std.specs.Prelude.{◌≡◌, IfOk};
-    ghost use Rattle.hdfs_values.specs.Path.{IsPath};
+    ghost use Rattle.file_paths.specs.Path.{IsPath};
     ghost use Rattle.inode_nodes.specs.Node.{row_of};
     ghost use Rattle.inode_tree.specs.Tree.{branch_at};
 

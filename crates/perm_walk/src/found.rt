@@ -9,10 +9,10 @@ ghost use Rattle.perm_walk.specs.Found.{IsFound};
 
 use crate::component::Component;
 use crate::reach::Reach;
+use file_paths::path::Path;
 use hdfs_types::reply::Refusal;
-use hdfs_values::path::Path;
 use inode_tree::tree::Tree;
-use inode_tree::visit::Counts;
+use inode_visits::visit::Counts;
 use namespace_rows::file_row::FileRow;
 use std::alloc::{AllocError, Global};
 

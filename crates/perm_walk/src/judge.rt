@@ -1,6 +1,6 @@
 ghost use Rattle.std.specs.Prelude.{◌≡◌, ℕ, List, false, map, unwrap_or, IfOk, IfSome};
 ghost use Rattle.std.specs.Option.{option_to_list, option_copied, option_map, option_and_then};
-ghost use Rattle.hdfs_values.specs.Path.{IsPath};
+ghost use Rattle.file_paths.specs.Path.{IsPath};
 ghost use Rattle.namespace_rows.specs.declared.row.Row.{Row};
 ghost use Rattle.flat_rows.specs.Denial.{need_decided, denial_at};
 ghost use Rattle.namespace_rows.specs.First.{first_answer};
@@ -12,15 +12,15 @@ ghost use Rattle.perm_walk.specs.Walked.{IsTraversal, IsDescent};
 
 use crate::component::Component;
 use crate::reach::{Entered, Reach, enter};
+use file_paths::name::Name;
 use flat_rows::denial::Denial;
 use hdfs_types::reply::ObjectKind;
 use hdfs_values::groups::has_group;
-use hdfs_values::name::Name;
 use hdfs_values::node_id::node_of;
 use hdfs_values::who::Who;
 use inode_tree::tree::Tree;
 use namespace_rows::row::Row;
-use permission_specs::rights::Rights;
+use permission_bits::rights::Rights;
 use principals::caller::Caller;
 use required_rights::demand::{Condition, Demand, Role};
 use required_rights::need::Need;

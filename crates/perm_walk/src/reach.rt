@@ -1,5 +1,5 @@
 ghost use Rattle.std.specs.Prelude.{◌≡◌, ◌≤◌, ◌-◌, ◌==◌, ◌&&◌, [], if◌then◌else◌, length, take, Some, None};
-ghost use Rattle.hdfs_values.specs.Path.{IsPath};
+ghost use Rattle.file_paths.specs.Path.{IsPath};
 ghost use Rattle.inode_nodes.specs.Node.{row_of};
 ghost use Rattle.inode_tree.specs.Tree.{branch_at};
 ghost use Rattle.namespace_rows.specs.Rows.{is_directory, if_directory};
@@ -7,11 +7,11 @@ ghost use Rattle.perm_walk.specs.Closed as closed;
 ghost use Rattle.perm_walk.specs.Reached.{if_file, IsEntered};
 
 use crate::component::Component;
+use file_paths::name::Name;
 use hdfs_types::reply::ObjectKind;
-use hdfs_values::name::Name;
 use inode_tree::inode::Inode;
 use inode_tree::tree::Tree;
-use permission_specs::rights::Rights;
+use permission_bits::rights::Rights;
 use principals::caller::Caller;
 
 /// How far a path leads into a tree: what has it, the directory that holds it, the last existing component above it, and the

@@ -1,5 +1,5 @@
 ghost use Rattle.std.specs.Prelude.{◌≡◌, false, IfOk};
-ghost use Rattle.hdfs_values.specs.Path.{IsPath};
+ghost use Rattle.file_paths.specs.Path.{IsPath};
 ghost use Rattle.namespace_rows.specs.First.{first_answer};
 ghost use Rattle.flat_rows.specs.Decision as spec;
 ghost use Rattle.perm_walk.specs.Reached.{IsReach};
@@ -7,9 +7,9 @@ ghost use Rattle.perm_walk.specs.Walked.{AreOn, IsDescent, IsWalked, IsWalkedBot
 
 use crate::judge::{Descent, denial_by, follow};
 use crate::reach::Reach;
+use file_paths::name::Name;
+use file_paths::path::{Path, is_same};
 use flat_rows::denial::Denial;
-use hdfs_values::name::Name;
-use hdfs_values::path::{Path, is_same};
 use inode_tree::tree::Tree;
 use principals::caller::Caller;
 use required_rights::demand::{Demand, Needs};

@@ -5,11 +5,11 @@ use Rattle.std.specs.Option.{option_map, option_to_list, is_some}
 use Rattle.hdfs_values.specs.NodeId.{node_of}
 use Rattle.hdfs_values.specs.Text.{same}
 use Rattle.hdfs_values.proofs.Texts.{same_is}
-use Rattle.permission_specs.specs.Rights.{rights}
-use Rattle.permission_specs.specs.declared.rights.Rights as bits
+use Rattle.permission_bits.specs.Rights.{rights}
+use Rattle.permission_bits.specs.declared.rights.Rights as bits
 use Rattle.hdfs_values.specs.Groups.{has_group}
-use Rattle.hdfs_values.specs.Path.{is_prefix}
-use Rattle.hdfs_values.specs.PathOrder.{same_path}
+use Rattle.file_paths.specs.Path.{is_prefix}
+use Rattle.file_paths.specs.PathOrder.{same_path}
 use Rattle.hdfs_types.specs.Request.{is_for_nodes}
 use Rattle.hdfs_types.specs.declared.op.Op.{Op}
 use Rattle.hdfs_types.specs.declared.op.Op.TheVariants as op

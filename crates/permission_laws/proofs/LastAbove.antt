@@ -3,8 +3,8 @@ use Rattle.std.proofs.Common.{◌≡◌, ℕ, Bool, true, false, ◌||◌, List,
 use Rattle.std.specs.Prelude.{filter}
 use Rattle.std.specs.List.{last_or}
 use Rattle.std.specs.Ordering.{is_gt, is_lt, ordering_reverse}
-use Rattle.hdfs_values.specs.Path.{is_prefix, is_beneath}
-use Rattle.hdfs_values.specs.PathOrder.{path_cmp, same_path, paths_total}
+use Rattle.file_paths.specs.Path.{is_prefix, is_beneath}
+use Rattle.file_paths.specs.PathOrder.{path_cmp, same_path, paths_total}
 use Rattle.namespace_rows.specs.declared.row.Row.{Row}
 use Rattle.namespace_rows.specs.Namespace.{IsNamespace, is_root}
 use Rattle.namespace_rows.specs.Rows.{row_at, ancestor}

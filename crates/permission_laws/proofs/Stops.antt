@@ -5,7 +5,7 @@ use Rattle.std.specs.List.{list_all}
 use Rattle.std.specs.Option.{option_or}
 use Rattle.std.specs.Ordering.{is_lt, is_eq, ordering_reverse}
 use Rattle.std.specs.Cmp.{tied_itself}
-use Rattle.hdfs_values.specs.PathOrder.{path_cmp, same_path, paths_total}
+use Rattle.file_paths.specs.PathOrder.{path_cmp, same_path, paths_total}
 use Rattle.principals.specs.Users.{Caller}
 use Rattle.namespace_rows.specs.declared.row.Row.{Row}
 use Rattle.namespace_rows.specs.First.{first, first_answer}

@@ -7,8 +7,8 @@ use Rattle.std.specs.Int.RustNames.{bit_and}
 use Rattle.std.proofs.lemmas.Bool.{eq-eqb, eqb-true}
 use Rattle.std.proofs.lemmas.Nat.{and_assoc}
 use Rattle.hdfs_values.specs.Text.{same}
-use Rattle.permission_specs.specs.Rights.{rights, covers}
-use Rattle.permission_specs.specs.declared.rights.Rights.{Rights}
+use Rattle.permission_bits.specs.Rights.{rights, covers}
+use Rattle.permission_bits.specs.declared.rights.Rights.{Rights}
 use Rattle.permission_specs.specs.declared.entry.Entry.{Entry}
 use Rattle.permission_specs.specs.declared.entry.EntryKind.TheVariants.{User, Other}
 use Rattle.permission_specs.specs.declared.entry.Scope.TheVariants.{Access}

@@ -3,9 +3,9 @@
 use Rattle.std.specs.Prelude.{◌≡◌, ℕ, Bool, true, false, ◌&&◌, ◌||◌, not, List, [], ◌∷◌, Option, Some, None}
 use Rattle.std.specs.List.{list_any}
 use Rattle.hdfs_values.specs.Text.{same}
-use Rattle.permission_specs.specs.Rights.{rights}
-use Rattle.hdfs_values.specs.Path.{is_prefix, is_beneath}
-use Rattle.hdfs_values.specs.PathOrder.{same_path}
+use Rattle.permission_bits.specs.Rights.{rights}
+use Rattle.file_paths.specs.Path.{is_prefix, is_beneath}
+use Rattle.file_paths.specs.PathOrder.{same_path}
 use Rattle.hdfs_types.specs.declared.op.Op.{Op}
 use Rattle.hdfs_types.specs.declared.op.Op.TheVariants as op
 use Rattle.principals.specs.Users.{Users, groups_of, is_super}

@@ -7,7 +7,7 @@ use Rattle.std.specs.Option.{is_some}
 use Rattle.hdfs_values.specs.NodeId.{node_of}
 use Rattle.hdfs_values.specs.Text.{same}
 use Rattle.hdfs_values.specs.Groups.{has_group}
-use Rattle.hdfs_values.specs.Path.{is_prefix, is_beneath}
+use Rattle.file_paths.specs.Path.{is_prefix, is_beneath}
 use Rattle.hdfs_types.specs.Request.{is_for_nodes}
 use Rattle.hdfs_types.specs.declared.op.Op.TheVariants as op
 use Rattle.principals.specs.Users.{Users, groups_of, is_super}

@@ -1,4 +1,3 @@
-pub mod RightsText
 pub mod SpecKeys
 pub mod SpecTexts
 pub mod SpecSpellings

@@ -11,7 +11,7 @@ use Rattle.std.specs.declared.cmp.Ordering.{Ordering}
 use Rattle.hdfs_values.specs.Text.{same, text_cmp}
 use Rattle.permission_specs.specs.Spec.{same_scope, same_kind, same_key, has_duplicate}
 use Rattle.hdfs_values.proofs.Texts.{same_symm}
-use Rattle.permission_specs.specs.Rights.{rights}
+use Rattle.permission_bits.specs.Rights.{rights}
 use Rattle.permission_specs.specs.declared.entry.Scope.{Scope}
 use Rattle.permission_specs.specs.declared.entry.Scope.TheVariants.{Access, Default}
 use Rattle.permission_specs.specs.declared.entry.EntryKind.{EntryKind}

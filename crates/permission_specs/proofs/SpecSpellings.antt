@@ -7,11 +7,11 @@ use Rattle.std.proofs.lemmas.List.Splits.{join_with_byte-slice_split}
 use Rattle.std.specs.Prelude.{codes}
 use Rattle.hdfs_values.specs.Text.{same}
 use Rattle.hdfs_values.specs.Who.{is_who}
-use Rattle.permission_specs.specs.Rights.{rights, rights_text, rights_of}
+use Rattle.permission_bits.specs.Rights.{rights, rights_text, rights_of}
 use Rattle.permission_specs.specs.Entry.{entry_text, kind_text, name_text}
 use Rattle.permission_specs.specs.Spec.{IsSpec, spec_fault, ok_unless}
 use Rattle.hdfs_values.proofs.Texts.{same_is}
-use Rattle.permission_specs.specs.declared.rights.Rights.{Rights}
+use Rattle.permission_bits.specs.declared.rights.Rights.{Rights}
 use Rattle.hdfs_values.specs.declared.fault.AclFault.{AclFault}
 use Rattle.permission_specs.specs.declared.entry.Scope.{Scope}
 use Rattle.permission_specs.specs.declared.entry.Scope.TheVariants.{Access, Default}

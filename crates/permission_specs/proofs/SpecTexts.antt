@@ -5,10 +5,10 @@ use Rattle.std.specs.Option.{option_map_or}
 use Rattle.std.proofs.lemmas.Bool.Decides.{nat_tests}
 use Rattle.std.proofs.lemmas.List.Folds.{list_all-append}
 use Rattle.hdfs_values.specs.Who.{is_who, is_who_byte}
-use Rattle.permission_specs.specs.Rights.{rights, rights_text}
+use Rattle.permission_bits.specs.Rights.{rights, rights_text}
 use Rattle.permission_specs.specs.Entry.{entry_text, scope_text, kind_text, name_text}
 use Rattle.permission_specs.specs.Spec.{IsSpec}
-use Rattle.permission_specs.proofs.RightsText.{read_again}
+use Rattle.permission_bits.proofs.RightsText.{read_again}
 use Rattle.permission_specs.specs.declared.entry.Scope.{Scope}
 use Rattle.permission_specs.specs.declared.entry.Scope.TheVariants.{Access, Default}
 use Rattle.permission_specs.specs.declared.entry.EntryKind.{EntryKind}

@@ -1,7 +1,7 @@
 -- The text of an entry of an access control list: `[default:]TYPE:[NAME]:RIGHTS`.
 -- (HDFS Permissions Guide, "ACLs Shell Commands".)
 use Rattle.std.specs.Prelude.{ℕ, List, [], ◌∷◌, ◌++◌, Option, Some, None, codes}
-use Rattle.permission_specs.specs.Rights.{rights_text}
+use Rattle.permission_bits.specs.Rights.{rights_text}
 use Rattle.permission_specs.specs.declared.entry.Scope.{Scope}
 use Rattle.permission_specs.specs.declared.entry.Scope.TheVariants.{Access, Default}
 use Rattle.permission_specs.specs.declared.entry.EntryKind.{EntryKind}

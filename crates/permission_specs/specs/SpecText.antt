@@ -6,10 +6,10 @@ use Rattle.std.specs.List.{join_with_byte, slice_split}
 use Rattle.std.specs.Option.{option_map, option_map_or}
 use Rattle.hdfs_values.specs.Text.{same}
 use Rattle.hdfs_values.specs.Who.{is_who, who_of}
-use Rattle.permission_specs.specs.Rights.{rights, rights_of}
+use Rattle.permission_bits.specs.Rights.{rights, rights_of}
 use Rattle.permission_specs.specs.Entry.{entry_text, kind_text}
 use Rattle.permission_specs.specs.Spec.{spec_of_entries}
-use Rattle.permission_specs.specs.declared.rights.Rights.{Rights}
+use Rattle.permission_bits.specs.declared.rights.Rights.{Rights}
 use Rattle.permission_specs.specs.declared.entry.Scope.{Scope}
 use Rattle.permission_specs.specs.declared.entry.Scope.TheVariants.{Access, Default}
 use Rattle.permission_specs.specs.declared.entry.EntryKind.{EntryKind}

@@ -1,7 +1,7 @@
 ghost use Rattle.std.specs.Prelude.{◌≡◌, Some};
 
-use crate::rights::Rights;
 use hdfs_values::who::Who;
+use permission_bits::rights::Rights;
 use std::alloc::AllocError;
 use std::fmt;
 

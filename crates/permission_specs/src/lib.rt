@@ -3,8 +3,5 @@
 
 pub mod acl_change;
 pub mod entry;
-pub mod mode;
-pub mod modes;
-pub mod rights;
 pub mod spec;
 pub mod spec_text;

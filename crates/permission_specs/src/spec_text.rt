@@ -1,7 +1,7 @@
 ghost use Rattle.std.specs.Prelude.{◌≡◌, ◌==◌, ◌<◌, ℕ, true, List, [], ◌∷◌, IfOk, IsTrue, Ok, map};
 ghost use Rattle.std.specs.List.{list_all, slice_split};
 ghost use Rattle.hdfs_values.specs.Parsed.{ParsesInParts, ParsesInPartsBy};
-ghost use Rattle.permission_specs.specs.Rights.{rights};
+ghost use Rattle.permission_bits.specs.Rights.{rights};
 ghost use Rattle.permission_specs.specs.Spec.{IsSpec, MakesSpec};
 ghost use Rattle.hdfs_values.specs.Text.{same};
 ghost use Rattle.hdfs_values.specs.Who.{who_of};
@@ -9,10 +9,10 @@ ghost use Rattle.permission_specs.specs.SpecText.{is_printable, spec_of, spec_te
 ghost use Rattle.permission_specs.specs.SpecText as grammar;
 
 use crate::entry::{Entry, EntryKind, Scope};
-use crate::rights::{Rights, rights_have_one_spelling};
 use crate::spec::Spec;
 use hdfs_values::fault::{AclFault, IllFormed, ParseFault};
 use hdfs_values::who::Who;
+use permission_bits::rights::{Rights, rights_have_one_spelling};
 use std::alloc::{AllocError, Global};
 
 const NO_SPEC: ParseFault = ParseFault::IllFormed(IllFormed::BadAcl(AclFault::Form));

@@ -7,7 +7,7 @@ use hdfs_values::node_id::NodeId;
 use hdfs_values::who::Who;
 use node_calls::access_log::{AccessLog, AccessRecord};
 use node_calls::presented::PresentedToken;
-use permission_specs::modes::Modes;
+use permission_bits::modes::Modes;
 use std::alloc::Global;
 use token_provenance::logs::Logs;
 use token_provenance::provenance::provenance;

@@ -7,7 +7,7 @@ use block_recovery::recover::Recover;
 use block_tokens::token::{Body, TokenBytes, encode};
 use hdfs_values::ids::{BlockId, Serial, Stamp};
 use hdfs_values::node_id::NodeId;
-use permission_specs::modes::Modes;
+use permission_bits::modes::Modes;
 use std::alloc::{AllocError, Global};
 
 // A test is one assertion on what a helper answers of a table of calls, each with what it is to answer. The helpers say nothing of what

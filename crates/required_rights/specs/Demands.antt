@@ -1,6 +1,6 @@
 -- How a demand is seen, and what holds of each.
 use Rattle.std.specs.Prelude.{Bool, true, false, ◌&&◌, IsTrue, List, [], ◌∷◌}
-use Rattle.hdfs_values.specs.Path.{is_path}
+use Rattle.file_paths.specs.Path.{is_path}
 use Rattle.required_rights.specs.declared.demand.Demand.TheInside as demand
 use Rattle.required_rights.specs.declared.demand.Listed.{Listed}
 use Rattle.required_rights.specs.declared.demand.Listed.TheVariants.{One, Several}

@@ -1,8 +1,8 @@
 -- How a need, and what decided about it, are printed.
 use Rattle.std.specs.Prelude.{ℕ, List, [], ◌++◌, Option, Some, None, codes}
-use Rattle.permission_specs.specs.Rights.{rights_text}
+use Rattle.permission_bits.specs.Rights.{rights_text}
 use Rattle.permission_specs.specs.Entry.{entry_text}
-use Rattle.permission_specs.specs.declared.rights.Rights as bits
+use Rattle.permission_bits.specs.declared.rights.Rights as bits
 use Rattle.required_rights.specs.declared.need.Need.{Need}
 use Rattle.required_rights.specs.declared.need.Need.TheVariants as need
 use Rattle.required_rights.specs.declared.need.By.{By}

@@ -1,8 +1,8 @@
 -- The needs of each operation, in the order in which they are judged.
 -- (HDFS Permissions Guide, "Permission Checks".)
 use Rattle.std.specs.Prelude.{ℕ, Bool, true, false, List, [], ◌∷◌, ◌++◌, Option, Some, None}
-use Rattle.permission_specs.specs.Rights.{rights}
-use Rattle.permission_specs.specs.declared.rights.Rights as bits
+use Rattle.permission_bits.specs.Rights.{rights}
+use Rattle.permission_bits.specs.declared.rights.Rights as bits
 use Rattle.hdfs_types.specs.declared.op.Op.{Op}
 use Rattle.hdfs_types.specs.declared.op.Op.TheVariants as op
 use Rattle.required_rights.specs.declared.need.Need.{Need}

@@ -1,16 +1,16 @@
 ghost use Rattle.std.specs.Prelude.{◌≡◌, ◌∷◌, ◌++◌, [], Some, IfOk, OnOk};
-ghost use Rattle.hdfs_values.specs.Path.{IsPath};
-ghost use Rattle.permission_specs.specs.Rights.{rights};
+ghost use Rattle.file_paths.specs.Path.{IsPath};
+ghost use Rattle.permission_bits.specs.Rights.{rights};
 ghost use Rattle.required_rights.specs.Demands.{listed_demands};
 ghost use Rattle.required_rights.specs.RequiredRights as spec;
 
 use crate::need::Need;
+use file_paths::name::Name;
+use file_paths::path::Path;
 use hdfs_types::given_name::GivenName;
 use hdfs_types::op::Op;
-use hdfs_values::name::Name;
-use hdfs_values::path::Path;
 use hdfs_values::who::Who;
-use permission_specs::rights::Rights;
+use permission_bits::rights::Rights;
 use std::alloc::{AllocError, Global};
 use std::marker::Model;
 use std::slice::from_ref;

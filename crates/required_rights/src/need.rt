@@ -1,8 +1,8 @@
 ghost use Rattle.std.specs.Prelude.{◌≡◌, Some};
 
 use hdfs_values::who::Who;
+use permission_bits::rights::Rights;
 use permission_specs::entry::Entry;
-use permission_specs::rights::Rights;
 use std::alloc::AllocError;
 use std::fmt;
 

@@ -2,10 +2,10 @@ ghost use Rattle.std.specs.Prelude.{◌≡◌};
 ghost use Rattle.std.specs.Bool.{Decides};
 ghost use Rattle.hdfs_types.specs.declared.reply.Refusal.TheVariants as made;
 
+use file_paths::path::Path;
 use hdfs_types::reply::{Counter, Refusal};
 use hdfs_values::fault::AclFault;
 use hdfs_values::ids::Stamp;
-use hdfs_values::path::Path;
 use hdfs_values::who::Who;
 use same_requests::names::{is_same_path, is_same_who};
 

@@ -1,9 +1,9 @@
 ghost use Rattle.std.specs.Prelude.{◌≡◌};
 ghost use Rattle.std.specs.Bool.{Decides};
 
+use file_paths::name::Name;
+use file_paths::path::Path;
 use hdfs_types::given_name::GivenName;
-use hdfs_values::name::Name;
-use hdfs_values::path::Path;
 use hdfs_values::who::Who;
 
 /// Whether two names of users or groups are one.

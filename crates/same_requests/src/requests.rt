@@ -6,6 +6,7 @@ ghost use Rattle.hdfs_types.specs.declared.op.Op.TheVariants as made;
 use crate::acls::is_same_change;
 use crate::commands::are_same_nodes;
 use crate::names::{are_same_groups, is_same_given, is_same_path, is_same_who};
+use file_paths::path::Path;
 use hdfs_types::file::LastBlock;
 use hdfs_types::given_name::GivenName;
 use hdfs_types::key::Key;
@@ -13,11 +14,10 @@ use hdfs_types::op::{Op, Request};
 use hdfs_types::replica::{RecoveredBlock, ReportedReplica};
 use hdfs_types::verb::{Grant, Read, Update, Verb, Write};
 use hdfs_values::groups::Groups;
-use hdfs_values::path::Path;
 use hdfs_values::replication::Repl;
 use hdfs_values::who::Who;
+use permission_bits::mode::Mode;
 use permission_specs::acl_change::AclChange;
-use permission_specs::mode::Mode;
 
 /// Whether two keys are one.
 pub fn is_same_key(key: &Key, other: &Key) -> bool

@@ -2,7 +2,7 @@
 use Rattle.std.specs.Prelude.{◌≡◌, ℕ, Bool, true, false, List, ◌++◌, Ok, codes}
 use Rattle.std.specs.Fmt.{decimal}
 use Rattle.hex.specs.Hex.{decode_of, encode_lower}
-use Rattle.permission_specs.specs.Modes.{modes_text}
+use Rattle.permission_bits.specs.Modes.{modes_text}
 use Rattle.block_tokens.specs.TokenText.{Body, TokenText}
 use Rattle.block_tokens.specs.Refusals.{token_refusal_text}
 use Rattle.block_tokens.specs.declared.refusal.TokenRefusal.TheVariants.{Malformed}

@@ -4,7 +4,7 @@ use Rattle.std.specs.List.{list_all}
 use Rattle.std.proofs.lemmas.Grind.{common_steps}
 use Rattle.std.proofs.lemmas.List.{take_more}
 use Rattle.hdfs_values.specs.Who.{is_who, who_of}
-use Rattle.hdfs_values.proofs.Paths.{guard_some, guard_none}
+use Rattle.hdfs_values.proofs.Texts.{guard_some, guard_none}
 
 -- one more piece is a name
 pub whos_step : {X : Type 0} (f : X → List ℕ) (xs : List X) (i : ℕ) (d : X) (n : List ℕ) (old new : List (List ℕ)) → i < length xs → who_of (f (get_or xs i d)) ≡ Some n

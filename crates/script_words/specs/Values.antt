@@ -7,8 +7,8 @@ use Rattle.hdfs_values.specs.Text.{same}
 use Rattle.hdfs_values.specs.Number.{number_of}
 use Rattle.hdfs_values.specs.Moment.{moment_of}
 use Rattle.hdfs_values.specs.Who.{is_who, who_of}
-use Rattle.hdfs_values.specs.Path.{path_of}
-use Rattle.permission_specs.specs.Mode.{mode_of}
+use Rattle.file_paths.specs.Path.{path_of}
+use Rattle.permission_bits.specs.Mode.{mode_of}
 use Rattle.hdfs_values.specs.Replication.{is_replication}
 use Rattle.hdfs_values.specs.declared.fault.IllFormed.{IllFormed}
 use Rattle.hdfs_values.specs.declared.fault.IllFormed.TheVariants.{BadLine, BadPath, BadName, BadMode, BadAcl}

@@ -3,16 +3,16 @@ ghost use Rattle.script_words.specs.LineForms.{Forms};
 ghost use Rattle.script_words.specs.Values as spec;
 
 use crate::words::is_word;
+use file_paths::path::Path;
 use hdfs_types::file::LastBlock;
 use hdfs_types::key::Key;
 use hdfs_values::fault::{IllFormed, ParseFault};
 use hdfs_values::ids::BlockId;
 use hdfs_values::moment::Moment;
 use hdfs_values::number::number_of;
-use hdfs_values::path::Path;
 use hdfs_values::replication::Repl;
 use hdfs_values::who::Who;
-use permission_specs::mode::Mode;
+use permission_bits::mode::Mode;
 use std::alloc::Global;
 
 /// A moment, in milliseconds.

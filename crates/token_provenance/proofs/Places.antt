@@ -12,7 +12,7 @@ use Rattle.hdfs_values.specs.Text.{same, text_cmp}
 use Rattle.hdfs_values.proofs.Texts.{same_is}
 use Rattle.node_calls.specs.declared.access_log.AccessRecord.{AccessRecord}
 use Rattle.grant_ledger.specs.declared.ledger.LedgerRow.{LedgerRow}
-use Rattle.permission_specs.specs.Rights.{covers}
+use Rattle.permission_bits.specs.Rights.{covers}
 use Rattle.token_provenance.specs.Provenance.{allows, supports, lesser, place_of, least_place, records_of}
 use Rattle.token_provenance.specs.declared.source.Source.{Source}
 use Rattle.token_provenance.specs.Index.{TokenIndex, rows_at, IsIndex, TellsAlso, grants_the_same, repeats, repeats_first, listed_with}

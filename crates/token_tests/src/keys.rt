@@ -8,7 +8,7 @@ use block_tokens::token::{Body, TokenBytes, decode, encode};
 use hdfs_values::ids::{BlockId, Serial};
 use hdfs_values::moment::Moment;
 use hdfs_values::who::Who;
-use permission_specs::modes::Modes;
+use permission_bits::modes::Modes;
 use std::alloc::{AllocError, Global};
 use std::test::Fail;
 

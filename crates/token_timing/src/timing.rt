@@ -5,7 +5,7 @@ use block_tokens::ring::KeyRing;
 use hdfs_values::ids::{BlockId, Serial};
 use hdfs_values::moment::Moment;
 use hdfs_values::who::Who;
-use permission_specs::modes::Modes;
+use permission_bits::modes::Modes;
 use std::alloc::{AllocError, Global};
 use std::time::{Clock, Duration, Instant};
 

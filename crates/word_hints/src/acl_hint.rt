@@ -1,7 +1,7 @@
 use crate::name_hint::{NameHint, hint_on_who};
 use crate::word::word_at;
 use hdfs_values::fault::AclFault;
-use permission_specs::rights::Rights;
+use permission_bits::rights::Rights;
 use script_words::words::{is_word, pieces_between};
 use std::alloc::{AllocError, Global};
 use std::collections::BTreeSet;

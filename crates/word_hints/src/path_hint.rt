@@ -1,7 +1,7 @@
 use crate::word::word_at;
+use file_paths::name::Name;
+use file_paths::path::Path;
 use hdfs_values::fault::ParseFault;
-use hdfs_values::name::Name;
-use hdfs_values::path::Path;
 use script_words::values::path_word;
 use std::alloc::{AllocError, Global};
 use std::fmt;

@@ -12,11 +12,11 @@ ghost use Rattle.flat_rows.specs.Takeover.{appended_reply};
 ghost use Rattle.write_rules.specs.Judged.{refused_or};
 ghost use Rattle.write_rules.specs.JudgedAppends.{verdict_of_append, IsJudgedFile, IsJudgedAt};
 
+use file_paths::path::Path;
 use flat_rows::verdict::Verdict;
 use hdfs_types::file::FileState;
 use hdfs_types::reply::Refusal;
 use hdfs_values::ids::BlockId;
-use hdfs_values::path::Path;
 use hdfs_values::who::Who;
 use inode_tree::tree::Tree;
 use namespace_rows::file_row::FileRow;

@@ -17,6 +17,7 @@ ghost use Rattle.hdfs_types.specs.Verb.{write_op};
 
 use crate::ends::completed;
 use block_map::blocks::Blocks;
+use file_paths::path::Path;
 use flat_rows::denial::Denial;
 use flat_rows::verdict::Verdict;
 use hdfs_types::file::LastBlock;
@@ -24,7 +25,6 @@ use hdfs_types::op::Op;
 use hdfs_types::reply::{ObjectKind, Refusal, Reply};
 use hdfs_types::verb::Write;
 use hdfs_values::node_id::node_of;
-use hdfs_values::path::Path;
 use hdfs_values::who::Who;
 use inode_tree::tree::Tree;
 use perm_walk::found::{Found, counts_at, standing};

@@ -1,6 +1,6 @@
 use Rattle.std.proofs.Common.{rules, ◌≡◌, sym, ap, ◌∙◌}
 use Rattle.std.specs.Option.{option_copied}
-use Rattle.permission_specs.specs.Rights.{covers}
+use Rattle.permission_bits.specs.Rights.{covers}
 use Rattle.acl_entries.specs.JudgedEntry.{effective_rights}
 use Rattle.acl_entries.proofs.Searches.{granting_for_member, granting_for_stranger, matching_for_stranger}
 use Rattle.acl_entries.proofs.access_check.chosen_by_groups.Goals as goal

@@ -1,8 +1,8 @@
 use Rattle.std.proofs.Common.{◌≡◌, ap, ◌∙◌}
 use Rattle.std.specs.Int.RustNames.{bit_and}
 use Rattle.std.specs.Option.{option_map}
-use Rattle.permission_specs.specs.Mode.{user_bits, group_bits, other_bits}
-use Rattle.permission_specs.specs.Rights.{rights}
+use Rattle.permission_bits.specs.Mode.{user_bits, group_bits, other_bits}
+use Rattle.permission_bits.specs.Rights.{rights}
 use Rattle.acl_entries.specs.Acl.{intersection}
 use Rattle.default_acl.proofs.Inheriting.{cut_from}
 use Rattle.default_acl.proofs.inherit.cut_to.Goals as goal

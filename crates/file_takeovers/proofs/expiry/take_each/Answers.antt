@@ -4,7 +4,7 @@ use Rattle.std.specs.List.{AllByRecursion}
 use Rattle.std.specs.List.Sorted.{IsStrictlySortedBy}
 use Rattle.std.specs.Map.{keys_of}
 use Rattle.std.specs.Ordering.{nat_cmp}
-use Rattle.hdfs_values.specs.PathOrder.{path_cmp}
+use Rattle.file_paths.specs.PathOrder.{path_cmp}
 use Rattle.file_takeovers.specs.Expiry.{holder_in, rewritten_where}
 use Rattle.file_takeovers.proofs.TakenFiles.{IsHeld, taken_by, unheld_behind, first_held, step_one, all_are_taken}
 use Rattle.file_takeovers.proofs.expiry.take_each.Goals as goal

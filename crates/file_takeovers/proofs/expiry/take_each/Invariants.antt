@@ -4,7 +4,7 @@ use Rattle.std.specs.List.{AllByRecursion}
 use Rattle.std.specs.List.Sorted.{IsStrictlySortedBy}
 use Rattle.std.specs.Map.{keys_of}
 use Rattle.std.specs.Ordering.{nat_cmp}
-use Rattle.hdfs_values.specs.PathOrder.{path_cmp}
+use Rattle.file_paths.specs.PathOrder.{path_cmp}
 use Rattle.namespace_rows.specs.Namespace.{IsNamespace}
 use Rattle.recovery_queue.specs.declared.begun.BegunRecovery.{BegunRecovery}
 use Rattle.flat_rows.specs.Takeover.{stamp_in}

@@ -1,7 +1,7 @@
 use Rattle.std.proofs.Common.{arith, ◌++◌}
 use Rattle.namespace_rows.specs.Files.{blocks_in}
 use Rattle.inode_nodes.specs.Node.{flatten}
-use Rattle.inode_tree.proofs.Visits.{shorter}
+use Rattle.inode_visits.proofs.Visits.{shorter}
 use Rattle.inode_tree.proofs.FileBlocks.{blocks_next}
 use Rattle.inode_tree.proofs.blocks.+blocks.Goals as goal
 

@@ -1,5 +1,5 @@
 use Rattle.std.proofs.Common.{◌+◌, ap, refl, arith, length, ◌∙◌}
-use Rattle.inode_tree.proofs.Visits.{shorter}
+use Rattle.inode_visits.proofs.Visits.{shorter}
 use Rattle.inode_tree.proofs.Limits.{fits_next, fits_not}
 use Rattle.inode_tree.proofs.limit.+fits.Goals as goal
 

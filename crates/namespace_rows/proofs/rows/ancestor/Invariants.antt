@@ -2,7 +2,7 @@ use Rattle.std.proofs.Common.{◌≡◌, drop}
 use Rattle.std.specs.Prelude.{filter}
 use Rattle.std.specs.List.{last_or}
 use Rattle.std.specs.Option.{option_copied}
-use Rattle.hdfs_values.specs.Path.{is_beneath}
+use Rattle.file_paths.specs.Path.{is_beneath}
 use Rattle.namespace_rows.specs.Rows.{ancestor}
 use Rattle.namespace_rows.proofs.rows.ancestor.Given as goal
 

@@ -1,7 +1,7 @@
 use Rattle.std.proofs.Common.{◌∙◌, ◌+◌, ◌-◌, [], ◌++◌, Some, None, sym, ap, subst, take, drop, get_or, length}
 use Rattle.std.specs.Prelude.{◌==◌}
 use Rattle.std.proofs.lemmas.List.{drop_all, take_all, take-append-drop, get_or_default}
-use Rattle.hdfs_values.proofs.Fronts.{front_path}
+use Rattle.file_paths.proofs.Fronts.{front_path}
 use Rattle.inode_tree.specs.Tree.{branch_at}
 use Rattle.perm_walk.proofs.Descents.{Passed, passed_none, passed_next, rest_on, last_left, stops_missing, stops_held, stops_beneath, stops_at_file, ends_at, ends_held, ends_beneath, ends_clear}
 use Rattle.perm_walk.proofs.Traversals.{Left, left_none, left_end, on_next, on_none, on_shut}

@@ -1,4 +1,4 @@
-use Rattle.hdfs_values.proofs.Fronts.{front_path}
+use Rattle.file_paths.proofs.Fronts.{front_path}
 use Rattle.perm_walk.proofs.reach.stopped.Goals as goal
 
 pub new-requires : goal.new-requires

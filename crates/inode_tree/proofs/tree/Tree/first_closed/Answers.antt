@@ -4,7 +4,7 @@ use Rattle.std.specs.Prelude.{filter}
 use Rattle.namespace_rows.specs.First.{first}
 use Rattle.inode_nodes.specs.Node.{rows, row_placed}
 use Rattle.inode_nodes.specs.Part.{IsWhole}
-use Rattle.inode_tree.specs.Visits.{is_closed, row_found}
+use Rattle.inode_visits.specs.Visits.{is_closed, row_found}
 use Rattle.inode_tree.proofs.Asked.{found_path, first_there}
 use Rattle.inode_tree.proofs.tree.Tree.first_closed.Goals as goal
 

@@ -1,0 +1,4 @@
+pub mod Paths
+pub mod Fronts
+pub mod Spelling
+pub mod Beneath

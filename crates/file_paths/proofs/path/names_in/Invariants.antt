@@ -1,0 +1,13 @@
+use denote.Text.{Utf8}
+use denote.Shadow.{shadow}
+use Rattle.std.proofs.Common.{◌≡◌, ◌++◌, true, length}
+use Rattle.std.specs.List.{list_all, slice_split}
+use Rattle.file_paths.specs.Name.{is_name}
+use Rattle.file_paths.specs.Path.{is_slash}
+use Rattle.file_paths.proofs.path.names_in.Given as goal
+
+abbrev pub invariant-loop-piece : goal.invariant-loop-piece
+invariant-loop-piece l = shadow (Utf8 l.rest) × (list_all is_name (slice_split is_slash l.rest) ≡ true) × (l.names.items ++ slice_split is_slash l.rest ≡ slice_split is_slash l.text)
+
+abbrev pub decreases-loop-piece : goal.decreases-loop-piece
+decreases-loop-piece l = length l.rest

@@ -1,0 +1,312 @@
+ghost use Rattle.std.specs.Prelude.{◌≡◌, ℕ, List, ◌≤◌, ◌<◌, true, IfOk, length, take, [], ◌∷◌, ◌++◌, Some, MatchOption};
+ghost use Rattle.std.specs.List.{count_by, list_all, slice_split};
+ghost use Rattle.hdfs_values.specs.Parsed.{Parses};
+ghost use Rattle.file_paths.specs.Name.{is_name};
+ghost use Rattle.file_paths.specs.Path.{IsPath, IsRelative, is_slash, path_of, path_text, parent_of};
+ghost use Rattle.file_paths.specs.Path as spec;
+ghost use Rattle.file_paths.specs.PathOrder.{path_cmp, same_path, paths_total};
+ghost use Rattle.std.proofs.Common.{rules};
+ghost use Rattle.std.specs.Cmp.{partial_order_from_agreeing_total};
+ghost use Rattle.std.specs.Cmp.Rules.{comparing};
+ghost use Rattle.std.specs.Ordering.{as_partial_cmp};
+
+use crate::name::{Name, is_name};
+use hdfs_values::fault::{IllFormed, ParseFault};
+use hdfs_values::pieces::cut_at;
+use std::alloc::{AllocError, Global};
+use std::cmp::Ordering;
+use std::fmt;
+use std::marker::Model;
+
+/// An absolute path: the names from the root down, at most 1,000 of them, and at most 8,000 bytes as a text (HDFS
+/// Architecture, "The File System Namespace"). Paths are ordered by component, and each component by its bytes, so
+/// `/a/c` stands before `/a-b`.
+#[derive(Drop)]
+pub struct Path {
+    names: Vec<Name>,
+}
+
+impl Model for Path {
+    ghost use Rattle.std.specs.Prelude.{List, ℕ};
+    ghost use Rattle.file_paths.specs.Path.{IsPath};
+
+    ghost Value = { List (List ℕ) };
+
+    ghost view = { λ path. path.names.items };
+
+    ghost invariant = { λ path. IsPath path.names.items };
+}
+
+const NO_PATH: ParseFault = ParseFault::IllFormed(IllFormed::BadPath);
+
+/// What stands behind the slash that an absolute path begins with.
+fn behind_slash(text: &str) -> Option<&str>
+    ensures { MatchOption result (IsRelative text.now) (λ rest. text.now ≡ 47 ∷ rest.now) }
+{
+    text.strip_prefix('/')
+}
+
+/// How many slashes there are.
+fn slash_count(bytes: &[u8]) -> usize
+    ensures count { result ≡ count_by is_slash bytes.now }
+    ensures few { result ≤ length bytes.now }
+{
+    let mut count = 0;
+    for byte in bytes {
+        if *byte == b'/' {
+            count += 1;
+        }
+    }
+    count
+}
+
+/// How many pieces stand between the slashes of a text.
+fn piece_count(text: &str) -> usize
+    ensures { result ≡ length (slice_split is_slash text.now) }
+{
+    slash_count(text.as_bytes()) + 1
+}
+
+/// Whether each piece between the slashes of a text is a name.
+fn are_names(text: &str) -> bool
+    ensures { result ≡ list_all is_name (slice_split is_slash text.now) }
+{
+    let mut rest = text;
+    while let Some((piece, behind)) = cut_at(rest, b'/') {
+        if !is_name(piece) {
+            return false;
+        }
+        rest = behind;
+    }
+    is_name(rest)
+}
+
+/// Whether a text, which is a slash with `rest` behind it, is that of a path other than the root. Takes no memory.
+fn is_path(text: &str, rest: &str) -> bool
+    requires { text.now ≡ 47 ∷ rest.now }
+    ensures { result ≡ spec.is_path (slice_split is_slash rest.now) }
+{
+    text.len() <= Path::MAX_BYTES && piece_count(rest) <= Path::MAX_NAMES && are_names(rest)
+}
+
+/// The names between the slashes of a text.
+fn names_in(alloc: Global, text: &str) -> Result<Vec<Name>, AllocError>
+    requires { list_all is_name (slice_split is_slash text.now) ≡ true }
+    ensures { IfOk result (λ names. names.items ≡ slice_split is_slash text.now) }
+{
+    let mut names = Vec::with_capacity(alloc, piece_count(text))?;
+    let mut rest = text;
+    while let Some((piece, behind)) = cut_at(rest, b'/') {
+        names.push(Name::copied(alloc, piece)?)?;
+        rest = behind;
+    }
+    names.push(Name::copied(alloc, rest)?)?;
+    Ok(names)
+}
+
+impl Path {
+    /// The most names that a path has.
+    pub const MAX_NAMES: usize = 1000;
+
+    /// The most bytes that the text of a path has.
+    pub const MAX_BYTES: usize = 8000;
+
+    /// The root, which has no names.
+    pub fn root(alloc: Global) -> Path
+        ensures { result ≡ [] }
+    {
+        Path {
+            names: Vec::new(alloc),
+        }
+    }
+
+    /// Reads an absolute path, in a time linear in the text. The root is `/`, and no other path ends in a slash.
+    ///
+    /// # Errors
+    /// `BadPath` where the text is no path within the limits, whether there is memory or not; else out of memory.
+    pub fn parse(alloc: Global, text: &str) -> Result<Path, ParseFault>
+        ensures { Parses IllFormed.BadPath result (path_of text.now) }
+    {
+        let Some(rest) = behind_slash(text) else {
+            return Err(NO_PATH);
+        };
+        if rest.is_empty() {
+            return Ok(Path::root(alloc));
+        }
+        if !is_path(text, rest) {
+            return Err(NO_PATH);
+        }
+        Ok(Path {
+            names: names_in(alloc, rest)?,
+        })
+    }
+
+    /// The path of these names, from the root down. Takes no memory.
+    pub fn from_names(names: Vec<Name>) -> Path
+        requires { IsPath names.items }
+        ensures { result ≡ names.items }
+    {
+        Path { names }
+    }
+
+    /// The path of copies of these names, in a time linear in their text.
+    pub fn copied(alloc: Global, names: &[Name]) -> Result<Path, AllocError>
+        requires { IsPath names.now }
+        ensures { IfOk result (λ path. path ≡ names.now) }
+    {
+        Ok(Path {
+            names: copied_front(alloc, names, names.len())?,
+        })
+    }
+
+    /// The names from the root down.
+    pub fn names(&self) -> &[Name]
+        ensures names { result.now ≡ self.now }
+        ensures path { IsPath self.now }
+    {
+        &self.names
+    }
+
+    /// How many names the path has; the root has none.
+    pub fn depth(&self) -> usize
+        ensures { result ≡ length self.now }
+    {
+        self.names.len()
+    }
+
+    /// The path of the first `depth` names, in a time linear in their text.
+    pub fn front(&self, alloc: Global, depth: usize) -> Result<Path, AllocError>
+        requires { depth ≤ length self.now }
+        ensures { IfOk result (λ front. front ≡ take depth self.now) }
+    {
+        Ok(Path {
+            names: copied_front(alloc, &self.names, depth)?,
+        })
+    }
+
+    /// The path without its last name, in a time linear in its text; the root has no parent.
+    pub fn parent(&self, alloc: Global) -> Result<Option<Path>, AllocError>
+        ensures { IfOk result (λ parent. parent ≡ parent_of self.now) }
+    {
+        let depth = self.depth();
+        if depth == 0 {
+            return Ok(None);
+        }
+        Ok(Some(self.front(alloc, depth - 1)?))
+    }
+
+    /// Whether this path is the other or beneath it: the other is a prefix of it. Takes no memory.
+    pub fn is_at_or_under(&self, other: &Path) -> bool
+        ensures { result ≡ spec.is_prefix other.now self.now }
+    {
+        is_prefix(&other.names, &self.names)
+    }
+
+    /// Whether this path is beneath the other: the other is a proper prefix of it. Takes no memory.
+    pub fn is_under(&self, other: &Path) -> bool
+        ensures { result ≡ spec.is_beneath self.now other.now }
+    {
+        is_proper_prefix(&other.names, &self.names)
+    }
+}
+
+/// Whether two lists of names are one path. Takes no memory.
+pub fn is_same(names: &[Name], others: &[Name]) -> bool
+    ensures { result ≡ same_path names.now others.now }
+{
+    names == others
+}
+
+/// Whether the first names are a front of the second, or all of them: a path is the other or above it. Takes no memory.
+pub fn is_prefix(front: &[Name], names: &[Name]) -> bool
+    ensures { result ≡ spec.is_prefix front.now names.now }
+{
+    let depth = front.len();
+    depth <= names.len() && &names[..depth] == front
+}
+
+/// Whether the first names are a front of the second and not all of them. Takes no memory.
+pub fn is_proper_prefix(front: &[Name], names: &[Name]) -> bool
+    ensures { result ≡ spec.is_beneath names.now front.now }
+{
+    let depth = front.len();
+    depth < names.len() && &names[..depth] == front
+}
+
+fn copied_front(alloc: Global, names: &[Name], depth: usize) -> Result<Vec<Name>, AllocError>
+    requires { depth ≤ length names.now }
+    ensures { IfOk result (λ front. front.items ≡ take depth names.now) }
+{
+    let mut front = Vec::with_capacity(alloc, depth)?;
+    for i in 0..depth {
+        front.push(names[i].clone()?)?;
+    }
+    Ok(front)
+}
+
+impl Clone for Path {
+    ghost is_clone = { λ path copy. copy ≡ path };
+
+    fn clone(&self) -> Result<Path, AllocError> {
+        self.front(*self.names.allocator(), self.names.len())
+    }
+}
+
+impl PartialEq for Path {
+    ghost eq = { same_path };
+
+    ghost laws = { Prim.search (comparing, rules, paths_total) };
+
+    fn eq(&self, other: &Path) -> bool {
+        self.names == other.names
+    }
+}
+
+impl Eq for Path {
+    ghost laws = { Prim.search (comparing, rules, paths_total) };
+}
+
+impl Ord for Path {
+    ghost cmp = { path_cmp };
+
+    ghost total = { paths_total };
+
+    ghost matches_partial_cmp = { Prim.search (comparing, rules) };
+
+    ghost matches_eq = { Prim.search (comparing, rules) };
+
+    fn cmp(&self, other: &Path) -> Ordering {
+        self.names.cmp(&other.names)
+    }
+}
+
+impl PartialOrd for Path {
+    ghost partial_cmp = { as_partial_cmp path_cmp };
+
+    ghost laws = { partial_order_from_agreeing_total path_cmp paths_total (Prim.search (comparing, rules)) (Prim.search (comparing, rules)) };
+
+    fn partial_cmp(&self, other: &Path) -> Option<Ordering> {
+        Some(self.cmp(other))
+    }
+}
+
+/// Prints a slash before each name, and for the root one slash.
+impl fmt::Display for Path {
+    ghost output = { λ path. Some (path_text path) };
+
+    fn fmt<W: fmt::Write>(&self, f: &mut fmt::Formatter<W>) -> fmt::Result {
+        if self.names.is_empty() {
+            return write!(f, "/");
+        }
+        for name in &self.names {
+            write!(f, "/{name}")?;
+        }
+        Ok(())
+    }
+}
+
+/// Each path has one text, and each text that is read is that of its path.
+pub fn paths_have_one_spelling()
+    ensures read { (path : List (List ℕ)) → IsPath path → path_of (path_text path) ≡ Some path }
+    ensures spelled { (text : List ℕ) (path : List (List ℕ)) → path_of text ≡ Some path → IsPath path × (path_text path ≡ text) }
+{}

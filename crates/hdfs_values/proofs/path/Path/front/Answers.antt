@@ -1,5 +1,0 @@
-use Rattle.hdfs_values.proofs.Fronts.{front_path}
-use Rattle.hdfs_values.proofs.path.Path.front.Goals as goal
-
-pub invariant_of-result : goal.invariant_of-result
-invariant_of-result c = rw (c.in_ok-copied_front.ensures, c.deref.ensures.value) (front_path _ c.args.depth c.self.invariant)

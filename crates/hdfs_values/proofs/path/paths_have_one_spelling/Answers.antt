@@ -1,8 +1,0 @@
-use Rattle.hdfs_values.proofs.Spelling.{read_again, spelled_by}
-use Rattle.hdfs_values.proofs.path.paths_have_one_spelling.Goals as goal
-
-pub returns-clause-read : goal.returns-clause-read
-returns-clause-read c = read_again
-
-pub returns-clause-spelled : goal.returns-clause-spelled
-returns-clause-spelled c = spelled_by

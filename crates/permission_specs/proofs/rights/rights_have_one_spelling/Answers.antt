@@ -1,5 +1,0 @@
-use Rattle.permission_specs.proofs.RightsText.{read_again}
-use Rattle.permission_specs.proofs.rights.rights_have_one_spelling.Goals as goal
-
-pub returns-clause-read : goal.returns-clause-read
-returns-clause-read c = read_again
