@@ -1,7 +1,7 @@
 #!/usr/bin/env python3
 """Compares 1,000 random tokens of block_tokens with Python's hmac and struct.
 
-Copies the crates into a folder of its own, builds compare_hmac.main over them with `rt try`, which runs the code and proves
+Copies the crates that block_tokens stands on into a folder of its own, builds compare_hmac.main over them with `rt try`, which runs the code and proves
 nothing, and gives it random keys, moments, serials, blocks, modes and users. Each token that it issues must be byte for byte
 the one that Python makes, and so must the code of that token under another key of 0 to 130 bytes.
 
@@ -39,16 +39,30 @@ def case(rng):
     return line, f"{token.hex()} {hmac.new(other, token, hashlib.sha1).hexdigest()}"
 
 
+def libraries():
+    """The crates that block_tokens stands on with it, each with its line of crates.txt, lowest first."""
+    lines = {line.split(":")[0]: line for line in (HERE.parent / "crates.txt").read_text().splitlines() if ":" in line and not line.startswith("#")}
+    wanted, found = ["block_tokens"], set()
+    while wanted:
+        name = wanted.pop()
+        if name in lines and name not in found:
+            found.add(name)
+            wanted += lines[name].split(":")[1].split()
+    return {name: line for name, line in lines.items() if name in found}
+
+
 def run(lines):
     with tempfile.TemporaryDirectory() as place:
         root = pathlib.Path(place)
-        for name in ["hdfs_types", "block_tokens"]:
+        below = libraries()
+        for name in below:
             shutil.copytree(HERE.parent / "crates" / name, root / "crates" / name, ignore=shutil.ignore_patterns("out"))
+        shutil.copy(HERE.parent / "HANDLES", root)
         crate = root / "crates" / "compare_hmac"
         (crate / "src").mkdir(parents=True)
         shutil.copy(HERE / "compare_hmac.main", crate / "src" / "main.rt")
-        (root / "crates.txt").write_text(
-            "hdfs_types: bitflags\nblock_tokens: hdfs_types sha1\ncompare_hmac: hdfs_types block_tokens hex anyhow\n")
+        own = "compare_hmac: block_keys hdfs_values permission_bits hdfs_types block_tokens hex anyhow"
+        (root / "crates.txt").write_text("\n".join([*below.values(), own, ""]))
         done = subprocess.run(["rt", "try"], cwd=crate, input="\n".join(lines) + "\n", capture_output=True, text=True)
         return done.stdout, done.stderr
 
