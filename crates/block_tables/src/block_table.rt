@@ -11,7 +11,7 @@ ghost use Rattle.block_placement.specs.declared.candidate.Candidate.{Candidate};
 ghost use Rattle.block_tables.specs.Kept.{holds, load, load_without, blocks_on};
 ghost use Rattle.block_index.specs.Relation.{relates};
 ghost use Rattle.block_tables.specs.Recovered.{AreRecovered, AreFresh, AreGone};
-ghost use Rattle.block_tables.specs.Changes.{with_record_changed, with_valid_report, without_report, with_replication, with_length, without_blocks, with_recovery, with_recovered, with_hand_out, with_hand_outs};
+ghost use Rattle.block_tables.specs.Changes.{with_record_changed, with_valid_report, without_report, with_replication, with_length, with_recovery, with_recovered, with_hand_out, with_hand_outs};
 ghost use Rattle.block_records.specs.Marks.{with_marks};
 ghost use Rattle.block_records.specs.Reports.{others_of, agreeing_reports, with_reports_of};
 
@@ -488,14 +488,5 @@ impl BlockTable {
         };
         self.held.remove_each(own.expected.as_slice(), block);
         self.held.remove_reporting(own.reports, block);
-    }
-
-    /// Makes blocks known no more. Costs as `remove` for each of them.
-    pub fn remove_all(&mut self, blocks: &[BlockId])
-        ensures { self.new ≡ without_blocks self.old blocks.now }
-    {
-        for block in blocks {
-            self.remove(*block);
-        }
     }
 }

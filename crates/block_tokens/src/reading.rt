@@ -1,5 +1,4 @@
 ghost use Rattle.std.specs.Prelude.{◌≡◌, length, IfSome, IsTrue};
-ghost use Rattle.std.specs.List.{list_all};
 ghost use Rattle.std.specs.Int.{w32, w64};
 ghost use Rattle.permission_bits.specs.Modes.{is_modes};
 ghost use Rattle.hdfs_values.specs.Who as who;
@@ -8,7 +7,7 @@ ghost use Rattle.block_tokens.specs.Reading.{Gives};
 
 use crate::token::Body;
 use hdfs_values::ids::{BlockId, Serial};
-use hdfs_values::who::Who;
+use hdfs_values::who::is_who;
 use permission_bits::modes::Modes;
 
 fn u64_at(bytes: &[u8]) -> Option<(u64, &[u8])>
@@ -47,32 +46,11 @@ fn modes_at(bytes: &[u8]) -> Option<(Modes, &[u8])>
     Some((modes, rest))
 }
 
-fn is_user_byte(byte: u8) -> bool
-    ensures { result ≡ who.is_who_byte byte }
-{
-    byte >= 0x21 && byte <= 0x7e && byte != b':' && byte != b',' && byte != b'/'
-}
-
-fn are_user_bytes(bytes: &[u8]) -> bool
-    ensures { result ≡ list_all who.is_who_byte bytes.now }
-{
-    bytes.iter().all(|byte| is_user_byte(*byte))
-}
-
-fn is_user(bytes: &[u8]) -> bool
-    ensures { result ≡ who.is_who bytes.now }
-{
-    if bytes.is_empty() || bytes.len() > Who::MAX_BYTES {
-        return false;
-    }
-    are_user_bytes(bytes)
-}
-
 fn user_name(bytes: &[u8]) -> Option<&str>
     ensures name { Gives (λ x. x.now) result (who.who_of bytes.now) }
     ensures user { IfSome result (λ x. who.IsWho x.now) }
 {
-    if !is_user(bytes) {
+    if !is_who(bytes) {
         return None;
     }
     match str::from_utf8(bytes) {

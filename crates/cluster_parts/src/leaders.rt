@@ -1,5 +1,4 @@
-ghost use Rattle.std.specs.Prelude.{◌≡◌, [], fold, IfOk, OnOk, OnErr, option_copied};
-ghost use Rattle.block_records.specs.Numbers.{entry_at};
+ghost use Rattle.std.specs.Prelude.{◌≡◌, [], fold, IfOk, OnOk, OnErr};
 ghost use Rattle.node_calls.specs.declared.call.PlanCall.TheVariants as asked;
 ghost use Rattle.cluster_trace.specs.Trace.{with_no_plan};
 ghost use Rattle.cluster_parts.specs.Leaders.{plans_led, answer_led};
@@ -58,13 +57,6 @@ impl Leaders {
             leaders.add(*id)?;
         }
         Ok(leaders)
-    }
-
-    /// The recoveries that the DataNode with an id leads. Costs a look-up, and takes no memory.
-    pub fn get(&self, id: NodeId) -> Option<&Plans>
-        ensures { option_copied result ≡ entry_at id self.now }
-    {
-        self.by_id.get(&id)
     }
 
     /// Calls the DataNode with an id about the recoveries that it leads; `None` where there is none.

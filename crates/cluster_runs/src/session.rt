@@ -68,7 +68,6 @@ fn newest_verdict(core: &NameCore) -> Option<&Verdict>
 
 /// Adds what came of an event that a world has stepped, behind the number of its line, where the ledger had so many rows before.
 fn print_stepped(
-    alloc: Global,
     number: usize,
     rows: usize,
     world: &World,
@@ -80,7 +79,7 @@ fn print_stepped(
     ensures err { OnErr result (string_bytes out.new ≡ string_bytes out.old) }
 {
     let newest = newest_verdict(world.core());
-    print_told(alloc, number, rows, newest, outcome, line, out)
+    print_told(number, rows, newest, outcome, line, out)
 }
 
 /// How many tokens were granted.
@@ -173,7 +172,6 @@ impl Session {
         let outcome = self.world.step(event)?;
         let number = self.number + 1;
         let printed = print_stepped(
-            self.alloc,
             number,
             rows,
             &self.world,

@@ -23,7 +23,7 @@ fn step_report(alloc: Global, world: &mut World, text: &mut String) -> Result<()
     });
     let outcome = world.step(Event::Name(Request { caller, moment, op }))?;
     let mut line = String::new(alloc);
-    let printed = print_told(alloc, 1, 0, None, &outcome, &mut line, text);
+    let printed = print_told(1, 0, None, &outcome, &mut line, text);
     drop(outcome);
     Ok(printed?)
 }

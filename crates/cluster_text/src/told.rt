@@ -11,7 +11,7 @@ use node_text::node_reply::print_called;
 use node_text::numbers::push_number;
 use node_text::plan_reply::print_led;
 use script_text::answer::Answer;
-use std::alloc::{AllocError, Global};
+use std::alloc::AllocError;
 
 /// Adds the verdict on a request, where the ledger had so many rows before.
 fn print_ruled(rows: usize, newest: Option<&Verdict>, line: &mut String) -> Result<(), AllocError>
@@ -33,7 +33,6 @@ fn print_lost(refusal: ClusterRefusal, line: &mut String) -> Result<(), AllocErr
 }
 
 fn print_event_answer(
-    alloc: Global,
     rows: usize,
     newest: Option<&Verdict>,
     answer: &EventAnswer,
@@ -43,7 +42,7 @@ fn print_event_answer(
 {
     match answer {
         EventAnswer::Named(_) => print_ruled(rows, newest, line),
-        EventAnswer::Called(called) => print_called(alloc, called, line),
+        EventAnswer::Called(called) => print_called(called, line),
         EventAnswer::Led(led) => print_led(led, line),
         EventAnswer::Lost(refusal) => print_lost(*refusal, line),
     }
@@ -66,7 +65,6 @@ fn print_sent(first: u64, count: u64, line: &mut String) -> Result<(), AllocErro
 
 /// Adds what comes of an event behind so many rows of the ledger, where this is the verdict of the newest entry behind it.
 fn print_outcome(
-    alloc: Global,
     rows: usize,
     newest: Option<&Verdict>,
     outcome: &Outcome,
@@ -74,7 +72,7 @@ fn print_outcome(
 ) -> Result<(), AllocError>
     ensures { OnOk result (string_bytes line.new ≡ string_bytes line.old ++ spec.told_text (record { outcome = outcome.now; rows = rows; newest = option_copied newest.entry })) }
 {
-    print_event_answer(alloc, rows, newest, &outcome.answer, line)?;
+    print_event_answer(rows, newest, &outcome.answer, line)?;
     print_sent(outcome.first, outcome.count, line)
 }
 
@@ -84,7 +82,6 @@ fn print_outcome(
 /// # Errors
 /// Out of memory. The output is as before then.
 pub fn print_told(
-    alloc: Global,
     number: usize,
     rows: usize,
     newest: Option<&Verdict>,
@@ -98,7 +95,7 @@ pub fn print_told(
     line.clear();
     push_number(number as u64, line)?;
     line.push(' ')?;
-    print_outcome(alloc, rows, newest, outcome, line)?;
+    print_outcome(rows, newest, outcome, line)?;
     line.push('\n')?;
     out.push_str(line.as_str())
 }

@@ -2,7 +2,6 @@ ghost use Rattle.std.specs.Prelude.{◌≡◌, true, false, IfOk, OnErr};
 ghost use Rattle.std.specs.Option.{IsSome};
 ghost use Rattle.block_map.specs.BlockFacts.{recovering_since};
 ghost use Rattle.namespace_rows.specs.Rows.{row_at};
-ghost use Rattle.namespace_rows.specs.Files.{state_recovers};
 ghost use Rattle.namespace_rows.specs.Namespace.{IsNamespace};
 ghost use Rattle.flat_rows.specs.Changes.{is_recovered, recovery_ended};
 ghost use Rattle.flat_rows.specs.Verdicts.{is_done};
@@ -13,32 +12,20 @@ use block_map::blocks::Blocks;
 use block_records::fault::BlockFault;
 use file_paths::path::Path;
 use flat_rows::verdict::Verdict;
-use hdfs_types::file::FileState;
 use hdfs_types::replica::RecoveredBlock;
 use hdfs_types::reply::{Refusal, Reply};
 use hdfs_values::ids::BlockId;
 use inode_tree::tree::Tree;
 use lease_manager::open_paths::OpenPaths;
-use namespace_rows::file_row::FileRow;
 use namespace_rows::row::Row;
 use std::alloc::{AllocError, Global};
 
-/// Whether the last block of a file is in a recovery, and this one. Takes no memory.
-fn recovers(file: &FileRow, block: BlockId) -> bool
-    ensures { result ≡ state_recovers block file.now.state }
-{
-    match &file.state {
-        FileState::Recovering(own, _, _) => *own == block,
-        FileState::Closed | FileState::Open(_) => false,
-    }
-}
-
-/// Whether what has a path is such a file. Takes no memory.
+/// Whether what has a path is a file whose last block is in a recovery, and is this one. Takes no memory.
 fn recovers_at(tree: &Tree, path: &Path, block: BlockId) -> bool
     ensures { result ≡ spec.recovers_at block (row_at path.now tree.now) }
 {
     match file_at(tree, path) {
-        Some(file) => recovers(file, block),
+        Some(file) => file.recovers(block),
         None => false,
     }
 }
@@ -48,7 +35,7 @@ fn recovers_in(row: &Row, block: BlockId) -> bool
     ensures { result ≡ is_recovered block row.now.file }
 {
     match &row.file {
-        Some(file) => recovers(file, block),
+        Some(file) => file.recovers(block),
         None => false,
     }
 }

@@ -1,5 +1,4 @@
 ghost use Rattle.std.specs.Prelude.{◌≡◌, ◌++◌, [], ◌∷◌, take, length, OnOk, OnErr};
-ghost use Rattle.grant_ledger.specs.Ledger.{HasRoom};
 
 use block_tokens::grant::Grant;
 use std::alloc::{AllocError, Global};
@@ -32,12 +31,11 @@ impl Drop for Ledger {
 }
 
 impl Model for Ledger {
-    ghost use Rattle.std.specs.Prelude.{◌-◌, vec_len, vec_capacity};
     ghost use Rattle.grant_ledger.specs.Ledger.{Ledger};
 
     ghost Value = { Ledger };
 
-    ghost view = { λ ledger. record { rows = ledger.rows.items; room = vec_capacity ledger.rows - vec_len ledger.rows } };
+    ghost view = { λ ledger. record { rows = ledger.rows.items } };
 }
 
 impl Ledger {
@@ -86,25 +84,6 @@ impl Ledger {
         ensures { self.new.rows ≡ take kept self.old.rows }
     {
         self.rows.truncate(kept);
-    }
-
-    /// Makes room for one more row. The rows are as before.
-    ///
-    /// # Errors
-    /// Out of memory.
-    pub fn reserve(&mut self) -> Result<(), AllocError>
-        ensures rows { self.new.rows ≡ self.old.rows }
-        ensures room { OnOk result (HasRoom self.new) }
-    {
-        self.rows.reserve(1)
-    }
-
-    /// Adds a row at the end, for which there is room. Takes no memory.
-    pub fn push_reserved(&mut self, row: LedgerRow)
-        requires { HasRoom self.old }
-        ensures { self.new.rows ≡ self.old.rows ++ row ∷ [] }
-    {
-        self.rows.push_reserved(row);
     }
 
     /// The rows in the order in which they were granted. Takes no memory.

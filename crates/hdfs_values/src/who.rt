@@ -50,10 +50,10 @@ fn are_who_bytes(bytes: &[u8]) -> bool
     bytes.iter().all(|byte| is_who_byte(*byte))
 }
 
-fn is_who(text: &str) -> bool
-    ensures { result ≡ spec.is_who text.now }
+/// Whether these bytes are the name of a user or a group. Costs their number, and takes no memory.
+pub fn is_who(bytes: &[u8]) -> bool
+    ensures { result ≡ spec.is_who bytes.now }
 {
-    let bytes = text.as_bytes();
     if bytes.is_empty() || bytes.len() > Who::MAX_BYTES {
         return false;
     }
@@ -71,7 +71,7 @@ impl Who {
     pub fn parse(alloc: Global, text: &str) -> Result<Who, ParseFault>
         ensures { Parses IllFormed.BadName result (who_of text.now) }
     {
-        if !is_who(text) {
+        if !is_who(text.as_bytes()) {
             return Err(ParseFault::IllFormed(IllFormed::BadName));
         }
         Ok(Who {

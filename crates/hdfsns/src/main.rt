@@ -260,12 +260,16 @@ fn refuse(rt: &HostRuntime, error: &Error) -> ExitCode {
     if error.kind() == ErrorKind::OutOfMemory {
         return no_memory(rt);
     }
-    let _ = error.print(rt);
+    let printed = error.print(rt);
     if error.use_stderr() {
-        ExitCode::from(BAD_COMMAND_LINE)
-    } else {
-        ExitCode::SUCCESS
+        return ExitCode::from(BAD_COMMAND_LINE);
     }
+    // the help or the version, which standard output may not take
+    if printed.is_err() {
+        report(rt, ScriptFault::CannotWrite, "");
+        return ExitCode::from(FAULT);
+    }
+    ExitCode::SUCCESS
 }
 
 fn answer(rt: &HostRuntime, words: &[String]) -> ExitCode {

@@ -209,8 +209,8 @@ impl FileRow {
         }
     }
 
-    /// Whether the file's last block, this one, is recovered.
-    fn recovers(&self, id: BlockId) -> bool
+    /// Whether the last block of the file is in a recovery, and is this one. Takes no memory.
+    pub fn recovers(&self, id: BlockId) -> bool
         ensures { result ≡ spec.state_recovers id self.now.state }
     {
         match &self.state {

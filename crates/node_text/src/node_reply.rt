@@ -13,7 +13,7 @@ use node_calls::call::ReplicaState;
 use node_calls::chunks::Chunks;
 use node_calls::refusal::NodeRefusal;
 use node_calls::reply::NodeReply;
-use std::alloc::{AllocError, Global};
+use std::alloc::AllocError;
 
 /// The digit of a number below 16.
 fn digit_of(number: u8) -> u8
@@ -162,7 +162,6 @@ fn print_refusal(refusal: NodeRefusal, line: &mut String) -> Result<(), AllocErr
 /// # Errors
 /// Out of memory.
 pub fn print_called(
-    _alloc: Global,
     answer: &Result<NodeReply, NodeRefusal>,
     line: &mut String,
 ) -> Result<(), AllocError>

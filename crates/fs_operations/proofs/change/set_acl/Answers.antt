@@ -6,7 +6,7 @@ use Rattle.fs_operations.proofs.change.set_acl.Goals as goal
 
 pub rewrite-requires : goal.rewrite-requires
 rewrite-requires c =
-    let at = subst (IsTarget c.args.path.now c.args.tree.now c.args.caller.now c.args.needs.now) c.in-There.is c.in_ok-component.ensures in
+    let at = subst (IsTarget c.args.path.now c.args.tree.now c.args.caller.now c.args.needs.now) c.in-There.is c.in_ok-denial.ensures in
     let kind = c.kind.ensures ∙ ap (λ row. row.kind) c.inode-inode.ensures in
     let acl = c.acl.ensures ∙ ap (λ row. row.acl) c.inode-inode.ensures in
     changed_list_suits c.args.change.now c.args.path.now c.args.tree.now c.in-There.component c.in-Ok.acl at.tree at.there.at

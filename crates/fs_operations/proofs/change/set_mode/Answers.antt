@@ -6,7 +6,7 @@ use Rattle.fs_operations.proofs.change.set_mode.Goals as goal
 
 pub rewrite-requires : goal.rewrite-requires
 rewrite-requires c =
-    let at = subst (IsTarget c.args.path.now c.args.tree.now c.args.caller.now c.args.needs.now) c.in-There.is c.in_ok-component.ensures in
+    let at = subst (IsTarget c.args.path.now c.args.tree.now c.args.caller.now c.args.needs.now) c.in-There.is c.in_ok-denial.ensures in
     let kind = c.kind.ensures ∙ ap (λ row. row.kind) c.inode-inode.ensures in
     let acl = c.in_ok-acl.ensures.cases ∙ c.acl.ensures ∙ ap (λ row. row.acl) c.inode-inode.ensures in
     list_of_mode_suits c.args.mode c.args.path.now c.args.tree.now c.in-There.component c.chmod.new.acl at.tree at.there.at

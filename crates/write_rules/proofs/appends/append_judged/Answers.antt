@@ -9,7 +9,7 @@ use Rattle.write_rules.proofs.appends.append_judged.Goals as goal
 
 pub returns-in-There-clause-verdict : goal.returns-in-There-clause-verdict
 returns-in-There-clause-verdict c = λ facts users.
-    let at = subst (IsTargetFile c.args.path.now c.args.tree.now c.args.caller.now c.args.needs.now) c.in-There.is c.in_ok-file.ensures in
+    let at = subst (IsTargetFile c.args.path.now c.args.tree.now c.args.caller.now c.args.needs.now) c.in-There.is c.in_ok-denial.ensures in
     let file = c.in-There.file.now in
     IfOk-weaker c.appended.result _ _
     (λ judged is. is
@@ -19,5 +19,5 @@ returns-in-There-clause-verdict c = λ facts users.
 
 pub returns-in-There-clause-found : goal.returns-in-There-clause-found
 returns-in-There-clause-found c =
-    let at = subst (IsTargetFile c.args.path.now c.args.tree.now c.args.caller.now c.args.needs.now) c.in-There.is c.in_ok-file.ensures in
+    let at = subst (IsTargetFile c.args.path.now c.args.tree.now c.args.caller.now c.args.needs.now) c.in-There.is c.in_ok-denial.ensures in
     IfOk-weaker c.appended.result _ _ (judged_at c.args.path.now c.args.tree.now c.in-There.file.now at.there.at) c.appended.ensures.found

@@ -11,7 +11,7 @@ use Rattle.write_rules.proofs.blocks.add_block_judged.Goals as goal
 
 pub returns-clause-verdict : goal.returns-clause-verdict
 returns-clause-verdict c = λ facts users blocks now.
-    let at = subst (IsTargetFile c.args.path.now c.args.tree.now c.args.caller.now c.args.needs.now) c.in-There.is c.in_ok-file.ensures in
+    let at = subst (IsTargetFile c.args.path.now c.args.tree.now c.args.caller.now c.args.needs.now) c.in-There.is c.in_ok-denial.ensures in
     let file = c.in-There.file.now in
     let client = c.args.caller.now.name in
     let free : option_or (refused_write client file) (refused_unless_last c.args.last file) ≡ None =

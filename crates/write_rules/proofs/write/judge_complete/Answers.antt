@@ -9,7 +9,7 @@ use Rattle.write_rules.proofs.write.judge_complete.Goals as goal
 
 pub returns : goal.returns
 returns c = λ facts users same.
-    let at = subst (IsTargetFile c.args.path.now c.args.tree.now c.args.caller.now c.args.needs.now) c.in-There.is c.in_ok-file.ensures in
+    let at = subst (IsTargetFile c.args.path.now c.args.tree.now c.args.caller.now c.args.needs.now) c.in-There.is c.in_ok-denial.ensures in
     let told = reply.Closed (bytes_behind c.args.last (Some c.in-There.file.now)) in
     IfOk-weaker c.completed.result _ _
     (λ verdict is. is
