@@ -17,10 +17,10 @@ use std::alloc::{AllocError, Global};
 use std::io::{Read, Write};
 use std::mem;
 
-/// Of how many entries lines are made before they are written.
+/// How many entries a batch has at most: the lines of so many are made before they are written.
 const BLOCK: usize = 256;
 
-/// The entries of the next block, behind so many that are done.
+/// The next batch of entries, behind so many that are done.
 fn block_behind(entries: &[HistoryEntry], done: usize) -> &[HistoryEntry]
     requires { done ≤ length entries.now }
     ensures { result.now ≡ take 256 (drop done entries.now) }
@@ -30,7 +30,8 @@ fn block_behind(entries: &[HistoryEntry], done: usize) -> &[HistoryEntry]
     block
 }
 
-/// Writes the lines of a block of entries, behind so many that are done.
+/// Writes the lines of a batch of entries, behind so many that are done. Where memory runs out, nothing of the batch is written, and the
+/// fault says how many were done.
 fn write_block<W: Write>(
     alloc: Global,
     writer: &mut W,
@@ -48,7 +49,7 @@ fn write_block<W: Write>(
     write_text(writer, text.as_bytes()).map_err(|_| ScriptFault::CannotWrite)
 }
 
-/// Writes the lines of the entries, a block of them at a time.
+/// Writes the lines of the entries, a batch of entries at a time.
 fn write_entries<W: Write>(
     alloc: Global,
     writer: &mut W,
@@ -88,7 +89,8 @@ fn record_script(alloc: Global, script: &str) -> Result<RecordedRun, AllocError>
     Ok(RecordedRun { recording, ended })
 }
 
-/// Writes the lines of all entries that were recorded, and answers how the script ended.
+/// Writes the lines of all entries that were recorded, and answers how the script ended. Where memory ran out as it was run, though not
+/// for these lines, the fault says how many entries there are: the lines of all are written.
 fn write_recorded<W: Write>(
     alloc: Global,
     writer: &mut W,
@@ -118,8 +120,9 @@ fn write_recorded<W: Write>(
 ///
 /// # Errors
 /// `CannotRead` where the reader fails, or hasn't ended after 4,294,967,295 reads, and `NotUtf8`: nothing is written.
-/// `OutOfMemory`: the lines of the first `served` entries are written, all of them, and nothing else. `CannotWrite`: a front of the
-/// text is written.
+/// `OutOfMemory`: the lines of the first `served` entries are written, all of them, and nothing else; it comes where memory runs out as
+/// the script is run, and also where all its lines were run and there is none for the text. `CannotWrite`: a front of the text is
+/// written.
 pub fn audit<R: Read, W: Write>(
     alloc: Global,
     reader: &mut R,

@@ -13,7 +13,7 @@ use script_runs::script::Status;
 use script_words::words::{is_skipped, pieces_between, without_return};
 use std::alloc::{AllocError, Global};
 
-/// A script whose requests are recorded: what has a `Session` of it, but for the answers, which would grow with the script.
+/// A script that is recorded: what a `Session` has of it, but for the answers, which would grow with the script.
 #[derive(Drop)]
 pub(crate) struct Recording {
     world: World,
@@ -100,6 +100,9 @@ impl Recording {
     }
 
     /// Runs a script on a cluster in which nothing has happened. Where memory runs out, the entries of the lines before are held.
+    ///
+    /// # Errors
+    /// Out of memory.
     pub(crate) fn run(&mut self, script: &str) -> Result<Status, AllocError>
         requires { Holds spec.no_lines self.old }
         ensures entries { OnOk result (history_after self.new.world ≡ history_of_script script.now) }

@@ -3,15 +3,20 @@ use crate::workload::number;
 /// What is shown of a workload.
 #[derive(Clone, Copy)]
 pub enum Shown {
+    /// How many operations are done in a second.
     Rate,
+    /// The lines of its script, of which none is run.
     Lines,
+    /// What its lines are answered.
     Answers,
 }
 
 /// What a command line asks for.
 #[derive(Clone, Copy)]
 pub struct Asked<'a> {
+    /// The name of a workload.
     pub name: &'a str,
+    /// The size of the workload.
     pub size: u32,
     pub shown: Shown,
 }

@@ -177,7 +177,10 @@ pub fn lines_of(text: &str) -> &str {
     }
 }
 
-/// The lines of the blocks of these names at a size.
+/// The lines of the blocks of these names at a size. Blanks separate the names, and one that no block has adds nothing.
+///
+/// # Errors
+/// Out of memory.
 pub fn text_of(alloc: Global, names: &str, size: u32) -> Result<String, AllocError> {
     let mut text = String::new(alloc);
     for name in names.split(' ') {

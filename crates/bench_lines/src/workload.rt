@@ -1,7 +1,7 @@
 //! The workloads as data: what lines each has. They are texts that are looked up when the program runs, since a proof that names a table of
 //! structs computes it. `bench/plain` reads this file too, so it is plain Rust.
 
-/// What can be timed as a script of lines: names of blocks, each behind a blank.
+/// What can be timed as a script of lines: names of blocks of lines, with a blank between each two.
 #[derive(Clone, Copy)]
 pub struct Workload {
     /// What is counted as an operation of the timed lines: `lines` is each of them, and any other word is read by `count_at`.
@@ -26,6 +26,7 @@ pub struct Workload {
 pub struct Block {
     /// How many turns, as `count_at` reads it.
     pub turns: &'static str,
+    /// What is repeated.
     pub lines: &'static str,
 }
 

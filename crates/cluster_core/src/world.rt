@@ -98,15 +98,17 @@ impl World {
         self.cluster.node(id)
     }
 
-    /// Every request to the NameNode was answered by the written rules on the entries before it, and every call of a DataNode that
-    /// presented a token and was served, presented a token that the NameNode had granted for it, or a forged one; as long as none
-    /// presented a forged one, each record in the log of each DataNode rests on a grant; and all values fit their types, so that the laws
-    /// about clusters hold of these events. Does nothing.
+    /// A law of this world, which a call tells the prover; it does nothing, and returns nothing. Every request to the NameNode was answered
+    /// by the written rules on the entries before it, and every call of a DataNode that presented a token and was served, presented a token
+    /// that the NameNode had granted for it, or a forged one; as long as none presented a forged one, each record in the log of each
+    /// DataNode rests on a grant; and all values fit their types, so that the laws about clusters hold of these events.
     pub fn is_right(&self)
         ensures right { AllRight self.now.opening self.now.events }
         ensures rest { RecordsOf self.now.opening self.now.events }
         ensures typed { AreTyped self.now.opening self.now.events }
     {
+        // a read of a field tells the prover that the world keeps its invariant: its events lead from its opening to its state, and all
+        // values fit their types
         let _events = &self.events;
     }
 
@@ -218,6 +220,7 @@ impl World {
 
 /// A world, and what came of the events that were stepped.
 pub struct Trace {
+    /// As the events leave it.
     pub world: World,
     /// The oldest first.
     pub outcomes: Vec<Outcome>,

@@ -32,7 +32,7 @@ use std::alloc::{AllocError, Global};
 /// What comes of a message that is delivered.
 #[derive(Drop)]
 pub enum Carried {
-    /// There is none.
+    /// There is no such message, and nothing changes.
     Nowhere,
     /// What a DataNode answers; nothing where there is no such node.
     Called(Option<Answered>),

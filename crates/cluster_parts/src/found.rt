@@ -15,10 +15,15 @@ use node_calls::message::{Message, Messages};
 /// A message as it is kept: on its own, or as a command in an entry of the NameNode's history, which is for a DataNode.
 #[derive(Clone, Copy)]
 pub enum Found<'a> {
+    /// A message that is kept on its own.
     Kept(&'a Message),
+    /// The DataNode is brought these keys.
     Keys(NodeId, &'a KeyList),
+    /// The DataNode is to lead this recovery of a block.
     Recovery(NodeId, &'a Recover),
+    /// The DataNode is to remove this replica.
     Removal(NodeId, Removal),
+    /// The DataNode is to copy this replica to another.
     Copy(NodeId, &'a CopyOrder),
 }
 

@@ -46,6 +46,9 @@ impl Leaders {
     }
 
     /// DataNodes with these ids, which lead no recovery.
+    ///
+    /// # Errors
+    /// Out of memory.
     pub fn of(alloc: Global, ids: &[NodeId]) -> Result<Leaders, AllocError>
         ensures { IfOk result (λ leaders. leaders ≡ fold with_no_plan [] ids.now) }
     {

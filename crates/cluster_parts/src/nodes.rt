@@ -45,6 +45,9 @@ impl Nodes {
     }
 
     /// DataNodes with these ids, whose replicas have at most so many bytes.
+    ///
+    /// # Errors
+    /// Out of memory.
     pub fn of(alloc: Global, ids: &[NodeId], limit: u64) -> Result<Nodes, AllocError>
         ensures { IfOk result (λ nodes. nodes ≡ fold (with_new_node limit) [] ids.now) }
     {

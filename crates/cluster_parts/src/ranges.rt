@@ -18,7 +18,8 @@ fn read_row(row: &LedgerRow)
     let _user = row.grant.user.as_str();
 }
 
-/// The numbers of the rows from this one on fit.
+/// Reads the rows from this one on, which tells the prover that their numbers fit, and that their users are named. Changes nothing; costs
+/// these rows, and takes no memory.
 pub fn read_rows(rows: &[LedgerRow], from: usize)
     requires { from ≤ length rows.now }
     ensures { AllByRecursion (λ (row : LedgerRow). GrantFits row.grant) (drop from rows.now) }
@@ -35,7 +36,7 @@ fn read_bytes(bytes: &[u8])
     let _bytes = bytes;
 }
 
-/// What is presented as a token is bytes.
+/// Reads a call, which tells the prover that what it presents as a token is bytes. Changes nothing, and takes no memory.
 pub fn read_call(call: &NodeCall)
     ensures { PresentsBytes call.now }
 {

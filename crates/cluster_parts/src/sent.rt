@@ -10,6 +10,7 @@ use std::alloc::{AllocError, Global};
 pub enum Source {
     /// They are the commands in the entry with this index of the NameNode's history.
     Entry(usize),
+    /// They are these.
     Own(Messages),
 }
 
@@ -26,6 +27,7 @@ impl Drop for Source {
 pub struct Batch {
     /// The number of the first.
     pub first: u64,
+    /// Where they are.
     pub source: Source,
 }
 
@@ -38,7 +40,9 @@ impl Drop for Batch {
 
 /// All messages that were ever sent, in batches, each of one event.
 pub struct Sent {
+    /// The oldest first.
     pub batches: Vec<Batch>,
+    /// How many messages there are.
     pub count: u64,
 }
 
@@ -141,8 +145,9 @@ fn begun_by(batches: &[Batch], number: u64) -> usize
     low
 }
 
-/// The same. Messages are mostly delivered in their order: so it is tried first whether this many batches are it, or one more, which costs
-/// nothing where it is so.
+/// How many batches begin at or below a number, where their first numbers ascend. Messages are mostly delivered in their order: so it is
+/// tried first whether this many batches are it, or one more, which costs nothing where it is so; else a step for each time that their
+/// number can be halved. Takes no memory.
 pub fn begun_near(batches: &[Batch], number: u64, near: usize) -> usize
     ensures within { result ≤ length batches.now }
     ensures below { (index : ℕ) (batch : Batch) → result ≡ index + 1 → slice_get batches.now index ≡ Some batch → batch.first ≤ number }

@@ -1,4 +1,5 @@
-//! Scripts of a cluster, lines in and lines of answers out: requests to the NameNode, calls of DataNodes, and deliveries of messages.
+//! Scripts of a cluster, lines in and lines of answers out: requests to the NameNode, calls of DataNodes, and deliveries of messages. Empty
+//! lines and comments get no answer.
 #![tactic(auto)]
 
 pub mod laws;

@@ -128,7 +128,7 @@ impl Session {
         &self.world
     }
 
-    /// How many lines were run.
+    /// How many lines were run, empty ones and comments among them.
     pub fn number(&self) -> usize
         ensures { result ≡ self.now.number }
     {
@@ -142,8 +142,9 @@ impl Session {
         self.has_bad
     }
 
-    /// Every request of the lines so far was answered by the written rules, and every call of a DataNode that presented a token and was
-    /// served, presented one that the NameNode had granted for it, or a forged one; and all values fit their types. Does nothing.
+    /// A law of the lines so far, which a call tells the prover; it does nothing, and returns nothing. Every request was answered by the
+    /// written rules, and every call of a DataNode that presented a token and was served, presented one that the NameNode had granted for
+    /// it, or a forged one; and all values fit their types.
     pub fn is_right(&self)
         ensures right { (state : spec.State) → Shows state self.now → AllRight state.past.opening state.past.events }
         ensures typed { (state : spec.State) → Shows state self.now → AreTyped state.past.opening state.past.events }

@@ -22,6 +22,7 @@ pub struct TimedRun {
 #[derive(Clone, Copy, Debug, PartialEq, Eq)]
 pub enum TimingFault {
     OutOfMemory,
+    /// The clock can't be read.
     NoClock,
 }
 

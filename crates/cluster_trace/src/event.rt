@@ -6,10 +6,10 @@ use hdfs_values::node_id::NodeId;
 /// What can happen to a cluster from outside.
 #[derive(Drop)]
 pub enum Event {
-    /// A request to the NameNode.
+    /// A request to the NameNode, with its caller and its moment. One that only a message brings does nothing.
     Name(Request),
-    /// The message of this number is delivered at a moment: once more, if it was delivered before.
+    /// The message of this number is delivered at a moment: once more, if it was delivered before. Messages are numbered from 1.
     Deliver(u64, Moment),
-    /// A call of a DataNode, at a moment.
+    /// A call of the DataNode with this id, at a moment.
     Data(NodeId, Moment, DataCall),
 }

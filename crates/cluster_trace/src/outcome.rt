@@ -34,12 +34,14 @@ impl fmt::Display for ClusterRefusal {
 
 /// What is answered to an event.
 pub enum EventAnswer {
-    /// The entry at this place of the NameNode's history, with its verdict.
+    /// The NameNode answered a request, from outside or by a message: its entry has this place in the history, counted from 1, and holds
+    /// the verdict.
     Named(u64),
-    /// A DataNode's answer.
+    /// A DataNode answered a call, or refused it.
     Called(Result<NodeReply, NodeRefusal>),
-    /// The answer of a DataNode that leads recoveries.
+    /// A DataNode answered a call about the recoveries that it leads, or refused it.
     Led(Result<PlanReply, PlanRefusal>),
+    /// The event does nothing, for this reason. No message is lost by it.
     Lost(ClusterRefusal),
 }
 
@@ -57,7 +59,7 @@ impl Drop for EventAnswer {
 /// What comes of an event: the answer, and the messages that it sends, which are numbered from 1 in the order in which they are sent.
 pub struct Outcome {
     pub answer: EventAnswer,
-    /// The number of the first message.
+    /// The number of the first message; where there is none, the number that the next message gets.
     pub first: u64,
     /// How many messages there are.
     pub count: u64,

@@ -78,11 +78,15 @@ struct Explanation {
     text: String,
 }
 
-/// The tree as a flat list of rows.
+/// The tree as a flat list of rows, in path order. Costs the whole tree.
+///
+/// # Errors
+/// Out of memory.
 pub fn rows_of(alloc: Global, tree: &Tree) -> Result<Rows, AllocError>
     ensures { IfOk result (λ rows. rows ≡ tree.now) }
 {
     let rows = tree.rows_under(&Path::root(alloc))?;
+    // a call on the tree tells the prover that its rows are a namespace, as `from_vec` requires
     let _root = tree.root();
     Ok(Rows::from_vec(rows))
 }

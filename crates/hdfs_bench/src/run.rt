@@ -6,6 +6,9 @@ use std::time::Duration;
 
 /// Runs both texts on a cluster of their own, where each line is answered `ok`, and returns how long the second took. What they are
 /// answered is printed where that is wanted.
+///
+/// # Errors
+/// `OutOfMemory`, `System` where the clock can't be read or the output can't be written, and `NotOk` where a line isn't answered `ok`.
 pub fn run_alone(rt: &HostRuntime, script: Script, is_shown: bool) -> Result<Duration, Fault> {
     let run = time_script(rt, lines_of(script.before), lines_of(script.timed))?;
     if is_shown {

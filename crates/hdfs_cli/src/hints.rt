@@ -14,6 +14,7 @@ use std::{slice, str};
 /// A hint, and the number of the line that gets it.
 #[derive(Clone, Copy)]
 pub struct NumberedHint<'a> {
+    /// Counted from 1.
     pub number: usize,
     pub hint: Hint<'a>,
 }
@@ -27,6 +28,9 @@ pub(crate) struct Line<'a> {
 }
 
 /// The hint on the line behind those that were run, where it is ill-formed.
+///
+/// # Errors
+/// Out of memory.
 pub(crate) fn next_hint<'a>(
     alloc: Global,
     session: &Session,
@@ -57,6 +61,9 @@ fn push_hint<'a>(
 }
 
 /// Runs the lines of a script from its beginning, and gives a hint on each that is answered `bad`, in their order.
+///
+/// # Errors
+/// Out of memory.
 pub(crate) fn run_with_hints<'a>(
     alloc: Global,
     session: &mut Session,
@@ -75,6 +82,9 @@ pub(crate) fn run_with_hints<'a>(
 }
 
 /// Adds hints, a line for each.
+///
+/// # Errors
+/// Out of memory. Some of the text may have been added then.
 pub(crate) fn add_hints(
     script: &str,
     hints: &[NumberedHint<'_>],
@@ -123,6 +133,9 @@ fn place_behind(front: &[u8]) -> (usize, usize) {
 }
 
 /// The hint on a script that is UTF-8 up to the end of these bytes alone.
+///
+/// # Errors
+/// Out of memory.
 pub(crate) fn hint_on_bytes(alloc: Global, name: &str, front: &[u8]) -> Result<String, AllocError> {
     let (line, byte) = place_behind(front);
     format!(in alloc; "{name}:{line}: byte {byte} of the line is not UTF-8\n")

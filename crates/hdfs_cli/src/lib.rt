@@ -1,4 +1,5 @@
-//! Scripts of requests, lines in and lines of answers out; their history; the needs of a line; hints on lines; and what a token says.
+//! Scripts of a cluster, lines in and lines of answers out; their history; the needs of a line; hints on lines; and what a token says. A line
+//! is a request to the NameNode, a call of a DataNode or the delivery of a message. An empty line and a comment get no answer.
 #![tactic(auto)]
 
 pub mod explain_hints;

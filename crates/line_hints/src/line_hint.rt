@@ -9,10 +9,15 @@ use word_hints::word::word_at;
 /// What is wrong with a line as a whole, or with its moment.
 #[derive(Clone, Copy)]
 pub enum LineFlaw {
+    /// It has no words.
     Blanks,
+    /// Its first word begins with `#`.
     LateComment,
+    /// It begins with a byte order mark.
     ByteOrderMark,
+    /// It has fewer than three words.
     FewWords,
+    /// Its moment is above 2^62 milliseconds.
     LateMoment,
 }
 
@@ -35,6 +40,7 @@ pub enum NumberHint<'a> {
     NotDigits(&'static str, &'a str),
     /// What the number says that is too large.
     Large(&'static str),
+    /// The replication, which isn't from 1 to 16.
     Replication(&'a str),
 }
 
@@ -59,6 +65,7 @@ pub enum FormHint<'a> {
     NoSpec(&'a str),
     /// It takes no entries.
     Spec(&'a str),
+    /// There is no such form.
     Unknown(&'a str),
 }
 
@@ -78,11 +85,15 @@ impl fmt::Display for FormHint<'_> {
 /// Why the words of a line make no event, where none of them is an ill-formed path, name, mode or access list.
 #[derive(Clone, Copy)]
 pub enum LineHint<'a> {
+    /// What is wrong with the line as a whole, or with its moment.
     Flaw(LineFlaw),
+    /// A verb that neither the NameNode nor a DataNode has.
     UnknownVerb(&'a str),
     /// A verb, and the words that it takes.
     Count(&'static str, &'static str),
+    /// Why a word is no number in its range.
     Number(NumberHint<'a>),
+    /// What is wrong with a form of `setfacl`.
     Form(FormHint<'a>),
     /// The word is no key. It isn't repeated: nothing prints a key.
     Key,
@@ -90,6 +101,7 @@ pub enum LineHint<'a> {
     Instead(&'a str, &'static str),
     /// A verb of a DataNode, which isn't named.
     Nodeless(&'static str),
+    /// What is wrong with a call of a DataNode or with a delivery.
     Node(NodeHint<'a>),
 }
 

@@ -32,10 +32,11 @@ impl fmt::Display for BytesHint<'_> {
 /// Why a word is no token that was granted.
 #[derive(Clone, Copy)]
 pub enum TokenHint<'a> {
+    /// The word isn't `#` and a number below 2^64.
     Form(&'a str),
-    /// None has this number.
+    /// No token was granted before.
     Ungranted(&'a str),
-    /// The last of those that were granted has another number.
+    /// The word, whose number no token has, and the number of the last that was granted.
     Behind(&'a str, usize),
 }
 
@@ -60,12 +61,15 @@ impl fmt::Display for TokenHint<'_> {
 pub enum NodeHint<'a> {
     /// There is no verb behind the DataNode.
     NoVerb,
+    /// A verb that no DataNode has.
     UnknownVerb(&'a str),
     /// The word names no DataNode.
     Node(&'a str),
     /// The DataNodes that come next, and the first piece that is none.
     Next(&'a str, &'a str),
+    /// Why a word spells no bytes.
     Bytes(BytesHint<'a>),
+    /// Why a word is no token that was granted.
     Token(TokenHint<'a>),
     /// A message is delivered by nobody.
     Caller,

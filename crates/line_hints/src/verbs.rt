@@ -3,6 +3,7 @@ use std::alloc::{AllocError, Global};
 
 /// A verb of scripts, and the words that it takes.
 pub struct Verb {
+    /// The word in scripts.
     pub name: &'static str,
     /// The words behind the verb, by the names that the manual has for them; those in brackets may be missing. Empty where it
     /// takes none.

@@ -34,6 +34,9 @@ fn node_id_of(text: &str) -> Option<NodeId>
 }
 
 /// The DataNode that is asked: `@` and its id in decimal digits.
+///
+/// # Errors
+/// `BadLine` where the word isn't `@` and a number from 1 to 4,294,967,295.
 pub fn node_word(word: &str) -> Result<NodeId, ParseFault>
     ensures { Forms result (spec.node_word word.now) }
 {

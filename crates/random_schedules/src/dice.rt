@@ -7,6 +7,7 @@ pub struct Dice {
 }
 
 impl Dice {
+    /// The numbers of a seed, from the first on.
     pub fn of(seed: u64) -> Dice {
         Dice { state: seed }
     }

@@ -106,7 +106,7 @@ pub fn write_line(
     }
 }
 
-/// Milliseconds to the next line: seldom up to so many.
+/// Milliseconds to the next line: mostly fewer than 100, and seldom any number below `leap`.
 pub fn pause(dice: &mut Dice, leap: u64) -> u64
     requires { 0 < leap }
 {

@@ -9,11 +9,14 @@ use std::io::{ErrorKind, Read, Write};
 #[derive(Clone, Copy, PartialEq, Eq)]
 pub enum ReadFault {
     OutOfMemory,
+    /// The reader failed, or hasn't ended after 4,294,967,295 reads.
     CannotRead,
 }
 
-/// All that the reader has left. A read that was interrupted is tried again; a reader that fails otherwise can't be read, nor one that
-/// hasn't ended after 4,294,967,295 reads.
+/// All that the reader has left. A read that was interrupted is tried again.
+///
+/// # Errors
+/// `CannotRead` where the reader fails otherwise, or hasn't ended after 4,294,967,295 reads, and `OutOfMemory`.
 pub fn read_all<R: Read>(alloc: Global, reader: &mut R) -> Result<Vec<u8>, ReadFault>
     ensures { IfOk result (λ bytes. IfSome (R.remaining reader.old) (λ input. bytes.items ≡ input)) }
 {
@@ -33,7 +36,7 @@ pub fn read_all<R: Read>(alloc: Global, reader: &mut R) -> Result<Vec<u8>, ReadF
     Err(ReadFault::CannotRead)
 }
 
-/// The writer didn't take all.
+/// The writer didn't take all, or wasn't flushed.
 #[derive(Clone, Copy, PartialEq, Eq)]
 pub struct WriteFault;
 
@@ -50,9 +53,11 @@ fn write_some<W: Write>(writer: &mut W, text: &[u8]) -> Result<usize, WriteFault
     }
 }
 
-/// Writes the text, and flushes the writer. A write that was interrupted is tried again; one that takes nothing is a fault, and so is
-/// one that fails, a flush that does, and a writer that hasn't taken all after 2^64 - 1 writes. After a fault a front of the text was
-/// written, and nothing else.
+/// Writes the text, and flushes the writer. A write that was interrupted is tried again.
+///
+/// # Errors
+/// Where a write takes nothing or fails otherwise, where the flush fails, and where the writer hasn't taken all after 2^64 - 1 writes. A
+/// front of the text is written then, and nothing else.
 pub fn write_text<W: Write>(writer: &mut W, text: &[u8]) -> Result<(), WriteFault>
     ensures all { OnOk result (Appends (W.contents writer.old) (W.contents writer.new) text.now) }
     ensures front { AppendsFront (W.contents writer.old) (W.contents writer.new) text.now }

@@ -11,6 +11,7 @@ use thiserror::Error;
 /// How a script ended that was run to its end.
 #[derive(Clone, Copy, Debug, PartialEq, Eq)]
 pub enum Status {
+    /// No line was ill-formed, whatever was answered.
     Clean,
     /// A line was ill-formed.
     IllFormed,
@@ -32,13 +33,18 @@ impl Status {
 /// Why a script was not run to its end, or not all that it prints was written.
 #[derive(Clone, Copy, Debug, PartialEq, Eq, Error)]
 pub enum ScriptFault {
-    /// Memory ran out behind so many lines: all of them were run. `explain` writes no answers, and says 0.
+    /// Memory ran out. Of a script that is answered, `served` is how many of its first lines were run: what they are answered is written.
+    /// Of a history that is printed, it is how many of its first entries have their lines written: memory ran out as the script was run,
+    /// or as the text was made, also where all lines of the script were run. `explain` writes nothing then, and says 0.
     #[error("out of memory")]
     OutOfMemory { served: usize },
+    /// The script can't be opened, or its reader fails, or hasn't ended after 4,294,967,295 reads.
     #[error("cannot read")]
     CannotRead,
+    /// The script as a whole isn't UTF-8.
     #[error("not UTF-8")]
     NotUtf8,
+    /// The writer doesn't take all of the text, or can't be flushed.
     #[error("cannot write")]
     CannotWrite,
 }

@@ -11,10 +11,10 @@ use hdfs_values::fault::IllFormed;
 use hdfs_values::ids::{BlockId, Stamp};
 use std::fmt;
 
-/// What is printed for a line of a script.
+/// What is printed for a line of a script that the NameNode answers, or that is ill-formed.
 #[derive(Clone, Copy)]
 pub enum Answer<'a> {
-    /// The line is no request.
+    /// The line is ill-formed, in this way.
     Bad(IllFormed),
     /// What the NameNode answered, and how many rows the ledger of granted tokens had before: the tokens of the answer are numbered by
     /// their rows.

@@ -14,6 +14,7 @@ use std::alloc::{AllocError, Global};
 pub struct TokenLine {
     /// Without a line feed.
     pub text: String,
+    /// Whether the digits spell no token.
     pub is_malformed: bool,
 }
 

@@ -38,6 +38,10 @@ fn remove_all(alloc: Global, entries: &str) -> Result<AclChange, ParseFault>
 }
 
 /// The change of an access control list that a form of `setfacl` and its entries say.
+///
+/// # Errors
+/// `BadLine` where the form isn't `set`, `modify` or `remove`; else as `parse_spec`: `BadAcl` with `Form`, `Duplicate` or `NamedBase`, or
+/// out of memory.
 pub fn change_by(alloc: Global, form: &str, entries: &str) -> Result<AclChange, ParseFault>
     ensures { Forms result (spec.change_by form.now entries.now) }
 {
@@ -54,6 +58,9 @@ pub fn change_by(alloc: Global, form: &str, entries: &str) -> Result<AclChange, 
 }
 
 /// The change of an access control list that a form of `setfacl` without entries says.
+///
+/// # Errors
+/// `BadLine` where the form isn't `default` or `clear`.
 pub fn bare_change(form: &str) -> Result<AclChange, ParseFault>
     ensures { Forms result (spec.bare_change form.now) }
 {

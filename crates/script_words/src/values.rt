@@ -16,6 +16,9 @@ use permission_bits::mode::Mode;
 use std::alloc::Global;
 
 /// A moment, in milliseconds.
+///
+/// # Errors
+/// `BadLine` where the word isn't decimal digits, and above 2^62.
 pub fn moment_word(word: &str) -> Result<Moment, ParseFault>
     ensures { Forms result (spec.moment_word word.now) }
 {
@@ -26,6 +29,9 @@ pub fn moment_word(word: &str) -> Result<Moment, ParseFault>
 }
 
 /// A name of a user or a group.
+///
+/// # Errors
+/// `BadName` where the word is no name, or out of memory.
 pub fn who_word(alloc: Global, word: &str) -> Result<Who, ParseFault>
     ensures { Forms result (spec.who_word word.now) }
 {
@@ -33,6 +39,9 @@ pub fn who_word(alloc: Global, word: &str) -> Result<Who, ParseFault>
 }
 
 /// A path.
+///
+/// # Errors
+/// `BadPath` where the word is no path within the limits, or out of memory.
 pub fn path_word(alloc: Global, word: &str) -> Result<Path, ParseFault>
     ensures { Forms result (spec.path_word word.now) }
 {
@@ -40,6 +49,9 @@ pub fn path_word(alloc: Global, word: &str) -> Result<Path, ParseFault>
 }
 
 /// A mode, in octal digits.
+///
+/// # Errors
+/// `BadMode` where the word isn't 1 to 4 octal digits, and above 1777.
 pub fn mode_word(word: &str) -> Result<Mode, ParseFault>
     ensures { Forms result (spec.mode_word word.now) }
 {
@@ -60,6 +72,9 @@ fn replication_of(replicas: u64) -> Option<Repl>
 }
 
 /// How many replicas, in decimal digits.
+///
+/// # Errors
+/// `BadLine` where the word isn't decimal digits, for 0 and above 16.
 pub fn replication_word(word: &str) -> Result<Repl, ParseFault>
     ensures { Forms result (spec.replication_word word.now) }
 {
@@ -70,6 +85,9 @@ pub fn replication_word(word: &str) -> Result<Repl, ParseFault>
 }
 
 /// A number below 2^64, as of a block or of bytes.
+///
+/// # Errors
+/// `BadLine` where the word isn't decimal digits, and from 2^64 on.
 pub fn number_word(word: &str) -> Result<u64, ParseFault>
     ensures { Forms result (spec.number_word word.now) }
 {
@@ -80,6 +98,9 @@ pub fn number_word(word: &str) -> Result<u64, ParseFault>
 }
 
 /// A key: its 20 bytes in 40 hexadecimal digits, of either case.
+///
+/// # Errors
+/// `BadLine` for any other word.
 pub fn key_word(word: &str) -> Result<Key, ParseFault>
     ensures { Forms result (spec.key_word word.now) }
 {
@@ -90,7 +111,10 @@ pub fn key_word(word: &str) -> Result<Key, ParseFault>
     }
 }
 
-/// Whether a deletion is recursive, as the word behind its path says.
+/// That a deletion is recursive, as the word behind its path says: `recursive`.
+///
+/// # Errors
+/// `BadLine` for any other word.
 pub fn recursive_word(word: &str) -> Result<bool, ParseFault>
     ensures { Forms result (spec.recursive_word word.now) }
 {
@@ -101,7 +125,10 @@ pub fn recursive_word(word: &str) -> Result<bool, ParseFault>
     }
 }
 
-/// That what is made takes the place of a file, as the word behind the replication says.
+/// That what is made takes the place of a file, as the word behind the replication says: `over`.
+///
+/// # Errors
+/// `BadLine` for any other word.
 pub fn over_word(word: &str) -> Result<bool, ParseFault>
     ensures { Forms result (spec.over_word word.now) }
 {
@@ -113,6 +140,9 @@ pub fn over_word(word: &str) -> Result<bool, ParseFault>
 }
 
 /// Which block the last one is, and how many bytes were written of it.
+///
+/// # Errors
+/// `BadLine` where one of the words isn't decimal digits, or says 2^64 or more.
 pub fn last_words(block: &str, bytes: &str) -> Result<LastBlock, ParseFault>
     ensures { Forms result (spec.last_words block.now bytes.now) }
 {
@@ -122,6 +152,9 @@ pub fn last_words(block: &str, bytes: &str) -> Result<LastBlock, ParseFault>
 }
 
 /// A new owner or group; `None` for the `-` that keeps the one that there is.
+///
+/// # Errors
+/// `BadName` where the word is neither `-` nor a name, or out of memory.
 pub fn change_word(alloc: Global, word: &str) -> Result<Option<Who>, ParseFault>
     ensures { Forms result (spec.change_word word.now) }
 {

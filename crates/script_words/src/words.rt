@@ -7,6 +7,9 @@ use hdfs_values::pieces::cut_at;
 use std::alloc::{AllocError, Global};
 
 /// The pieces of a text between an ASCII character.
+///
+/// # Errors
+/// Out of memory.
 pub fn pieces_between(alloc: Global, text: &str, separator: char) -> Result<Vec<&str>, AllocError>
     requires { separator < 128 }
     ensures { IfOk result (λ found. map (λ piece. piece.now) found.items ≡ spec.pieces_at separator text.now) }

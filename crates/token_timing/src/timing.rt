@@ -13,6 +13,7 @@ use std::time::{Clock, Duration, Instant};
 #[derive(Clone, Copy, Debug, PartialEq, Eq)]
 pub enum TokenFault {
     OutOfMemory,
+    /// The clock can't be read.
     NoClock,
     /// A valid token is refused, or can't be made.
     NoToken,
@@ -90,7 +91,10 @@ fn time_ring<R: Clock + AllocGlobal>(
     time_checks(rt, &cache, &grant, now, count)
 }
 
-/// Judges one token so many times, by a cache that holds its key and keeps nothing of it for the next time.
+/// Judges one token so many times, by a cache that holds its key and keeps nothing of it for the next time, and tells how long that took.
+///
+/// # Errors
+/// `OutOfMemory`, `NoClock` where the clock can't be read, and `NoToken` where the token is refused, or can't be made.
 pub fn check_uncached<R: Clock + AllocGlobal>(rt: &R, count: u32) -> Result<Duration, TokenFault> {
     let Some(now) = Moment::new(0) else {
         return Err(TokenFault::NoToken);

@@ -4,8 +4,11 @@ use std::fmt;
 /// Why a word is no mode.
 #[derive(Clone, Copy)]
 pub enum ModeHint<'a> {
+    /// The mode, which isn't octal digits alone.
     NotOctal(&'a str),
+    /// The mode, which has more than 4 digits.
     Long(&'a str),
+    /// The mode, which is above 1777.
     Above(&'a str),
 }
 

@@ -9,10 +9,15 @@ use std::fmt;
 /// What a path is written with, or without.
 #[derive(Clone, Copy)]
 pub enum PathFlaw {
+    /// It doesn't begin with a slash.
     NoSlash,
+    /// It ends with one.
     EndsInSlash,
+    /// It has two slashes in a row.
     EmptyName,
+    /// It has a colon.
     Colon,
+    /// It has a NUL.
     Nul,
 }
 
@@ -31,8 +36,11 @@ impl PathFlaw {
 /// What a path has too much of.
 #[derive(Clone, Copy)]
 pub enum PathLimit {
+    /// Bytes in one name, above 255.
     NameBytes,
+    /// Names, above 1,000.
     Names,
+    /// Bytes in all, above 8,000.
     Bytes,
 }
 
