@@ -67,6 +67,9 @@ impl Acl {
     }
 
     /// A list of these entries.
+    ///
+    /// # Errors
+    /// Out of memory.
     pub fn new(
         alloc: Global,
         sticky: bool,

@@ -97,6 +97,9 @@ impl<'a> Chosen<'a> {
     }
 
     /// The entry with a name of its own.
+    ///
+    /// # Errors
+    /// Out of memory.
     pub fn entry(&self) -> Result<Entry, AllocError>
         ensures { IfOk result (λ entry. entry ≡ self.now.entry) }
     {

@@ -28,8 +28,11 @@ impl Clone for NamedEntry {
 /// What owner, owning group and all others are granted.
 #[derive(Clone, Copy, PartialEq, Eq)]
 pub struct Bases {
+    /// Of the owner.
     pub user: Rights,
+    /// Of the owning group.
     pub group: Rights,
+    /// Of all others.
     pub other: Rights,
 }
 
@@ -117,6 +120,9 @@ impl EntryList {
     }
 
     /// These entries; nothing is kept for named users and groups where there are none.
+    ///
+    /// # Errors
+    /// Out of memory.
     pub fn new(
         alloc: Global,
         bases: Bases,

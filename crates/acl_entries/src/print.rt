@@ -148,6 +148,9 @@ impl fmt::Display for Acl {
 
 #[tactic(auto, using(crate::proofs::Printing::joined))]
 /// The text of a list: its entries as `getfacl` prints them, with a comma between each two.
+///
+/// # Errors
+/// Out of memory.
 pub fn print(alloc: Global, acl: &Acl) -> Result<String, AllocError>
     ensures { IfOk result (λ text. string_bytes text ≡ join_with_byte 44 (map entry_text (entries acl.now))) }
 {

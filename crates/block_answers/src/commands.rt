@@ -43,6 +43,7 @@ pub struct Removal {
 pub struct CopyOrder {
     pub block: BlockId,
     pub stamp: Stamp,
+    /// The DataNode that the copy is for.
     pub target: NodeId,
     pub token: TokenBytes,
 }

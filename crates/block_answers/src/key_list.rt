@@ -12,6 +12,7 @@ use std::slice::from_ref;
 #[derive(Clone, Copy)]
 pub struct HeldKey {
     pub key: Key,
+    /// In milliseconds.
     pub expiry: Option<u64>,
 }
 
@@ -88,6 +89,7 @@ impl KeyList {
         Ok(())
     }
 
+    /// The keys with their serials, in the order in which they were added. Takes no memory.
     pub fn as_slice(&self) -> &[(Serial, HeldKey)]
         ensures { result.now ≡ self.now }
     {

@@ -67,6 +67,7 @@ impl AddedBlock {
         })
     }
 
+    /// The id of the block.
     pub fn block(&self) -> BlockId
         ensures { result ≡ self.now.block }
     {
@@ -110,7 +111,9 @@ impl Clone for AddedBlock {
 pub struct LocatedBlock {
     pub block: BlockId,
     pub stamp: Stamp,
+    /// In bytes.
     pub length: u64,
+    /// The DataNodes that reported the block.
     pub nodes: NodeSet,
     pub token: TokenBytes,
 }
@@ -182,6 +185,7 @@ impl OpenedFile {
         self.parts.length
     }
 
+    /// The blocks whose length is committed, in the order of the file.
     pub fn blocks(&self) -> &[LocatedBlock]
         ensures { result.now ≡ self.now.blocks }
     {

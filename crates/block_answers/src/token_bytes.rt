@@ -45,6 +45,7 @@ impl TokenBytes {
         TokenBytes { bytes }
     }
 
+    /// The bytes.
     pub fn as_bytes(&self) -> &[u8]
         ensures { result.now ≡ self.now }
     {

@@ -130,7 +130,7 @@ fn targets_behind(
 /// What a new block of a file would be, and nothing changes: where the file's last block is named, its length would be committed, so
 /// that each node that reported another length of it lost its replica; of the live nodes, which are handed in, those that have the
 /// fewest blocks then would hold the new block, ties to the lowest id, as many as there are to be replicas, or all. It would get the
-/// next id and the next stamp. Costs a sort of the live nodes, two look-ups for each, and the reports of the last block for each.
+/// next id and the next stamp. Costs a sort of the live nodes, a look-up for each, and the reports of the last block for each.
 ///
 /// # Errors
 /// `NotYetReplicated` where no node reported that length, `TooFewNodes` where no node is live, `Spent` of block ids, and then of stamps,

@@ -18,6 +18,7 @@ use std::alloc::{AllocError, Global};
 pub struct Transfer {
     pub block: BlockId,
     pub stamp: Stamp,
+    /// The DataNode that the copy is for.
     pub target: NodeId,
 }
 
@@ -27,6 +28,7 @@ pub struct Transfer {
 pub struct HandOut {
     pub live: NodeSet,
     pub moment: Moment,
+    /// In milliseconds.
     pub retry: u32,
 }
 

@@ -25,7 +25,9 @@ use std::alloc::{AllocError, Global};
 /// What a reader is told of a file, once for the history and once for him.
 #[derive(Drop)]
 pub struct GivenFile {
+    /// For the history.
     pub opened: OpenedFile,
+    /// For the reader.
     pub copy: OpenedFile,
 }
 

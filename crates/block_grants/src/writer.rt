@@ -27,7 +27,9 @@ use std::alloc::{AllocError, Global};
 /// What a writer is told of a new block, once for the history and once for him.
 #[derive(Drop)]
 pub struct GivenBlock {
+    /// For the history.
     pub added: AddedBlock,
+    /// For the writer.
     pub copy: AddedBlock,
 }
 

@@ -21,12 +21,14 @@ impl Model for Key {
 }
 
 impl Key {
+    /// The key of these bytes.
     pub fn new(bytes: [u8; 20]) -> Key
         ensures { result ≡ bytes }
     {
         Key { bytes }
     }
 
+    /// The bytes of the key.
     pub fn as_bytes(&self) -> &[u8; 20]
         ensures { result.now ≡ self.now }
     {

@@ -177,8 +177,8 @@ impl Blocks {
 
     /// What a new block of a file would be: the length of the file's last block would be committed, where one is named, and behind that
     /// the live nodes with the fewest blocks, ties to the lowest id, would hold the new block, as many as there are to be replicas, or
-    /// all. It would get the next id and the next stamp. Nothing changes: `add_planned` adds it. Costs a sort of the live nodes, a step
-    /// and two look-ups for each node that ever sent a heartbeat, and the reports of the last block for each live node.
+    /// all. It would get the next id and the next stamp. Nothing changes: `add_planned` adds it. Costs a step for each node that ever sent
+    /// a heartbeat, a sort of the live nodes, and a look-up and the reports of the last block for each live node.
     ///
     /// # Errors
     /// `NotYetReplicated` where no node reported that length, `TooFewNodes` where no node is live, `Spent` of block ids, and then of
@@ -225,7 +225,8 @@ impl Blocks {
         )
     }
 
-    /// Gives a block another replication; nothing changes where the block isn't known. Costs a look-up, and takes no memory.
+    /// Gives a block another replication; nothing changes where the block isn't known. Costs a look-up. May take memory for the list of
+    /// blocks with too few replicas, and doesn't fail for want of it.
     pub fn set_replication(&mut self, block: BlockId, replication: Repl)
         ensures { self.new ≡ effect.with_block_replication self.old block replication }
     {
@@ -458,7 +459,7 @@ impl Blocks {
         block_changes::transfer::transfers_for(self.alloc, &self.known, &at, node)
     }
 
-    /// Notes a node's heartbeat. Costs a look-up.
+    /// Notes a node's heartbeat. Costs a look-up, and a node's first one a step for each node of a higher id.
     ///
     /// # Errors
     /// Out of memory, which only a node's first heartbeat can meet. Nothing has changed then.
@@ -492,7 +493,7 @@ impl Blocks {
 
     /// Notes a node's heartbeat, and that it is told this, which is what `instructions` answers now: none of it is told again, but a copy
     /// behind the retry limit. Costs a look-up for each part of it, and for each replica that is to be removed since a node was last
-    /// told.
+    /// told, and a node's first heartbeat a step for each node of a higher id.
     ///
     /// # Errors
     /// Out of memory, which only a node's first heartbeat can meet. Nothing has changed then.

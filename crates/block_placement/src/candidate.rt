@@ -8,6 +8,7 @@ use hdfs_values::node_id::NodeId;
 /// A DataNode that may hold a block more, and how many blocks it has. Fewer blocks come first, and of as many the lower id.
 #[derive(Clone, Copy, PartialEq, Eq, PartialOrd, Ord)]
 pub struct Candidate {
+    /// How many blocks it has.
     pub load: usize,
     pub node: NodeId,
 }

@@ -43,14 +43,14 @@ fn silent(alloc: Global, nodes: &[NodeId], reports: &Reports) -> Result<Vec<Node
 }
 
 impl BlockRecord {
-    /// Whether a node is to hold the block, or reported it. Costs the expected nodes, and takes no memory.
+    /// Whether a node is to hold the block, or reported it. Costs two look-ups, and takes no memory.
     pub fn holds(&self, node: NodeId) -> bool
         ensures { result ≡ holds_by node (Some self.now) }
     {
         self.expected.contains(node) || self.reports.contains(node)
     }
 
-    /// Of these nodes those that neither are to hold the block nor reported it. Costs the expected nodes for each.
+    /// Of these nodes those that neither are to hold the block nor reported it. Costs two look-ups for each.
     ///
     /// # Errors
     /// Out of memory.

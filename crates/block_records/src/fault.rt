@@ -8,7 +8,9 @@ use thiserror::Error;
 /// A counter of numbers that are never given twice.
 #[derive(Clone, Copy, Debug, PartialEq, Eq)]
 pub enum Counter {
+    /// The ids of blocks.
     BlockId,
+    /// The generation stamps.
     Stamp,
 }
 

@@ -5,5 +5,6 @@ use hdfs_values::ids::BlockId;
 #[derive(Clone, Copy, PartialEq, Eq)]
 pub struct LastBlock {
     pub block: BlockId,
+    /// In bytes.
     pub length: u64,
 }

@@ -8,6 +8,9 @@ ghost use Rattle.block_records.specs.Places.{IsPlace, IsGap};
 use hdfs_values::node_id::NodeId;
 
 /// Where a DataNode stands in a table of nodes by ascending ids; else where it would stand. Costs a look-up, and takes no memory.
+///
+/// # Errors
+/// The place where the node would stand, where it doesn't stand in the table.
 pub fn place_of<X>(table: &[(NodeId, X)], node: NodeId) -> Result<usize, usize>
     requires { IsStrictlySortedBy nat_cmp (keys_of table.now) }
     ensures bound { IsSearchInRange result (length table.now) }

@@ -6,6 +6,7 @@ use std::alloc::AllocError;
 /// To which length the replicas of a block are cut, in bytes, and which nodes take part (HDFS-265, "Block recovery").
 #[derive(Drop)]
 pub struct Decision {
+    /// In bytes.
     pub length: u64,
     pub nodes: NodeSet,
 }
@@ -13,6 +14,7 @@ pub struct Decision {
 /// What ends the recovery of a block: the length that was decided, in bytes, and the nodes that hold a replica of it.
 #[derive(Drop)]
 pub struct Commit {
+    /// In bytes.
     pub length: u64,
     pub nodes: NodeSet,
 }

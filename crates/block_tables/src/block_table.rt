@@ -231,7 +231,7 @@ impl BlockTable {
     }
 
     /// So many of these nodes that have the fewest blocks, ties to the lowest id; all of them where there are no more. Costs a sort of
-    /// the nodes, and two look-ups for each.
+    /// the nodes, and a look-up for each.
     ///
     /// # Errors
     /// Out of memory.

@@ -9,6 +9,7 @@ pub struct Grant {
     pub user: Who,
     pub block: BlockId,
     pub modes: Modes,
+    /// In milliseconds.
     pub expiry: u64,
     pub serial: Serial,
     pub token: TokenBytes,

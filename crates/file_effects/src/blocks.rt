@@ -51,7 +51,8 @@ pub fn add_block(
     Ok(())
 }
 
-/// Gives each block of the file that has a path another replication. Costs a look-up for each of them; takes no memory.
+/// Gives each block of the file that has a path another replication. Costs the path, and a look-up for each of them. May take memory for the
+/// list of blocks with too few replicas, and doesn't fail for want of it.
 pub fn replicate(tree: &Tree, blocks: &mut Blocks, path: &Path, replication: Repl)
     ensures { blocks.new ≡ all_replicated replication (ids_at (row_at path.now tree.now)) blocks.old }
 {

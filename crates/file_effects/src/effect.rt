@@ -40,6 +40,9 @@ use std::alloc::{AllocError, Global};
 // ---- questions
 
 /// Copies of names, in their order.
+///
+/// # Errors
+/// Out of memory.
 pub fn copies(alloc: Global, names: &[&Who]) -> Result<Vec<Who>, AllocError>
     ensures { IfOk result (λ copies. copies.items ≡ map (λ name. name.now) names.now) }
 {

@@ -150,6 +150,9 @@ impl Path {
     }
 
     /// The path of copies of these names, in a time linear in their text.
+    ///
+    /// # Errors
+    /// Out of memory.
     pub fn copied(alloc: Global, names: &[Name]) -> Result<Path, AllocError>
         requires { IsPath names.now }
         ensures { IfOk result (λ path. path ≡ names.now) }
@@ -175,6 +178,9 @@ impl Path {
     }
 
     /// The path of the first `depth` names, in a time linear in their text.
+    ///
+    /// # Errors
+    /// Out of memory.
     pub fn front(&self, alloc: Global, depth: usize) -> Result<Path, AllocError>
         requires { depth ≤ length self.now }
         ensures { IfOk result (λ front. front ≡ take depth self.now) }
@@ -185,6 +191,9 @@ impl Path {
     }
 
     /// The path without its last name, in a time linear in its text; the root has no parent.
+    ///
+    /// # Errors
+    /// Out of memory.
     pub fn parent(&self, alloc: Global) -> Result<Option<Path>, AllocError>
         ensures { IfOk result (λ parent. parent ≡ parent_of self.now) }
     {

@@ -35,12 +35,14 @@ impl<'a> Model for Ask<'a> {
 impl<'a> Ask<'a> {
     ghost use Rattle.std.specs.Prelude.{◌≡◌};
 
+    /// What is needed.
     pub fn need(&self) -> &'a Need
         ensures { result.now ≡ self.now.need }
     {
         self.need
     }
 
+    /// The row of the component.
     pub fn row(&self) -> &'a Row
         ensures { result.now ≡ self.now.row }
     {
@@ -177,6 +179,9 @@ fn add_asks<'a>(
 }
 
 /// What demands ask of these rows, in their order. Scans the rows at least once a demand.
+///
+/// # Errors
+/// Out of memory.
 pub fn asks_of<'a>(
     alloc: Global,
     rows: &'a [Row],

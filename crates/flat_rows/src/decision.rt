@@ -54,6 +54,9 @@ fn first_denial(alloc: Global, caller: &Caller, asks: &[Ask]) -> Result<Option<D
 
 /// The first need of the operation that fails for the caller, or none (HDFS Permissions Guide, "Permission Checks"). A
 /// superuser fails none, but that of a DataNode. Scans the rows for each need: the plain program of the decision.
+///
+/// # Errors
+/// Out of memory.
 pub fn verdict(
     alloc: Global,
     rows: &Rows,

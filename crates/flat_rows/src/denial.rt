@@ -54,7 +54,8 @@ impl Model for Denial {
 }
 
 /// Whether a need is met at the row, for a caller with these groups who is no superuser; `above` is the owner of the
-/// directory that holds it. Costs the caller's groups, and takes no memory.
+/// directory that holds it. A need of rights costs the named users of the access list, and its named groups times the caller's groups; a need to
+/// be a member costs the caller's groups. Takes no memory.
 pub fn is_met(need: &Need, row: &Row, above: &Who, caller: &Who, groups: &[Who]) -> bool
     ensures { result ≡ (need_decided need.now row.now above.now caller.now groups.now).granted }
 {
@@ -69,6 +70,9 @@ pub fn is_met(need: &Need, row: &Row, above: &Who, caller: &Who, groups: &[Who])
 }
 
 /// What decides about a need at the row, for a caller with these groups who is no superuser.
+///
+/// # Errors
+/// Out of memory.
 pub fn by_of(
     need: &Need,
     row: &Row,
@@ -113,6 +117,9 @@ fn cause_at(
 impl Denial {
     /// The denial of the need at the row, for a caller with these groups who is no superuser; `None` where it is met. `above`
     /// is the owner of the directory that holds the row.
+    ///
+    /// # Errors
+    /// Out of memory.
     pub fn at(
         alloc: Global,
         need: &Need,
@@ -142,6 +149,7 @@ impl Denial {
         &self.evidence.row.path
     }
 
+    /// What was needed.
     pub fn need(&self) -> &Need
         ensures { result.now ≡ self.now.need }
     {
@@ -162,6 +170,7 @@ impl Denial {
         &self.evidence.row
     }
 
+    /// The caller whom the denial is for.
     pub fn caller(&self) -> &Who
         ensures { result.now ≡ self.now.caller }
     {

@@ -5,6 +5,8 @@ use hdfs_values::who::Who;
 /// closed.
 #[derive(Drop)]
 pub struct Sought {
+    /// The client who has the file open.
     pub holder: Option<Who>,
+    /// The block that is to be recovered.
     pub block: Option<BlockId>,
 }

@@ -26,7 +26,9 @@ use std::fmt;
 pub struct Judged {
     pub path: Path,
     pub need: Need,
+    /// What decided.
     pub by: By,
+    /// Whether the need is met.
     pub granted: bool,
 }
 
@@ -97,6 +99,9 @@ fn judged_up_to_denied(
 
 /// The needs of the operation that are judged for the caller, in their order, up to the first that fails: the page that
 /// answers why a request was denied (HDFS Permissions Guide, "Permission Checks"). Scans the rows for each need.
+///
+/// # Errors
+/// Out of memory.
 pub fn trail(
     alloc: Global,
     rows: &Rows,

@@ -6,8 +6,11 @@ use std::alloc::AllocError;
 
 /// The answer of the NameNode to a request.
 pub enum Verdict {
+    /// The request is done, and this is what comes of it.
     Done(Reply),
+    /// A need of the request fails.
     Denied(Denial),
+    /// No need fails, and the state refuses the request.
     Refused(Refusal),
 }
 

@@ -6,6 +6,7 @@ use std::marker::Model;
 
 /// A token that the NameNode granted, and the place of the entry of its history that granted it.
 pub struct LedgerRow {
+    /// Of the entry that granted it.
     pub place: u64,
     pub grant: Grant,
 }

@@ -11,6 +11,7 @@ use std::fmt;
 /// Who may write a file: one client at a time, and none while its last block is recovered (HDFS Architecture, "The File System
 /// Namespace": files are write-once and have strictly one writer at any time).
 pub enum FileState {
+    /// No client has it open, and its last block isn't recovered.
     Closed,
     /// Open for writing by this client.
     Open(Who),
@@ -59,9 +60,11 @@ impl fmt::Display for FileState {
 
 /// What `stat` reports of a file beside what it reports of a directory.
 pub struct FileDetail {
+    /// How many replicas of each block are to be.
     pub replication: Repl,
     /// The bytes of the blocks whose length is committed.
     pub length: u64,
+    /// Who may write the file.
     pub state: FileState,
 }
 

@@ -58,7 +58,8 @@ pub enum Op {
     RollKey(Key),
     /// Renews the caller's lease.
     Renew,
-    /// Closes the files of all clients whose leases are past the hard limit.
+    /// Takes the files of all clients whose leases are past the hard limit: closes them, or begins the recovery of their last blocks; and
+    /// begins recoveries anew that began longer ago than the retry limit.
     Tick,
     /// Tells that the DataNode lives whose principal the caller is.
     Heartbeat,

@@ -16,9 +16,12 @@ use std::alloc::{AllocError, Global};
 use std::fmt;
 use std::marker::Model;
 
+/// Whether something is a file or a directory (HDFS Architecture, "The File System Namespace").
 #[derive(Clone, Copy, PartialEq, Eq)]
 pub enum ObjectKind {
+    /// It has blocks, and nothing is beneath it.
     File,
+    /// It holds files and directories by their names.
     Directory,
 }
 
@@ -131,6 +134,7 @@ impl BoxedStatus {
         })
     }
 
+    /// What is in the box.
     pub fn status(&self) -> &FileStatus
         ensures { result.now ≡ self.now }
     {
@@ -176,6 +180,7 @@ impl Names {
         Names { list }
     }
 
+    /// The names in their order.
     pub fn as_slice(&self) -> &[Name]
         ensures { result.now ≡ self.now }
     {
@@ -263,12 +268,14 @@ impl AclStatus {
         AclStatus { owner, group, spec }
     }
 
+    /// The owner.
     pub fn owner(&self) -> &Who
         ensures { result.now ≡ self.now.owner }
     {
         &self.owner
     }
 
+    /// The owning group.
     pub fn group(&self) -> &Who
         ensures { result.now ≡ self.now.group }
     {
@@ -342,6 +349,7 @@ impl BoxedAcl {
         })
     }
 
+    /// What is in the box.
     pub fn status(&self) -> &AclStatus
         ensures { result.now ≡ self.now }
     {
@@ -370,10 +378,13 @@ pub struct Expired {
 pub enum Reply {
     /// It is done, and there is nothing to report.
     Empty,
+    /// What a file or a directory is.
     Status(BoxedStatus),
+    /// The owner, the owning group and the access control list of a file or a directory.
     Acl(BoxedAcl),
     /// The names that a directory holds, or a file's own.
     Names(Names),
+    /// How many directories and files there are at a path and beneath it, and the bytes of the files.
     Summary(ContentSummary),
     /// How many files and directories were deleted.
     Deleted(u64),
@@ -388,6 +399,7 @@ pub enum Reply {
     Opened(OpenedFile),
     /// The new block of a file, and where it is to be written.
     Added(AddedBlock),
+    /// What a tick has done with files.
     Expired(Expired),
     /// The serial number of the key under which tokens are issued from now on.
     Serial(Serial),
@@ -442,8 +454,11 @@ impl Clone for Reply {
 /// What is numbered in ascending order, and never by the greatest number that there is of it.
 #[derive(Clone, Copy, PartialEq, Eq)]
 pub enum Counter {
+    /// The ids of blocks.
     BlockId,
+    /// The generation stamps.
     Stamp,
+    /// The serial numbers of the keys under which tokens are issued.
     Serial,
 }
 
@@ -466,7 +481,7 @@ impl fmt::Display for Counter {
 pub enum Refusal {
     /// A path would pass the limits: code 1.
     BadPath,
-    /// Nothing has that path, or no user has that name: code 2.
+    /// Nothing has that path, no user has that name, or the block isn't known: code 2.
     NotFound,
     /// This file stands above the path: code 3.
     NotDirectory(Path),
@@ -490,11 +505,11 @@ pub enum Refusal {
     RecoveryRunning,
     /// The caller has no lease, or another client has the file open: code 13.
     NoLease,
-    /// No client has the file open: code 14.
+    /// No client has the file open, or the block is in no recovery: code 14.
     NotOpen,
     /// The last block isn't the one that is stated, or no DataNode has reported it so: code 15.
     NotYetReplicated,
-    /// No DataNode is live that could hold the block: code 16.
+    /// No DataNode is live that could hold the block, or lead its recovery: code 16.
     TooFewNodes,
     /// The block has this newer stamp: code 17.
     StaleStamp(Stamp),

@@ -29,6 +29,9 @@ impl Groups {
     }
 
     /// A copy of these groups.
+    ///
+    /// # Errors
+    /// Out of memory.
     pub fn from_slice(alloc: Global, list: &[Who]) -> Result<Groups, AllocError>
         ensures { IfOk result (λ groups. groups ≡ list.now) }
     {
@@ -46,6 +49,7 @@ impl Groups {
         self.list
     }
 
+    /// The groups as they were given.
     pub fn as_slice(&self) -> &[Who]
         ensures { result.now ≡ self.now }
     {

@@ -19,12 +19,14 @@ impl Model for BlockId {
 }
 
 impl BlockId {
+    /// The id of this number.
     pub fn new(id: u64) -> BlockId
         ensures { result ≡ id }
     {
         BlockId { id }
     }
 
+    /// The number.
     pub fn get(self) -> u64
         ensures { result ≡ self }
     {
@@ -50,12 +52,14 @@ impl Model for Stamp {
 }
 
 impl Stamp {
+    /// The stamp of this number.
     pub fn new(number: u64) -> Stamp
         ensures { result ≡ number }
     {
         Stamp { number }
     }
 
+    /// The number.
     pub fn get(self) -> u64
         ensures { result ≡ self }
     {
@@ -80,12 +84,14 @@ impl Model for Serial {
 }
 
 impl Serial {
+    /// The serial of this number.
     pub fn new(number: u32) -> Serial
         ensures { result ≡ number }
     {
         Serial { number }
     }
 
+    /// The number.
     pub fn get(self) -> u32
         ensures { result ≡ self }
     {

@@ -90,6 +90,7 @@ impl Config {
         }
     }
 
+    /// The limits of time, in milliseconds.
     pub fn durations(self) -> Durations
         ensures { result ≡ self.durations }
     {

@@ -8,8 +8,9 @@ use std::alloc::{AllocError, Global};
 pub struct HistoryEntry {
     /// Which entry it is, counted from 1.
     pub place: u64,
-    /// Which caller's session handed the request in, and which request of that session it is.
+    /// Which caller's session handed the request in.
     pub pass: u64,
+    /// Which request of that session it is.
     pub index: u64,
     pub request: Request,
     pub verdict: Verdict,
@@ -64,6 +65,7 @@ pub fn copy_of(alloc: Global, entries: &[HistoryEntry]) -> Result<Vec<HistoryEnt
 
 /// What a caller is answered: the request, the verdict on it, and the place of the last entry that the verdict rests on.
 pub struct Answer {
+    /// The place of the last entry that the verdict rests on.
     pub place: u64,
     pub request: Request,
     pub verdict: Verdict,

@@ -15,6 +15,9 @@ use std::collections::BTreeMap;
 
 impl Node {
     /// Adds a block to the file at the path, where a file stands there.
+    ///
+    /// # Errors
+    /// Out of memory. Nothing has changed then.
     #[cycle(push)]
     pub fn push_block(&mut self, path: &[Name], block: BlockId) -> Result<(), AllocError>
         ensures ok { OnOk result (rows self.new ≡ block_added path.now block (rows self.old)) }

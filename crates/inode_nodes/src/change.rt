@@ -30,6 +30,9 @@ use std::collections::BTreeMap;
 
 impl Node {
     /// Puts a node by its name into the directory at the path.
+    ///
+    /// # Errors
+    /// Out of memory. Nothing has changed then.
     #[cycle(put)]
     pub fn put(&mut self, above: &[Name], name: Name, new: Node) -> Result<(), AllocError>
         requires { IsTrue (has_parent (above.now ++ name ∷ []) (rows self.old)) }
@@ -78,6 +81,9 @@ impl Node {
 
     /// Moves what stands at the path of these names, to stand by a name in the directory at another path. A stand-in is put
     /// there first, since that alone may fail.
+    ///
+    /// # Errors
+    /// Out of memory. Nothing has changed then.
     pub fn move_to(
         &mut self,
         alloc: Global,
@@ -154,6 +160,9 @@ impl Node {
     }
 
     /// A new directory, and beneath it one for each name, built aside; the last is a file where one is given.
+    ///
+    /// # Errors
+    /// Out of memory.
     pub fn chain(
         alloc: Global,
         names: &[Name],
@@ -194,6 +203,9 @@ impl Node {
     }
 
     /// Makes what is missing of the path, all directories but a file that is given for the last, or nothing.
+    ///
+    /// # Errors
+    /// Out of memory. Nothing has changed then.
     #[cycle(make)]
     pub fn make(
         &mut self,

@@ -29,10 +29,13 @@ pub struct Node {
     pub held: Held,
 }
 
+/// What makes a node a file or a directory.
 #[cycle(node)]
 #[derive(Drop)]
 pub enum Held {
+    /// A file, with its replication, its blocks and its state.
     File(FileRow),
+    /// A directory, with what it holds by names.
     Directory(BTreeMap<Name, Node>),
 }
 
@@ -72,6 +75,7 @@ impl Node {
         }
     }
 
+    /// Whether it is a file or a directory.
     pub fn kind(&self) -> ObjectKind
         ensures { result ≡ self.now.top.kind }
     {
@@ -81,18 +85,21 @@ impl Node {
         }
     }
 
+    /// The owner.
     pub fn owner(&self) -> &Who
         ensures { result.now ≡ self.now.top.owner }
     {
         &self.owner
     }
 
+    /// The owning group.
     pub fn group(&self) -> &Who
         ensures { result.now ≡ self.now.top.group }
     {
         &self.group
     }
 
+    /// The access control list.
     pub fn acl(&self) -> &Acl
         ensures { result.now ≡ self.now.top.acl }
     {
@@ -110,6 +117,9 @@ impl Node {
     }
 
     /// A copy of it.
+    ///
+    /// # Errors
+    /// Out of memory.
     pub fn file_copy(&self) -> Result<Option<FileRow>, AllocError>
         ensures { IfOk result (λ file. file ≡ self.now.top.file) }
     {

@@ -10,6 +10,9 @@ use std::alloc::{AllocError, Global};
 use std::collections::BTreeMap;
 
 /// The blocks of the files of the node and of all beneath it.
+///
+/// # Errors
+/// Out of memory.
 pub fn blocks_of(alloc: Global, node: &Node) -> Result<Vec<BlockId>, AllocError>
     ensures { IfOk result (λ found. found.items ≡ blocks_in (rows node.now)) }
 {

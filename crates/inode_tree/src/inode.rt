@@ -22,30 +22,35 @@ pub struct Inode<'a> {
 }
 
 impl<'a> Inode<'a> {
+    /// The file or the directory of this node.
     pub fn new(node: &'a Node) -> Inode<'a>
         ensures { branch_at result ≡ node.now }
     {
         Inode { node }
     }
 
+    /// Whether it is a file or a directory.
     pub fn kind(&self) -> ObjectKind
         ensures { result ≡ (branch_at self.now).top.kind }
     {
         self.node.kind()
     }
 
+    /// The owner.
     pub fn owner(&self) -> &'a Who
         ensures { result.now ≡ (branch_at self.now).top.owner }
     {
         self.node.owner()
     }
 
+    /// The owning group.
     pub fn group(&self) -> &'a Who
         ensures { result.now ≡ (branch_at self.now).top.group }
     {
         self.node.group()
     }
 
+    /// The access control list.
     pub fn acl(&self) -> &'a Acl
         ensures { result.now ≡ (branch_at self.now).top.acl }
     {
@@ -76,7 +81,8 @@ impl<'a> Inode<'a> {
         self.node.holder()
     }
 
-    /// The entry that decides for a caller with these groups. Costs the caller's groups, and takes no memory.
+    /// The entry that decides for a caller with these groups. Costs the named users of the access list, and its named groups times the
+    /// caller's groups, and takes no memory.
     pub fn judged(&self, caller: &Who, groups: &[Who], need: Rights) -> Chosen<'a>
         ensures { result ≡ judged_entry (branch_at self.now).top.owner (branch_at self.now).top.group (branch_at self.now).top.acl caller.now groups.now need }
     {

@@ -91,6 +91,9 @@ pub struct Found {
 }
 
 /// The first directory, of the node and all beneath it, that doesn't grant the caller what is needed.
+///
+/// # Errors
+/// Out of memory.
 #[cycle(closed)]
 pub fn first_closed(
     alloc: Global,
@@ -144,6 +147,9 @@ fn beneath(name: &Name, mut found: Found) -> Result<Found, AllocError>
 }
 
 /// Adds the rows of the node, which stands at the path.
+///
+/// # Errors
+/// Out of memory. Some of the rows may have been added then.
 #[cycle(rows)]
 pub fn push_rows(
     alloc: Global,
@@ -231,6 +237,9 @@ fn copies(alloc: Global, names: &[Name]) -> Result<Vec<Name>, AllocError>
 
 impl Found {
     /// The row of the directory, where the search began at the path.
+    ///
+    /// # Errors
+    /// Out of memory.
     pub fn into_row(self, alloc: Global, path: &[Name]) -> Result<Row, AllocError>
         requires { IsPath (path.now ++ (row_found self).path) }
         ensures { IfOk result (λ row. row ≡ row_placed path.now (row_found self)) }
@@ -259,6 +268,9 @@ fn push_reversed(names: &mut Vec<Name>, mut last_first: Vec<Name>) -> Result<(),
 }
 
 /// Adds the client who has the node open, where it is a file that one has open.
+///
+/// # Errors
+/// Out of memory.
 pub fn push_holder<'a>(node: &'a Node, found: &mut Vec<&'a Who>) -> Result<(), AllocError>
     ensures { OnOk result (map (λ who. who.now) found.new.items ≡ map (λ who. who.now) found.old.items ++ option_to_list (spec.holder_of_file node.now.top.file)) }
 {
@@ -272,6 +284,9 @@ pub fn push_holder<'a>(node: &'a Node, found: &mut Vec<&'a Who>) -> Result<(), A
 }
 
 /// The clients who have open the files of the node and of all beneath it, one for each open file.
+///
+/// # Errors
+/// Out of memory.
 pub fn holders<'a>(alloc: Global, node: &'a Node) -> Result<Vec<&'a Who>, AllocError>
     ensures { IfOk result (λ found. map (λ who. who.now) found.items ≡ spec.holders (rows node.now)) }
 {
@@ -305,6 +320,9 @@ fn push_holders_in<'a>(
 }
 
 /// The names of what a directory holds.
+///
+/// # Errors
+/// Out of memory.
 pub fn names_of<'a>(alloc: Global, node: &'a Node) -> Result<Vec<&'a Name>, AllocError>
     requires { is_ascending (rows node.now) ≡ true }
     ensures { IfOk result (λ names. map (λ name. name.now) names.items ≡ child_names [] (rows node.now)) }

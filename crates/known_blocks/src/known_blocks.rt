@@ -91,7 +91,8 @@ fn list_each(running: &mut BlockSet, begun: &[BegunRecovery]) -> Result<(), Allo
     Ok(())
 }
 
-// Begins recoveries of blocks, under the stamps that they have. Takes no memory.
+// Begins recoveries of blocks, under the stamps that they have. May take memory for the list of blocks with too few replicas, and doesn't
+// fail for want of it.
 fn begin_each(table: &mut WatchedTable, begun: &[BegunRecovery], now: Moment)
     ensures { table.new ≡ fold (λ left own. with_record_changed (with_recovery own.stamp now) own.block left) table.old begun.now }
 {
@@ -138,7 +139,7 @@ impl KnownBlocks {
     }
 
     /// So many of these nodes that have the fewest blocks, ties to the lowest id; all of them where there are no more. Costs a sort of
-    /// the nodes, and two look-ups for each.
+    /// the nodes, and a look-up for each.
     ///
     /// # Errors
     /// Out of memory.
@@ -338,7 +339,8 @@ impl KnownBlocks {
 
     // ---- what is known of one block
 
-    /// Gives a block another replication; nothing changes where the block isn't known. Costs a look-up, and takes no memory.
+    /// Gives a block another replication; nothing changes where the block isn't known. Costs a look-up. May take memory for the list of
+    /// blocks with too few replicas, and doesn't fail for want of it.
     pub fn set_replication(&mut self, block: BlockId, replication: Repl)
         ensures { self.new ≡ spec.with_block_changed (with_replication replication) block self.old }
     {
@@ -364,7 +366,8 @@ impl KnownBlocks {
         self.table.report(block, node, stamp, bytes)
     }
 
-    /// Ends a node's report of a block. Costs a look-up of the block, and one among its nodes, and takes no memory.
+    /// Ends a node's report of a block. Costs a look-up of the block, and one among its nodes. May take memory for the list of blocks with too
+    /// few replicas, and doesn't fail for want of it.
     pub fn end_report(&mut self, block: BlockId, node: NodeId)
         ensures { self.new ≡ spec.with_block_changed (without_report node) block self.old }
     {
@@ -372,7 +375,7 @@ impl KnownBlocks {
     }
 
     /// Commits a block's length: of the nodes that reported it those are left that reported this length. The others are handed in.
-    /// Costs a look-up for each of them, and takes no memory.
+    /// Costs a look-up for each of them. May take memory for the list of blocks with too few replicas, and doesn't fail for want of it.
     pub fn commit(&mut self, block: BlockId, bytes: u64, others: &[NodeId])
         requires { IfSome (spec.block_of self.old block) (λ own. others.now ≡ others_of bytes own.reports) }
         ensures { self.new ≡ spec.with_block_changed (with_length bytes) block self.old }

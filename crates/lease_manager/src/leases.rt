@@ -17,7 +17,7 @@ use std::marker::Model;
 /// How a lease stands by its age, the time since its last renewal (HDFS Architecture, the single-writer model).
 #[derive(Clone, Copy, Debug, PartialEq, Eq)]
 pub enum LeaseState {
-    /// The age isn't greater than a limit.
+    /// The age isn't greater than the soft limit.
     Live,
     /// The age is greater than the soft limit: another client may take over a file.
     PastSoft,

@@ -49,6 +49,7 @@ impl FileBlocks {
         }
     }
 
+    /// The blocks in the order of the file.
     pub fn as_slice(&self) -> &[FileBlock]
         ensures { result.now ≡ self.now }
     {
@@ -168,8 +169,10 @@ impl Clone for FileBlocks {
 
 /// What a file has beside what a directory has.
 pub struct FileRow {
+    /// How many replicas of each block are to be.
     pub replication: Repl,
     pub blocks: FileBlocks,
+    /// Who may write the file.
     pub state: FileState,
 }
 

@@ -45,6 +45,7 @@ impl Drop for Row {
 }
 
 impl Row {
+    /// Whether a directory has the path.
     pub fn is_directory(&self) -> bool
         ensures { result ≡ spec.is_directory self.now }
     {

@@ -41,6 +41,9 @@ impl Model for Rows {
 
 impl Rows {
     /// The root alone, a directory of mode 0755 that these two own.
+    ///
+    /// # Errors
+    /// Out of memory.
     pub fn new(alloc: Global, superuser: &Who, supergroup: &Who) -> Result<Rows, AllocError>
         ensures { IfOk result (λ rows. rows ≡ root_row superuser.now supergroup.now ∷ []) }
     {
@@ -81,6 +84,9 @@ impl Rows {
     }
 
     /// Puts the rows of a new sub-tree in their place, instead of those that stood at and beneath its top. Copies the rows.
+    ///
+    /// # Errors
+    /// Out of memory. Nothing has changed then.
     pub fn insert(&mut self, alloc: Global, sub_tree: Vec<Row>) -> Result<(), AllocError>
         requires { IsTrue (fits self.old sub_tree.items) }
         ensures ok { OnOk result (self.new ≡ spec.with_sub_tree self.old sub_tree.items) }

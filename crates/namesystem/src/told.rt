@@ -9,7 +9,9 @@ use std::alloc::AllocError;
 /// A verdict for the history, and a copy of it for the caller.
 #[derive(Drop)]
 pub struct Told {
+    /// For the history.
     pub verdict: Verdict,
+    /// For the caller.
     pub copy: Verdict,
 }
 

@@ -18,6 +18,7 @@ pub struct AccessRecord {
     pub block: BlockId,
     /// To read or to write.
     pub mode: Modes,
+    /// In bytes.
     pub offset: u64,
     /// In bytes.
     pub length: u64,

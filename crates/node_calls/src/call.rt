@@ -9,7 +9,9 @@ use hdfs_values::node_id::NodeId;
 /// How far a replica is: being written, or finalized (HDFS-265, replica states).
 #[derive(Clone, Copy, PartialEq, Eq)]
 pub enum ReplicaState {
+    /// It is being written.
     Writing,
+    /// Its writing has ended.
     Finalized,
 }
 
@@ -53,6 +55,7 @@ impl Drop for TokenCall {
 
 /// A call of a DataNode.
 pub enum NodeCall {
+    /// Asks for something of a replica, with a token.
     Presenting(Presented, TokenCall),
     /// Removes the replica, if its stamp isn't newer than this.
     Invalidate(BlockId, Stamp),

@@ -42,7 +42,9 @@ impl fmt::Display for ReplicaRefusal {
 /// Why a DataNode refuses a call.
 #[derive(Clone, Copy, PartialEq, Eq)]
 pub enum NodeRefusal {
+    /// The token doesn't allow it.
     Token(TokenRefusal),
+    /// What the DataNode has of the block forbids it.
     Replica(ReplicaRefusal),
 }
 

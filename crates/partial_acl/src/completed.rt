@@ -61,6 +61,9 @@ fn have_room(users: &[NamedEntry], groups: &[NamedEntry]) -> bool
 }
 
 /// The list with the entries that are missing taken from another, and a mask: the one that is named, else the union of its class.
+///
+/// # Errors
+/// `TooManyEntries` where the list has more than 28 entries of named users and named groups, or out of memory.
 pub fn completed(
     alloc: Global,
     named_mask: Option<Rights>,
@@ -87,6 +90,9 @@ pub fn completed(
 }
 
 /// The same as an access list, which has a mask only beside named entries: without them the mask filters the owning group for good.
+///
+/// # Errors
+/// `TooManyEntries` where the list has more than 28 entries of named users and named groups, or out of memory.
 pub fn kept(
     alloc: Global,
     named_mask: Option<Rights>,
@@ -110,6 +116,9 @@ pub fn kept(
 }
 
 /// A copy of a list.
+///
+/// # Errors
+/// Out of memory.
 pub fn copy_of(list: &EntryList) -> Result<EntryList, AllocError>
     ensures copy { IfOk result (λ copy. copy ≡ list.now) }
     ensures entries { IsEntryList list.now }

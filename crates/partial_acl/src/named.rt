@@ -84,6 +84,9 @@ fn put_of(
 
 /// Puts in the entries of a spec for named users, or for named groups, of a scope. Stops where more stand there than may stand in a
 /// scope. So it costs the spec and, as no spec names anyone twice, some 33 comparisons for each of at most 33 entries.
+///
+/// # Errors
+/// `TooManyEntries` where more than 32 entries would stand there, or out of memory. Some of the entries may have been put in then.
 pub fn put_each(
     entries: &mut Vec<NamedEntry>,
     scope: Scope,
@@ -119,6 +122,9 @@ fn is_named(entry: &Entry, name: &Who) -> bool
 }
 
 /// Copies of the entries that a spec doesn't name in a scope and by a kind. Costs the entries times the spec.
+///
+/// # Errors
+/// Out of memory.
 pub fn without(
     alloc: Global,
     entries: &[NamedEntry],
@@ -138,6 +144,9 @@ pub fn without(
 }
 
 /// Copies of the entries.
+///
+/// # Errors
+/// Out of memory.
 pub fn copies(alloc: Global, entries: &[NamedEntry]) -> Result<Vec<NamedEntry>, AllocError>
     ensures { IfOk result (λ copied. copied.items ≡ entries.now) }
 {

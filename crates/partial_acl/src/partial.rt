@@ -16,10 +16,15 @@ use std::marker::Model;
 /// The entries of a scope without its mask, while they change: those of owner, owning group and others may be missing.
 #[derive(Drop)]
 pub struct PartialList {
+    /// What the owner is granted.
     pub user: Option<Rights>,
+    /// The entries of named users.
     pub users: Vec<NamedEntry>,
+    /// What the owning group is granted.
     pub group: Option<Rights>,
+    /// The entries of named groups.
     pub groups: Vec<NamedEntry>,
+    /// What all others are granted.
     pub other: Option<Rights>,
 }
 
@@ -54,6 +59,9 @@ impl PartialList {
     }
 
     /// All entries of a list but its mask.
+    ///
+    /// # Errors
+    /// Out of memory.
     pub fn all_of(alloc: Global, list: &EntryList) -> Result<PartialList, AllocError>
         ensures all { IfOk result (λ all. all ≡ definition.all_of list.now) }
         ensures entries { IsEntryList list.now }
@@ -68,6 +76,9 @@ impl PartialList {
     }
 
     /// With each entry that a spec has in a scope, instead of one that stands there.
+    ///
+    /// # Errors
+    /// `TooManyEntries` where more than 32 named users, or more than 32 named groups, would have entries, or out of memory.
     pub fn with(self, scope: Scope, spec: &[Entry]) -> Result<PartialList, AclChangeFault>
         ensures ok { IfOk result (λ list. list ≡ definition.after_addition scope spec.now self) }
         ensures refused { IfChangeRefused result (λ refusal. (refusal ≡ Refusal.TooManyEntries) × (32 < named_count (definition.after_addition scope spec.now self))) }
@@ -91,6 +102,9 @@ impl PartialList {
     }
 
     /// The entries of a list but its mask, without those that a spec names in a scope.
+    ///
+    /// # Errors
+    /// Out of memory.
     pub fn without(
         alloc: Global,
         list: &EntryList,

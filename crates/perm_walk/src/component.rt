@@ -32,6 +32,7 @@ impl<'a> Component<'a> {
     ghost use Rattle.inode_nodes.specs.Node.{row_of};
     ghost use Rattle.inode_tree.specs.Tree.{branch_at};
 
+    /// What stands at a path, with the path.
     pub fn new(path: &'a [Name], inode: Inode<'a>) -> Component<'a>
         requires { IsPath path.now }
         ensures { result ≡ row_of path.now (branch_at inode.entry).top }
@@ -62,6 +63,9 @@ impl<'a> Component<'a> {
     }
 
     /// A copy of the path. Costs the path.
+    ///
+    /// # Errors
+    /// Out of memory.
     pub fn to_path(&self, alloc: Global) -> Result<Path, AllocError>
         ensures { IfOk result (λ path. path ≡ self.now.path) }
     {
@@ -81,6 +85,9 @@ impl<'a> Component<'a> {
     }
 
     /// A copy, as a row of the namespace. Costs the path, and the blocks of a file.
+    ///
+    /// # Errors
+    /// Out of memory.
     pub fn to_row(&self, alloc: Global) -> Result<Row, AllocError>
         ensures { IfOk result (λ row. row ≡ self.now) }
     {

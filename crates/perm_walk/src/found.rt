@@ -19,11 +19,16 @@ use std::alloc::{AllocError, Global};
 /// What has a path, or why nothing has.
 #[derive(Drop)]
 pub enum Found<'a> {
+    /// This has the path.
     There(Component<'a>),
+    /// Nothing has the path: `NotDirectory` where a file stands above it, else `NotFound`.
     Refused(Refusal),
 }
 
 /// What has a path that leads so far.
+///
+/// # Errors
+/// Out of memory.
 pub fn standing<'a>(alloc: Global, reach: Reach<'a>) -> Result<Found<'a>, AllocError>
     ensures { (path : List (List ℕ)) → (rows : List Row) → IsReach path rows reach.entry → IfOk result (IsFound path rows) }
 {
@@ -36,7 +41,10 @@ pub fn standing<'a>(alloc: Global, reach: Reach<'a>) -> Result<Found<'a>, AllocE
     }
 }
 
-/// The bytes of a file; a number that doesn't fit in 64 bits counts as out of memory. Costs its blocks.
+/// The bytes of the blocks of a file whose length is committed. Costs its blocks, and takes no memory.
+///
+/// # Errors
+/// Out of memory stands for a number that doesn't fit in 64 bits.
 pub fn length_told(file: &FileRow) -> Result<u64, AllocError>
     ensures { IfOk result (λ length. length ≡ length_of file.now.blocks) }
 {
@@ -46,7 +54,10 @@ pub fn length_told(file: &FileRow) -> Result<u64, AllocError>
     }
 }
 
-/// How many directories and files there are; a number that doesn't fit in 64 bits counts as out of memory.
+/// How many directories and files there are at a path and beneath it, and how many bytes the files hold. Costs as `Tree::count`.
+///
+/// # Errors
+/// Out of memory stands for a number of directories or of files that isn't below the greatest one of 64 bits.
 pub fn counts_at(tree: &Tree, path: &Path) -> Result<Counts, AllocError>
     ensures directories { IfOk result (λ counts. counts.directories ≡ length (filter rows_spec.is_directory (changes.rows_under path.now tree.now))) }
     ensures files { IfOk result (λ counts. counts.files ≡ length (filter (λ row. not (rows_spec.is_directory row)) (changes.rows_under path.now tree.now))) }

@@ -18,9 +18,13 @@ use principals::caller::Caller;
 /// file above it, where there are such.
 #[derive(Drop)]
 pub struct Reach<'a> {
+    /// What has the path.
     pub at: Option<Component<'a>>,
+    /// The directory that holds the path.
     pub parent: Option<Component<'a>>,
+    /// The last existing component above the path.
     pub ancestor: Option<Component<'a>>,
+    /// The file above the path.
     pub file: Option<Component<'a>>,
 }
 

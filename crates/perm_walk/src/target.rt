@@ -17,8 +17,11 @@ use std::alloc::{AllocError, Global};
 /// What a walk to what has a path finds: the first denial, or else why nothing has it, or else what has it.
 #[derive(Drop)]
 pub enum Target<'a> {
+    /// The first need that fails.
     Denied(Denial),
+    /// Why nothing has the path.
     Refused(Refusal),
+    /// What has the path.
     There(Component<'a>),
 }
 
@@ -50,8 +53,11 @@ pub fn walk_to<'a>(
 /// What a walk to a file finds: the first denial, or else why no file has the path, or else the file.
 #[derive(Drop)]
 pub enum TargetFile<'a> {
+    /// The first need that fails.
     Denied(Denial),
+    /// Why no file has the path: nothing has it, or a directory.
     Refused(Refusal),
+    /// The file that has the path.
     There(&'a FileRow),
 }
 

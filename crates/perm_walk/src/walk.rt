@@ -18,14 +18,18 @@ use std::alloc::{AllocError, Global};
 /// What a walk finds: the first denial, or where nothing is denied how far the path leads.
 #[derive(Drop)]
 pub enum Walked<'a> {
+    /// The first need that fails.
     Denied(Denial),
+    /// How far the path leads.
     Reached(Reach<'a>),
 }
 
 /// What a walk along two paths finds: the first denial, or where nothing is denied how far each leads.
 #[derive(Drop)]
 pub enum WalkedBoth<'a> {
+    /// The first need that fails.
     Denied(Denial),
+    /// How far the first path leads, and how far the second.
     Reached(Reach<'a>, Reach<'a>),
 }
 
@@ -190,9 +194,9 @@ pub fn walk_along<'a>(
     judged_on(alloc, tree, path.names(), needs.as_slice(), caller)
 }
 
-/// Judges needs, most of which are on one of two paths, as `walk` does; where none of the needs fails, answers also the
-/// deepest existing component of each path. One descent for each of the two paths, and one for each need on another; a need on a sub-tree costs
-/// another and its directories. Memory is taken only for a denial.
+/// Judges needs, most of which are on one of two paths, as `walk` does, and answers also how far each of the two paths leads where none of the
+/// needs fails. One descent for each of the two paths, and one for each need on another; a need on a sub-tree costs another and its
+/// directories. Memory is taken only for a denial.
 ///
 /// # Errors
 /// Out of memory.
@@ -225,6 +229,9 @@ pub fn walk_along_both<'a>(
 /// The first of the needs that fails for the caller, or none: the decision of the flat list of rows (HDFS Permissions Guide,
 /// "Permission Checks"). A superuser fails none. The needs cost one descent for each of the paths of the first two, and one for
 /// each need on another path; a need on a sub-tree costs another and its directories. Memory is taken only for a denial.
+///
+/// # Errors
+/// Out of memory.
 pub fn walk(
     alloc: Global,
     tree: &Tree,

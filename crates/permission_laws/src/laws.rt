@@ -10,7 +10,8 @@ pub fn superusers_are_never_denied()
     ensures others { law.OthersAreNoSuperusers }
 {}
 
-/// Only the principal of a DataNode does what is for DataNodes: a heartbeat (HDFS Architecture, "Data Replication").
+/// Only the principal of a DataNode does what is for DataNodes: heartbeats, reports of replicas and ends of recoveries (HDFS Architecture,
+/// "Data Replication").
 pub fn nodes_act_for_themselves()
     ensures { law.OthersAreNoNodes }
 {}

@@ -9,7 +9,9 @@ use std::fmt;
 /// (HDFS Permissions Guide, "ACLs (Access Control Lists)").
 #[derive(Clone, Copy, PartialEq, Eq, PartialOrd, Ord)]
 pub enum Scope {
+    /// The list that is judged.
     Access,
+    /// The list that what is made beneath inherits.
     Default,
 }
 
@@ -17,9 +19,13 @@ pub enum Scope {
 /// the owning group, or all others.
 #[derive(Clone, Copy, PartialEq, Eq, PartialOrd, Ord)]
 pub enum EntryKind {
+    /// The owner or a named user.
     User,
+    /// The owning group or a named group.
     Group,
+    /// The mask of the named entries and the owning group.
     Mask,
+    /// All others.
     Other,
 }
 
@@ -28,6 +34,7 @@ pub enum EntryKind {
 pub struct Entry {
     pub scope: Scope,
     pub kind: EntryKind,
+    /// The named user or the named group; `None` for the owner, the owning group, the mask and all others.
     pub name: Option<Who>,
     pub rights: Rights,
 }

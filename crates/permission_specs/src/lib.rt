@@ -1,4 +1,4 @@
-//! Rights, modes of files, directories and block tokens, and entries of access control lists as requests name them, with their texts.
+//! Entries of access control lists, specs of them, and changes of such lists, as requests name them, with their texts.
 #![tactic(auto)]
 
 pub mod acl_change;

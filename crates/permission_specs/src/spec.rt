@@ -92,6 +92,7 @@ impl Spec {
         Ok(Spec { entries })
     }
 
+    /// The entries in their order.
     pub fn as_slice(&self) -> &[Entry]
         ensures entries { result.now ≡ self.now }
         ensures spec { IsSpec self.now }

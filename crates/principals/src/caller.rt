@@ -32,12 +32,14 @@ impl<'a> Caller<'a> {
         }
     }
 
+    /// The caller's name.
     pub fn name(&self) -> &'a Who
         ensures { result.now ≡ self.now.name }
     {
         self.name
     }
 
+    /// The caller's groups.
     pub fn groups(&self) -> &'a [Who]
         ensures { result.now ≡ self.now.groups }
     {

@@ -79,12 +79,14 @@ impl Users {
         }
     }
 
+    /// The user that is a superuser by its name.
     pub fn superuser(&self) -> &Who
         ensures { result.now ≡ self.now.superuser }
     {
         &self.superuser
     }
 
+    /// The group whose known members are superusers.
     pub fn supergroup(&self) -> &Who
         ensures { result.now ≡ self.now.supergroup }
     {

@@ -33,6 +33,7 @@ pub enum Role {
 /// When a need on a path is judged.
 #[derive(Drop)]
 pub enum Condition {
+    /// Whether something has the path or not.
     Always,
     /// Where nothing has the path.
     WhereMissing,
@@ -49,7 +50,9 @@ pub enum Condition {
 /// Whether a need is judged also while permission checking is switched off (`dfs.permissions.enabled`).
 #[derive(Clone, Copy, Debug, PartialEq, Eq)]
 pub enum Enforcement {
+    /// Only while permission checking is on.
     WhileChecking,
+    /// Also while permission checking is off.
     Always,
 }
 
@@ -200,6 +203,9 @@ impl<'a> Demand<'a> {
     }
 
     /// To be a superuser where another than this user owns the path.
+    ///
+    /// # Errors
+    /// Out of memory.
     pub fn giving_away(path: &'a Path, user: &Who) -> Result<Demand<'a>, AllocError>
         ensures { IfOk result (λ demand. demand ≡ spec.giving_away path.now user.now) }
     {
@@ -212,6 +218,9 @@ impl<'a> Demand<'a> {
     }
 
     /// To be among the members of a group.
+    ///
+    /// # Errors
+    /// Out of memory.
     pub fn membership(path: &'a Path, group: &Who) -> Result<Demand<'a>, AllocError>
         ensures { IfOk result (λ demand. demand ≡ spec.membership path.now group.now) }
     {
@@ -249,6 +258,7 @@ impl<'a> Demand<'a> {
         }
     }
 
+    /// Of which components on the path it is a need.
     pub fn role(&self) -> Role
         ensures { result ≡ self.now.role }
     {
@@ -263,12 +273,14 @@ impl<'a> Demand<'a> {
         self.path
     }
 
+    /// When the need is judged.
     pub fn condition(&self) -> &Condition
         ensures { result.now ≡ self.now.condition }
     {
         &self.condition
     }
 
+    /// What is needed.
     pub fn need(&self) -> &Need
         ensures { result.now ≡ self.now.need }
     {
@@ -307,6 +319,7 @@ impl<'a> Model for Needs<'a> {
 }
 
 impl<'a> Needs<'a> {
+    /// The needs in their order.
     pub fn as_slice(&self) -> &[Demand<'a>]
         ensures { result.now ≡ self.now }
     {
@@ -489,6 +502,9 @@ fn demands_of<'a>(alloc: Global, op: &'a Op) -> Result<Listed<'a>, AllocError>
 }
 
 /// The needs of an operation, with its paths borrowed. Takes no memory where there is one need.
+///
+/// # Errors
+/// Out of memory.
 pub fn needs_of<'a>(alloc: Global, op: &'a Op) -> Result<Needs<'a>, AllocError>
     ensures { IfOk result (λ needs. needs ≡ spec.required_rights op.now) }
 {

@@ -9,6 +9,7 @@ use std::fmt;
 /// What a caller needs at a component of the namespace (HDFS Permissions Guide, "Permission Checks").
 #[derive(Drop)]
 pub enum Need {
+    /// To be granted these rights on the component.
     Rights(Rights),
     /// In a directory with the sticky bit, to own the component or that directory.
     Sticky,

@@ -1,4 +1,4 @@
-//! Whether two requests, or two verdicts, are one.
+//! Whether two verdicts are one, and what they are made of: replies, denials, refusals and rows.
 #![tactic(auto)]
 
 pub mod denials;

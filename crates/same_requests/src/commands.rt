@@ -9,6 +9,7 @@ use block_records::node_set::NodeSet;
 use hdfs_values::ids::Serial;
 use hdfs_values::node_id::NodeId;
 
+/// Whether two tokens are of the same bytes.
 pub fn is_same_token(token: &TokenBytes, other: &TokenBytes) -> bool
     ensures { Decides result (token.now ≡ other.now) }
 {
@@ -29,6 +30,7 @@ fn are_same_ids(nodes: &[NodeId], others: &[NodeId]) -> bool
     true
 }
 
+/// Whether two sets of DataNodes are one.
 pub fn are_same_nodes(nodes: &NodeSet, other: &NodeSet) -> bool
     ensures { Decides result (nodes.now ≡ other.now) }
 {

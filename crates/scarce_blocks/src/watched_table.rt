@@ -98,7 +98,7 @@ impl WatchedTable {
     }
 
     /// So many of these nodes that have the fewest blocks, ties to the lowest id; all of them where there are no more. Costs a sort of
-    /// the nodes, and two look-ups for each.
+    /// the nodes, and a look-up for each.
     ///
     /// # Errors
     /// Out of memory.
@@ -210,7 +210,8 @@ impl WatchedTable {
         Ok(verdict)
     }
 
-    /// Ends a node's report of a block. Costs a look-up of the block, and one among its nodes. Where there is no memory, it needs none.
+    /// Ends a node's report of a block. Costs a look-up of the block, and one among its nodes. May take memory for the list of blocks with too
+    /// few replicas, and doesn't fail for want of it.
     pub fn end_report(&mut self, block: BlockId, node: NodeId)
         ensures { self.new ≡ with_record_changed (without_report node) block self.old }
     {
@@ -218,8 +219,8 @@ impl WatchedTable {
         watch(&self.table, &mut self.scarce, &mut self.complete, block);
     }
 
-    /// Gives a block another replication; nothing changes where the block isn't known. Costs a look-up. Where there is no memory, it needs
-    /// none.
+    /// Gives a block another replication; nothing changes where the block isn't known. Costs a look-up. May take memory for the list of
+    /// blocks with too few replicas, and doesn't fail for want of it.
     pub fn set_replication(&mut self, block: BlockId, replication: Repl)
         ensures { self.new ≡ with_record_changed (with_replication replication) block self.old }
     {
@@ -228,7 +229,7 @@ impl WatchedTable {
     }
 
     /// Commits a block's length: of the nodes that reported it those are left that reported this length. The others are handed in.
-    /// Costs a look-up for each of them. Where there is no memory, it needs none.
+    /// Costs a look-up for each of them. May take memory for the list of blocks with too few replicas, and doesn't fail for want of it.
     pub fn commit(&mut self, block: BlockId, bytes: u64, others: &[NodeId])
         requires { IfSome (entry_at block self.old) (λ own. others.now ≡ others_of bytes own.reports) }
         ensures { self.new ≡ with_record_changed (with_length bytes) block self.old }
@@ -238,7 +239,7 @@ impl WatchedTable {
     }
 
     /// Gives a block a newer stamp, which nobody has reported, and notes that a recovery of it begins. Costs a look-up for each node that
-    /// reported it. Where there is no memory, it needs none.
+    /// reported it. May take memory for the list of blocks with too few replicas, and doesn't fail for want of it.
     pub fn begin_recovery(&mut self, block: BlockId, stamp: Stamp, now: Moment)
         ensures { self.new ≡ with_record_changed (with_recovery stamp now) block self.old }
     {

@@ -35,6 +35,7 @@ use std::alloc::{AllocError, Global};
 /// What is judged of a request for a new block, before anything changes.
 #[derive(Drop)]
 pub enum JudgedBlock {
+    /// It is denied or refused.
     Verdict(Verdict),
     /// The file gets this block, whose token isn't issued yet; so many replicas of each of its blocks are to be.
     New { new: NewBlock, replication: Repl },
@@ -43,6 +44,7 @@ pub enum JudgedBlock {
 /// What is judged of a request to read a file.
 #[derive(Drop)]
 pub enum JudgedOpen<'a> {
+    /// It is denied or refused.
     Verdict(Verdict),
     /// The caller reads this file; its tokens aren't issued yet.
     File(&'a FileRow),

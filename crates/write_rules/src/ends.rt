@@ -89,6 +89,9 @@ fn length_behind(last: Option<LastBlock>, file: &FileRow) -> Result<u64, AllocEr
 }
 
 /// Judges whether a client can close a file.
+///
+/// # Errors
+/// Out of memory stands for a length of the file that doesn't fit in 64 bits.
 pub fn completed(
     client: &Who,
     blocks: &Blocks,
