@@ -23,7 +23,7 @@ fn run_command<'a>(alloc: Global, verbs: &'a str) -> Result<Command<'a>, AllocEr
         "Also says on standard error what is wrong with each ill-formed line",
     );
     Command::new(alloc, "run")
-        .about("Runs a script of requests, and prints an answer for each line")
+        .about("Runs a script, and prints an answer for each line")
         .after_help(verbs)
         .arg(script(alloc))?
         .arg(hints)
@@ -53,7 +53,7 @@ fn explain_command<'a>(alloc: Global) -> Result<Command<'a>, AllocError> {
 fn audit_command<'a>(alloc: Global) -> Result<Command<'a>, AllocError> {
     Command::new(alloc, "audit")
         .about(
-            "Runs a script of requests, and prints their history: for each an object of JSON on a line of its own",
+            "Runs a script, and prints the history of its requests: for each an object of JSON on a line of its own",
         )
         .arg(script(alloc))
 }

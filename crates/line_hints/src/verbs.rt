@@ -195,7 +195,18 @@ fn add_verbs(verbs: &[Verb], text: &mut String) -> Result<(), AllocError> {
     Ok(())
 }
 
-/// The forms of a line, and the verbs with their words, a line each.
+/// What the words of verbs are, and how a run ends.
+const WORDS: &str = "\n
+P and Q are paths, U is a user, G a group, and GROUPS are groups with a comma between each two, or - for none.
+MODE is octal, at most 1777, REPL is 1 to 16, and SPEC are entries like user:bob:rw-,default:group::r-x.
+B is a block, STAMP its generation stamp, LEN and OFFSET are bytes, and HEX is 40 hexadecimal digits.
+NODE is the id of a DataNode, and NEXT are ids with a comma between each two, or - for none. CALLER of decide and commit is dn-NODE.
+BYTES are hexadecimal digits, or one byte many times, as 512*61, and #K is the K-th token that was granted.
+
+Empty lines and lines that begin with # get no answer.
+The exit status is 1 where a line is ill-formed, 2 for a fault of the command line, and 3 where memory runs out, or the script can't be read, or the answers can't be written.";
+
+/// The forms of a line, the verbs with their words, a line each, what these words are, and how a run ends.
 ///
 /// # Errors
 /// Out of memory.
@@ -210,5 +221,6 @@ pub fn help_text(alloc: Global) -> Result<String, AllocError> {
     )?;
     add_verbs(&NODE_VERBS, &mut text)?;
     text.push_str("\n\nMOMENT - deliver NUMBER delivers a message.")?;
+    text.push_str(WORDS)?;
     Ok(text)
 }
