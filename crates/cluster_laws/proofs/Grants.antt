@@ -11,6 +11,8 @@ use Rattle.node_calls.specs.declared.call.PlanCall.{PlanCall}
 use Rattle.node_calls.specs.declared.call.PlanCall.TheVariants as plan
 use Rattle.node_calls.specs.declared.call.TokenCall.{TokenCall}
 use Rattle.node_calls.specs.declared.call.TokenCall.TheVariants as asks
+use Rattle.node_calls.specs.declared.message.Message.{Message}
+use Rattle.node_calls.specs.declared.message.Message.TheVariants as message
 use Rattle.node_calls.specs.declared.presented.Presented.{Presented}
 use Rattle.node_calls.specs.declared.reply.NodeReply.{NodeReply}
 use Rattle.node_replies.specs.Asking.{asked_by, sends_copy}
@@ -20,7 +22,7 @@ use Rattle.datanode.specs.NodeStep.{DataNode, clock_with}
 use Rattle.block_recovery.specs.Plans.{PlanTable}
 use Rattle.cluster_trace.specs.DataCall.{DataCall, as_message, BeginWrite, Packet, Finalize, Read, Decide, Commit}
 use Rattle.cluster_trace.specs.Provenance.{IsIn, ledger_in, IsForged, IsGranted, IsCovered, IsCoveredWhere, CallAt, call_of, IsServedRightly}
-use Rattle.cluster_trace.specs.Trace.{Cluster, ClusterOpening, event_lost, request_named, node_called, called_at, leader_called, led_at, message_delivered, is_from_outside, event_happened, after}
+use Rattle.cluster_trace.specs.Trace.{Cluster, ClusterOpening, event_lost, request_named, node_called, called_at, leader_called, led_at, message_at, message_delivered, is_from_outside, event_happened, after}
 use Rattle.cluster_trace.specs.Typed.{GrantFits, AreTyped}
 use Rattle.cluster_trace.specs.declared.event.Event.{Event}
 use Rattle.cluster_trace.specs.declared.event.Event.TheVariants.{Name, Deliver, Data}
@@ -30,7 +32,7 @@ use Rattle.cluster_trace.specs.declared.outcome.EventAnswer.TheVariants.{Called}
 use Rattle.cluster_trace.proofs.Each.{each_in}
 use Rattle.cluster_trace.proofs.Right.{all_right}
 use Rattle.cluster_trace.proofs.Tokens.{RowIssued, TellsItself, parts_of, issued_tells, all_issued}
-use Rattle.cluster_laws.specs.Laws.{AreRequests}
+use Rattle.cluster_laws.specs.Laws.{IsForNameNode, AsksNameNode, AreRequests}
 
 -- ---- rights that are gone
 
@@ -38,21 +40,41 @@ request_leaves : (state : Cluster) (b : Bool) (request : Request) → (cond b (r
 request_leaves state true request = refl
 request_leaves state false request = refl
 
-same_nodes : (opening : ClusterOpening) (requests earlier : List Event) → AreRequests requests → (after opening (requests ++ earlier)).nodes ≡ (after opening earlier).nodes
+message_leaves : (state : Cluster) (now : ℕ) (found : Option Message) → IsForNameNode found → (message_delivered state now found).nodes ≡ state.nodes
+message_leaves state now None asks = refl
+message_leaves state now (Some (message.Node node asked)) asks = absurd asks
+message_leaves state now (Some (message.Plan node asked)) asks = absurd asks
+message_leaves state now (Some (message.Reported node block stamp bytes)) asks = refl
+message_leaves state now (Some (message.CommitRecovery node block stamp bytes nodes)) asks = refl
+
+event_leaves : (state : Cluster) (event : Event) → AsksNameNode state event → (event_happened state event).nodes ≡ state.nodes
+event_leaves state (Name request) asks = request_leaves state (is_from_outside request.op) request
+event_leaves state (Deliver number now) asks = message_leaves state now (message_at number state.messages) asks
+event_leaves state (Data node now asked) asks = absurd asks
+
+same_nodes : (opening : ClusterOpening) (requests earlier : List Event) → AreRequests opening earlier requests → (after opening (requests ++ earlier)).nodes ≡ (after opening earlier).nodes
 same_nodes opening [] earlier all = refl
-same_nodes opening (Name request ∷ requests) earlier all = request_leaves (after opening (requests ++ earlier)) (is_from_outside request.op) request ∙ same_nodes opening requests earlier all
-same_nodes opening (Deliver number now ∷ requests) earlier all = absurd all
-same_nodes opening (Data node now asked ∷ requests) earlier all = absurd all
+same_nodes opening (event ∷ requests) earlier all = event_leaves (after opening (requests ++ earlier)) event all.0 ∙ same_nodes opening requests earlier all.1
 
 request_keeps : (state : Cluster) (b : Bool) (request : Request) → (cond b (request_named state request) (event_lost state NotFromOutside)).plans ≡ state.plans
 request_keeps state true request = refl
 request_keeps state false request = refl
 
-same_plans : (opening : ClusterOpening) (requests earlier : List Event) → AreRequests requests → (after opening (requests ++ earlier)).plans ≡ (after opening earlier).plans
+message_keeps : (state : Cluster) (now : ℕ) (found : Option Message) → IsForNameNode found → (message_delivered state now found).plans ≡ state.plans
+message_keeps state now None asks = refl
+message_keeps state now (Some (message.Node node asked)) asks = absurd asks
+message_keeps state now (Some (message.Plan node asked)) asks = absurd asks
+message_keeps state now (Some (message.Reported node block stamp bytes)) asks = refl
+message_keeps state now (Some (message.CommitRecovery node block stamp bytes nodes)) asks = refl
+
+event_keeps : (state : Cluster) (event : Event) → AsksNameNode state event → (event_happened state event).plans ≡ state.plans
+event_keeps state (Name request) asks = request_keeps state (is_from_outside request.op) request
+event_keeps state (Deliver number now) asks = message_keeps state now (message_at number state.messages) asks
+event_keeps state (Data node now asked) asks = absurd asks
+
+same_plans : (opening : ClusterOpening) (requests earlier : List Event) → AreRequests opening earlier requests → (after opening (requests ++ earlier)).plans ≡ (after opening earlier).plans
 same_plans opening [] earlier all = refl
-same_plans opening (Name request ∷ requests) earlier all = request_keeps (after opening (requests ++ earlier)) (is_from_outside request.op) request ∙ same_plans opening requests earlier all
-same_plans opening (Deliver number now ∷ requests) earlier all = absurd all
-same_plans opening (Data node now asked ∷ requests) earlier all = absurd all
+same_plans opening (event ∷ requests) earlier all = event_keeps (after opening (requests ++ earlier)) event all.0 ∙ same_plans opening requests earlier all.1
 
 answer_by : (state other : Cluster) (id now : ℕ) (asked : NodeCall) (found : Option DataNode) → (called_at state id now asked found).answer ≡ (called_at other id now asked found).answer
 answer_by state other id now asked None = refl
@@ -78,7 +100,7 @@ module _ (state other : Cluster) (nodes : state.nodes ≡ other.nodes) (plans : 
   answer_same node now (Decide block stamp) = led_same node (plan.Decide block stamp)
   answer_same node now (Commit block stamp) = led_same node (plan.Commit block stamp)
 
-pub outlive : (opening : ClusterOpening) (requests earlier : List Event) (node now : ℕ) (asked : DataCall) → AreRequests requests
+pub outlive : (opening : ClusterOpening) (requests earlier : List Event) (node now : ℕ) (asked : DataCall) → AreRequests opening earlier requests
     → (event_happened (after opening (requests ++ earlier)) (Data node now asked)).answer ≡ (event_happened (after opening earlier) (Data node now asked)).answer
 outlive opening requests earlier node now asked all =
     answer_same (after opening (requests ++ earlier)) (after opening earlier) (same_nodes opening requests earlier all) (same_plans opening requests earlier all) node now asked

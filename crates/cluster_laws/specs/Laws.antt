@@ -10,13 +10,15 @@ use Rattle.node_calls.specs.declared.access_log.AccessRecord.{AccessRecord}
 use Rattle.node_calls.specs.declared.call.NodeCall.{NodeCall}
 use Rattle.node_calls.specs.declared.call.NodeCall.TheVariants.{Presenting, Invalidate, Keys}
 use Rattle.node_calls.specs.declared.call.TokenCall.{TokenCall}
+use Rattle.node_calls.specs.declared.message.Message.{Message}
+use Rattle.node_calls.specs.declared.message.Message.TheVariants as message
 use Rattle.node_calls.specs.declared.presented.Presented.{Presented}
 use Rattle.node_calls.specs.declared.reply.NodeReply.{NodeReply}
 use Rattle.node_replies.specs.Asking.{asked_by, record_of}
 use Rattle.replicas.specs.ReplicaStep.{held_at}
 use Rattle.datanode.specs.NodeStep.{DataNode, node_after, node_answer, clock_with}
 use Rattle.cluster_trace.specs.DataCall.{DataCall}
-use Rattle.cluster_trace.specs.Trace.{Cluster, ClusterOpening, event_happened, after}
+use Rattle.cluster_trace.specs.Trace.{Cluster, ClusterOpening, message_at, event_happened, after}
 use Rattle.cluster_trace.specs.Provenance.{IsIn, ledger_in, IsForged, CallAt, call_of}
 use Rattle.cluster_trace.specs.Typed.{AreTyped}
 use Rattle.cluster_trace.specs.declared.event.Event.{Event}
@@ -80,16 +82,27 @@ StrangersReachNothing = (opening : ClusterOpening) (events : List Event) (user :
 
 -- ---- how long
 
--- requests to the NameNode alone
-abbrev pub AreRequests : List Event → Type 0
-AreRequests [] = ⊤
-AreRequests (Name request ∷ events) = AreRequests events
-AreRequests (Deliver number now ∷ events) = ⊥
-AreRequests (Data node now asked ∷ events) = ⊥
+-- a message asks the NameNode something: a DataNode's report, or the end of a recovery; where there is no message, nothing is asked
+abbrev pub IsForNameNode : Option Message → Type 0
+IsForNameNode None = ⊤
+IsForNameNode (Some (message.Node node asked)) = ⊥
+IsForNameNode (Some (message.Plan node asked)) = ⊥
+IsForNameNode (Some (message.Reported node block stamp bytes)) = ⊤
+IsForNameNode (Some (message.CommitRecovery node block stamp bytes nodes)) = ⊤
+
+abbrev pub AsksNameNode : Cluster → Event → Type 0
+AsksNameNode state (Name request) = ⊤
+AsksNameNode state (Deliver number now) = IsForNameNode (message_at number state.messages)
+AsksNameNode state (Data node now asked) = ⊥
+
+-- behind these events requests to the NameNode alone: of callers, and by messages that are delivered to it
+abbrev pub AreRequests : ClusterOpening → List Event → List Event → Type 0
+AreRequests opening earlier [] = ⊤
+AreRequests opening earlier (event ∷ events) = AsksNameNode (after opening (events ++ earlier)) event × AreRequests opening earlier events
 
 -- whatever they change at the NameNode, a client's call is answered by a DataNode as before
 abbrev pub GrantsOutliveRights : Type 0
-GrantsOutliveRights = (opening : ClusterOpening) (requests earlier : List Event) (node now : ℕ) (asked : DataCall) → AreRequests requests
+GrantsOutliveRights = (opening : ClusterOpening) (requests earlier : List Event) (node now : ℕ) (asked : DataCall) → AreRequests opening earlier requests
     → (event_happened (after opening (requests ++ earlier)) (Data node now asked)).answer ≡ (event_happened (after opening earlier) (Data node now asked)).answer
 
 -- no call is served by a grant whose expiry has come at the DataNode

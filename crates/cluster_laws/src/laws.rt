@@ -11,8 +11,9 @@ pub fn strangers_reach_nothing()
     ensures strangers { law.StrangersReachNothing }
 {}
 
-/// A DataNode asks nobody: whatever the NameNode is asked in between, a call is answered as it would have been before. So a grant outlives
-/// the right by which it was given; but no call is served by it once its expiry has come at the DataNode (HADOOP-4359).
+/// A DataNode asks nobody: whatever the NameNode is asked in between, by callers or by messages, a client's call is answered as it would have
+/// been before. So a grant outlives the right by which it was given; but no call is served by it once its expiry has come at the DataNode
+/// (HADOOP-4359).
 pub fn grants_outlive_rights_until_they_expire()
     ensures outlive { law.GrantsOutliveRights }
     ensures end { law.GrantsEnd }

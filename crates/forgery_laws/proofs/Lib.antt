@@ -2,3 +2,4 @@ pub mod Members
 pub mod Orders
 pub mod Scripts
 pub mod Sent
+pub mod Openings

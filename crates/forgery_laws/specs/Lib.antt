@@ -1,1 +1,2 @@
 pub mod Forgeries
+pub mod Openings
