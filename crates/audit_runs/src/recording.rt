@@ -5,7 +5,7 @@ ghost use Rattle.audit_runs.specs.Recorded.{Holds, HoldsFirst, AreFirstOf};
 
 use cluster_core::world::World;
 use cluster_runs::session::open_world;
-use cluster_text::event_line::read_event;
+use cluster_text::event_line::read_event_with;
 use cluster_trace::event::Event;
 use hdfs_values::fault::IllFormed;
 use history::entry::HistoryEntry;
@@ -69,14 +69,19 @@ impl Recording {
     }
 
     /// What a line says, where it is read behind those that were run.
-    fn read(&self, line: &str) -> Result<Result<Event, IllFormed>, AllocError>
+    fn read<'a>(
+        &self,
+        words: &mut Vec<&'a str>,
+        line: &'a str,
+    ) -> Result<Result<Event, IllFormed>, AllocError>
         ensures { IfOk result (λ said. said ≡ spec.event_in self.now.world line.now) }
     {
-        read_event(self.alloc, self.world.core().ledger().as_slice(), line)
+        let rows = self.world.core().ledger().as_slice();
+        read_event_with(self.alloc, rows, words, line)
     }
 
-    /// Runs a line. Where memory runs out it makes no entry.
-    fn serve(&mut self, line: &str) -> Result<(), AllocError>
+    /// Runs a line. The list is for the words of the line. Where memory runs out it makes no entry.
+    fn serve<'a>(&mut self, words: &mut Vec<&'a str>, line: &'a str) -> Result<(), AllocError>
         ensures ok { (state : spec.State) → Holds state self.old → OnOk result (Holds (spec.after_line state line.now) self.new) }
         ensures err { OnErr result (self.new.world ≡ self.old.world) }
     {
@@ -84,17 +89,18 @@ impl Recording {
         if is_skipped(line) {
             return Ok(());
         }
-        let said = self.read(line)?;
+        let said = self.read(words, line)?;
         self.take_in(said)
     }
 
     /// Runs the lines. Where memory runs out, the entries of those before are held.
-    fn serve_all(&mut self, lines: &[&str]) -> Result<(), AllocError>
+    fn serve_all<'a>(&mut self, lines: &[&'a str]) -> Result<(), AllocError>
         ensures ok { (state : spec.State) → Holds state self.old → OnOk result (Holds (spec.behind_lines state (map (λ line. line.now) lines.now)) self.new) }
         ensures err { (state : spec.State) → Holds state self.old → OnErr result (HoldsFirst state (map (λ line. line.now) lines.now) self.new) }
     {
+        let mut words = Vec::new(self.alloc);
         for line in lines {
-            self.serve(line)?;
+            self.serve(&mut words, line)?;
         }
         Ok(())
     }
