@@ -25,4 +25,4 @@ lines_keep state [] = refl
 lines_keep state (line ∷ lines) = lines_keep (after_line state line) lines ∙ line_keeps state line
 
 pub open_with_node_ids : ScriptsOpenWithNodeIds
-open_with_node_ids lines = subst HasNodeIds (sym (lines_keep no_lines lines)) (tt, tt, tt, tt, tt, tt, tt, tt, tt)
+open_with_node_ids lines = subst HasNodeIds (sym (lines_keep no_lines lines)) (refl, (refl, (refl, (refl, (refl, (refl, (refl, (refl, tt))))))))
