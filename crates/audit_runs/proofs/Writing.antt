@@ -16,27 +16,27 @@ use Rattle.audit_runs.specs.Recorded.{AreFirstOf}
 moved : (old new : Option (List ℕ)) (a b : List ℕ) → a ≡ b → Appends old new a → Appends old new b
 moved old new a b e h = subst (λ text. Appends old new text) e h
 
--- ---- a block of entries behind those that are done
+-- ---- a batch of entries behind those that are done
 
-next_block : (entries : List HistoryEntry) (done size : ℕ) → take (length (take size (drop done entries))) (drop done entries) ≡ take size (drop done entries)
-next_block entries done size = ap (λ n. take n (drop done entries)) (length-take size (drop done entries)) ∙ take_min size (drop done entries)
+next_batch : (entries : List HistoryEntry) (done size : ℕ) → take (length (take size (drop done entries))) (drop done entries) ≡ take size (drop done entries)
+next_batch entries done size = ap (λ n. take n (drop done entries)) (length-take size (drop done entries)) ∙ take_min size (drop done entries)
 
--- the entries up to the end of the block
-up_to : (entries block : List HistoryEntry) (done : ℕ) → block ≡ take 256 (drop done entries) → take (done + length block) entries ≡ take done entries ++ block
-up_to entries block done is =
-    take-add done (length block) entries
-    ∙ ap (λ rest. take done entries ++ rest) (ap (λ b. take (length b) (drop done entries)) is ∙ next_block entries done 256 ∙ sym is)
+-- the entries up to the end of the batch
+up_to : (entries batch : List HistoryEntry) (done : ℕ) → batch ≡ take 256 (drop done entries) → take (done + length batch) entries ≡ take done entries ++ batch
+up_to entries batch done is =
+    take-add done (length batch) entries
+    ∙ ap (λ rest. take done entries ++ rest) (ap (λ b. take (length b) (drop done entries)) is ∙ next_batch entries done 256 ∙ sym is)
 
-text_up_to : (entries block : List HistoryEntry) (done : ℕ) → block ≡ take 256 (drop done entries) → audit_text (take done entries) ++ audit_text block ≡ audit_text (take (done + length block) entries)
-text_up_to entries block done is = sym (ap audit_text (up_to entries block done is) ∙ flat_map-append entry_line (take done entries) block)
+text_up_to : (entries batch : List HistoryEntry) (done : ℕ) → batch ≡ take 256 (drop done entries) → audit_text (take done entries) ++ audit_text batch ≡ audit_text (take (done + length batch) entries)
+text_up_to entries batch done is = sym (ap audit_text (up_to entries batch done is) ∙ flat_map-append entry_line (take done entries) batch)
 
-pub block_length : (entries block : List HistoryEntry) (done : ℕ) → block ≡ take 256 (drop done entries) → length block ≡ min 256 (length entries - done)
-block_length entries block done is = ap length is ∙ length-take 256 (drop done entries) ∙ ap (λ n. min 256 n) (length-drop done entries)
+pub batch_length : (entries batch : List HistoryEntry) (done : ℕ) → batch ≡ take 256 (drop done entries) → length batch ≡ min 256 (length entries - done)
+batch_length entries batch done is = ap length is ∙ length-take 256 (drop done entries) ∙ ap (λ n. min 256 n) (length-drop done entries)
 
-pub block_written : (old now new : Option (List ℕ)) (entries block : List HistoryEntry) (done : ℕ) → block ≡ take 256 (drop done entries)
-    → Appends old now (audit_text (take done entries)) → Appends now new (audit_text block) → Appends old new (audit_text (take (done + length block) entries))
-block_written old now new entries block done is before written =
-    moved old new _ _ (text_up_to entries block done is) (Appends-trans old now new (audit_text (take done entries)) (audit_text block) before written)
+pub batch_written : (old now new : Option (List ℕ)) (entries batch : List HistoryEntry) (done : ℕ) → batch ≡ take 256 (drop done entries)
+    → Appends old now (audit_text (take done entries)) → Appends now new (audit_text batch) → Appends old new (audit_text (take (done + length batch) entries))
+batch_written old now new entries batch done is before written =
+    moved old new _ _ (text_up_to entries batch done is) (Appends-trans old now new (audit_text (take done entries)) (audit_text batch) before written)
 
 -- nothing of it was written
 
@@ -46,8 +46,8 @@ kept (Some x) None new text p q = absurd p
 kept (Some x) (Some y) None text p q = absurd q
 kept (Some x) (Some y) (Some z) text p q = q ∙ p
 
-pub none_of_block : (old now new : Option (List ℕ)) (entries : List HistoryEntry) (done count : ℕ) → done ≤ length entries → Appends old now (audit_text (take done entries)) → (count ≡ done) × Keeps now new → AppendsFirst count old new entries
-none_of_block old now new entries done count within before (same, keeps) =
+pub none_of_batch : (old now new : Option (List ℕ)) (entries : List HistoryEntry) (done count : ℕ) → done ≤ length entries → Appends old now (audit_text (take done entries)) → (count ≡ done) × Keeps now new → AppendsFirst count old new entries
+none_of_batch old now new entries done count within before (same, keeps) =
     subst (λ n. AppendsFirst n old new entries) (sym same) (record { within = within; written = kept old now new (audit_text (take done entries)) before keeps })
 
 -- a front of it was written
@@ -62,14 +62,14 @@ front_of_whole : (entries : List HistoryEntry) (count : ℕ) → Front (audit_te
 front_of_whole entries count =
     record { more = audit_text (drop count entries); is = sym (ap audit_text (take-append-drop count entries)) ∙ flat_map-append entry_line (take count entries) (drop count entries) }
 
-pub front_of_block : (old now new : Option (List ℕ)) (entries block : List HistoryEntry) (done : ℕ) → block ≡ take 256 (drop done entries)
-    → Appends old now (audit_text (take done entries)) → AppendsFront now new (audit_text block) → AppendsFront old new (audit_text entries)
-front_of_block old now new entries block done is before (n, written) =
+pub front_of_batch : (old now new : Option (List ℕ)) (entries batch : List HistoryEntry) (done : ℕ) → batch ≡ take 256 (drop done entries)
+    → Appends old now (audit_text (take done entries)) → AppendsFront now new (audit_text batch) → AppendsFront old new (audit_text entries)
+front_of_batch old now new entries batch done is before (n, written) =
     let front : List ℕ = audit_text (take done entries) in
-    let both : AppendsFront old new (front ++ audit_text block) =
-    (length front + n, moved old new _ _ (sym (take_past front (audit_text block) n)) (Appends-trans old now new front (take n (audit_text block)) before written)) in
-    front_written old new (audit_text (take (done + length block) entries)) (audit_text entries) (front_of_whole entries (done + length block))
-    (subst (λ text. AppendsFront old new text) (text_up_to entries block done is) both)
+    let both : AppendsFront old new (front ++ audit_text batch) =
+    (length front + n, moved old new _ _ (sym (take_past front (audit_text batch) n)) (Appends-trans old now new front (take n (audit_text batch)) before written)) in
+    front_written old new (audit_text (take (done + length batch) entries)) (audit_text entries) (front_of_whole entries (done + length batch))
+    (subst (λ text. AppendsFront old new text) (text_up_to entries batch done is) both)
 
 -- ---- the entries of a script that was not run to its end
 

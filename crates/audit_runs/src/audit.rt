@@ -18,32 +18,32 @@ use std::io::{Read, Write};
 use std::mem;
 
 /// How many entries a batch has at most: the lines of so many are made before they are written.
-const BLOCK: usize = 256;
+const BATCH: usize = 256;
 
 /// The next batch of entries, behind so many that are done.
-fn block_behind(entries: &[HistoryEntry], done: usize) -> &[HistoryEntry]
+fn batch_behind(entries: &[HistoryEntry], done: usize) -> &[HistoryEntry]
     requires { done ≤ length entries.now }
     ensures { result.now ≡ take 256 (drop done entries.now) }
 {
     let (_, rest) = entries.split_at(done);
-    let (block, _) = rest.split_at(BLOCK.min(rest.len()));
-    block
+    let (batch, _) = rest.split_at(BATCH.min(rest.len()));
+    batch
 }
 
 /// Writes the lines of a batch of entries, behind so many that are done. Where memory runs out, nothing of the batch is written, and the
 /// fault says how many were done.
-fn write_block<W: Write>(
+fn write_batch<W: Write>(
     alloc: Global,
     writer: &mut W,
-    block: &[HistoryEntry],
+    batch: &[HistoryEntry],
     done: usize,
 ) -> Result<(), ScriptFault>
-    ensures ok { OnOk result (Appends (W.contents writer.old) (W.contents writer.new) (audit_text block.now)) }
+    ensures ok { OnOk result (Appends (W.contents writer.old) (W.contents writer.new) (audit_text batch.now)) }
     ensures no_memory { (count : ℕ) → result ≡ Err (ScriptFault.OutOfMemory count) → (count ≡ done) × Keeps (W.contents writer.old) (W.contents writer.new) }
-    ensures unwritten { result ≡ Err ScriptFault.CannotWrite → AppendsFront (W.contents writer.old) (W.contents writer.new) (audit_text block.now) }
+    ensures unwritten { result ≡ Err ScriptFault.CannotWrite → AppendsFront (W.contents writer.old) (W.contents writer.new) (audit_text batch.now) }
     ensures write_only { (result ≢ Err ScriptFault.CannotRead) × (result ≢ Err ScriptFault.NotUtf8) }
 {
-    let Ok(text) = audit_lines(alloc, block) else {
+    let Ok(text) = audit_lines(alloc, batch) else {
         return Err(ScriptFault::OutOfMemory { served: done });
     };
     write_text(writer, text.as_bytes()).map_err(|_| ScriptFault::CannotWrite)
@@ -62,9 +62,9 @@ fn write_entries<W: Write>(
 {
     let mut done = 0;
     while done < entries.len() {
-        let block = block_behind(entries, done);
-        match write_block(alloc, writer, block, done) {
-            Ok(()) => done += block.len(),
+        let batch = batch_behind(entries, done);
+        match write_batch(alloc, writer, batch, done) {
+            Ok(()) => done += batch.len(),
             Err(fault) => return Err(fault),
         }
     }
