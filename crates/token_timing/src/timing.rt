@@ -2,6 +2,7 @@ use block_tokens::cache::KeyCache;
 use block_tokens::grant::Grant;
 use block_tokens::key::Key;
 use block_tokens::ring::KeyRing;
+use hdfs_values::fault::ParseFault;
 use hdfs_values::ids::{BlockId, Serial};
 use hdfs_values::moment::Moment;
 use hdfs_values::who::Who;
@@ -33,8 +34,10 @@ const USER: &str = "0123456789-0123456789-0123456789-01234567";
 
 /// The token of a user who may read a block.
 fn granted(alloc: Global, ring: &KeyRing, now: Moment) -> Result<Grant, TokenFault> {
-    let Ok(user) = Who::parse(alloc, USER) else {
-        return Err(TokenFault::NoToken);
+    let user = match Who::parse(alloc, USER) {
+        Ok(user) => user,
+        Err(ParseFault::IllFormed(_)) => return Err(TokenFault::NoToken),
+        Err(ParseFault::OutOfMemory) => return Err(TokenFault::OutOfMemory),
     };
     Ok(ring.issue(alloc, now, &user, BlockId::new(1), Modes::READ)?)
 }
