@@ -1,6 +1,7 @@
 #!/usr/bin/env python3
 """Notes the times of the files that each seed of `rt ci` holds, into /work/prof/seeds: what each function's proof took."""
 import glob,os,time,re
+os.makedirs('/work/prof/seeds',exist_ok=True)
 done=set()
 while True:
     for s in glob.glob('/tmp/rt-edits-*/seed'):
