@@ -1,7 +1,6 @@
 ghost use Rattle.std.specs.Prelude.{◌≡◌, true, IfOk, OnErr};
 ghost use Rattle.hdfs_types.specs.Request.{is_look, keeps_leases};
 ghost use Rattle.flat_rows.specs.Facts.{Facts};
-ghost use Rattle.required_rights.specs.RequiredRights.{required_rights};
 ghost use Rattle.flat_rows.specs.Outcome as spec;
 
 use crate::change::apply_update;
@@ -12,18 +11,8 @@ use hdfs_types::verb::Verb;
 use hdfs_values::who::Who;
 use inode_tree::tree::Tree;
 use principals::users::Users;
-use required_rights::demand::{Needs, needs_of};
+pub use required_rights::demand::needs_of as needs;
 use std::alloc::{AllocError, Global};
-
-/// The needs of an operation, in the order in which they are judged (HDFS Permissions Guide, "Permission Checks").
-///
-/// # Errors
-/// Out of memory.
-pub fn needs<'a>(alloc: Global, op: &'a Op) -> Result<Needs<'a>, AllocError>
-    ensures { IfOk result (λ needs. needs ≡ required_rights op.now) }
-{
-    needs_of(alloc, op)
-}
 
 /// Decides a request that leaves leases, blocks and keys as they are and grants nothing, and does it where no need fails and nothing
 /// refuses it, as `answer` and `apply_update` do.
