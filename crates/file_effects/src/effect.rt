@@ -30,6 +30,7 @@ use hdfs_values::ids::BlockId;
 use hdfs_values::moment::Moment;
 use hdfs_values::replication::Repl;
 use hdfs_values::who::Who;
+use inode_tree::blocks::FilesUnder;
 use inode_tree::tree::Tree;
 use lease_manager::open_paths::OpenPaths;
 use lease_manager::writers::Writers;
@@ -60,6 +61,15 @@ fn holders_at(alloc: Global, tree: &Tree, path: &Path) -> Result<Vec<Who>, Alloc
 {
     let clients = tree.holders_under(path)?;
     copies(alloc, &clients)
+}
+
+/// The clients who have open the files at a path and beneath it, one for each open file, and the blocks of all these files.
+fn files_at(alloc: Global, tree: &Tree, path: &Path) -> Result<(Vec<Who>, Vec<BlockId>), AllocError>
+    ensures clients { IfOk result (λ found. found.0.items ≡ holders (rows_under path.now tree.now)) }
+    ensures blocks { IfOk result (λ found. found.1.items ≡ blocks_in (rows_under path.now tree.now)) }
+{
+    let FilesUnder { clients, blocks } = tree.files_under(path)?;
+    Ok((copies(alloc, &clients)?, blocks))
 }
 
 // ---- files that are opened
@@ -308,8 +318,7 @@ fn delete(
     ensures latest { lease.latest_moment writers.new.leases.renewals ≤ lease.latest_moment writers.old.leases.renewals }
     ensures err { OnErr result ((tree.new ≡ tree.old) × IsAlike writers.old writers.new) }
 {
-    let clients = holders_at(alloc, tree, path)?;
-    let deleted = tree.blocks_under(path)?;
+    let (clients, deleted) = files_at(alloc, tree, path)?;
     blocks.remove_all(&deleted)?;
     writers.close_each(&clients);
     tree.remove(path);

@@ -52,6 +52,17 @@ clear_beneath n ns es b sorted found h = none_first (under n) (filter (above_fil
 pub missing_beneath : (n : List ℕ) (ns : List (List ℕ)) (es : Entries) (b : Node) → Sorted es → lookup (at n) es ≡ Some b → is_missing (n ∷ ns) (flatten es) ≡ true → is_missing ns (rows b) ≡ true
 missing_beneath n ns es b sorted found h = sym (missing_at n ns es (Some b) sorted found) ∙ h
 
+-- a directory that holds nothing of a name has no entry of it, and back
+pub absent_first : (n : List ℕ) (es : Entries) → Sorted es → is_missing (n ∷ []) (flatten es) ≡ true → lookup (at n) es ≡ None
+absent_first n es sorted missing = by (lookup (at n) es) refl
+  where
+    by : (o : Option Node) → lookup (at n) es ≡ o → lookup (at n) es ≡ None
+    by None found = found
+    by (Some b) found = absurd (false≢true (missing_beneath n [] es b sorted found missing))
+
+pub missing_first : (n : List ℕ) (es : Entries) → Sorted es → lookup (at n) es ≡ None → is_missing (n ∷ []) (flatten es) ≡ true
+missing_first n es sorted found = missing_at n [] es None sorted found
+
 none_above : (rs : List Row) → filter (above []) rs ≡ []
 none_above [] = refl
 none_above (r ∷ rs) = none_above rs

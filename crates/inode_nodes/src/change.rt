@@ -446,6 +446,29 @@ fn rewrite_in(map: &mut BTreeMap<Name, Node>, first: &Name, rest: &[Name], chang
     }
 }
 
+/// Makes all of a path, in a directory that holds nothing of its first name.
+fn make_first(
+    alloc: Global,
+    map: &mut BTreeMap<Name, Node>,
+    first: &Name,
+    rest: &[Name],
+    mode: Mode,
+    file: Option<FileRow>,
+    owner: &Who,
+    group: &Who,
+    above: &Acl,
+) -> Result<(), AllocError>
+    requires sorted { IsStrictlySortedBy text_cmp (keys_of map.old.entries) }
+    requires missing { is_missing (first.now ∷ []) (flatten map.old.entries) ≡ true }
+    ensures sorted { IsStrictlySortedBy text_cmp (keys_of map.new.entries) }
+    ensures ok { OnOk result ((top : Top) → top.group ≡ group.now → top.acl ≡ above.now → row_of [] top ∷ flatten map.new.entries ≡ with_new (first.now ∷ rest.now) mode file owner.now (ancestor (first.now ∷ rest.now) (row_of [] top ∷ flatten map.old.entries)) (row_of [] top ∷ flatten map.old.entries)) }
+    ensures err { OnErr result (flatten map.new.entries ≡ flatten map.old.entries) }
+{
+    let chain = Node::chain(alloc, rest, mode, file, owner, group, above)?;
+    map.insert(first.clone()?, chain)?;
+    Ok(())
+}
+
 #[cycle(make)]
 fn make_in(
     alloc: Global,
@@ -465,12 +488,12 @@ fn make_in(
     ensures ok { OnOk result ((top : Top) → top.group ≡ group.now → top.acl ≡ above.now → row_of [] top ∷ flatten map.new.entries ≡ with_new (first.now ∷ rest.now) mode file owner.now (ancestor (first.now ∷ rest.now) (row_of [] top ∷ flatten map.old.entries)) (row_of [] top ∷ flatten map.old.entries)) }
     ensures err { OnErr result (flatten map.new.entries ≡ flatten map.old.entries) }
 {
+    // the last name is missing, so it isn't looked up
+    if rest.is_empty() {
+        return make_first(alloc, map, first, rest, mode, file, owner, group, above);
+    }
     match map.get_mut(first) {
         Some(child) => child.make(alloc, rest, mode, file, owner),
-        None => {
-            let chain = Node::chain(alloc, rest, mode, file, owner, group, above)?;
-            map.insert(first.clone()?, chain)?;
-            Ok(())
-        }
+        None => make_first(alloc, map, first, rest, mode, file, owner, group, above),
     }
 }

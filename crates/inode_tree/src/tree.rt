@@ -16,8 +16,9 @@ ghost use Rattle.inode_nodes.specs.Node.{rows, row_of};
 ghost use Rattle.inode_nodes.specs.Part.{IsWhole};
 ghost use Rattle.inode_tree.specs.Tree.{branch_at, IsTree};
 
+use crate::blocks::{self, FilesUnder};
 use crate::inode::Inode;
-use crate::{blocks, limit};
+use crate::limit;
 use acl_entries::acl::Acl;
 use file_paths::name::Name;
 use file_paths::path::Path;
@@ -191,6 +192,24 @@ impl Tree {
         match self.root.find(path.names()) {
             Some(node) => blocks::blocks_of(self.alloc, node),
             None => Ok(Vec::new(self.alloc)),
+        }
+    }
+
+    /// The clients who have open the files at a path and beneath it, one for each open file, and the blocks of all these files, both in path
+    /// order. Costs also what stands there, which is gone through once.
+    ///
+    /// # Errors
+    /// Out of memory.
+    pub fn files_under(&self, path: &Path) -> Result<FilesUnder<'_>, AllocError>
+        ensures clients { IfOk result (λ found. map (λ who. who.now) found.clients.items ≡ holders (rows_under path.now self.now)) }
+        ensures blocks { IfOk result (λ found. found.blocks.items ≡ blocks_in (rows_under path.now self.now)) }
+    {
+        match self.root.find(path.names()) {
+            Some(node) => blocks::files_of(self.alloc, node),
+            None => Ok(FilesUnder {
+                clients: Vec::new(self.alloc),
+                blocks: Vec::new(self.alloc),
+            }),
         }
     }
 

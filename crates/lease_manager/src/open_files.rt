@@ -5,13 +5,13 @@ ghost use Rattle.lease_manager.specs.Writers.{count_of, CanCountOneMore};
 
 use hdfs_values::who::Who;
 use std::alloc::{AllocError, Global};
-use std::collections::BTreeMap;
+use std::collections::HashMap;
 use std::marker::Model;
 
-/// How many files each client has open. A call costs a look-up.
+/// How many files each client has open. A call costs a look-up by hash.
 #[derive(Drop)]
 pub struct OpenFiles {
-    counts: BTreeMap<Who, u64>,
+    counts: HashMap<Who, u64>,
 }
 
 impl Model for OpenFiles {
@@ -28,7 +28,7 @@ impl OpenFiles {
         ensures { result ≡ [] }
     {
         OpenFiles {
-            counts: BTreeMap::new(alloc),
+            counts: HashMap::new(alloc),
         }
     }
 

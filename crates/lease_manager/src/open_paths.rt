@@ -4,7 +4,7 @@ use hdfs_values::fault::ParseFault;
 use hdfs_values::ids::BlockId;
 use hdfs_values::who::Who;
 use std::alloc::{AllocError, Global};
-use std::collections::{BTreeMap, BTreeSet};
+use std::collections::{BTreeMap, BTreeSet, HashMap};
 use std::marker::Model;
 
 /// Where the files are that each client has open: their paths, in which what is beneath a directory stands together; and where those are
@@ -14,7 +14,7 @@ use std::marker::Model;
 /// only where there was no memory for it, the tree is gone through instead.
 #[derive(Drop)]
 pub struct OpenPaths {
-    clients: BTreeMap<Who, BTreeSet<Path>>,
+    clients: HashMap<Who, BTreeSet<Path>>,
     recovering: BTreeMap<BlockId, Path>,
     alloc: Global,
 }
@@ -104,7 +104,7 @@ impl OpenPaths {
     /// No file is open. Takes no memory.
     pub fn new(alloc: Global) -> OpenPaths {
         OpenPaths {
-            clients: BTreeMap::new(alloc),
+            clients: HashMap::new(alloc),
             recovering: BTreeMap::new(alloc),
             alloc,
         }

@@ -1,10 +1,8 @@
-use Rattle.std.proofs.Common.{◌∙◌, ap, sym, arith, List, ℕ, BTreeMap}
-use Rattle.std.specs.BTreeMap.{insert_entry}
-use Rattle.inode_nodes.specs.Node.{Node}
-use Rattle.inode_nodes.specs.Change.{chain}
-use Rattle.inode_nodes.proofs.Split.{R}
+use Rattle.std.proofs.Common.{◌≡◌, ◌∷◌, [], true, sym, subst, arith, List, ℕ, BTreeMap}
+use Rattle.namespace_rows.specs.Rows.{is_missing}
+use Rattle.inode_nodes.specs.Node.{Node, flatten}
 use Rattle.inode_nodes.proofs.Through.{on_ok, on_err, found_mut, missed_mut, same_through}
-use Rattle.inode_nodes.proofs.Makes.{missing_beneath, clear_beneath, make_through, make_here}
+use Rattle.inode_nodes.proofs.Makes.{missing_beneath, missing_first, clear_beneath, make_through}
 use Rattle.inode_nodes.proofs.+make.Goals as goal
 
 pub change::make_in-make-requires : goal.change::make_in-make-requires
@@ -25,12 +23,8 @@ change::make_in-returns-in-Some-clause-ok t c =
     on_ok c.make.result
     (λ is top group list. make_through c.args.owner.now c.args.mode c.args.file c.args.first.now c.args.rest.now top _ c.make.new.self c.args.map.now.entries _ c.requires.sorted c.requires.missing found is (c.get_mut.follows.holds c.make.new.self).0) c.make.ensures.ok
 
-pub change::make_in-returns-in_ok-insert-in-None-clause-ok :
-    goal.change::make_in-returns-in_ok-insert-in-None-clause-ok
-change::make_in-returns-in_ok-insert-in-None-clause-ok t c =
+pub change::make_in-make_first-requires-in-None-clause-missing : goal.change::make_in-make_first-requires-in-None-clause-missing
+change::make_in-make_first-requires-in-None-clause-missing t c =
     let missed = missed_mut c.get_mut.result _ c.in-None.is c.get_mut.ensures.value in
-    let node = c.in_ok-chain-in-None.chain in
-    let key = c.in_ok-clone-in-None.field-0 in
-    λ top group list. make_here c.args.owner.now c.args.mode c.args.file c.args.first.now c.args.rest.now top node c.args.map.now.entries _ c.requires.sorted missed
-    (c.in_ok-chain-in-None.ensures ∙ ap (λ g. chain c.args.above.now g c.args.owner.now c.args.mode c.args.file c.args.rest.now) (sym group) ∙ ap (λ l. chain l top.group c.args.owner.now c.args.mode c.args.file c.args.rest.now) (sym list))
-    (c.in_ok-insert-in-None.ensures.entries ∙ ap (λ (m : BTreeMap (List ℕ) Node). insert_entry R m.entries key node) c.get_mut.follows.holds-at-none ∙ ap (λ k. insert_entry R c.args.map.now.entries k node) c.in_ok-clone-in-None.ensures.cases)
+    subst (λ (m : BTreeMap (List ℕ) Node). is_missing (c.args.first.now ∷ []) (flatten m.entries) ≡ true) (sym c.get_mut.follows.holds-at-none)
+    (missing_first c.args.first.now c.args.map.now.entries c.requires.sorted missed)

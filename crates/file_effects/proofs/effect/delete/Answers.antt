@@ -5,4 +5,4 @@ use Rattle.file_effects.proofs.effect.delete.Goals as goal
 pub returns-clause-ok : goal.returns-clause-ok
 returns-clause-ok c = λ recursive caller now.
     effected_delete c.args.path.now recursive caller now c.args.tree.now c.remove.new.self c.deref-2.result.now c.args.writers.now c.close_each.new.self
-    c.remove.ensures (c.deref-2.ensures.value ∙ c.in_ok-clients.ensures) c.close_each.ensures.files c.close_each.ensures.leased
+    c.remove.ensures (c.deref-2.ensures.value ∙ c.in_ok-clients.ensures.clients) c.close_each.ensures.files c.close_each.ensures.leased
