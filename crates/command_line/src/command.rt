@@ -17,16 +17,20 @@ fn hints<'a>(alloc: Global, help: &'a str) -> Arg<'a> {
         .help(help)
 }
 
-fn run_command<'a>(alloc: Global, verbs: &'a str) -> Result<Command<'a>, AllocError> {
-    let hints = hints(
+// The hints on lines that are answered `bad`.
+fn hints_on_lines<'a>(alloc: Global) -> Arg<'a> {
+    hints(
         alloc,
         "Also says on standard error what is wrong with each ill-formed line",
-    );
+    )
+}
+
+fn run_command<'a>(alloc: Global, verbs: &'a str) -> Result<Command<'a>, AllocError> {
     Command::new(alloc, "run")
         .about("Runs a script, and prints an answer for each line")
         .after_help(verbs)
         .arg(script(alloc))?
-        .arg(hints)
+        .arg(hints_on_lines(alloc))
 }
 
 fn line<'a>(alloc: Global) -> Arg<'a> {
@@ -55,7 +59,8 @@ fn audit_command<'a>(alloc: Global) -> Result<Command<'a>, AllocError> {
         .about(
             "Runs a script, and prints the history of its requests: for each an object of JSON on a line of its own",
         )
-        .arg(script(alloc))
+        .arg(script(alloc))?
+        .arg(hints_on_lines(alloc))
 }
 
 fn digits<'a>(alloc: Global) -> Arg<'a> {

@@ -2,4 +2,4 @@
 #![tactic(auto)]
 
 pub mod command;
-pub mod words;
+pub mod invocation;

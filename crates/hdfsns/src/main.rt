@@ -1,10 +1,10 @@
 //! The program `hdfsns`: its command line, and the standard streams and files that a script is read from and answered to.
 #![tactic(auto)]
 
+use clap::Error;
 use clap::error::ErrorKind;
-use clap::{ArgMatches, Error};
 use command_line::command::command;
-use command_line::words::{has_hints, line_number, word};
+use command_line::invocation::{Invocation, LineNumber, Script};
 use hdfs_cli::audit::audit;
 use hdfs_cli::explain::{Explained, explain};
 use hdfs_cli::explain_hints::hints_on_explained;
@@ -172,6 +172,14 @@ fn answer_bytes(rt: &HostRuntime, path: &str, script: &[u8]) -> ExitCode {
     with_hints(rt, code, hints_on_script(rt.alloc(), name_of(path), script))
 }
 
+/// Prints the history of a script, and the hints on it.
+fn audit_bytes(rt: &HostRuntime, path: &str, script: &[u8]) -> ExitCode {
+    let mut reader = script;
+    let ended = audit(rt.alloc(), &mut reader, &mut io::writer(rt));
+    let code = code_of_run(rt, path, ended);
+    with_hints(rt, code, hints_on_script(rt.alloc(), name_of(path), script))
+}
+
 /// Prints the needs of a line, and the hints on it.
 fn explain_bytes(rt: &HostRuntime, path: &str, script: &[u8], number: u32) -> ExitCode {
     let mut reader = script;
@@ -185,6 +193,14 @@ fn explain_bytes(rt: &HostRuntime, path: &str, script: &[u8], number: u32) -> Ex
 fn answer_script_with_hints(rt: &HostRuntime, path: &str) -> ExitCode {
     match bytes_of(rt, path) {
         Ok(script) => answer_bytes(rt, path, script.as_slice()),
+        Err(error) => cannot_read(rt, path, &error),
+    }
+}
+
+/// Prints the history of a script that a path or `-` names, with hints.
+fn answer_history_with_hints(rt: &HostRuntime, path: &str) -> ExitCode {
+    match bytes_of(rt, path) {
+        Ok(script) => audit_bytes(rt, path, script.as_slice()),
         Err(error) => cannot_read(rt, path, &error),
     }
 }
@@ -220,40 +236,41 @@ fn refuse_number(rt: &HostRuntime, word: &str) -> ExitCode {
     ExitCode::from(BAD_COMMAND_LINE)
 }
 
-fn run_or_hint(rt: &HostRuntime, matches: &ArgMatches, path: &str) -> ExitCode {
-    if has_hints(matches, "run") {
-        answer_script_with_hints(rt, path)
+fn run_or_hint(rt: &HostRuntime, script: Script<'_>) -> ExitCode {
+    if script.has_hints {
+        answer_script_with_hints(rt, script.path)
     } else {
-        answer_script(rt, path)
+        answer_script(rt, script.path)
     }
 }
 
-fn explain_or_hint(rt: &HostRuntime, matches: &ArgMatches, path: &str) -> ExitCode {
-    let digits = word(matches, "explain", "LINE").unwrap_or("");
-    let Some(number) = line_number(matches, digits) else {
-        return refuse_number(rt, digits);
+fn audit_or_hint(rt: &HostRuntime, script: Script<'_>) -> ExitCode {
+    if script.has_hints {
+        answer_history_with_hints(rt, script.path)
+    } else {
+        answer_history(rt, script.path)
+    }
+}
+
+fn explain_or_hint(rt: &HostRuntime, script: Script<'_>, line: LineNumber<'_>) -> ExitCode {
+    let number = match line {
+        LineNumber::Number(number) => number,
+        LineNumber::Signed(word) => return refuse_number(rt, word),
     };
-    if has_hints(matches, "explain") {
-        answer_line_with_hints(rt, path, number)
+    if script.has_hints {
+        answer_line_with_hints(rt, script.path, number)
     } else {
-        answer_line(rt, path, number)
+        answer_line(rt, script.path, number)
     }
 }
 
-fn run_matches(rt: &HostRuntime, matches: &ArgMatches) -> ExitCode {
-    if let Some(path) = word(matches, "run", "SCRIPT") {
-        return run_or_hint(rt, matches, path);
+fn invoke(rt: &HostRuntime, invocation: Invocation<'_>) -> ExitCode {
+    match invocation {
+        Invocation::Run(script) => run_or_hint(rt, script),
+        Invocation::Explain(script, line) => explain_or_hint(rt, script, line),
+        Invocation::Audit(script) => audit_or_hint(rt, script),
+        Invocation::Token(digits) => answer_token(rt, digits),
     }
-    if let Some(path) = word(matches, "explain", "SCRIPT") {
-        return explain_or_hint(rt, matches, path);
-    }
-    if let Some(path) = word(matches, "audit", "SCRIPT") {
-        return answer_history(rt, path);
-    }
-    if let Some(digits) = word(matches, "token", "HEX") {
-        return answer_token(rt, digits);
-    }
-    ExitCode::from(BAD_COMMAND_LINE)
 }
 
 fn refuse(rt: &HostRuntime, error: &Error) -> ExitCode {
@@ -280,7 +297,10 @@ fn answer(rt: &HostRuntime, words: &[String]) -> ExitCode {
         return no_memory(rt);
     };
     match command.try_get_matches_from(words) {
-        Ok(matches) => run_matches(rt, &matches),
+        Ok(matches) => match Invocation::of(&matches) {
+            Some(invocation) => invoke(rt, invocation),
+            None => ExitCode::from(BAD_COMMAND_LINE),
+        },
         Err(error) => refuse(rt, &error),
     }
 }
