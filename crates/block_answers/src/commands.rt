@@ -5,7 +5,7 @@ use crate::key_list::KeyList;
 use crate::token_bytes::TokenBytes;
 use block_records::node_set::NodeSet;
 use hdfs_values::ids::{BlockId, Stamp};
-use hdfs_values::node_id::NodeId;
+use node_ids::node_id::NodeId;
 use std::alloc::{AllocError, Global};
 use std::marker::Model;
 use std::rc::Rc;

@@ -10,9 +10,9 @@ use block_records::last_block::LastBlock;
 use block_records::mark::{Mark, Marks};
 use block_records::node_set::NodeSet;
 use hdfs_values::ids::{BlockId, Stamp};
-use hdfs_values::node_id::NodeId;
 use hdfs_values::replication::Repl;
 use known_blocks::known_blocks::KnownBlocks;
+use node_ids::node_id::NodeId;
 use std::alloc::{AllocError, Global};
 
 /// A new block, its generation stamp, and the DataNodes that are to hold it.

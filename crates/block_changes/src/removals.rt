@@ -7,8 +7,8 @@ ghost use Rattle.block_changes.specs.Removals as spec;
 use crate::behind;
 use block_records::mark::{Mark, Marks};
 use hdfs_values::ids::BlockId;
-use hdfs_values::node_id::NodeId;
 use known_blocks::known_blocks::KnownBlocks;
+use node_ids::node_id::NodeId;
 use recovery_queue::queue::RecoveryQueue;
 use std::alloc::{AllocError, Global};
 

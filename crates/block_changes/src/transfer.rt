@@ -8,8 +8,8 @@ use block_records::block_record::BlockRecord;
 use block_records::node_set::NodeSet;
 use hdfs_values::ids::{BlockId, Stamp};
 use hdfs_values::moment::Moment;
-use hdfs_values::node_id::NodeId;
 use known_blocks::known_blocks::KnownBlocks;
+use node_ids::node_id::NodeId;
 use std::alloc::{AllocError, Global};
 
 /// A copy of a block that a DataNode is to make (HDFS Architecture, "Data Disk Failure, Heartbeats and Re-Replication"; `DNA_TRANSFER` of

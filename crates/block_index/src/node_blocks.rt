@@ -10,7 +10,7 @@ use block_records::node_set::NodeSet;
 use block_records::places::place_of;
 use block_records::reports::Reports;
 use hdfs_values::ids::BlockId;
-use hdfs_values::node_id::NodeId;
+use node_ids::node_id::NodeId;
 use std::alloc::{AllocError, Global};
 use std::collections::{BTreeMap, BTreeSet};
 use std::marker::Model;

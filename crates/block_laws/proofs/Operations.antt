@@ -2,7 +2,7 @@
 use Rattle.std.proofs.Common.{◌≡◌, ℕ, ◌+◌, ◌-◌, ◌≤◌, Bool, true, false, List, [], ◌∷◌, map, length, is_some, Option, Some, None, refl, sym, ap, ◌∙◌, subst, cond, arith}
 use Rattle.std.proofs.lemmas.Bool.{eq-eqb, eqb-true}
 use Rattle.std.specs.Option.{option_map}
-use Rattle.hdfs_values.specs.NodeId.{node_of}
+use Rattle.node_ids.specs.NodeId.{node_of}
 use Rattle.file_paths.specs.PathOrder.{same_path}
 use Rattle.hdfs_types.specs.declared.file.FileState.TheVariants.{Closed}
 use Rattle.hdfs_types.specs.declared.op.Op.{Op}

@@ -12,8 +12,8 @@ use Rattle.hdfs_types.specs.declared.op.Op.{Op}
 use Rattle.hdfs_types.specs.declared.op.Op.TheVariants as op
 use Rattle.hdfs_types.specs.declared.replica.RecoveredBlock.{RecoveredBlock}
 use Rattle.hdfs_types.specs.declared.reply.Reply.{Reply}
-use Rattle.hdfs_types.specs.declared.reply.Refusal.{Refusal}
-use Rattle.hdfs_types.specs.declared.reply.Refusal.TheVariants.{IsDirectory, NotDirectory, NotYetReplicated}
+use Rattle.refusals.specs.declared.refusal.Refusal.{Refusal}
+use Rattle.refusals.specs.declared.refusal.Refusal.TheVariants.{IsDirectory, NotDirectory, NotYetReplicated}
 use Rattle.file_paths.specs.Path.{is_prefix}
 use Rattle.block_changes.specs.Ends.{refused_recovered_by}
 use Rattle.block_map.specs.BlockFacts.{refused_commit, refused_targets, refused_recovered}

@@ -3,7 +3,7 @@ ghost use Rattle.std.specs.List.{count_by};
 ghost use Rattle.block_placement.specs.Placement.{comes_before, is_chosen};
 ghost use Rattle.block_placement.specs.declared.candidate.Candidate.{Candidate};
 
-use hdfs_values::node_id::NodeId;
+use node_ids::node_id::NodeId;
 
 /// A DataNode that may hold a block more, and how many blocks it has. Fewer blocks come first, and of as many the lower id.
 #[derive(Clone, Copy, PartialEq, Eq, PartialOrd, Ord)]

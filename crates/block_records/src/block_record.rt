@@ -8,8 +8,8 @@ use crate::report::ReportVerdict;
 use crate::reports::Reports;
 use hdfs_values::ids::Stamp;
 use hdfs_values::moment::Moment;
-use hdfs_values::node_id::NodeId;
 use hdfs_values::replication::Repl;
+use node_ids::node_id::NodeId;
 use std::alloc::{AllocError, Global};
 
 /// What is known of a block (HDFS Architecture, "Data Replication").

@@ -3,7 +3,7 @@ ghost use Rattle.std.specs.List.Sorted.{IsStrictlySortedBy};
 ghost use Rattle.block_records.specs.Marks.{mark_cmp, with_mark, with_marks, without_marks, marks_for, marks_but};
 
 use hdfs_values::ids::{BlockId, Stamp};
-use hdfs_values::node_id::NodeId;
+use node_ids::node_id::NodeId;
 use std::alloc::{AllocError, Global};
 use std::collections::{BTreeSet, VecDeque};
 use std::marker::Model;

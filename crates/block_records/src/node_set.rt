@@ -2,7 +2,7 @@ ghost use Rattle.std.specs.Prelude.{◌≡◌, ◌+◌, ◌<◌, ℕ, [], IsTrue
 ghost use Rattle.std.specs.List.Sorted.{IsStrictlyIncreasing};
 ghost use Rattle.block_records.specs.Numbers.{has_number};
 
-use hdfs_values::node_id::NodeId;
+use node_ids::node_id::NodeId;
 use std::alloc::{AllocError, Global};
 use std::marker::Model;
 

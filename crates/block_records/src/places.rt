@@ -5,7 +5,7 @@ ghost use Rattle.std.specs.Ordering.{nat_cmp};
 ghost use Rattle.block_records.specs.Numbers.{entry_at};
 ghost use Rattle.block_records.specs.Places.{IsPlace, IsGap};
 
-use hdfs_values::node_id::NodeId;
+use node_ids::node_id::NodeId;
 
 /// Where a DataNode stands in a table of nodes by ascending ids; else where it would stand. Costs a look-up, and takes no memory.
 ///

@@ -7,7 +7,7 @@ ghost use Rattle.block_records.specs.Numbers.{is_number, has_number, entry_at};
 ghost use Rattle.block_records.specs.Reports.{is_reported, agreeing_reports, others_of, with_reports_of};
 
 use crate::places::place_of;
-use hdfs_values::node_id::NodeId;
+use node_ids::node_id::NodeId;
 use std::alloc::{AllocError, Global};
 use std::marker::Model;
 

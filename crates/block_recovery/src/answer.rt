@@ -7,7 +7,7 @@ ghost use Rattle.block_recovery.specs.Decision.{least_of, finalized_of, suits, s
 
 use crate::decision::Decision;
 use block_records::node_set::NodeSet;
-use hdfs_values::node_id::NodeId;
+use node_ids::node_id::NodeId;
 use std::alloc::{AllocError, Global};
 use std::collections::BTreeMap;
 use std::marker::Model;

@@ -10,7 +10,7 @@ use crate::decision::{Commit, Decision};
 use crate::fault::{PlanFault, PlanRefusal};
 use crate::plan::Plan;
 use hdfs_values::ids::Stamp;
-use hdfs_values::node_id::NodeId;
+use node_ids::node_id::NodeId;
 use std::alloc::{AllocError, Global};
 use std::collections::BTreeMap;
 use std::marker::Model;

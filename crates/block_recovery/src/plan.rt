@@ -10,7 +10,7 @@ use crate::recover::Recover;
 use crate::updated::UpdatedNodes;
 use block_answers::token_bytes::TokenBytes;
 use block_records::node_set::NodeSet;
-use hdfs_values::node_id::NodeId;
+use node_ids::node_id::NodeId;
 use std::alloc::{AllocError, Global};
 
 /// A recovery of a block that was begun (HDFS-265, "Block recovery").

@@ -10,7 +10,7 @@ use crate::plan::Plan;
 use crate::recover::Recover;
 use block_records::node_set::NodeSet;
 use hdfs_values::ids::{BlockId, Stamp};
-use hdfs_values::node_id::NodeId;
+use node_ids::node_id::NodeId;
 use std::alloc::{AllocError, Global};
 use std::collections::BTreeMap;
 use std::marker::Model;

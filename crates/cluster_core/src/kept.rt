@@ -1,7 +1,7 @@
 use cluster_trace::data_call::DataCall;
 use hdfs_types::op::Request;
 use hdfs_values::moment::Moment;
-use hdfs_values::node_id::NodeId;
+use node_ids::node_id::NodeId;
 
 /// An event as it is kept. What is long has memory of its own, since there are many events, and most are short.
 #[derive(Drop)]

@@ -1,7 +1,7 @@
 -- A message as it is found, and what carrying it out leaves.
 use Rattle.std.specs.Prelude.{ℕ, List, Option, Some, None, option_map}
 use denote.Ref.{Bor}
-use Rattle.hdfs_values.specs.NodeId.{node_of}
+use Rattle.node_ids.specs.NodeId.{node_of}
 use Rattle.block_answers.specs.Commands.{Commands}
 use Rattle.hdfs_types.specs.declared.reply.Reply.{Reply}
 use Rattle.hdfs_types.specs.declared.reply.Reply.TheVariants as reply

@@ -21,11 +21,11 @@ use hdfs_types::op::{Op, Request};
 use hdfs_types::replica::{RecoveredBlock, ReportedReplica};
 use hdfs_values::ids::{BlockId, Stamp};
 use hdfs_values::moment::Moment;
-use hdfs_values::node_id::NodeId;
 use node_calls::call::{NodeCall, TokenCall};
 use node_calls::message::Message;
 use node_calls::presented::{Presented, PresentedToken};
 use node_calls::principal::principal_of;
+use node_ids::node_id::NodeId;
 use plan_steps::answered::PlanAnswered;
 use std::alloc::{AllocError, Global};
 

@@ -8,9 +8,9 @@ use block_answers::commands::{Commands, CopyOrder, Recover, Removal};
 use block_answers::key_list::KeyList;
 use flat_rows::verdict::Verdict;
 use hdfs_types::reply::Reply;
-use hdfs_values::node_id::{NodeId, node_of};
 use history::entry::HistoryEntry;
 use node_calls::message::{Message, Messages};
+use node_ids::node_id::{NodeId, node_of};
 
 /// A message as it is kept: on its own, or as a command in an entry of the NameNode's history, which is for a DataNode.
 #[derive(Clone, Copy)]

@@ -5,8 +5,8 @@ ghost use Rattle.cluster_parts.specs.Leaders.{plans_led, answer_led};
 
 use block_recovery::plans::Plans;
 use block_recovery::recover::Recover;
-use hdfs_values::node_id::NodeId;
 use node_calls::call::PlanCall;
+use node_ids::node_id::NodeId;
 use plan_steps::answered::PlanAnswered;
 use plan_steps::lead::{begin, lead};
 use std::alloc::{AllocError, Global};

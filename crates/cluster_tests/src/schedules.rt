@@ -5,7 +5,7 @@ ghost use Rattle.std.specs.Prelude.{◌<◌};
 
 use crate::lines::{open, step_line, step_lines};
 use cluster_core::world::World;
-use hdfs_values::node_id::NodeId;
+use node_ids::node_id::NodeId;
 use random_schedules::dice::Dice;
 use random_schedules::granted::are_granted;
 use random_schedules::lines::{pause, write_line};

@@ -2,7 +2,7 @@
 
 use crate::lines::{open, step_lines};
 use cluster_core::world::World;
-use hdfs_values::node_id::NodeId;
+use node_ids::node_id::NodeId;
 use std::alloc::Global;
 use std::test::Fail;
 use token_provenance::logs::Logs;

@@ -5,7 +5,7 @@
 -- An unknown verb and a wrong number of words come first, and then the first ill-formed word. A token is named by its row in the ledger of
 -- those that were granted before the line.
 use Rattle.std.specs.Prelude.{ℕ, Bool, false, ◌==◌, ◌&&◌, ◌||◌, List, [], ◌∷◌, length, if◌then◌else◌, Option, Some, None, Result, Ok, Err, codes}
-use Rattle.hdfs_values.specs.NodeId.{node_of}
+use Rattle.node_ids.specs.NodeId.{node_of}
 use Rattle.hdfs_values.specs.Text.{same}
 use Rattle.hdfs_values.specs.declared.fault.IllFormed.{IllFormed}
 use Rattle.hdfs_values.specs.declared.fault.IllFormed.TheVariants.{BadLine}

@@ -1,5 +1,5 @@
 ghost use Rattle.std.specs.Prelude.{◌≡◌, ◌≢◌, ℕ, List, IfOk, length, map};
-ghost use Rattle.hdfs_values.specs.NodeId.{node_of};
+ghost use Rattle.node_ids.specs.NodeId.{node_of};
 ghost use Rattle.script_words.specs.LineForms.{Forms};
 ghost use Rattle.script_words.specs.Words.{words_of};
 ghost use Rattle.cluster_text.specs.EventLine as spec;
@@ -10,9 +10,9 @@ use grant_ledger::ledger::LedgerRow;
 use hdfs_values::fault::{IllFormed, ParseFault};
 use hdfs_values::ids::{BlockId, Stamp};
 use hdfs_values::moment::Moment;
-use hdfs_values::node_id::{NodeId, node_of};
 use hdfs_values::who::Who;
 use node_calls::presented::Presented;
+use node_ids::node_id::{NodeId, node_of};
 use node_words::node_words::{next_word, node_word};
 use node_words::payload::bytes_word;
 use node_words::tokens::token_word;

@@ -6,7 +6,7 @@ use Rattle.std.specs.List.{AllByRecursion}
 use Rattle.std.specs.Ordering.{nat_cmp}
 use Rattle.block_records.specs.Numbers.{entry_at}
 use Rattle.block_records.proofs.Numbers.{number_is}
-use Rattle.hdfs_values.specs.NodeId.{node_principal}
+use Rattle.node_ids.specs.NodeId.{node_principal}
 use Rattle.hdfs_values.specs.Text.{same}
 use Rattle.hdfs_values.proofs.Texts.{same_is, same_self}
 use Rattle.permission_bits.specs.Rights.{covers}

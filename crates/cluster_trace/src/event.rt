@@ -1,7 +1,7 @@
 use crate::data_call::DataCall;
 use hdfs_types::op::Request;
 use hdfs_values::moment::Moment;
-use hdfs_values::node_id::NodeId;
+use node_ids::node_id::NodeId;
 
 /// What can happen to a cluster from outside.
 #[derive(Drop)]

@@ -16,7 +16,7 @@ use Rattle.node_calls.specs.declared.refusal.ReplicaRefusal.{ReplicaRefusal}
 use Rattle.node_calls.specs.declared.refusal.ReplicaRefusal.TheVariants.{NoReplica, StampDiffers, OutOfRange, NotWritable, OffsetGap}
 use Rattle.node_calls.specs.declared.reply.NodeReply.{NodeReply}
 use Rattle.node_calls.specs.declared.reply.NodeReply.TheVariants as reply
-use Rattle.hdfs_values.specs.NodeId.{node_principal}
+use Rattle.node_ids.specs.NodeId.{node_principal}
 use Rattle.node_replies.specs.Asking.{asked_by, sends_copy, record_of}
 use Rattle.node_replies.specs.Sending.{call_reply}
 use Rattle.replicas.specs.ReplicaState.{is_writing}

@@ -3,7 +3,7 @@
 use Rattle.std.specs.Prelude.{◌≡◌, ℕ, ◌≤◌, ◌<◌, true, List, Option, Some, None}
 use Rattle.std.specs.Bool.{⊤}
 use Rattle.std.specs.List.{AllByRecursion}
-use Rattle.hdfs_values.specs.NodeId.{node_principal}
+use Rattle.node_ids.specs.NodeId.{node_principal}
 use Rattle.permission_bits.specs.Rights.{covers}
 use Rattle.block_tokens.specs.TokenText.{Body, TokenText}
 use Rattle.node_calls.specs.declared.access_log.AccessRecord.{AccessRecord}

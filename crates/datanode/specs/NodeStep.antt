@@ -3,7 +3,7 @@
 -- Pipelining".)
 use Rattle.std.specs.Prelude.{◌≡◌, ℕ, max, List, [], ◌∷◌, ◌++◌, length, Option, Some, None, Result, Ok, Err}
 use Rattle.std.specs.Option.{option_map}
-use Rattle.hdfs_values.specs.NodeId.{node_principal}
+use Rattle.node_ids.specs.NodeId.{node_principal}
 use Rattle.block_tokens.specs.KeyList.{KeyList, usable_keys, merged_keys}
 use Rattle.block_tokens.specs.TokenTest.{Access, token_test}
 use Rattle.block_tokens.specs.declared.refusal.TokenRefusal.{TokenRefusal}

@@ -8,13 +8,13 @@ use datanode::answered::Answered;
 use datanode::datanode::DataNode;
 use hdfs_values::ids::{BlockId, Serial, Stamp};
 use hdfs_values::moment::Moment;
-use hdfs_values::node_id::NodeId;
 use hdfs_values::who::Who;
 use node_calls::message::Message;
 use node_calls::node_list::NodeList;
 use node_calls::presented::{Presented, PresentedToken};
 use node_calls::refusal::{NodeRefusal, ReplicaRefusal};
 use node_calls::reply::NodeReply;
+use node_ids::node_id::NodeId;
 use permission_bits::modes::Modes;
 use std::alloc::{AllocError, Global};
 

@@ -6,13 +6,13 @@ use block_tokens::refusal::TokenRefusal;
 use block_tokens::ring::KeyRing;
 use datanode::datanode::DataNode;
 use hdfs_values::ids::{BlockId, Stamp};
-use hdfs_values::node_id::NodeId;
 use node_calls::block_bytes::BlockBytes;
 use node_calls::call::NodeCall;
 use node_calls::message::Message;
 use node_calls::node_list::NodeList;
 use node_calls::presented::{Presented, PresentedToken};
 use node_calls::refusal::ReplicaRefusal;
+use node_ids::node_id::NodeId;
 use permission_bits::modes::Modes;
 use std::alloc::Global;
 

@@ -8,7 +8,7 @@ use Rattle.permission_specs.specs.declared.acl_change.AclChange.{AclChange}
 use Rattle.permission_specs.specs.declared.acl_change.AclChange.TheVariants.{Set, Modify, Remove, RemoveDefault, Clear}
 use Rattle.hdfs_values.specs.declared.fault.AclFault.{AclFault}
 use Rattle.hdfs_types.specs.declared.reply.ObjectKind.{ObjectKind}
-use Rattle.hdfs_types.specs.declared.reply.Refusal.TheVariants.{BadAcl, TooManyEntries}
+use Rattle.refusals.specs.declared.refusal.Refusal.TheVariants.{BadAcl, TooManyEntries}
 use Rattle.acl_entries.specs.Acl.{Acl, EntryList, IsEntryList, IsAcl, base_entries, intersection, has_named, fits_in_scope, is_access_list}
 use Rattle.partial_acl.specs.AclChange.{PartialList, completed_list, as_kept, touches, base_rights, all_of, no_entries, has_no_entry, after_addition, after_removal, access_where, access_after, default_where, default_after, acl_after, first_acl_fault, unless_fault, acl_change}
 use Rattle.partial_acl.specs.Answers.{Changes, IfChangeRefused, Makes, MakesAny, named_count}

@@ -22,7 +22,7 @@ use Rattle.permission_specs.specs.declared.entry.Scope.TheVariants.{Access, Defa
 use Rattle.hdfs_values.specs.declared.fault.AclFault.{AclFault}
 use Rattle.hdfs_values.specs.declared.fault.AclFault.TheVariants.{Duplicate, NamedBase}
 use Rattle.permission_specs.specs.declared.acl_change.AclChange.TheVariants.{Modify}
-use Rattle.hdfs_types.specs.declared.reply.Refusal.TheVariants.{TooManyEntries}
+use Rattle.refusals.specs.declared.refusal.Refusal.TheVariants.{TooManyEntries}
 use Rattle.acl_entries.specs.declared.entry_list.NamedEntry.{NamedEntry}
 use Rattle.acl_entries.specs.Acl.{Acl, EntryList, base_entries, intersection, fits_in_scope}
 use Rattle.partial_acl.specs.AclChange.{PartialList, access_after, access_where, acl_after, after_addition, all_of, as_kept, completed_list, default_after, default_where, first_acl_fault, base_rights, rights_granted, is_entry_for, mask_after, named_in, no_entries, with_entry, touches, unless_fault, with_each, with_name}

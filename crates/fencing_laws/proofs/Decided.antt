@@ -13,7 +13,7 @@ use Rattle.block_recovery.specs.declared.fault.PlanRefusal.TheVariants.{Stranger
 use Rattle.block_recovery.specs.declared.plan.Plan.{Plan}
 use Rattle.block_recovery.proofs.Steps.{plan_changed}
 use Rattle.block_recovery.proofs.Tables.{itself}
-use Rattle.hdfs_values.specs.NodeId.{node_of}
+use Rattle.node_ids.specs.NodeId.{node_of}
 use Rattle.block_answers.specs.Commands.{Commands}
 use Rattle.block_answers.specs.declared.commands.CopyOrder.{CopyOrder}
 use Rattle.block_answers.specs.declared.commands.Recover.{Recover}

@@ -13,7 +13,7 @@ use Rattle.block_records.specs.declared.last_block.LastBlock.{LastBlock}
 use Rattle.block_recovery.specs.Plans.{PlanTable}
 use Rattle.block_recovery.specs.declared.fault.PlanRefusal.{PlanRefusal}
 use Rattle.block_recovery.proofs.Tables.{itself}
-use Rattle.hdfs_values.specs.NodeId.{node_of}
+use Rattle.node_ids.specs.NodeId.{node_of}
 use Rattle.block_answers.specs.Commands.{Commands}
 use Rattle.block_answers.specs.declared.commands.CopyOrder.{CopyOrder}
 use Rattle.block_answers.specs.declared.commands.Recover.{Recover}

@@ -20,7 +20,7 @@ use Rattle.block_map.specs.BlockFacts.{Blocks, known_block, leader}
 use Rattle.block_map.specs.BlockEffects.{with_blocks_removed, with_block_replication, with_recovery_begun, recoveries_begun, with_recovery_ended, reported_by}
 use Rattle.block_effect_laws.proofs.Orders.{AreInOrder, put_in_order, taken_in_order}
 use Rattle.block_effect_laws.proofs.Looking.{changed_at}
-use Rattle.hdfs_values.specs.NodeId.{node_of}
+use Rattle.node_ids.specs.NodeId.{node_of}
 use Rattle.hdfs_types.specs.declared.op.Op.{Op}
 use Rattle.hdfs_types.specs.declared.op.Op.TheVariants as op
 use Rattle.hdfs_types.specs.declared.replica.ReportedReplica.{ReportedReplica}

@@ -10,7 +10,7 @@ use Rattle.file_paths.specs.PathOrder.{path_cmp, same_path, paths_total}
 use Rattle.hdfs_values.specs.Text.{same}
 use Rattle.hdfs_values.proofs.Texts.{same_is, same_self}
 use Rattle.hdfs_types.specs.declared.reply.ObjectKind.TheVariants.{File}
-use Rattle.hdfs_types.specs.declared.reply.Refusal.TheVariants.{IsDirectory}
+use Rattle.refusals.specs.declared.refusal.Refusal.TheVariants.{IsDirectory}
 use Rattle.acl_entries.specs.Acl.{Acl}
 use Rattle.default_acl.specs.Inheritance.{inherited_acl}
 use Rattle.namespace_rows.specs.declared.file_row.FileRow.{FileRow}

@@ -1,7 +1,7 @@
 -- A creation that replaces nothing ends no client's open file.
 use Rattle.std.proofs.Common.{◌≡◌, ℕ, Bool, true, false, List, [], Option, Some, None, refl, sym, ap, cond}
 use Rattle.hdfs_types.specs.declared.op.Op.TheVariants as op
-use Rattle.hdfs_types.specs.declared.reply.Refusal.TheVariants.{IsDirectory, Exists}
+use Rattle.refusals.specs.declared.refusal.Refusal.TheVariants.{IsDirectory, Exists}
 use Rattle.principals.specs.Users.{Users}
 use Rattle.namespace_rows.specs.declared.row.Row.{Row}
 use Rattle.namespace_rows.specs.Namespace.{IsNamespace}

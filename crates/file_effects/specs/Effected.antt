@@ -3,7 +3,7 @@ use Rattle.std.specs.Prelude.{◌≡◌, ℕ, ◌+◌, Bool, ◌&&◌, List, len
 use Rattle.hdfs_values.specs.Text.{same}
 use Rattle.hdfs_types.specs.declared.op.Op.{Op}
 use Rattle.hdfs_types.specs.declared.op.Op.TheVariants.{Complete}
-use Rattle.hdfs_types.specs.declared.reply.Refusal.{Refusal}
+use Rattle.refusals.specs.declared.refusal.Refusal.{Refusal}
 use Rattle.block_map.specs.BlockFacts.{Blocks}
 use Rattle.flat_rows.specs.BlockOutcome.{refused_end}
 use Rattle.lease_manager.specs.Leases.{latest_moment, renewals_with}

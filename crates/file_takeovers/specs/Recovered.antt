@@ -1,7 +1,7 @@
 -- What is left where the recovery of a block ends.
 use Rattle.std.specs.Prelude.{◌≡◌, ℕ, Bool, true, false, List, Option, Some, None}
 use Rattle.hdfs_types.specs.declared.replica.RecoveredBlock.{RecoveredBlock}
-use Rattle.hdfs_types.specs.declared.reply.Refusal.{Refusal}
+use Rattle.refusals.specs.declared.refusal.Refusal.{Refusal}
 use Rattle.hdfs_types.specs.declared.reply.Reply.TheVariants.{Empty}
 use Rattle.std.specs.List.{list_any}
 use Rattle.block_map.specs.BlockFacts.{Blocks, refused_recovered}

@@ -1,7 +1,7 @@
 -- What is left where a file is taken from the client who has it open.
 use Rattle.std.specs.Prelude.{◌≡◌, ℕ, List, Option, Some, None}
 use Rattle.hdfs_types.specs.declared.file.FileState.TheVariants.{Closed}
-use Rattle.hdfs_types.specs.declared.reply.Refusal.{Refusal}
+use Rattle.refusals.specs.declared.refusal.Refusal.{Refusal}
 use Rattle.block_map.specs.BlockFacts.{Blocks}
 use Rattle.block_map.specs.BlockEffects.{with_recovery_begun}
 use Rattle.namespace_rows.specs.declared.file_row.FileRow.{FileRow}

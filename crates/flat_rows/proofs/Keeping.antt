@@ -6,8 +6,8 @@ use Rattle.hdfs_types.specs.Request.{keeps_leases}
 use Rattle.hdfs_types.specs.declared.op.Op.{Op}
 use Rattle.hdfs_types.specs.declared.op.Op.TheVariants as op
 use Rattle.permission_specs.specs.declared.acl_change.AclChange.{AclChange}
-use Rattle.hdfs_types.specs.declared.reply.Refusal.{Refusal}
-use Rattle.hdfs_types.specs.declared.reply.Refusal.TheVariants.{BadPath, NotFound, IsRoot, UnderItself}
+use Rattle.refusals.specs.declared.refusal.Refusal.{Refusal}
+use Rattle.refusals.specs.declared.refusal.Refusal.TheVariants.{BadPath, NotFound, IsRoot, UnderItself}
 use Rattle.file_paths.specs.Path.{is_prefix}
 use Rattle.acl_entries.specs.Acl.{Acl}
 use Rattle.partial_acl.specs.AclChange.{acl_change, with_mode}

@@ -3,7 +3,7 @@
 -- (HDFS Permissions Guide, "Permission Checks" and "The Sticky Bit".)
 use Rattle.std.specs.Prelude.{◌≡◌, ℕ, Bool, false, ◌||◌, List, [], if◌then◌else◌, Option, Some, None}
 use Rattle.std.specs.Option.{is_some}
-use Rattle.hdfs_values.specs.NodeId.{node_of}
+use Rattle.node_ids.specs.NodeId.{node_of}
 use Rattle.hdfs_values.specs.Text.{same}
 use Rattle.hdfs_values.specs.Groups.{has_group}
 use Rattle.acl_entries.specs.JudgedEntry.{Chosen}

@@ -5,8 +5,8 @@ use Rattle.hdfs_values.specs.Text.{same}
 use Rattle.hdfs_types.specs.declared.file.FileState.{FileState}
 use Rattle.hdfs_types.specs.declared.file.FileState.TheVariants.{Closed, Open, Recovering}
 use Rattle.hdfs_types.specs.declared.file.FileDetail.{FileDetail}
-use Rattle.hdfs_types.specs.declared.reply.Refusal.{Refusal}
-use Rattle.hdfs_types.specs.declared.reply.Refusal.TheVariants.{IsDirectory, Exists, RecoveryRunning, NoLease, NotOpen}
+use Rattle.refusals.specs.declared.refusal.Refusal.{Refusal}
+use Rattle.refusals.specs.declared.refusal.Refusal.TheVariants.{IsDirectory, Exists, RecoveryRunning, NoLease, NotOpen}
 use Rattle.namespace_rows.specs.declared.file_row.FileRow.{FileRow}
 use Rattle.namespace_rows.specs.declared.row.Row.{Row}
 use Rattle.namespace_rows.specs.Rows.{is_directory}

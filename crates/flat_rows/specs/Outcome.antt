@@ -6,7 +6,7 @@ use Rattle.std.specs.Prelude.{ℕ, ◌+◌, Bool, true, false, ◌&&◌, ◌||�
 use Rattle.std.specs.Option.{option_map}
 use Rattle.std.specs.Result.{result_err}
 use Rattle.permission_bits.specs.Mode.{for_missing_parent}
-use Rattle.hdfs_values.specs.NodeId.{node_of}
+use Rattle.node_ids.specs.NodeId.{node_of}
 use Rattle.file_paths.specs.Path.{is_prefix}
 use Rattle.hdfs_types.specs.declared.op.Op.{Op}
 use Rattle.hdfs_types.specs.declared.op.Op.TheVariants as op
@@ -16,9 +16,9 @@ use Rattle.hdfs_types.specs.declared.reply.ObjectKind.TheVariants.{Directory, Fi
 use Rattle.hdfs_types.specs.declared.file.FileState.TheVariants.{Closed}
 use Rattle.hdfs_types.specs.declared.reply.Reply.{Reply}
 use Rattle.hdfs_types.specs.declared.reply.Reply.TheVariants as reply
-use Rattle.hdfs_types.specs.declared.reply.Refusal.{Refusal}
-use Rattle.hdfs_types.specs.declared.reply.Refusal.TheVariants.{BadPath, NotFound, NotDirectory, Exists, NotEmpty, IsRoot, UnderItself, NoLease, Spent}
-use Rattle.hdfs_types.specs.declared.reply.Counter.TheVariants.{Serial}
+use Rattle.refusals.specs.declared.refusal.Refusal.{Refusal}
+use Rattle.refusals.specs.declared.refusal.Refusal.TheVariants.{BadPath, NotFound, NotDirectory, Exists, NotEmpty, IsRoot, UnderItself, NoLease, Spent}
+use Rattle.refusals.specs.declared.refusal.Counter.TheVariants.{Serial}
 use Rattle.acl_entries.specs.Acl.{Acl, shown_mode, has_acl, entries}
 use Rattle.permission_specs.specs.SpecText.{spec_text}
 use Rattle.partial_acl.specs.AclChange.{acl_change, with_mode}

@@ -3,9 +3,9 @@ ghost use Rattle.flat_rows.specs.Denial.{IsDenied, need_decided, denial_at};
 
 use file_paths::path::Path;
 use hdfs_values::groups::{Groups, has_group};
-use hdfs_values::node_id::node_of;
 use hdfs_values::who::Who;
 use namespace_rows::row::Row;
+use node_ids::node_id::node_of;
 use required_rights::need::{By, Need};
 use std::alloc::{AllocError, Global};
 use std::fmt;

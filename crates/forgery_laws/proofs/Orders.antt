@@ -8,14 +8,14 @@ use Rattle.block_changes.specs.declared.transfer.Transfer.{Transfer}
 use Rattle.block_changes.specs.declared.recovery.Recovery.{Recovery}
 use Rattle.block_tokens.specs.Ring.{KeyRing, grant_of}
 use Rattle.grant_ledger.specs.declared.ledger.LedgerRow.{LedgerRow}
-use Rattle.hdfs_values.specs.NodeId.{node_of}
+use Rattle.node_ids.specs.NodeId.{node_of}
 use Rattle.block_answers.specs.Commands.{Commands}
 use Rattle.block_answers.specs.declared.commands.CopyOrder.{CopyOrder}
 use Rattle.block_answers.specs.declared.commands.Recover.{Recover}
 use Rattle.hdfs_types.specs.declared.op.Op.{Op}
 use Rattle.hdfs_types.specs.declared.op.Op.TheVariants as op
 use Rattle.hdfs_types.specs.declared.op.Request.{Request}
-use Rattle.hdfs_types.specs.declared.reply.Refusal.{Refusal}
+use Rattle.refusals.specs.declared.refusal.Refusal.{Refusal}
 use Rattle.hdfs_types.specs.declared.reply.Reply.{Reply}
 use Rattle.hdfs_types.specs.declared.reply.Reply.TheVariants as reply
 use Rattle.namespace_rows.specs.declared.row.Row.{Row}

@@ -5,7 +5,7 @@ use Rattle.std.specs.Bool.{⊤}
 use Rattle.std.specs.List.{AllByRecursion}
 use Rattle.block_records.specs.Numbers.{entry_at}
 use Rattle.grant_ledger.specs.declared.ledger.LedgerRow.{LedgerRow}
-use Rattle.hdfs_values.specs.NodeId.{node_of, node_principal}
+use Rattle.node_ids.specs.NodeId.{node_of, node_principal}
 use Rattle.block_answers.specs.Commands.{Commands}
 use Rattle.block_answers.specs.declared.commands.CopyOrder.{CopyOrder}
 use Rattle.block_answers.specs.declared.commands.Recover.{Recover}

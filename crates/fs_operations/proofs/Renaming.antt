@@ -6,7 +6,7 @@ use Rattle.file_paths.specs.Path.{is_prefix}
 use Rattle.file_paths.specs.PathOrder.{same_path}
 use Rattle.hdfs_values.proofs.Texts.{same_self}
 use Rattle.hdfs_types.specs.declared.op.Op.TheVariants.{Rename}
-use Rattle.hdfs_types.specs.declared.reply.Refusal.{Refusal}
+use Rattle.refusals.specs.declared.refusal.Refusal.{Refusal}
 use Rattle.principals.specs.Users.{Users}
 use Rattle.namespace_rows.specs.declared.row.Row.{Row}
 use Rattle.namespace_rows.specs.First.{first}

@@ -9,7 +9,7 @@ use Rattle.hdfs_values.specs.declared.fault.AclFault.{AclFault}
 use Rattle.hdfs_values.specs.declared.fault.AclFault.TheVariants.{DefaultOnFile, NoBase, BaseRemoved, MaskRemoved}
 use Rattle.hdfs_types.specs.declared.reply.ObjectKind.{ObjectKind}
 use Rattle.hdfs_types.specs.declared.reply.ObjectKind.TheVariants.{File, Directory}
-use Rattle.hdfs_types.specs.declared.reply.Refusal.TheVariants.{TooManyEntries}
+use Rattle.refusals.specs.declared.refusal.Refusal.TheVariants.{TooManyEntries}
 use Rattle.acl_entries.specs.Acl.{Acl, EntryList, suits_file}
 use Rattle.partial_acl.specs.AclChange.{acl_change, acl_after, unless_fault, first_acl_fault, lacks_base, removes_base, removes_mask, touches, spec_in, default_after, access_after, with_mode}
 use Rattle.namespace_rows.specs.declared.row.Row.{Row}

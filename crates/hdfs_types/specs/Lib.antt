@@ -1,6 +1,5 @@
 pub mod Request
 pub mod File
 pub mod Reply
-pub mod BlockRefusals
 pub mod AclStatus
 pub mod Verb

@@ -12,6 +12,7 @@ pub mod verb;
 pub use block_answers::{commands, key_list, located, token_bytes};
 pub use block_keys::key;
 pub use file_paths::{name, path};
-pub use hdfs_values::{fault, groups, ids, moment, node_id, number, replication, who};
+pub use hdfs_values::{fault, groups, ids, moment, number, replication, who};
+pub use node_ids::node_id;
 pub use permission_bits::{mode, modes, rights};
 pub use permission_specs::{acl_change, entry, spec};

@@ -7,4 +7,3 @@ pub mod Replication
 pub mod Who
 pub mod ShortText
 pub mod Groups
-pub mod NodeId

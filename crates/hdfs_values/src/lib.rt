@@ -1,4 +1,4 @@
-//! The plain values of the namesystem: texts as bytes and decimal numbers, what reading one answers, names of users, groups and DataNodes,
+//! The plain values of the namesystem: texts as bytes and decimal numbers, what reading one answers, names of users and groups,
 //! moments, replications, and the numbers of blocks, stamps and keys.
 #![tactic(auto)]
 
@@ -6,7 +6,6 @@ pub mod fault;
 pub mod groups;
 pub mod ids;
 pub mod moment;
-pub mod node_id;
 pub mod number;
 pub mod pieces;
 pub mod replication;

@@ -7,7 +7,7 @@ ghost use Rattle.heartbeats.specs.Live as spec;
 use block_records::node_set::NodeSet;
 use block_records::places::place_of;
 use hdfs_values::moment::Moment;
-use hdfs_values::node_id::NodeId;
+use node_ids::node_id::NodeId;
 use std::alloc::{AllocError, Global};
 use std::marker::Model;
 

@@ -6,7 +6,7 @@ use Rattle.std.specs.Cmp.{tied_itself}
 use Rattle.hdfs_values.proofs.Texts.{same_self as name_self}
 use Rattle.file_paths.specs.Path.{is_prefix, is_beneath}
 use Rattle.file_paths.specs.PathOrder.{path_cmp, same_path, paths_total}
-use Rattle.hdfs_types.specs.declared.reply.Refusal.TheVariants.{IsDirectory}
+use Rattle.refusals.specs.declared.refusal.Refusal.TheVariants.{IsDirectory}
 use Rattle.namespace_rows.specs.declared.row.Row.{Row}
 use Rattle.namespace_rows.specs.First.{first}
 use Rattle.namespace_rows.specs.Rows.{is_missing, is_none, is_directory, row_at, ancestor}

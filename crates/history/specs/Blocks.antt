@@ -1,7 +1,7 @@
 -- What is known of blocks, and of the DataNodes that hold them, when a NameNode opens, and behind each operation.
 -- (HDFS Architecture, "Data Replication": a DataNode is known by its heartbeats.)
 use Rattle.std.specs.Prelude.{ℕ, List, [], Option, Some, None, fold}
-use Rattle.hdfs_values.specs.NodeId.{node_of}
+use Rattle.node_ids.specs.NodeId.{node_of}
 use Rattle.hdfs_types.specs.declared.op.Op.{Op}
 use Rattle.hdfs_types.specs.declared.op.Op.TheVariants.{Create, Delete, Append, AddBlock, Complete, SetReplication, Tick, Heartbeat, Reported, CommitRecovery}
 use Rattle.block_records.specs.declared.last_block.LastBlock.{LastBlock}

@@ -5,7 +5,7 @@ use Rattle.file_paths.specs.PathOrder.{same_path}
 use Rattle.hdfs_types.specs.Request.{is_look}
 use Rattle.hdfs_types.specs.declared.op.Op.TheVariants as op
 use Rattle.hdfs_types.specs.declared.op.Request.{Request}
-use Rattle.hdfs_types.specs.declared.reply.Refusal.TheVariants.{LeaseHeld}
+use Rattle.refusals.specs.declared.refusal.Refusal.TheVariants.{LeaseHeld}
 use Rattle.namespace_rows.specs.declared.row.Row.{Row}
 use Rattle.flat_rows.specs.declared.verdict.Verdict.TheVariants.{Refused}
 use Rattle.flat_rows.specs.Verdicts.{is_done}

@@ -8,7 +8,7 @@ use Rattle.block_records.specs.Numbers.{is_number, entry_at}
 use Rattle.block_records.proofs.Numbers.{number_is}
 use Rattle.block_recovery.proofs.Lookups.{lookup_inserted}
 use Rattle.block_tokens.specs.TokenTest.{token_test}
-use Rattle.hdfs_values.specs.NodeId.{node_principal}
+use Rattle.node_ids.specs.NodeId.{node_principal}
 use Rattle.node_calls.specs.declared.call.NodeCall.{NodeCall}
 use Rattle.node_calls.specs.declared.call.NodeCall.TheVariants.{Presenting, Invalidate, Keys}
 use Rattle.node_calls.specs.declared.call.ReplicaState.TheVariants.{Writing, Finalized}

@@ -20,9 +20,9 @@ use Rattle.block_recovery.specs.declared.plan.Plan.{Plan}
 use Rattle.block_recovery.proofs.Lookups.{lookup_inserted}
 use Rattle.block_effect_laws.specs.Laws.{AgreeOn}
 use Rattle.block_map.specs.BlockFacts.{known_block, committed_length}
-use Rattle.hdfs_values.specs.NodeId.{is_node_id, node_of}
+use Rattle.node_ids.specs.NodeId.{is_node_id, node_of}
 use Rattle.file_paths.specs.PathOrder.{same_path}
-use Rattle.hdfs_values.proofs.Nodes.{principal_read}
+use Rattle.node_ids.proofs.Nodes.{principal_read}
 use Rattle.block_answers.specs.declared.located.LocatedBlock.{LocatedBlock}
 use Rattle.hdfs_types.specs.declared.op.Op.{Op}
 use Rattle.hdfs_types.specs.declared.op.Op.TheVariants as op

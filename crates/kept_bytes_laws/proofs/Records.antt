@@ -18,7 +18,7 @@ use Rattle.block_map.specs.BlockFacts.{Blocks, known_block, newest_stamp, transf
 use Rattle.block_map.specs.BlockEffects.{with_block_replication, committed_last, with_recovery_begun, recoveries_begun, with_node_heard, without_report_at, reported_by}
 use Rattle.block_effect_laws.proofs.Orders.{AreInOrder, taken_in_order}
 use Rattle.block_effect_laws.proofs.Looking.{added_at, changed_at, removed_at}
-use Rattle.hdfs_values.specs.NodeId.{node_of}
+use Rattle.node_ids.specs.NodeId.{node_of}
 use Rattle.block_answers.specs.LocatedBlocks.{AddedBlock}
 use Rattle.hdfs_types.specs.declared.op.Op.{Op}
 use Rattle.hdfs_types.specs.declared.op.Op.TheVariants as op

@@ -4,7 +4,7 @@
 use Rattle.std.specs.Prelude.{◌≡◌, ℕ, true, List, ◌∷◌, ◌++◌, length, Some, IsTrue}
 use Rattle.std.specs.List.{AllByRecursion}
 use Rattle.block_records.specs.Numbers.{has_number}
-use Rattle.hdfs_values.specs.NodeId.{is_node_id}
+use Rattle.node_ids.specs.NodeId.{is_node_id}
 use Rattle.block_answers.specs.LocatedBlocks.{OpenedFile}
 use Rattle.block_answers.specs.declared.located.LocatedBlock.{LocatedBlock}
 use Rattle.hdfs_types.specs.declared.reply.Reply.TheVariants as reply

@@ -3,7 +3,7 @@ ghost use Rattle.std.specs.Bool.{MatchBool};
 ghost use Rattle.std.specs.List.{IsDistinct};
 ghost use Rattle.std.specs.Map.{keys_of};
 ghost use Rattle.hdfs_values.specs.Text.{same};
-ghost use Rattle.hdfs_types.specs.declared.reply.Refusal.TheVariants.{NoLease};
+ghost use Rattle.refusals.specs.declared.refusal.Refusal.TheVariants.{NoLease};
 ghost use Rattle.lease_manager.specs.Leases as spec;
 ghost use Rattle.lease_manager.specs.Shown.{renewals_of};
 

@@ -5,7 +5,7 @@ use flat_rows::verdict::Verdict;
 use hdfs_types::reply::{Counter, Refusal, Reply};
 use hdfs_values::fault::IllFormed;
 use hdfs_values::ids::{BlockId, Stamp};
-use hdfs_values::node_id::NodeId;
+use node_ids::node_id::NodeId;
 use script_text::answer::Answer;
 use std::alloc::{AllocError, Global};
 use std::test::Fail;

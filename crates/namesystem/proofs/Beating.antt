@@ -1,6 +1,6 @@
 -- What a DataNode's heartbeat leaves, and its report of a replica.
 use Rattle.std.proofs.Common.{◌≡◌, ℕ, true, List, Option, Some, None, refl, sym, ap, ◌∙◌}
-use Rattle.hdfs_values.specs.NodeId.{node_of}
+use Rattle.node_ids.specs.NodeId.{node_of}
 use Rattle.hdfs_types.specs.declared.op.Op.{Op}
 use Rattle.hdfs_types.specs.declared.op.Op.TheVariants as op
 use Rattle.hdfs_types.specs.declared.replica.ReportedReplica.{ReportedReplica}

@@ -11,8 +11,8 @@ use Rattle.hdfs_types.specs.declared.verb.Update.{Update}
 use Rattle.hdfs_types.specs.declared.verb.Write.{Write}
 use Rattle.hdfs_types.specs.declared.verb.Write.TheVariants as write
 use Rattle.hdfs_types.specs.declared.reply.Reply.TheVariants as reply
-use Rattle.hdfs_types.specs.declared.reply.Refusal.{Refusal}
-use Rattle.hdfs_types.specs.declared.reply.Refusal.TheVariants.{NoLease}
+use Rattle.refusals.specs.declared.refusal.Refusal.{Refusal}
+use Rattle.refusals.specs.declared.refusal.Refusal.TheVariants.{NoLease}
 use Rattle.principals.specs.Users.{Users}
 use Rattle.namespace_rows.specs.declared.row.Row.{Row}
 use Rattle.namespace_rows.specs.declared.row.Change.TheVariants as change

@@ -1,8 +1,8 @@
 -- What making a key the current one leaves.
 use Rattle.std.proofs.Common.{◌≡◌, ℕ, List, Option, Some, None, refl, sym, ap, ◌∙◌}
 use Rattle.hdfs_types.specs.declared.op.Op.TheVariants as op
-use Rattle.hdfs_types.specs.declared.reply.Counter.TheVariants.{Serial}
-use Rattle.hdfs_types.specs.declared.reply.Refusal.TheVariants.{Spent}
+use Rattle.refusals.specs.declared.refusal.Counter.TheVariants.{Serial}
+use Rattle.refusals.specs.declared.refusal.Refusal.TheVariants.{Spent}
 use Rattle.hdfs_types.specs.declared.reply.Reply.TheVariants as reply
 use Rattle.block_tokens.specs.Ring.{KeyRing, next_serial, ring_after_roll}
 use Rattle.principals.specs.Users.{Users}

@@ -1,7 +1,7 @@
 -- A step's rows and users are those of its verdict; and what a step reads.
 use Rattle.std.proofs.Common.{◌≡◌, ℕ, List, Option, Some, None, refl, ap, ◌∙◌}
 use Rattle.hdfs_types.specs.declared.op.Op.{Op}
-use Rattle.hdfs_types.specs.declared.reply.Refusal.{Refusal}
+use Rattle.refusals.specs.declared.refusal.Refusal.{Refusal}
 use Rattle.block_tokens.specs.Ring.{KeyRing}
 use Rattle.block_map.specs.BlockFacts.{Blocks}
 use Rattle.lease_manager.specs.Leases.{Limits}

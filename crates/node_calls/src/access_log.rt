@@ -3,8 +3,8 @@ ghost use Rattle.std.specs.Prelude.{◌≡◌, ◌++◌, ◌-◌, [], ◌∷◌,
 use crate::presented::PresentedToken;
 use hdfs_values::ids::BlockId;
 use hdfs_values::moment::Moment;
-use hdfs_values::node_id::NodeId;
 use hdfs_values::who::Who;
+use node_ids::node_id::NodeId;
 use permission_bits::modes::Modes;
 use std::alloc::{AllocError, Global};
 use std::marker::Model;

@@ -4,7 +4,7 @@ use crate::presented::{Presented, PresentedToken};
 use block_records::node_set::NodeSet;
 use block_tokens::key::KeyList;
 use hdfs_values::ids::{BlockId, Stamp};
-use hdfs_values::node_id::NodeId;
+use node_ids::node_id::NodeId;
 
 /// How far a replica is: being written, or finalized (HDFS-265, replica states).
 #[derive(Clone, Copy, PartialEq, Eq)]

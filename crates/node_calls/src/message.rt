@@ -3,7 +3,7 @@ ghost use Rattle.std.specs.Prelude.{◌≡◌, ◌++◌, [], ◌∷◌, OnOk, On
 use crate::call::{NodeCall, PlanCall};
 use block_records::node_set::NodeSet;
 use hdfs_values::ids::{BlockId, Stamp};
-use hdfs_values::node_id::NodeId;
+use node_ids::node_id::NodeId;
 use std::alloc::{AllocError, Global};
 use std::marker::Model;
 

@@ -1,10 +1,10 @@
 ghost use Rattle.std.specs.Prelude.{◌≡◌, IfOk};
-ghost use Rattle.hdfs_values.specs.NodeId.{node_principal};
+ghost use Rattle.node_ids.specs.NodeId.{node_principal};
 
 use arrayvec::ArrayString;
-use hdfs_values::node_id::NodeId;
 use hdfs_values::who::Who;
 use itoa::Buffer;
+use node_ids::node_id::NodeId;
 use std::alloc::{AllocError, Global};
 
 // As many bytes as the longest name has.

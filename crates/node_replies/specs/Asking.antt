@@ -1,7 +1,7 @@
 -- Which mode of access a call of a DataNode needs, in whose name it is made, and what is noted down of it.
 -- (HADOOP-4359: a token allows its user to read or to write a block.)
 use Rattle.std.specs.Prelude.{ℕ, Bool, true, false, length, if◌then◌else◌}
-use Rattle.hdfs_values.specs.NodeId.{node_principal}
+use Rattle.node_ids.specs.NodeId.{node_principal}
 use Rattle.permission_bits.specs.Modes.{modes}
 use Rattle.permission_bits.specs.declared.modes.Modes.{Modes}
 use Rattle.node_calls.specs.declared.access_log.AccessRecord.{AccessRecord}

@@ -2,7 +2,7 @@
 -- (HDFS Architecture, "Replication Pipelining": a node passes on to the next of the pipeline what it is sent; a finalized replica is
 -- reported to the NameNode. HDFS-265: a recovery is led by one of the nodes.)
 use Rattle.std.specs.Prelude.{ℕ, ◌+◌, List, [], ◌∷◌, ◌++◌, length, take, drop, Option, Some, None}
-use Rattle.hdfs_values.specs.NodeId.{node_of}
+use Rattle.node_ids.specs.NodeId.{node_of}
 use Rattle.node_calls.specs.declared.call.NodeCall.TheVariants.{Presenting}
 use Rattle.node_calls.specs.declared.call.PlanCall.TheVariants as plan
 use Rattle.node_calls.specs.declared.call.TokenCall.{TokenCall}

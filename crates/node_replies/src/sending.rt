@@ -1,5 +1,5 @@
 ghost use Rattle.std.specs.Prelude.{◌≡◌, ◌+◌, [], ◌∷◌, ◌++◌, length, take, drop, IfOk};
-ghost use Rattle.hdfs_values.specs.NodeId.{node_of};
+ghost use Rattle.node_ids.specs.NodeId.{node_of};
 ghost use Rattle.node_calls.specs.declared.call.NodeCall.TheVariants.{Presenting};
 ghost use Rattle.node_calls.specs.declared.call.TokenCall.TheVariants as made;
 ghost use Rattle.node_calls.specs.declared.call.PlanCall.TheVariants as plan;
@@ -9,13 +9,13 @@ ghost use Rattle.replicas.specs.ReplicaStep.{own, held_at};
 ghost use Rattle.node_replies.specs.Sending as spec;
 
 use hdfs_values::ids::{BlockId, Stamp};
-use hdfs_values::node_id::{NodeId, node_of};
 use node_calls::block_bytes::BlockBytes;
 use node_calls::call::{NodeCall, PlanCall, ReplicaState, TokenCall};
 use node_calls::message::{Message, Messages};
 use node_calls::node_list::NodeList;
 use node_calls::presented::Presented;
 use node_calls::reply::NodeReply;
+use node_ids::node_id::{NodeId, node_of};
 use replicas::replicas::Replicas;
 use std::alloc::{AllocError, Global};
 

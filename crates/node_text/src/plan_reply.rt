@@ -9,7 +9,7 @@ ghost use Rattle.node_text.specs.ReplyText as spec;
 use block_records::node_set::NodeSet;
 use block_recovery::decision::Decision;
 use block_recovery::fault::PlanRefusal;
-use hdfs_values::node_id::NodeId;
+use node_ids::node_id::NodeId;
 use plan_steps::answered::PlanReply;
 use std::alloc::AllocError;
 

@@ -5,7 +5,7 @@ use Rattle.std.specs.Result.{result_ok}
 use Rattle.hex.specs.Hex.{decode_of, decode_sized}
 use Rattle.hdfs_values.specs.Text.{same}
 use Rattle.hdfs_values.specs.Number.{number_of}
-use Rattle.hdfs_values.specs.NodeId.{is_node_id}
+use Rattle.node_ids.specs.NodeId.{is_node_id}
 use Rattle.hdfs_values.specs.declared.fault.IllFormed.{IllFormed}
 use Rattle.hdfs_values.specs.declared.fault.IllFormed.TheVariants.{BadLine}
 use Rattle.grant_ledger.specs.declared.ledger.LedgerRow.{LedgerRow}

@@ -1,8 +1,8 @@
 -- What the calls of this crate answer, beside what the definitions say. Out of memory may be answered instead of any answer.
 use Rattle.std.specs.Prelude.{◌≡◌, ℕ, ◌+◌, Bool, true, false, ◌&&◌, length, Option, Result, Ok, Err, IsTrue}
 use Rattle.std.specs.Option.{option_map_or}
-use Rattle.hdfs_types.specs.declared.reply.Refusal.{Refusal}
-use Rattle.hdfs_types.specs.declared.reply.Refusal.TheVariants.{TooManyEntries}
+use Rattle.refusals.specs.declared.refusal.Refusal.{Refusal}
+use Rattle.refusals.specs.declared.refusal.Refusal.TheVariants.{TooManyEntries}
 use Rattle.acl_entries.specs.Acl.{Acl, EntryList, IsEntryList, fits_in_scope, ascend, grant_rights, are_rights}
 use Rattle.partial_acl.specs.declared.fault.AclChangeFault.{AclChangeFault}
 use Rattle.partial_acl.specs.declared.fault.AclChangeFault.TheVariants.{Refused, OutOfMemory}

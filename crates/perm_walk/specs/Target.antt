@@ -1,7 +1,7 @@
 -- What a walk to what has a path finds: the first need that fails, or where none does what has the path, or the refusal of one that nothing has;
 -- and the same of a file.
 use Rattle.std.specs.Prelude.{◌≡◌, ℕ, List, Option, Some, None}
-use Rattle.hdfs_types.specs.declared.reply.Refusal.{Refusal}
+use Rattle.refusals.specs.declared.refusal.Refusal.{Refusal}
 use Rattle.principals.specs.Users.{Caller}
 use Rattle.namespace_rows.specs.declared.file_row.FileRow.{FileRow}
 use Rattle.namespace_rows.specs.declared.row.Row.{Row}

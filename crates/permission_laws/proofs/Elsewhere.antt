@@ -11,8 +11,8 @@ use Rattle.hdfs_types.specs.declared.op.Op.{Op}
 use Rattle.hdfs_types.specs.declared.op.Op.TheVariants as op
 use Rattle.hdfs_types.specs.declared.file.FileState.TheVariants.{Closed}
 use Rattle.block_records.specs.declared.last_block.LastBlock.{LastBlock}
-use Rattle.hdfs_types.specs.declared.reply.Refusal.{Refusal}
-use Rattle.hdfs_types.specs.declared.reply.Refusal.TheVariants.{IsDirectory}
+use Rattle.refusals.specs.declared.refusal.Refusal.{Refusal}
+use Rattle.refusals.specs.declared.refusal.Refusal.TheVariants.{IsDirectory}
 use Rattle.acl_entries.specs.Acl.{Acl}
 use Rattle.partial_acl.specs.AclChange.{acl_change, with_mode}
 use Rattle.principals.specs.Users.{Users}

@@ -2,7 +2,7 @@
 use Rattle.std.proofs.Common.{◌≡◌, ℕ, Bool, true, false, ◌&&◌, ◌||◌, not, List, [], ◌∷◌, ◌++◌, Option, Some, None, map, refl, sym, ap, ◌∙◌, cond}
 use Rattle.std.specs.Prelude.{unwrap_or, filter}
 use Rattle.std.specs.Option.{option_map, option_to_list, is_some}
-use Rattle.hdfs_values.specs.NodeId.{node_of}
+use Rattle.node_ids.specs.NodeId.{node_of}
 use Rattle.hdfs_values.specs.Text.{same}
 use Rattle.hdfs_values.proofs.Texts.{same_is}
 use Rattle.permission_bits.specs.Rights.{rights}
@@ -15,8 +15,8 @@ use Rattle.hdfs_types.specs.declared.op.Op.{Op}
 use Rattle.hdfs_types.specs.declared.op.Op.TheVariants as op
 use Rattle.hdfs_types.specs.declared.file.FileState.{FileState}
 use Rattle.hdfs_types.specs.declared.file.FileState.TheVariants.{Closed, Open, Recovering}
-use Rattle.hdfs_types.specs.declared.reply.Refusal.{Refusal}
-use Rattle.hdfs_types.specs.declared.reply.Refusal.TheVariants.{IsDirectory, NoLease}
+use Rattle.refusals.specs.declared.refusal.Refusal.{Refusal}
+use Rattle.refusals.specs.declared.refusal.Refusal.TheVariants.{IsDirectory, NoLease}
 use Rattle.principals.specs.Users.{Users, Caller, caller_of, groups_of, is_super}
 use Rattle.acl_entries.specs.Acl.{Acl}
 use Rattle.namespace_rows.specs.declared.file_row.FileRow.{FileRow}

@@ -7,7 +7,7 @@ use Rattle.hdfs_values.proofs.Texts.{same_is}
 use Rattle.hdfs_values.specs.Groups.{has_group}
 use Rattle.hdfs_types.specs.Request.{is_for_nodes}
 use Rattle.hdfs_types.specs.declared.op.Op.{Op}
-use Rattle.hdfs_types.specs.declared.reply.Refusal.{Refusal}
+use Rattle.refusals.specs.declared.refusal.Refusal.{Refusal}
 use Rattle.principals.specs.Users.{Users, Caller, caller_of, groups_of, is_super}
 use Rattle.namespace_rows.specs.declared.row.Row.{Row}
 use Rattle.namespace_rows.specs.First.{first_answer}

@@ -4,7 +4,7 @@
 -- single-writer model.)
 use Rattle.std.specs.Prelude.{◌≡◌, ◌≢◌, ℕ, Bool, true, false, ◌||◌, List, ◌++◌, Option, Some, None}
 use Rattle.std.specs.Option.{is_some}
-use Rattle.hdfs_values.specs.NodeId.{node_of}
+use Rattle.node_ids.specs.NodeId.{node_of}
 use Rattle.hdfs_values.specs.Text.{same}
 use Rattle.hdfs_values.specs.Groups.{has_group}
 use Rattle.file_paths.specs.Path.{is_prefix, is_beneath}

@@ -11,10 +11,10 @@ use block_recovery::fault::{PlanFault, PlanRefusal};
 use block_recovery::plans::Plans;
 use block_recovery::recover::Recover;
 use hdfs_values::ids::{BlockId, Stamp};
-use hdfs_values::node_id::NodeId;
 use node_calls::call::{PlanCall, ReplicaState};
 use node_calls::message::{Message, Messages};
 use node_calls::presented::PresentedToken;
+use node_ids::node_id::NodeId;
 use std::alloc::{AllocError, Global};
 
 fn refuse(alloc: Global, refusal: PlanRefusal) -> PlanAnswered

@@ -4,11 +4,11 @@ ghost use Rattle.plan_steps.specs.PlanStep as spec;
 
 use block_answers::token_bytes::TokenBytes;
 use hdfs_values::ids::{BlockId, Stamp};
-use hdfs_values::node_id::NodeId;
 use node_calls::call::{NodeCall, TokenCall};
 use node_calls::message::{Message, Messages};
 use node_calls::presented::{Presented, PresentedToken};
 use node_calls::principal::principal_of;
+use node_ids::node_id::NodeId;
 use std::alloc::{AllocError, Global};
 
 // The leading node presents a token in its own name.

@@ -1,6 +1,6 @@
 -- A call that was refused.
 use Rattle.std.specs.Prelude.{Result, Ok, Err}
-use Rattle.hdfs_types.specs.declared.reply.Refusal.{Refusal}
+use Rattle.refusals.specs.declared.refusal.Refusal.{Refusal}
 use Rattle.principals.specs.declared.users.UserFault.{UserFault}
 use Rattle.principals.specs.declared.users.UserFault.TheVariants.{Refused, OutOfMemory}
 

@@ -5,9 +5,9 @@ use Rattle.std.specs.BTreeMap.{insert_entry}
 use Rattle.std.specs.Map.{lookup, set_value}
 use Rattle.std.specs.Option.{is_some}
 use Rattle.hdfs_values.specs.Text.{same, text_cmp}
-use Rattle.hdfs_values.specs.NodeId.{node_of}
-use Rattle.hdfs_types.specs.declared.reply.Refusal.{Refusal}
-use Rattle.hdfs_types.specs.declared.reply.Refusal.TheVariants.{BadName, Exists, NotFound}
+use Rattle.node_ids.specs.NodeId.{node_of}
+use Rattle.refusals.specs.declared.refusal.Refusal.{Refusal}
+use Rattle.refusals.specs.declared.refusal.Refusal.TheVariants.{BadName, Exists, NotFound}
 use Rattle.hdfs_values.specs.Groups.{has_group}
 
 -- each known user with the groups last set, and the two names that a namesystem opens with

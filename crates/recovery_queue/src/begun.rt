@@ -1,5 +1,5 @@
 use hdfs_values::ids::{BlockId, Stamp};
-use hdfs_values::node_id::NodeId;
+use node_ids::node_id::NodeId;
 
 /// A recovery of a block that begins: the block's new generation stamp, and the DataNode that is to lead it, its primary (HDFS-265).
 #[derive(Clone, Copy, PartialEq, Eq)]

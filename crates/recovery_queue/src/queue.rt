@@ -4,7 +4,7 @@ ghost use Rattle.recovery_queue.specs.Queue.{put, all_put, without_recovery, wit
 use crate::begun::BegunRecovery;
 use block_index::node_blocks::NodeBlocks;
 use hdfs_values::ids::BlockId;
-use hdfs_values::node_id::NodeId;
+use node_ids::node_id::NodeId;
 use std::alloc::{AllocError, Global};
 use std::collections::BTreeMap;
 use std::marker::Model;

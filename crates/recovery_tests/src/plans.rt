@@ -6,7 +6,7 @@ use block_recovery::plans::Plans;
 use block_recovery::recover::Recover;
 use block_tokens::token::{Body, TokenBytes, encode};
 use hdfs_values::ids::{BlockId, Serial, Stamp};
-use hdfs_values::node_id::NodeId;
+use node_ids::node_id::NodeId;
 use permission_bits::modes::Modes;
 use std::alloc::{AllocError, Global};
 

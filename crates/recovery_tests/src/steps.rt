@@ -3,10 +3,10 @@
 use block_records::node_set::NodeSet;
 use block_recovery::plans::Plans;
 use hdfs_values::ids::{BlockId, Stamp};
-use hdfs_values::node_id::NodeId;
 use node_calls::call::{NodeCall, PlanCall, ReplicaState, TokenCall};
 use node_calls::message::{Message, Messages};
 use node_calls::presented::{Presented, PresentedToken};
+use node_ids::node_id::NodeId;
 use plan_steps::answered::{PlanAnswered, PlanReply};
 use plan_steps::lead::lead;
 use std::alloc::{AllocError, Global};

@@ -1,6 +1,6 @@
 ghost use Rattle.std.specs.Prelude.{◌≡◌};
 ghost use Rattle.std.specs.Bool.{Decides};
-ghost use Rattle.hdfs_types.specs.declared.reply.Refusal.TheVariants as made;
+ghost use Rattle.refusals.specs.declared.refusal.Refusal.TheVariants as made;
 
 use file_paths::path::Path;
 use hdfs_types::reply::{Counter, Refusal};

@@ -7,7 +7,7 @@ use block_answers::key_list::{HeldKey, KeyList};
 use block_answers::token_bytes::TokenBytes;
 use block_records::node_set::NodeSet;
 use hdfs_values::ids::Serial;
-use hdfs_values::node_id::NodeId;
+use node_ids::node_id::NodeId;
 
 /// Whether two tokens are of the same bytes.
 pub fn is_same_token(token: &TokenBytes, other: &TokenBytes) -> bool

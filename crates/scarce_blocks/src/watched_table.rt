@@ -21,8 +21,8 @@ use block_records::report::ReportVerdict;
 use block_tables::block_table::BlockTable;
 use hdfs_values::ids::{BlockId, Stamp};
 use hdfs_values::moment::Moment;
-use hdfs_values::node_id::NodeId;
 use hdfs_values::replication::Repl;
+use node_ids::node_id::NodeId;
 use std::alloc::{AllocError, Global};
 use std::marker::Model;
 

@@ -3,7 +3,8 @@ use Rattle.std.specs.Prelude.{ℕ, ◌+◌, Bool, true, false, List, [], ◌∷�
 use Rattle.std.specs.Fmt.{decimal}
 use Rattle.hdfs_values.specs.Faults.{ill_formed_text}
 use Rattle.hdfs_values.specs.declared.fault.IllFormed.{IllFormed}
-use Rattle.hdfs_types.specs.Reply.{status_text, acl_status_text, names_text, summary_text, refusal_text}
+use Rattle.hdfs_types.specs.Reply.{status_text, acl_status_text, names_text, summary_text}
+use Rattle.refusals.specs.Refusal.{refusal_text}
 use Rattle.hdfs_types.specs.declared.reply.Expired.{Expired as ExpiredFiles}
 use Rattle.hdfs_types.specs.declared.reply.Reply.{Reply}
 use Rattle.hdfs_types.specs.declared.reply.Reply.TheVariants.{Empty, Status, Acl, Names, Summary, Deleted, Released, Recovering, Closed, Opened, Added, Expired, Serial, Commands}

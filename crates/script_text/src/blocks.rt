@@ -2,7 +2,7 @@ ghost use Rattle.std.specs.Prelude.{◌+◌, Some};
 
 use block_answers::located::{AddedBlock, LocatedBlock, OpenedFile};
 use block_records::node_set::NodeSet;
-use hdfs_values::node_id::NodeId;
+use node_ids::node_id::NodeId;
 use std::fmt;
 
 /// A token by its row in the ledger of all granted tokens: behind this one, so many rows on. What is printed is exact for any numbers,

@@ -8,7 +8,7 @@ use Rattle.hdfs_types.specs.declared.reply.Reply.TheVariants as replies
 use Rattle.block_records.specs.declared.last_block.LastBlock.{LastBlock}
 use Rattle.block_map.specs.BlockEffects.{given_behind}
 use Rattle.flat_rows.specs.declared.verdict.Verdict.TheVariants.{Done}
-use Rattle.hdfs_types.specs.declared.reply.Refusal.{Refusal}
+use Rattle.refusals.specs.declared.refusal.Refusal.{Refusal}
 use Rattle.principals.specs.Users.{Users, Caller}
 use Rattle.namespace_rows.specs.declared.file_row.FileRow.{FileRow}
 use Rattle.namespace_rows.specs.declared.row.Row.{Row}

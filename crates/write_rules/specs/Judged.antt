@@ -1,6 +1,6 @@
 -- The verdict on a verb that nothing denies.
 use Rattle.std.specs.Prelude.{Option, Some, None}
-use Rattle.hdfs_types.specs.declared.reply.Refusal.{Refusal}
+use Rattle.refusals.specs.declared.refusal.Refusal.{Refusal}
 use Rattle.hdfs_types.specs.declared.reply.Reply.{Reply}
 use Rattle.flat_rows.specs.declared.verdict.Verdict as answer
 use Rattle.flat_rows.specs.declared.verdict.Verdict.TheVariants.{Done, Refused}

@@ -1,8 +1,8 @@
 -- What is judged of an append before anything changes.
 use Rattle.std.specs.Prelude.{◌≡◌, ℕ, false, List, if◌then◌else◌, Option, Some, None}
 use Rattle.hdfs_types.specs.declared.file.FileState.TheVariants as state
-use Rattle.hdfs_types.specs.declared.reply.Refusal.{Refusal}
-use Rattle.hdfs_types.specs.declared.reply.Refusal.TheVariants.{LeaseHeld}
+use Rattle.refusals.specs.declared.refusal.Refusal.{Refusal}
+use Rattle.refusals.specs.declared.refusal.Refusal.TheVariants.{LeaseHeld}
 use Rattle.hdfs_types.specs.declared.reply.Reply.TheVariants.{Empty}
 use Rattle.namespace_rows.specs.declared.file_row.FileRow.{FileRow}
 use Rattle.namespace_rows.specs.declared.row.Row.{Row}

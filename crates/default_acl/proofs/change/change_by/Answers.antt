@@ -2,7 +2,7 @@ use Rattle.std.proofs.Common.{◌≡◌, List, Option, Ok, Err, refl, sym, ap, s
 use Rattle.std.proofs.lemmas.Result.{err_from_is_err_and}
 use Rattle.permission_specs.specs.declared.entry.Entry.{Entry}
 use Rattle.permission_specs.specs.declared.acl_change.AclChange.{AclChange}
-use Rattle.hdfs_types.specs.declared.reply.Refusal.TheVariants.{BadAcl}
+use Rattle.refusals.specs.declared.refusal.Refusal.TheVariants.{BadAcl}
 use Rattle.acl_entries.specs.Acl.{EntryList}
 use Rattle.partial_acl.specs.AclChange.{access_after, acl_change, default_after}
 use Rattle.default_acl.specs.Forms.{change_of}

@@ -8,7 +8,7 @@ use Rattle.std.proofs.lemmas.Bool.Decides.{nat_tests}
 use Rattle.std.proofs.lemmas.Fmt.{digits_decimal, digits_value-decimal, decimal-digits_value, decimal_nonempty, first_decimal}
 use Rattle.hdfs_values.specs.Text.{same}
 use Rattle.hdfs_values.specs.Number.{number_of, is_number_text}
-use Rattle.hdfs_values.specs.NodeId.{is_node_id, node_principal, node_of}
+use Rattle.node_ids.specs.NodeId.{is_node_id, node_principal, node_of}
 use Rattle.hdfs_values.proofs.Numbers.{numerals}
 use Rattle.hdfs_values.proofs.Texts.{same_is, same_self}
 use Rattle.hdfs_values.proofs.Texts.{guard_some}

@@ -1,9 +1,9 @@
 ghost use Rattle.std.specs.Prelude.{◌≡◌, ℕ, List, IsTrue, ◌++◌, if◌then◌else◌, Some, None, codes, slice_index, ◌==◌};
-ghost use Rattle.hdfs_values.specs.NodeId.{is_node_id, node_principal};
-ghost use Rattle.hdfs_values.specs.NodeId as spec;
+ghost use Rattle.node_ids.specs.NodeId.{is_node_id, node_principal};
+ghost use Rattle.node_ids.specs.NodeId as spec;
 
-use crate::number::number_of;
-use crate::who::Who;
+use hdfs_values::number::number_of;
+use hdfs_values::who::Who;
 use std::marker::Model;
 
 /// The id of a DataNode: 1 to 2^32 - 1.
@@ -14,7 +14,7 @@ pub struct NodeId {
 
 impl Model for NodeId {
     ghost use Rattle.std.specs.Prelude.{ℕ, IsTrue};
-    ghost use Rattle.hdfs_values.specs.NodeId.{is_node_id};
+    ghost use Rattle.node_ids.specs.NodeId.{is_node_id};
 
     ghost Value = { ℕ };
 

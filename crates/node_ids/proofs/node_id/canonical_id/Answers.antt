@@ -1,6 +1,6 @@
 use Rattle.std.proofs.Common.{arith, sym, ◌∙◌}
-use Rattle.hdfs_values.proofs.Nodes.{leading_zero, no_number, too_great, canonical}
-use Rattle.hdfs_values.proofs.node_id.canonical_id.Goals as goal
+use Rattle.node_ids.proofs.Nodes.{leading_zero, no_number, too_great, canonical}
+use Rattle.node_ids.proofs.node_id.canonical_id.Goals as goal
 
 pub returns-then-has_leading_zero : goal.returns-then-has_leading_zero
 returns-then-has_leading_zero c = sym (leading_zero c.args.text.now c.if-has_leading_zero.ensures)

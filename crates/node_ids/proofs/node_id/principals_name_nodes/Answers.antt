@@ -1,5 +1,5 @@
-use Rattle.hdfs_values.proofs.Nodes.{principal_read, principal_spelled}
-use Rattle.hdfs_values.proofs.node_id.principals_name_nodes.Goals as goal
+use Rattle.node_ids.proofs.Nodes.{principal_read, principal_spelled}
+use Rattle.node_ids.proofs.node_id.principals_name_nodes.Goals as goal
 
 pub returns-clause-read : goal.returns-clause-read
 returns-clause-read c = principal_read

@@ -3,10 +3,10 @@ use Rattle.block_records.specs.declared.fault.BlockRefusal.{BlockRefusal}
 use Rattle.block_records.specs.declared.fault.BlockRefusal.TheVariants as block
 use Rattle.block_records.specs.declared.fault.Counter as numbered
 use Rattle.block_records.specs.declared.fault.Counter.TheVariants as number
-use Rattle.hdfs_types.specs.declared.reply.Counter.{Counter}
-use Rattle.hdfs_types.specs.declared.reply.Counter.TheVariants.{BlockId, Stamp}
-use Rattle.hdfs_types.specs.declared.reply.Refusal.{Refusal}
-use Rattle.hdfs_types.specs.declared.reply.Refusal.TheVariants.{NotFound, NotOpen, NotYetReplicated, TooFewNodes, StaleStamp, Spent}
+use Rattle.refusals.specs.declared.refusal.Counter.{Counter}
+use Rattle.refusals.specs.declared.refusal.Counter.TheVariants.{BlockId, Stamp}
+use Rattle.refusals.specs.declared.refusal.Refusal.{Refusal}
+use Rattle.refusals.specs.declared.refusal.Refusal.TheVariants.{NotFound, NotOpen, NotYetReplicated, TooFewNodes, StaleStamp, Spent}
 
 abbrev pub counter_of : numbered.Counter → Counter
 counter_of number.BlockId = BlockId
