@@ -1,4 +1,4 @@
-ghost use Rattle.std.specs.Prelude.{◌≡◌, ◌+◌, ◌<◌, ◌++◌, [], ◌∷◌, length, reverse, slice_get, true, vec_len, vec_capacity, IfOk, OnErr, OnOk};
+ghost use Rattle.std.specs.Prelude.{◌≡◌, ◌<◌, ◌++◌, [], ◌∷◌, length, reverse, slice_get, true, vec_len, vec_capacity, IfOk, OnErr, OnOk};
 ghost use Rattle.std.specs.Option.{option_copied};
 ghost use Rattle.hdfs_types.specs.Request.{is_look};
 ghost use Rattle.hdfs_values.specs.Who.{IsWho};
@@ -20,6 +20,7 @@ use hdfs_values::moment::Moment;
 use hdfs_values::who::Who;
 use history::config::Config;
 use history::entry::{Answer, HistoryEntry, copy_of};
+use history::recording::{RequestCopies, add_entry, copies, next_place};
 use inode_tree::tree::Tree;
 use lease_manager::open_paths::OpenPaths;
 use lease_manager::writers::Writers;
@@ -41,40 +42,6 @@ fn known_who(alloc: Global, text: &str) -> Result<Who, AllocError>
     }
 }
 
-// Makes room for an entry, and tells the place that it will have.
-fn next_place(history: &mut Vec<HistoryEntry>) -> Result<u64, AllocError>
-    ensures history { history.new.items ≡ history.old.items }
-    ensures room { OnOk result (vec_len history.new < vec_capacity history.new) }
-    ensures place { IfOk result (λ place. place ≡ length history.old.items + 1) }
-{
-    let entries = history.len() as u64;
-    if entries == u64::MAX {
-        return Err(AllocError);
-    }
-    history.reserve(1)?;
-    Ok(entries + 1)
-}
-
-// Copies of a request, for the history and for the answer.
-#[derive(Drop)]
-struct RequestCopies {
-    kept: Request,
-    answered: Request,
-}
-
-// What is owned is dropped by a call wherever it isn't moved, since each part of it is a step of the proof else.
-fn copies(request: &Request) -> Result<RequestCopies, AllocError>
-    ensures kept { IfOk result (λ copies. copies.kept ≡ request.now) }
-    ensures answered { IfOk result (λ copies. copies.answered ≡ request.now) }
-{
-    let kept = request.clone()?;
-    let Ok(answered) = request.clone() else {
-        drop(kept);
-        return Err(AllocError);
-    };
-    Ok(RequestCopies { kept, answered })
-}
-
 // Records a request where there is room for it, and answers it. Takes no memory.
 fn record(
     history: &mut Vec<HistoryEntry>,
@@ -88,14 +55,7 @@ fn record(
     ensures history { history.new.items ≡ history.old.items ++ record { place = place; pass = pass; index = index; request = copies.kept; verdict = told.verdict } ∷ [] }
     ensures answer { result ≡ record { place = place; request = copies.answered; verdict = told.copy } }
 {
-    let entry = HistoryEntry {
-        place,
-        pass,
-        index,
-        request: copies.kept,
-        verdict: told.verdict,
-    };
-    history.push_reserved(entry);
+    add_entry(history, place, pass, index, copies.kept, told.verdict);
     Answer {
         place,
         request: copies.answered,
@@ -317,14 +277,7 @@ impl NameCore {
             return Err(AllocError);
         };
         self.clock = clock;
-        let entry = HistoryEntry {
-            place,
-            pass,
-            index,
-            request,
-            verdict,
-        };
-        self.history.push_reserved(entry);
+        add_entry(&mut self.history, place, pass, index, request, verdict);
         Ok(())
     }
 

@@ -3,7 +3,7 @@
 
 pub mod denials;
 mod located;
-pub mod refusals;
 pub mod replies;
 pub mod rows;
+pub mod same_refusals;
 pub mod verdicts;

@@ -2,8 +2,8 @@ ghost use Rattle.std.specs.Prelude.{◌≡◌};
 ghost use Rattle.std.specs.Bool.{Decides};
 
 use crate::denials::is_same_denial;
-use crate::refusals::is_same_refusal;
 use crate::replies::is_same_reply;
+use crate::same_refusals::is_same_refusal;
 use flat_rows::verdict::Verdict;
 
 /// Whether two verdicts are one. Costs both. Takes no memory.
