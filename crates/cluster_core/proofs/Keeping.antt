@@ -1,16 +1,14 @@
 -- What a kept event names stays, since a history only grows at its end.
-use Rattle.std.proofs.Common.{◌≡◌, ℕ, List, [], ◌∷◌, ◌++◌, length, map, reverse, refl, sym, ap, ◌∙◌, subst, Some, arith}
-use Rattle.std.specs.Prelude.{slice_get}
+use Rattle.std.proofs.Common.{◌≡◌, List, [], ◌∷◌, ◌++◌, map, reverse, refl, ap, ◌∙◌, arith}
 use Rattle.std.specs.List.{AllByRecursion}
-use Rattle.std.proofs.lemmas.List.{length-append, length-reverse, reverse-append, map-append}
+use Rattle.std.proofs.lemmas.List.{length-append, reverse-append, map-append}
 use Rattle.history.specs.declared.entry.HistoryEntry.{HistoryEntry}
 use Rattle.cluster_trace.specs.declared.event.Event.{Event}
-use Rattle.cluster_trace.specs.declared.event.Event.TheVariants.{Name}
 use Rattle.cluster_trace.proofs.Each.{each_append, each_more}
-use Rattle.cluster_parts.proofs.Gets.{get_left, get_last}
-use Rattle.cluster_core.specs.Kept.{IsEventWithin, event_of_entry, event_of_kept, IsKeptFor}
-use Rattle.cluster_core.specs.declared.kept.KeptEvent.{KeptEvent}
-use Rattle.cluster_core.specs.declared.kept.KeptEvent.TheVariants.{Asked, Refused, Delivered, Called}
+use Rattle.cluster_parts.proofs.Gets.{get_left}
+use Rattle.cluster_parts.specs.Kept.{IsEventWithin, event_of_entry, event_of_kept}
+use Rattle.cluster_parts.specs.declared.kept.KeptEvent.{KeptEvent}
+use Rattle.cluster_parts.specs.declared.kept.KeptEvent.TheVariants.{Asked, Refused, Delivered, Called}
 
 -- ---- a history that grows
 
@@ -47,14 +45,3 @@ module _ (history more : List HistoryEntry) where
       ∙ ap (λ (events : List Event). events ++ event_of_kept (history ++ more) own ∷ []) (events_stay kept within)
       ∙ ap (λ (new : Event). map (event_of_kept history) kept ++ new ∷ []) is)
       ∙ reverse-append (map (event_of_kept history) kept) (event ∷ [])
-
--- ---- how an event is kept
-
--- by the newest entry, where that has its request
-pub asked_kept : (entries : List HistoryEntry) (entry : HistoryEntry) (index : ℕ) → index ≡ length entries → IsKeptFor (reverse (entry ∷ entries)) (Asked index) (Name entry.request)
-asked_kept entries entry index at =
-    let grown : reverse (entry ∷ entries) ≡ reverse entries ++ entry ∷ [] = reverse-append (entry ∷ []) entries in
-    let last : index ≡ length (reverse entries) = at ∙ sym (length-reverse entries) in
-    let found : slice_get (reverse entries ++ entry ∷ []) index ≡ Some entry = ap (slice_get (reverse entries ++ entry ∷ [])) last ∙ get_last (reverse entries) entry in
-    subst (λ (history : List HistoryEntry). IsKeptFor history (Asked index) (Name entry.request)) (sym grown)
-    (record { within = omega (arith, length-append (reverse entries) (entry ∷ []), last); is = ap event_of_entry found })

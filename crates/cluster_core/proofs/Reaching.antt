@@ -22,14 +22,13 @@ use Rattle.cluster_trace.specs.declared.outcome.Outcome.{Outcome}
 use Rattle.cluster_trace.proofs.Right.{all_right}
 use Rattle.cluster_laws.specs.Laws.{RecordsOf}
 use Rattle.cluster_laws.proofs.Logs.{records_rest}
-use Rattle.cluster_core.specs.Kept.{IsEventWithin, event_of_kept, IsKeptFor}
+use Rattle.cluster_parts.specs.Kept.{IsEventWithin, event_of_kept, IsKeptFor}
 use Rattle.cluster_core.specs.Past.{World}
 use Rattle.cluster_core.specs.World.{state_after, with_event, history_of, past_of, IsReached}
-use Rattle.cluster_core.specs.declared.kept.KeptEvent.{KeptEvent}
-use Rattle.cluster_core.specs.declared.kept.KeptEvent.TheVariants.{Asked}
+use Rattle.cluster_parts.specs.declared.kept.KeptEvent.{KeptEvent}
 use Rattle.cluster_core.specs.declared.world.World.TheInside.{Inside}
 use Rattle.cluster_steps.proofs.Answering.{taken, not_taken}
-use Rattle.cluster_core.proofs.Keeping.{within_more, events_more, asked_kept}
+use Rattle.cluster_core.proofs.Keeping.{within_more, events_more}
 
 -- ---- the NameNode's history grows at its end, if at all
 
@@ -85,14 +84,14 @@ kept_steps old new event kept is_kept ids cluster events fits call =
     record { ids = ids; cluster = cluster; kept = kept; events = events; is_kept = is_kept; fits = fits; call = call }
 
 -- the history keeps the request
-pub asked_steps : (old new : Inside) (request : Request) (index : ℕ) → is_from_outside request.op ≡ true → index ≡ length old.cluster.entries → new.ids.items ≡ old.ids.items
-    → new.cluster ≡ left_by old.cluster (request_named old.cluster request) → new.events.items ≡ old.events.items ++ Asked index ∷ [] → (GrantsFit old.cluster → GrantsFit new.cluster) → Steps old (Name request) new
-asked_steps old new request index outside at ids cluster events fits = record {
+pub asked_steps : (old new : Inside) (request : Request) (kept : KeptEvent) → is_from_outside request.op ≡ true → IsKeptFor (reverse (entry_of old.cluster request ∷ old.cluster.entries)) kept (Name request) → new.ids.items ≡ old.ids.items
+    → new.cluster ≡ left_by old.cluster (request_named old.cluster request) → new.events.items ≡ old.events.items ++ kept ∷ [] → (GrantsFit old.cluster → GrantsFit new.cluster) → Steps old (Name request) new
+asked_steps old new request kept outside is_kept ids cluster events fits = record {
   ids = ids;
   cluster = cluster ∙ ap (left_by old.cluster) (sym (taken old.cluster request outside));
-  kept = Asked index;
+  kept = kept;
   events = events;
-  is_kept = subst (λ (state : Cluster). IsKeptFor (reverse state.entries) (Asked index) (Name request)) (sym cluster) (asked_kept old.cluster.entries (entry_of old.cluster request) index at);
+  is_kept = subst (λ (state : Cluster). IsKeptFor (reverse state.entries) kept (Name request)) (sym cluster) is_kept;
   fits = fits;
   call = tt;
 }

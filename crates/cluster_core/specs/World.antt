@@ -6,7 +6,7 @@ use Rattle.cluster_trace.specs.Trace.{Cluster, after, event_outcome}
 use Rattle.cluster_trace.specs.Typed.{GrantsFit, AreTyped}
 use Rattle.cluster_trace.specs.declared.event.Event.{Event}
 use Rattle.cluster_trace.specs.declared.outcome.Outcome.{Outcome}
-use Rattle.cluster_core.specs.Kept.{IsEventWithin, event_of_kept}
+use Rattle.cluster_parts.specs.Kept.{IsEventWithin, event_of_kept}
 use Rattle.cluster_core.specs.Past.{World}
 use Rattle.cluster_core.specs.declared.world.World.TheInside.{Inside}
 

@@ -1,5 +1,4 @@
 //! A cluster in one process: a NameNode, DataNodes, and the messages between them, event by event.
 #![tactic(auto)]
 
-mod kept;
 pub mod world;

@@ -8,7 +8,7 @@ ghost use Rattle.cluster_trace.specs.declared.event.Event.TheVariants as event;
 ghost use Rattle.cluster_laws.specs.Laws.{RecordsOf};
 ghost use Rattle.cluster_core.specs.World.{state_after, with_event, run_past, run_outcomes};
 
-use crate::kept::KeptEvent;
+use cluster_parts::kept::KeptEvent;
 pub use cluster_steps::cluster::NameCore;
 use cluster_steps::cluster::{Cluster, is_from_outside};
 use cluster_trace::data_call::DataCall;
@@ -143,9 +143,9 @@ impl World {
             drop(request);
             return Err(AllocError);
         }
-        let index = self.cluster.core().place() as usize;
+        let entries = self.cluster.core().place();
         let outcome = self.cluster.name(request)?;
-        self.events.push_reserved(KeptEvent::Asked(index));
+        self.events.push_reserved(KeptEvent::asked(entries));
         Ok(outcome)
     }
 

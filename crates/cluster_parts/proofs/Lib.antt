@@ -4,3 +4,4 @@ pub mod Finding
 pub mod Commands
 pub mod Tables
 pub mod Rows
+pub mod Keeping

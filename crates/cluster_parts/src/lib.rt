@@ -1,9 +1,10 @@
-//! The parts of a cluster: its DataNodes by their ids, the recoveries that they lead, its messages as they are kept, and what carrying one
-//! out leaves.
+//! The parts of a cluster: its DataNodes by their ids, the recoveries that they lead, its messages as they are kept, what carrying
+//! one out leaves, and how an event is kept.
 #![tactic(auto)]
 
 pub mod carried;
 pub mod found;
+pub mod kept;
 pub mod leaders;
 pub mod nodes;
 pub mod ranges;

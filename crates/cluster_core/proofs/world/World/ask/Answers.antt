@@ -1,8 +1,7 @@
 use Rattle.std.proofs.Common.{◌++◌, ◌∷◌, [], List, length, refl, sym, ap, ◌∙◌}
-use Rattle.cluster_trace.specs.Trace.{outcome_of}
+use Rattle.cluster_trace.specs.Trace.{entry_of, outcome_of}
 use Rattle.cluster_trace.specs.declared.event.Event.TheVariants.{Name}
-use Rattle.cluster_core.specs.declared.kept.KeptEvent.{KeptEvent}
-use Rattle.cluster_core.specs.declared.kept.KeptEvent.TheVariants.{Asked}
+use Rattle.cluster_parts.specs.declared.kept.KeptEvent.{KeptEvent}
 use Rattle.cluster_core.specs.declared.world.World.TheInside.{Inside}
 use Rattle.cluster_steps.proofs.Answering.{taken}
 use Rattle.cluster_core.proofs.Reaching.{Steps, asked_steps, step_reached, still_reached, step_past, step_outcome}
@@ -13,8 +12,9 @@ left c = record (c.self.inside) { cluster = c.name.new.self; events = c.push_res
 
 steps : (c : goal.After-push_reserved) → Steps c.self.inside (Name c.args.request) (left c)
 steps c =
-    asked_steps c.self.inside (left c) c.args.request c.place-index.result c.requires (c.place-index.ensures.place ∙ ap (λ own. length own.entries) c.core.ensures) refl c.in_ok-outcome.ensures.ok
-    (c.push_reserved.ensures.items ∙ ap (λ (events : List KeptEvent). events ++ Asked c.place-index.result ∷ []) c.reserve.ensures.items) c.in_ok-outcome.ensures.fits
+    asked_steps c.self.inside (left c) c.args.request c.asked.result c.requires
+    (c.asked.ensures c.self.inside.cluster.entries (entry_of c.self.inside.cluster c.args.request) (c.place-entries.ensures.place ∙ ap (λ own. length own.entries) c.core.ensures)) refl c.in_ok-outcome.ensures.ok
+    (c.push_reserved.ensures.items ∙ ap (λ (events : List KeptEvent). events ++ c.asked.result ∷ []) c.reserve.ensures.items) c.in_ok-outcome.ensures.fits
 
 pub invariant_of-self-2 : goal.invariant_of-self-2
 invariant_of-self-2 c = step_reached c.self.inside (Name c.args.request) (left c) c.self.invariant (steps c)

@@ -4,8 +4,8 @@ use Rattle.cluster_trace.specs.Provenance.{call_of}
 use Rattle.cluster_trace.specs.Trace.{happens, event_outcome}
 use Rattle.cluster_trace.specs.Typed.{CallFits}
 use Rattle.cluster_trace.specs.declared.event.Event.TheVariants.{Data}
-use Rattle.cluster_core.specs.declared.kept.KeptEvent.{KeptEvent}
-use Rattle.cluster_core.specs.declared.kept.KeptEvent.TheVariants.{Called}
+use Rattle.cluster_parts.specs.declared.kept.KeptEvent.{KeptEvent}
+use Rattle.cluster_parts.specs.declared.kept.KeptEvent.TheVariants.{Called}
 use Rattle.cluster_core.specs.declared.world.World.TheInside.{Inside}
 use Rattle.cluster_core.proofs.Reaching.{Steps, kept_steps, data_fits, step_reached, still_reached, step_past, step_outcome}
 use Rattle.cluster_core.proofs.world.World.call.Goals as goal

@@ -1,7 +1,7 @@
 use Rattle.std.proofs.Common.{◌++◌, ◌∷◌, [], List, refl, ap, ◌∙◌}
 use Rattle.cluster_trace.specs.declared.event.Event.TheVariants.{Deliver}
-use Rattle.cluster_core.specs.declared.kept.KeptEvent.{KeptEvent}
-use Rattle.cluster_core.specs.declared.kept.KeptEvent.TheVariants.{Delivered}
+use Rattle.cluster_parts.specs.declared.kept.KeptEvent.{KeptEvent}
+use Rattle.cluster_parts.specs.declared.kept.KeptEvent.TheVariants.{Delivered}
 use Rattle.cluster_core.specs.declared.world.World.TheInside.{Inside}
 use Rattle.cluster_core.proofs.Reaching.{Steps, kept_steps, step_reached, step_past, step_outcome}
 use Rattle.cluster_core.proofs.world.World.deliver.Goals as goal

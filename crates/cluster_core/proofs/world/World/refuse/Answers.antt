@@ -2,8 +2,8 @@ use Rattle.std.proofs.Common.{◌≡◌, ◌++◌, ◌∷◌, [], List, refl, ap
 use Rattle.hdfs_types.specs.declared.op.Request.{Request}
 use Rattle.cluster_trace.specs.Trace.{happens, event_outcome}
 use Rattle.cluster_trace.specs.declared.event.Event.TheVariants.{Name}
-use Rattle.cluster_core.specs.declared.kept.KeptEvent.{KeptEvent}
-use Rattle.cluster_core.specs.declared.kept.KeptEvent.TheVariants.{Refused}
+use Rattle.cluster_parts.specs.declared.kept.KeptEvent.{KeptEvent}
+use Rattle.cluster_parts.specs.declared.kept.KeptEvent.TheVariants.{Refused}
 use Rattle.cluster_core.specs.declared.world.World.TheInside.{Inside}
 use Rattle.cluster_core.proofs.Reaching.{Steps, kept_steps, lost_fits, step_reached, still_reached, step_past, step_outcome}
 use Rattle.cluster_core.proofs.world.World.refuse.Goals as goal

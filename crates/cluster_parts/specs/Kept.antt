@@ -4,8 +4,8 @@ use Rattle.std.specs.Bool.{⊤}
 use Rattle.history.specs.declared.entry.HistoryEntry.{HistoryEntry}
 use Rattle.cluster_trace.specs.declared.event.Event.{Event}
 use Rattle.cluster_trace.specs.declared.event.Event.TheVariants.{Name, Deliver, Data}
-use Rattle.cluster_core.specs.declared.kept.KeptEvent.{KeptEvent}
-use Rattle.cluster_core.specs.declared.kept.KeptEvent.TheVariants.{Asked, Refused, Delivered, Called}
+use Rattle.cluster_parts.specs.declared.kept.KeptEvent.{KeptEvent}
+use Rattle.cluster_parts.specs.declared.kept.KeptEvent.TheVariants.{Asked, Refused, Delivered, Called}
 
 -- the entry that it names stands in the history
 abbrev pub IsEventWithin : List HistoryEntry → KeptEvent → Type 0
