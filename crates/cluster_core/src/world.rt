@@ -169,13 +169,12 @@ impl World {
             drop(call);
             return Err(AllocError);
         }
-        let kept = Box::new(self.alloc, call)?;
-        let Ok(outcome) = self.cluster.data(node, now, &kept) else {
-            drop(kept);
+        let Ok(outcome) = self.cluster.data(node, now, &call) else {
+            drop(call);
             return Err(AllocError);
         };
         self.events
-            .push_reserved(KeptEvent::Called(node, now, kept));
+            .push_reserved(KeptEvent::Called(node, now, call));
         Ok(outcome)
     }
 

@@ -23,7 +23,7 @@ abbrev pub event_of_kept : List HistoryEntry → KeptEvent → Event
 event_of_kept history (Asked index) = event_of_entry (slice_get history index)
 event_of_kept history (Refused request) = Name request.value
 event_of_kept history (Delivered number now) = Deliver number now
-event_of_kept history (Called node now call) = Data node now call.value
+event_of_kept history (Called node now call) = Data node now call
 
 -- beside this history, it is kept for this event
 pub record IsKeptFor (history : List HistoryEntry) (kept : KeptEvent) (event : Event) : Type 0 where

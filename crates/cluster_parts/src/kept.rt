@@ -18,7 +18,7 @@ pub enum KeptEvent {
     /// It delivered the message with this number.
     Delivered(u64, Moment),
     /// It called a DataNode.
-    Called(NodeId, Moment, Box<DataCall>),
+    Called(NodeId, Moment, DataCall),
 }
 
 impl KeptEvent {

@@ -90,7 +90,7 @@ fn begin_of(
     let at = place_of(block, stamp)?;
     let next = next_word(alloc, next)?;
     let presented = presented_of(ledger, caller, at, token)?;
-    Ok(DataCall::begin_write(presented, next))
+    Ok(DataCall::begin_write(alloc, presented, next)?)
 }
 
 fn packet_of(
@@ -111,7 +111,7 @@ fn packet_of(
     let bytes = bytes_word(alloc, bytes)?;
     let next = next_word(alloc, next)?;
     let presented = presented_of(ledger, caller, at, token)?;
-    Ok(DataCall::packet(presented, offset, bytes, next))
+    Ok(DataCall::packet(alloc, presented, offset, bytes, next)?)
 }
 
 fn finalize_of(
@@ -130,10 +130,11 @@ fn finalize_of(
     let count = number_word(count)?;
     let next = next_word(alloc, next)?;
     let presented = presented_of(ledger, caller, at, token)?;
-    Ok(DataCall::finalize(presented, count, next))
+    Ok(DataCall::finalize(alloc, presented, count, next)?)
 }
 
 fn read_of(
+    alloc: Global,
     ledger: &[LedgerRow],
     caller: &Who,
     block: &str,
@@ -148,7 +149,7 @@ fn read_of(
     let offset = number_word(offset)?;
     let count = number_word(count)?;
     let presented = presented_of(ledger, caller, at, token)?;
-    Ok(DataCall::read(presented, offset, count))
+    Ok(DataCall::read(alloc, presented, offset, count)?)
 }
 
 /// Whether a verb is that of a call of a DataNode, with so many words behind it.
@@ -178,19 +179,19 @@ fn five_of(
     if is_word(verb, "finalize") {
         finalize_of(alloc, ledger, caller, block, stamp, number, next, token)
     } else {
-        read_of(ledger, caller, block, stamp, number, next, token)
+        read_of(alloc, ledger, caller, block, stamp, number, next, token)
     }
 }
 
 /// What is asked of a recovery.
-fn going_on(verb: &str, block: &str, stamp: &str) -> Result<DataCall, ParseFault>
+fn going_on(alloc: Global, verb: &str, block: &str, stamp: &str) -> Result<DataCall, ParseFault>
     ensures { Forms result (spec.going_on verb.now block.now stamp.now) }
 {
     let at = place_of(block, stamp)?;
     if is_word(verb, "decide") {
-        return Ok(DataCall::decide(at.block, at.stamp));
+        return Ok(DataCall::decide(alloc, at.block, at.stamp)?);
     }
-    Ok(DataCall::commit(at.block, at.stamp))
+    Ok(DataCall::commit(alloc, at.block, at.stamp)?)
 }
 
 /// Whether a node asks in its own name.
@@ -204,13 +205,19 @@ fn is_own(asker: &NodeAsker) -> bool
 }
 
 /// What the two words behind one of two verbs ask of a recovery, in the name of the node that leads it.
-fn led_of(asker: &NodeAsker, verb: &str, block: &str, stamp: &str) -> Result<DataCall, ParseFault>
+fn led_of(
+    alloc: Global,
+    asker: &NodeAsker,
+    verb: &str,
+    block: &str,
+    stamp: &str,
+) -> Result<DataCall, ParseFault>
     ensures { Forms result (spec.led_of asker.now verb.now block.now stamp.now) }
 {
     if !is_own(asker) {
         return Err(ParseFault::IllFormed(IllFormed::BadLine));
     }
-    going_on(verb, block, stamp)
+    going_on(alloc, verb, block, stamp)
 }
 
 /// What six words behind the verb ask.
@@ -246,7 +253,7 @@ fn call_of(
 {
     let caller = &asker.caller;
     if words.len() == 2 {
-        return led_of(asker, verb, words[0], words[1]);
+        return led_of(alloc, asker, verb, words[0], words[1]);
     }
     if words.len() == 4 {
         return begin_of(

@@ -1,13 +1,14 @@
-ghost use Rattle.std.specs.Prelude.{◌≡◌, ℕ};
+ghost use Rattle.std.specs.Prelude.{◌≡◌, ℕ, true, IfOk};
 ghost use Rattle.cluster_trace.specs.DataCall as asked;
 ghost use Rattle.cluster_trace.specs.DataCall.{as_message};
-ghost use Rattle.cluster_trace.specs.Kept.{brought_as};
+ghost use Rattle.cluster_trace.specs.Kept.{asked_in, brought_as, is_asked};
 
 use hdfs_values::ids::{BlockId, Stamp};
 use node_calls::block_bytes::BlockBytes;
 use node_calls::call::{NodeCall, PlanCall, TokenCall};
 use node_calls::node_list::NodeList;
 use node_calls::presented::Presented;
+use std::alloc::{AllocError, Global};
 use std::marker::Model;
 
 /// A call as a DataNode is asked it.
@@ -20,9 +21,10 @@ pub enum Asked {
 }
 
 /// What is asked of a DataNode from outside: a client asks to write a replica, or to read it, and a node that leads the recovery of a block
-/// is to go on with it. Every other call of a DataNode comes with a message.
+/// is to go on with it. Every other call of a DataNode comes with a message. It has memory of its own, since it is long, and most events are
+/// short.
 pub struct DataCall {
-    asked: Asked,
+    asked: Box<Asked>,
 }
 
 impl Drop for DataCall {
@@ -40,70 +42,113 @@ impl Model for DataCall {
 
     ghost use Rattle.cluster_trace.specs.Kept.{asked_in, is_asked};
 
-    ghost view = { λ own. asked_in own.asked };
+    ghost view = { λ own. asked_in own.asked.value };
 
-    ghost invariant = { λ own. is_asked own.asked ≡ true };
+    ghost invariant = { λ own. is_asked own.asked.value ≡ true };
+}
+
+/// What is asked, in memory of its own.
+fn boxed(alloc: Global, asked: Asked) -> Result<DataCall, AllocError>
+    requires { is_asked asked ≡ true }
+    ensures { IfOk result (λ call. call ≡ asked_in asked) }
+{
+    Ok(DataCall {
+        asked: Box::new(alloc, asked)?,
+    })
 }
 
 impl DataCall {
-    /// Begins a replica; these nodes come next in the pipeline. Takes no memory.
-    pub fn begin_write(presented: Presented, next: NodeList) -> DataCall
-        ensures { result ≡ asked.BeginWrite presented next }
+    /// Begins a replica; these nodes come next in the pipeline.
+    ///
+    /// # Errors
+    /// Out of memory.
+    pub fn begin_write(
+        alloc: Global,
+        presented: Presented,
+        next: NodeList,
+    ) -> Result<DataCall, AllocError>
+        ensures { IfOk result (λ call. call ≡ asked.BeginWrite presented next) }
     {
-        DataCall {
-            asked: Asked::Replica(NodeCall::Presenting(presented, TokenCall::Begin(next))),
-        }
+        let begin = TokenCall::Begin(next);
+        boxed(
+            alloc,
+            Asked::Replica(NodeCall::Presenting(presented, begin)),
+        )
     }
 
-    /// Writes these bytes at an offset; these nodes come next in the pipeline. Takes no memory.
-    pub fn packet(presented: Presented, offset: u64, bytes: BlockBytes, next: NodeList) -> DataCall
-        ensures { result ≡ asked.Packet presented offset bytes next }
+    /// Writes these bytes at an offset; these nodes come next in the pipeline.
+    ///
+    /// # Errors
+    /// Out of memory.
+    pub fn packet(
+        alloc: Global,
+        presented: Presented,
+        offset: u64,
+        bytes: BlockBytes,
+        next: NodeList,
+    ) -> Result<DataCall, AllocError>
+        ensures { IfOk result (λ call. call ≡ asked.Packet presented offset bytes next) }
     {
-        DataCall {
-            asked: Asked::Replica(NodeCall::Presenting(
-                presented,
-                TokenCall::Packet(offset, bytes, next),
-            )),
-        }
+        let packet = TokenCall::Packet(offset, bytes, next);
+        boxed(
+            alloc,
+            Asked::Replica(NodeCall::Presenting(presented, packet)),
+        )
     }
 
-    /// Ends the writing at a length; these nodes come next in the pipeline. Takes no memory.
-    pub fn finalize(presented: Presented, length: u64, next: NodeList) -> DataCall
-        ensures { result ≡ asked.Finalize presented length next }
+    /// Ends the writing at a length; these nodes come next in the pipeline.
+    ///
+    /// # Errors
+    /// Out of memory.
+    pub fn finalize(
+        alloc: Global,
+        presented: Presented,
+        length: u64,
+        next: NodeList,
+    ) -> Result<DataCall, AllocError>
+        ensures { IfOk result (λ call. call ≡ asked.Finalize presented length next) }
     {
-        DataCall {
-            asked: Asked::Replica(NodeCall::Presenting(
-                presented,
-                TokenCall::Finalize(length, next),
-            )),
-        }
+        let finalize = TokenCall::Finalize(length, next);
+        boxed(
+            alloc,
+            Asked::Replica(NodeCall::Presenting(presented, finalize)),
+        )
     }
 
-    /// Reads from an offset so many bytes. Takes no memory.
-    pub fn read(presented: Presented, offset: u64, count: u64) -> DataCall
-        ensures { result ≡ asked.Read presented offset count }
+    /// Reads from an offset so many bytes.
+    ///
+    /// # Errors
+    /// Out of memory.
+    pub fn read(
+        alloc: Global,
+        presented: Presented,
+        offset: u64,
+        count: u64,
+    ) -> Result<DataCall, AllocError>
+        ensures { IfOk result (λ call. call ≡ asked.Read presented offset count) }
     {
-        DataCall {
-            asked: Asked::Replica(NodeCall::Presenting(presented, TokenCall::Read(offset, count))),
-        }
+        let read = TokenCall::Read(offset, count);
+        boxed(alloc, Asked::Replica(NodeCall::Presenting(presented, read)))
     }
 
-    /// The leading node decides on the length of the block whose recovery has this stamp. Takes no memory.
-    pub fn decide(block: BlockId, stamp: Stamp) -> DataCall
-        ensures { result ≡ asked.Decide block stamp }
+    /// The leading node decides on the length of the block whose recovery has this stamp.
+    ///
+    /// # Errors
+    /// Out of memory.
+    pub fn decide(alloc: Global, block: BlockId, stamp: Stamp) -> Result<DataCall, AllocError>
+        ensures { IfOk result (λ call. call ≡ asked.Decide block stamp) }
     {
-        DataCall {
-            asked: Asked::Plan(PlanCall::Decide(block, stamp)),
-        }
+        boxed(alloc, Asked::Plan(PlanCall::Decide(block, stamp)))
     }
 
-    /// The leading node tells the NameNode of the block whose recovery has this stamp. Takes no memory.
-    pub fn commit(block: BlockId, stamp: Stamp) -> DataCall
-        ensures { result ≡ asked.Commit block stamp }
+    /// The leading node tells the NameNode of the block whose recovery has this stamp.
+    ///
+    /// # Errors
+    /// Out of memory.
+    pub fn commit(alloc: Global, block: BlockId, stamp: Stamp) -> Result<DataCall, AllocError>
+        ensures { IfOk result (λ call. call ≡ asked.Commit block stamp) }
     {
-        DataCall {
-            asked: Asked::Plan(PlanCall::Commit(block, stamp)),
-        }
+        boxed(alloc, Asked::Plan(PlanCall::Commit(block, stamp)))
     }
 
     /// The call as a DataNode is asked it. Takes no memory.
