@@ -5,18 +5,19 @@ ghost use Rattle.history.specs.declared.entry.HistoryEntry.{HistoryEntry};
 ghost use Rattle.cluster_trace.specs.Provenance.{AllRight};
 ghost use Rattle.cluster_trace.specs.Typed.{AreTyped};
 ghost use Rattle.script_runs.specs.Status.{status_by};
+ghost use Rattle.script_words.specs.LineForms.{Forms};
 ghost use Rattle.cluster_text.specs.ToldText.{answer_line};
 ghost use Rattle.cluster_runs.specs.Output as spec;
 ghost use Rattle.cluster_runs.specs.Shown.{Shows, KeepsLines, ShowsFirst};
 
 use cluster_core::world::{NameCore, World};
-use cluster_text::event_line::read_event_with;
+use cluster_text::event_line::event_of_line;
 use cluster_text::told::{print_bad, print_told};
 use cluster_trace::event::Event;
 use cluster_trace::outcome::Outcome;
 use flat_rows::verdict::Verdict;
 use hdfs_types::key::Key;
-use hdfs_values::fault::IllFormed;
+use hdfs_values::fault::{IllFormed, ParseFault};
 use history::config::Config;
 use node_ids::node_id::NodeId;
 use script_words::words::{is_skipped, without_return};
@@ -199,28 +200,11 @@ impl Session {
         Ok(())
     }
 
-    /// Answers what the next line says. Where memory runs out the line isn't counted, and the output stays as it was.
-    fn answer(&mut self, said: Result<Event, IllFormed>) -> Result<(), AllocError>
-        requires { self.old.number + 1 < 2 ^ 64 }
-        ensures number { OnOk result (self.new.number ≡ self.old.number + 1) }
-        ensures ok { (state : spec.State) → Shows state self.old → OnOk result (Shows (spec.after_answer state (spec.line_answered state.past said)) self.new) }
-        ensures err { OnErr result (KeepsLines self.old self.new) }
-    {
-        match said {
-            Ok(event) => self.answer_event(event),
-            Err(fault) => self.answer_bad(fault),
-        }
-    }
-
     /// What a line says, where it is read behind those that were run.
-    fn read<'a>(
-        &self,
-        words: &mut Vec<&'a str>,
-        line: &'a str,
-    ) -> Result<Result<Event, IllFormed>, AllocError>
-        ensures { IfOk result (λ said. said ≡ spec.event_in self.now.world line.now) }
+    fn read<'a>(&self, words: &mut Vec<&'a str>, line: &'a str) -> Result<Event, ParseFault>
+        ensures { Forms result (spec.event_in self.now.world line.now) }
     {
-        read_event_with(
+        event_of_line(
             self.alloc,
             self.world.core().ledger().as_slice(),
             words,
@@ -241,8 +225,11 @@ impl Session {
             self.number += 1;
             return Ok(());
         }
-        let said = self.read(words, line)?;
-        self.answer(said)
+        match self.read(words, line) {
+            Ok(event) => self.answer_event(event),
+            Err(ParseFault::IllFormed(fault)) => self.answer_bad(fault),
+            Err(ParseFault::OutOfMemory) => Err(AllocError),
+        }
     }
 
     /// Runs lines behind those that were run. Where memory runs out, the session has counted those before, and holds what they print.

@@ -365,8 +365,25 @@ pub fn event_of(alloc: Global, ledger: &[LedgerRow], words: &[&str]) -> Result<E
     name_event(alloc, words)
 }
 
+/// The event that a line makes, where these tokens were granted before. The list is for the words of the line, so that many lines are
+/// read with the memory of one.
+///
+/// # Errors
+/// As those of `event_of`.
+pub fn event_of_line<'a>(
+    alloc: Global,
+    ledger: &[LedgerRow],
+    words: &mut Vec<&'a str>,
+    line: &'a str,
+) -> Result<Event, ParseFault>
+    ensures { Forms result (spec.event_of ledger.now (words_of line.now)) }
+{
+    put_words(words, line)?;
+    event_of(alloc, ledger, words)
+}
+
 /// The event that a line makes, where these tokens were granted before, or how the line is ill-formed. The list is for the words of
-/// the line, so that many lines are read with the memory of one.
+/// the line.
 ///
 /// # Errors
 /// Out of memory.
@@ -378,8 +395,7 @@ pub fn read_event_with<'a>(
 ) -> Result<Result<Event, IllFormed>, AllocError>
     ensures { IfOk result (λ said. said ≡ spec.event_of ledger.now (words_of line.now)) }
 {
-    put_words(words, line)?;
-    match event_of(alloc, ledger, words) {
+    match event_of_line(alloc, ledger, words, line) {
         Ok(event) => Ok(Ok(event)),
         Err(ParseFault::IllFormed(fault)) => Ok(Err(fault)),
         Err(ParseFault::OutOfMemory) => Err(AllocError),
