@@ -2,3 +2,4 @@ pub mod Nodes
 pub mod Leaders
 pub mod Sent
 pub mod Carried
+pub mod Noted
