@@ -3,3 +3,4 @@ pub mod Leaders
 pub mod Sent
 pub mod Carried
 pub mod Kept
+pub mod Noted

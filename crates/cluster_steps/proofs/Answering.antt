@@ -27,11 +27,11 @@ use Rattle.cluster_trace.specs.declared.outcome.EventAnswer.TheVariants.{Called,
 use Rattle.cluster_parts.specs.Carried.{message_of_found, found_message, carried_out, nodes_carried, plans_carried}
 use Rattle.cluster_parts.specs.Leaders.{answer_led}
 use Rattle.cluster_parts.specs.Nodes.{answer_at}
+use Rattle.cluster_parts.specs.Noted.{answer_outcome, led_outcome}
 use Rattle.cluster_parts.specs.Sent.{messages_of, AreLaid}
 use Rattle.cluster_parts.specs.declared.carried.Carried.TheVariants as carried
 use Rattle.cluster_parts.specs.declared.found.Found.{Found}
 use Rattle.cluster_parts.specs.declared.sent.Batch.{Batch}
-use Rattle.cluster_steps.specs.Cluster.{answer_outcome, led_outcome}
 use Rattle.cluster_steps.proofs.Naming.{state_with, sent_count}
 
 -- ---- results

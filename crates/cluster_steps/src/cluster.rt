@@ -1,23 +1,20 @@
-ghost use Rattle.std.specs.Prelude.{◌≡◌, ◌+◌, ◌<◌, ◌≤◌, ◌^◌, ◌++◌, List, length, slice_get, IfOk, IfSome, OnOk, OnErr, option_copied, vec_len, vec_capacity, false};
-ghost use Rattle.history.specs.declared.entry.HistoryEntry.{HistoryEntry};
+ghost use Rattle.std.specs.Prelude.{◌≡◌, ◌<◌, ◌^◌, length, slice_get, IfOk, IfSome, OnOk, OnErr, option_copied, false};
 ghost use Rattle.block_records.specs.Numbers.{entry_at};
 ghost use Rattle.cluster_trace.specs.Trace as spec;
 ghost use Rattle.cluster_trace.specs.Trace.{start, request_named, node_called, leader_called, message_delivered, message_at, left_by, happens, outcome_of};
 ghost use Rattle.cluster_trace.specs.declared.event.Event.TheVariants as event;
 ghost use Rattle.cluster_trace.specs.Provenance.{call_brought, call_of};
 ghost use Rattle.cluster_trace.specs.Typed.{GrantsFit, PresentsBytes, CallFits};
-ghost use Rattle.cluster_steps.specs.Cluster.{answer_outcome, answer_messages, led_outcome, led_messages};
-ghost use Rattle.cluster_parts.specs.Sent.{messages_of, AreLaid};
 
 use cluster_parts::carried::{Carried, carry_out};
 use cluster_parts::found::{entry_count, find};
 use cluster_parts::leaders::Leaders;
 use cluster_parts::nodes::Nodes;
+use cluster_parts::noted::{note_answer, note_led, note_nothing};
 use cluster_parts::ranges::{read_call, read_rows};
 use cluster_parts::sent::{Sent, Source};
 use cluster_trace::data_call::{Asked, DataCall};
 use cluster_trace::outcome::{ClusterRefusal, EventAnswer, Outcome};
-use datanode::answered::Answered;
 use datanode::datanode::DataNode;
 use hdfs_types::key::Key;
 use hdfs_types::op::{Op, Request};
@@ -26,7 +23,6 @@ use history::config::Config;
 pub use name_core::namenode::NameCore;
 use node_calls::call::{NodeCall, PlanCall};
 use node_ids::node_id::NodeId;
-use plan_steps::answered::PlanAnswered;
 use std::alloc::{AllocError, Global};
 use std::marker::Model;
 
@@ -46,64 +42,6 @@ pub fn is_from_outside(op: &Op) -> bool
     ensures { result ≡ spec.is_from_outside op.now }
 {
     !matches!(op, Op::Reported(_) | Op::CommitRecovery(_))
-}
-
-// What comes of an event that does nothing.
-fn note_nothing(sent: &Sent, refusal: ClusterRefusal) -> Outcome
-    requires { sent.now.count ≤ 2 ^ 62 }
-    ensures { result ≡ record { answer = EventAnswer.Lost refusal; first = sent.now.count + 1; count = 0 } }
-{
-    Outcome {
-        answer: EventAnswer::Lost(refusal),
-        first: sent.next(),
-        count: 0,
-    }
-}
-
-// What comes of a call of a DataNode that isn't there.
-fn note_stranger(sent: &Sent) -> Outcome
-    requires { sent.now.count ≤ 2 ^ 62 }
-    ensures { result ≡ record { answer = EventAnswer.Lost ClusterRefusal.NoNode; first = sent.now.count + 1; count = 0 } }
-{
-    note_nothing(sent, ClusterRefusal::NoNode)
-}
-
-// What comes of a call of a DataNode, whose messages are noted.
-fn note_answer(sent: &mut Sent, answered: Option<Answered>) -> Outcome
-    requires room { vec_len sent.old.batches < vec_capacity sent.old.batches }
-    requires small { sent.old.count ≤ 2 ^ 62 }
-    ensures outcome { result ≡ answer_outcome sent.old.count answered }
-    ensures messages { (history : List HistoryEntry) → messages_of history sent.new.batches.items ≡ messages_of history sent.old.batches.items ++ answer_messages answered }
-    ensures laid { (history : List HistoryEntry) → AreLaid history 0 sent.old.batches.items sent.old.count → AreLaid history 0 sent.new.batches.items sent.new.count }
-{
-    let Some(answered) = answered else {
-        return note_stranger(sent);
-    };
-    let count = answered.messages.as_slice().len() as u64;
-    Outcome {
-        answer: EventAnswer::Called(answered.result),
-        first: sent.add(Source::Own(answered.messages), count),
-        count,
-    }
-}
-
-// What comes of a call about the recoveries that a DataNode leads.
-fn note_led(sent: &mut Sent, answered: Option<PlanAnswered>) -> Outcome
-    requires room { vec_len sent.old.batches < vec_capacity sent.old.batches }
-    requires small { sent.old.count ≤ 2 ^ 62 }
-    ensures outcome { result ≡ led_outcome sent.old.count answered }
-    ensures messages { (history : List HistoryEntry) → messages_of history sent.new.batches.items ≡ messages_of history sent.old.batches.items ++ led_messages answered }
-    ensures laid { (history : List HistoryEntry) → AreLaid history 0 sent.old.batches.items sent.old.count → AreLaid history 0 sent.new.batches.items sent.new.count }
-{
-    let Some(answered) = answered else {
-        return note_stranger(sent);
-    };
-    let count = answered.messages.as_slice().len() as u64;
-    Outcome {
-        answer: EventAnswer::Led(answered.result),
-        first: sent.add(Source::Own(answered.messages), count),
-        count,
-    }
 }
 
 /// A NameNode, DataNodes with the recoveries that they lead, and the messages that were sent. A call is one event, and leaves what the

@@ -4,7 +4,7 @@
 --   MOMENT - deliver NUMBER       the delivery of a message
 -- An unknown verb and a wrong number of words come first, and then the first ill-formed word. A token is named by its row in the ledger of
 -- those that were granted before the line.
-use Rattle.std.specs.Prelude.{ℕ, Bool, false, ◌==◌, ◌&&◌, ◌||◌, List, [], ◌∷◌, length, if◌then◌else◌, Option, Some, None, Result, Ok, Err, codes}
+use Rattle.std.specs.Prelude.{ℕ, Bool, false, ◌==◌, ◌&&◌, List, [], ◌∷◌, length, if◌then◌else◌, Option, Some, None, Result, Ok, Err, codes}
 use Rattle.node_ids.specs.NodeId.{node_of}
 use Rattle.hdfs_values.specs.Text.{same}
 use Rattle.hdfs_values.specs.declared.fault.IllFormed.{IllFormed}
@@ -16,6 +16,7 @@ use Rattle.cluster_trace.specs.declared.event.Event.{Event}
 use Rattle.cluster_trace.specs.declared.event.Event.TheVariants.{Name, Deliver, Data}
 use Rattle.script_words.specs.Values.{◌>>=◌, moment_word, who_word, number_word}
 use Rattle.request_lines.specs.Script.{request_of}
+use Rattle.node_words.specs.Calls.{is_call}
 use Rattle.node_words.specs.Words.{node_word, next_word, bytes_word, token_word}
 use Rattle.node_calls.specs.declared.presented.Presented.{Presented}
 use Rattle.cluster_text.specs.declared.event_line.NodeAsker.{NodeAsker}
@@ -89,14 +90,6 @@ is_that node (Some own) = own == node
 abbrev pub led_of : NodeAsker → List ℕ → List ℕ → List ℕ → Result DataCall IllFormed
 led_of asker verb block stamp =
     if is_that asker.node (node_of asker.caller) then going_on verb block stamp else Err BadLine
-
--- the verbs, each with the number of words behind it
-abbrev pub is_call : List ℕ → ℕ → Bool
-is_call verb count =
-    (same verb (codes "begin") && (count == 4))
-    || ((same verb (codes "packet") && (count == 6))
-    || (((same verb (codes "finalize") || same verb (codes "read")) && (count == 5))
-    || ((same verb (codes "decide") || same verb (codes "commit")) && (count == 2))))
 
 -- two verbs want five words
 abbrev pub five_of : List LedgerRow → List ℕ → List ℕ → List ℕ → List ℕ → List ℕ → List ℕ → List ℕ → Result DataCall IllFormed

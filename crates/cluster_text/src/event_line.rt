@@ -13,6 +13,7 @@ use hdfs_values::moment::Moment;
 use hdfs_values::who::Who;
 use node_calls::presented::Presented;
 use node_ids::node_id::{NodeId, node_of};
+use node_words::calls::is_call;
 use node_words::node_words::{next_word, node_word};
 use node_words::payload::bytes_word;
 use node_words::tokens::token_word;
@@ -150,16 +151,6 @@ fn read_of(
     let count = number_word(count)?;
     let presented = presented_of(ledger, caller, at, token)?;
     Ok(DataCall::read(alloc, presented, offset, count)?)
-}
-
-/// Whether a verb is that of a call of a DataNode, with so many words behind it.
-fn is_call(verb: &str, count: usize) -> bool
-    ensures { result ≡ spec.is_call verb.now count }
-{
-    (is_word(verb, "begin") && count == 4)
-        || (is_word(verb, "packet") && count == 6)
-        || ((is_word(verb, "finalize") || is_word(verb, "read")) && count == 5)
-        || ((is_word(verb, "decide") || is_word(verb, "commit")) && count == 2)
 }
 
 /// What the five words behind one of two verbs ask.

@@ -14,6 +14,7 @@ use Rattle.history.specs.Grants.{ledger_of}
 use Rattle.script_words.specs.Values.{◌>>=◌, moment_word, number_word}
 use Rattle.script_words.specs.Words.{is_skipped, without_return, words_of}
 use Rattle.request_lines.specs.Script.{request_of}
+use Rattle.node_words.specs.Calls.{is_call}
 use Rattle.node_words.specs.Words.{behind, token_at, token_word, next_word, bytes_word}
 use Rattle.node_calls.specs.declared.presented.Presented.{Presented}
 use Rattle.cluster_trace.specs.DataCall.{DataCall, BeginWrite, Packet, Finalize, Read, Decide, Commit}
@@ -22,7 +23,7 @@ use Rattle.cluster_trace.specs.Trace.{ClusterOpening, after}
 use Rattle.cluster_trace.specs.declared.event.Event.{Event}
 use Rattle.cluster_trace.proofs.Each.{some_is, never_some}
 use Rattle.cluster_core.specs.World.{state_after}
-use Rattle.cluster_text.specs.EventLine.{is_call, place_words, presented_of, begin_of, packet_of, finalize_of, read_of, going_on, is_that, led_of, data_call_of, node_asker_of, call_event, node_event, is_delivery, delivery_event, names_node, event_of}
+use Rattle.cluster_text.specs.EventLine.{place_words, presented_of, begin_of, packet_of, finalize_of, read_of, going_on, is_that, led_of, data_call_of, node_asker_of, call_event, node_event, is_delivery, delivery_event, names_node, event_of}
 use Rattle.forgery_laws.specs.Forgeries.{IsTokenOf, PresentsGrantedToken, PresentsOf, AllPresentGranted, ScriptsForgeNothing}
 use Rattle.forgery_laws.proofs.Sent.{nothing_is_forged}
 use Rattle.cluster_runs.specs.Output.{State, no_lines, ledger_after, line_answered, event_in, after_answer, after_line}

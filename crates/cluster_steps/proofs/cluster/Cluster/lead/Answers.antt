@@ -1,6 +1,6 @@
 use Rattle.std.proofs.Common.{ℕ, ap, ◌∙◌}
 use Rattle.cluster_trace.specs.Trace.{Cluster, leader_called, outcome_of}
-use Rattle.cluster_steps.specs.Cluster.{led_outcome}
+use Rattle.cluster_parts.specs.Noted.{led_outcome}
 use Rattle.cluster_steps.proofs.Answering.{led_by_outcome}
 use Rattle.cluster_steps.proofs.cluster.Cluster.lead.Goals as goal
 
