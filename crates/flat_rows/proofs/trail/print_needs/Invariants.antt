@@ -1,8 +1,8 @@
 use Rattle.std.proofs.Common.{◌≡◌, ◌++◌, take}
 use Rattle.std.specs.List.{flat_map, list_all}
 use Rattle.std.specs.String.{string_bytes}
-use Rattle.explanations.specs.Explanation.{judged_line}
-use Rattle.explanations.proofs.explain.print_needs.Given as goal
+use Rattle.flat_rows.specs.DenialText.{judged_line}
+use Rattle.flat_rows.proofs.trail.print_needs.Given as goal
 
 abbrev pub invariant-loop-need : goal.invariant-loop-need
 invariant-loop-need l = record {
