@@ -4,9 +4,10 @@ use Rattle.std.proofs.lemmas.List.{take-map, drop-map, take_min, drop_min}
 use Rattle.hdfs_types.specs.declared.op.Request.{Request}
 use Rattle.namespace_rows.specs.declared.row.Row.{Row}
 use Rattle.flat_rows.specs.Changes.{rows_under}
+use Rattle.flat_rows.specs.DenialText.{trail_text}
 use Rattle.explanations.specs.declared.explain.Explained.TheVariants.{Trail}
 use Rattle.cluster_runs.specs.Output.{after_lines, script_status}
-use Rattle.explanations.specs.Explanation.{request_in_first, explanation_by, explanation_behind, found_by, found_behind, trail_of, trail_text}
+use Rattle.explanations.specs.Explanation.{request_in_first, explanation_by, explanation_behind, found_by, found_behind, trail_of}
 
 abbrev now : Bor (List ℕ) → List ℕ
 now line = line.now

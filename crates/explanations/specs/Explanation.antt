@@ -1,11 +1,10 @@
 -- What `explain` prints of a line of a script: the needs of its request that are judged, in their order, up to the first that
 -- fails, on what the lines before leave; and `granted` where none fails.
-use Rattle.std.specs.Prelude.{ℕ, zero, suc, List, [], ◌∷◌, ◌++◌, take, drop, if◌then◌else◌, Option, Some, None, Result, Ok, Err, codes}
-use Rattle.std.specs.List.{flat_map, list_all}
+use Rattle.std.specs.Prelude.{ℕ, zero, suc, List, [], ◌∷◌, take, drop, if◌then◌else◌, Option, Some, None, Result, Ok, Err}
 use Rattle.hdfs_values.specs.declared.fault.IllFormed.{IllFormed}
 use Rattle.hdfs_types.specs.declared.op.Request.{Request}
 use Rattle.flat_rows.specs.declared.trail.Judged.{Judged}
-use Rattle.flat_rows.specs.DenialText.{judged_text}
+use Rattle.flat_rows.specs.DenialText.{trail_text}
 use Rattle.flat_rows.specs.Decision.{trail}
 use Rattle.history.specs.declared.entry.HistoryEntry.{HistoryEntry}
 use Rattle.history.specs.Config.{Opening}
@@ -31,12 +30,6 @@ request_in line = request_in_trimmed (without_return line)
 abbrev pub request_in_first : List (List ℕ) → Option Request
 request_in_first [] = None
 request_in_first (line ∷ lines) = request_in line
-
-abbrev pub judged_line : Judged → List ℕ
-judged_line judged = judged_text judged ++ (10 ∷ [])
-
-abbrev pub trail_text : List Judged → List ℕ
-trail_text needs = flat_map judged_line needs ++ (if list_all (λ need. need.granted) needs then codes "granted\n" else [])
 
 -- on the namespace and the users that the entries give
 abbrev pub trail_on : Opening → List HistoryEntry → Request → List Judged

@@ -1,10 +1,10 @@
-ghost use Rattle.std.specs.Prelude.{◌≡◌, ◌+◌, ◌++◌, List, ℕ, IfOk, IfSome, OnOk, Err, Some, drop, map, take};
+ghost use Rattle.std.specs.Prelude.{◌≡◌, ◌+◌, List, ℕ, IfOk, IfSome, Err, Some, drop, map, take};
 ghost use Rattle.std.specs.Io.KnownBytes.{Appends, Keeps};
-ghost use Rattle.std.specs.List.{flat_map, list_all};
 ghost use Rattle.std.specs.Option.{option_copied};
 ghost use Rattle.std.specs.String.{string_bytes};
 ghost use Rattle.std.specs.Str.{IsUtf8};
 ghost use Rattle.flat_rows.specs.Decision.{trail as trail_said};
+ghost use Rattle.flat_rows.specs.DenialText.{trail_text};
 ghost use Rattle.script_runs.specs.Channel.{AppendsFront};
 ghost use Rattle.explanations.specs.Explanation as spec;
 ghost use Rattle.cluster_core.specs.World.{state_after};
@@ -14,7 +14,7 @@ ghost use Rattle.cluster_runs.specs.Shown.{Shows};
 use cluster_runs::script::run_lines;
 use cluster_runs::session::Session;
 use file_paths::path::Path;
-use flat_rows::trail::{Judged, trail};
+use flat_rows::trail::{Judged, text_of, trail};
 use hdfs_types::op::Request;
 use inode_tree::tree::Tree;
 use namespace_rows::rows::Rows;
@@ -46,29 +46,6 @@ pub fn request_in(alloc: Global, line: &str) -> Result<Option<Request>, AllocErr
         return Ok(None);
     }
     Ok(read_line(alloc, line)?.ok())
-}
-
-/// Prints the needs, a line each, and returns whether all are met.
-fn print_needs(needs: &[Judged], out: &mut String) -> Result<bool, AllocError>
-    ensures text { OnOk result (string_bytes out.new ≡ string_bytes out.old ++ flat_map spec.judged_line needs.now) }
-    ensures granted { IfOk result (λ granted. granted ≡ list_all (λ need. need.granted) needs.now) }
-{
-    let mut granted = true;
-    for need in needs {
-        writeln!(out, "{need}")?;
-        granted = granted && need.granted;
-    }
-    Ok(granted)
-}
-
-fn text_of(alloc: Global, needs: &[Judged]) -> Result<String, AllocError>
-    ensures { IfOk result (λ text. string_bytes text ≡ spec.trail_text needs.now) }
-{
-    let mut out = String::new(alloc);
-    if print_needs(needs, &mut out)? {
-        out.push_str("granted\n")?;
-    }
-    Ok(out)
 }
 
 /// What is printed of a line, and what was found there.
@@ -112,7 +89,7 @@ pub fn trail_on(
 
 /// What is printed of the needs of a request.
 fn needs_text(alloc: Global, session: &Session, request: &Request) -> Result<String, AllocError>
-    ensures { IfOk result (λ text. string_bytes text ≡ spec.trail_text (spec.trail_on session.now.world.opening.name (state_after session.now.world).entries request.now)) }
+    ensures { IfOk result (λ text. string_bytes text ≡ trail_text (spec.trail_on session.now.world.opening.name (state_after session.now.world).entries request.now)) }
 {
     let needs = trail_on(alloc, session, request)?;
     let text = text_of(alloc, &needs);

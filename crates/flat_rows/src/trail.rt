@@ -1,10 +1,13 @@
-ghost use Rattle.std.specs.Prelude.{◌≡◌, ℕ, true, List, Some, None, IfOk, map};
+ghost use Rattle.std.specs.Prelude.{◌≡◌, ◌++◌, ℕ, true, List, Some, None, IfOk, OnOk, map};
+ghost use Rattle.std.specs.List.{flat_map, list_all};
 ghost use Rattle.std.specs.Option.{is_some};
+ghost use Rattle.std.specs.String.{string_bytes};
 ghost use Rattle.hdfs_types.specs.declared.op.Op as asked;
 ghost use Rattle.principals.specs.Users.{Users};
 ghost use Rattle.namespace_rows.specs.declared.row.Row.{Row};
 ghost use Rattle.flat_rows.specs.Denial.{Denial};
 ghost use Rattle.flat_rows.specs.Decision as spec;
+ghost use Rattle.flat_rows.specs.DenialText as printed;
 ghost use Rattle.flat_rows.specs.Laws as law;
 
 use crate::ask::{Ask, asks_of};
@@ -114,6 +117,33 @@ pub fn trail(
     let needs = needs_of(alloc, op)?;
     let asks = asks_of(alloc, rows.as_slice(), needs.as_slice())?;
     judged_up_to_denied(alloc, &asking(users, caller, op), &asks)
+}
+
+/// Prints the needs, a line each, and returns whether all are met.
+fn print_needs(needs: &[Judged], out: &mut String) -> Result<bool, AllocError>
+    ensures text { OnOk result (string_bytes out.new ≡ string_bytes out.old ++ flat_map printed.judged_line needs.now) }
+    ensures granted { IfOk result (λ granted. granted ≡ list_all (λ need. need.granted) needs.now) }
+{
+    let mut granted = true;
+    for need in needs {
+        writeln!(out, "{need}")?;
+        granted = granted && need.granted;
+    }
+    Ok(granted)
+}
+
+/// The text of a trail: its needs, a line each, and then `granted` where all are met. Costs all of it.
+///
+/// # Errors
+/// Out of memory.
+pub fn text_of(alloc: Global, needs: &[Judged]) -> Result<String, AllocError>
+    ensures { IfOk result (λ text. string_bytes text ≡ printed.trail_text needs.now) }
+{
+    let mut out = String::new(alloc);
+    if print_needs(needs, &mut out)? {
+        out.push_str("granted\n")?;
+    }
+    Ok(out)
 }
 
 /// A trail ends as the decision: its last need isn't met exactly where the decision is a denial. Then component, need and

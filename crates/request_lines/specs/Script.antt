@@ -8,7 +8,7 @@ use Rattle.hdfs_types.specs.declared.op.Op.{Op}
 use Rattle.hdfs_types.specs.declared.op.Op.TheVariants as op
 use Rattle.hdfs_types.specs.declared.op.Request.{Request}
 use Rattle.request_lines.specs.declared.line.Asker.{Asker}
-use Rattle.script_words.specs.Values.{◌>>=◌, moment_word, who_word, path_word, mode_word, replication_word, recursive_word, over_word, key_word, last_words, change_word, groups_word, bare_change, change_by, wants_spec, wants_none}
+use Rattle.script_words.specs.Values.{◌>>=◌, moment_word, who_word, path_word, mode_word, replication_word, recursive_word, over_word, key_word, last_words, rename_words, change_word, groups_word, bare_change, change_by, wants_spec, wants_none}
 
 abbrev pub mkdirs_of : List ℕ → List ℕ → Result Op IllFormed
 mkdirs_of path mode = do
@@ -41,12 +41,6 @@ delete_with path recursive = do
   p ← path_word path
   r ← recursive_word recursive
   Ok (op.Delete p r)
-
-abbrev pub rename_of : List ℕ → List ℕ → Result Op IllFormed
-rename_of from to = do
-  f ← path_word from
-  t ← path_word to
-  Ok (op.Rename f t)
 
 abbrev pub chmod_of : List ℕ → List ℕ → Result Op IllFormed
 chmod_of path mode = do
@@ -173,7 +167,7 @@ abbrev pub op_of_two : List ℕ → List ℕ → List ℕ → Option (Result Op 
 op_of_two verb first second =
     if same verb (codes "mkdirs") then Some (mkdirs_of first second) else
     if same verb (codes "delete") then Some (delete_with first second) else
-    if same verb (codes "rename") then Some (rename_of first second) else
+    if same verb (codes "rename") then Some (rename_words first second) else
     if same verb (codes "chmod") then Some (chmod_of first second) else
     if same verb (codes "adduser") then Some (adduser_of first second) else
     if same verb (codes "groups") then Some (set_groups_of first second) else

@@ -12,7 +12,7 @@ use script_words::acl_words::{bare_change, change_by, wants_none, wants_spec};
 use script_words::groups_word::groups_word;
 use script_words::values::{
     change_word, key_word, last_words, mode_word, moment_word, over_word, path_word,
-    recursive_word, replication_word, who_word,
+    recursive_word, rename_words, replication_word, who_word,
 };
 use script_words::words::{is_word, words_in};
 use std::alloc::{AllocError, Global};
@@ -59,14 +59,6 @@ fn delete_with(alloc: Global, path: &str, recursive: &str) -> Result<Op, ParseFa
     let path = path_word(alloc, path)?;
     let recursive = recursive_word(recursive)?;
     Ok(Op::Delete(path, recursive))
-}
-
-fn rename_of(alloc: Global, from: &str, to: &str) -> Result<Op, ParseFault>
-    ensures { Forms result (spec.rename_of from.now to.now) }
-{
-    let from = path_word(alloc, from)?;
-    let to = path_word(alloc, to)?;
-    Ok(Op::Rename(from, to))
 }
 
 fn chmod_of(alloc: Global, path: &str, mode: &str) -> Result<Op, ParseFault>
@@ -260,7 +252,7 @@ fn op_of_two(alloc: Global, verb: &str, first: &str, second: &str) -> Option<Res
     } else if is_word(verb, "delete") {
         Some(delete_with(alloc, first, second))
     } else if is_word(verb, "rename") {
-        Some(rename_of(alloc, first, second))
+        Some(rename_words(alloc, first, second))
     } else if is_word(verb, "chmod") {
         Some(chmod_of(alloc, first, second))
     } else if is_word(verb, "adduser") {

@@ -2,7 +2,6 @@
 #![tactic(auto)]
 
 pub mod denials;
-mod located;
 pub mod replies;
 pub mod rows;
 pub mod same_refusals;

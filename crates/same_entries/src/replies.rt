@@ -2,7 +2,6 @@ ghost use Rattle.std.specs.Prelude.{◌≡◌};
 ghost use Rattle.std.specs.Bool.{Decides};
 ghost use Rattle.hdfs_types.specs.declared.reply.Reply.TheVariants as made;
 
-use crate::located::{is_same_added, is_same_opened};
 use crate::rows::is_same_state;
 use block_answers::commands::Commands;
 use block_answers::located::{AddedBlock, OpenedFile};
@@ -11,8 +10,9 @@ use hdfs_types::reply::{
     AclStatus, BoxedAcl, BoxedStatus, ContentSummary, Expired, FileStatus, Names, Reply,
 };
 use hdfs_values::ids::{BlockId, Serial, Stamp};
-use same_requests::commands::are_same_commands;
-use same_requests::names::{are_same_names, is_same_who};
+use same_values::commands::are_same_commands;
+use same_values::located::{is_same_added, is_same_opened};
+use same_values::names::{are_same_names, is_same_who};
 
 fn is_same_detail(detail: &FileDetail, other: &FileDetail) -> bool
     ensures { Decides result (detail.now ≡ other.now) }

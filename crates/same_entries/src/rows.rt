@@ -4,8 +4,8 @@ ghost use Rattle.std.specs.Bool.{Decides};
 use hdfs_types::file::FileState;
 use namespace_rows::file_row::{FileBlock, FileRow};
 use namespace_rows::row::Row;
-use same_requests::acls::is_same_acl;
-use same_requests::names::{is_same_path, is_same_who};
+use same_values::acls::is_same_acl;
+use same_values::names::{is_same_path, is_same_who};
 
 /// Whether two states of a file are one.
 pub fn is_same_state(state: &FileState, other: &FileState) -> bool

@@ -1,7 +1,4 @@
-//! Whether two requests are one, and what requests and verdicts have in common.
+//! Whether two requests are one.
 #![tactic(auto)]
 
-pub mod acls;
-pub mod commands;
-pub mod names;
 pub mod requests;

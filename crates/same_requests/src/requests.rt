@@ -3,34 +3,22 @@ ghost use Rattle.std.specs.Bool.{Decides};
 ghost use Rattle.hdfs_types.specs.Verb as verbs;
 ghost use Rattle.hdfs_types.specs.declared.op.Op.TheVariants as made;
 
-use crate::acls::is_same_change;
-use crate::commands::are_same_nodes;
-use crate::names::{are_same_groups, is_same_given, is_same_path, is_same_who};
 use file_paths::path::Path;
 use hdfs_types::file::LastBlock;
 use hdfs_types::given_name::GivenName;
 use hdfs_types::key::Key;
 use hdfs_types::op::{Op, Request};
 use hdfs_types::replica::{RecoveredBlock, ReportedReplica};
-use hdfs_types::verb::{Grant, Read, Update, Verb, Write};
+use hdfs_types::verb::{Grant, Read, Update, Verb};
 use hdfs_values::groups::Groups;
 use hdfs_values::replication::Repl;
 use hdfs_values::who::Who;
 use permission_bits::mode::Mode;
 use permission_specs::acl_change::AclChange;
-
-/// Whether two keys are one.
-pub fn is_same_key(key: &Key, other: &Key) -> bool
-    ensures { Decides result (key.now ≡ other.now) }
-{
-    key.as_bytes() == other.as_bytes()
-}
-
-fn is_same_last(last: Option<LastBlock>, other: Option<LastBlock>) -> bool
-    ensures { Decides result (last ≡ other) }
-{
-    last == other
-}
+use same_values::acls::is_same_change;
+use same_values::commands::{are_same_nodes, is_same_key};
+use same_values::names::{are_same_groups, is_same_given, is_same_path, is_same_who};
+use same_values::writes::{is_same_last, is_same_write};
 
 fn is_mkdirs(path: &Path, mode: Mode, other: &Op) -> bool
     ensures { Decides result (made.Mkdirs path.now mode ≡ other.now) }
@@ -73,15 +61,6 @@ fn is_get_acl(path: &Path, other: &Op) -> bool
 {
     match other {
         Op::GetAcl(same) => is_same_path(path, same),
-        _ => false,
-    }
-}
-
-fn is_delete(path: &Path, recursive: bool, other: &Op) -> bool
-    ensures { Decides result (made.Delete path.now recursive ≡ other.now) }
-{
-    match other {
-        Op::Delete(same, whole) => recursive == *whole && is_same_path(path, same),
         _ => false,
     }
 }
@@ -144,18 +123,6 @@ fn is_set_groups(user: &Who, groups: &Groups, other: &Op) -> bool
     }
 }
 
-fn is_create(path: &Path, mode: Mode, replication: Repl, over: bool, other: &Op) -> bool
-    ensures { Decides result (made.Create path.now mode replication over ≡ other.now) }
-{
-    match other {
-        Op::Create(same, bits, copies, replaces) => mode == *bits
-            && replication == *copies
-            && over == *replaces
-            && is_same_path(path, same),
-        _ => false,
-    }
-}
-
 fn is_append(path: &Path, other: &Op) -> bool
     ensures { Decides result (made.Append path.now ≡ other.now) }
 {
@@ -170,15 +137,6 @@ fn is_add_block(path: &Path, last: Option<LastBlock>, other: &Op) -> bool
 {
     match other {
         Op::AddBlock(same, written) => is_same_path(path, same) && is_same_last(last, *written),
-        _ => false,
-    }
-}
-
-fn is_complete(path: &Path, last: Option<LastBlock>, other: &Op) -> bool
-    ensures { Decides result (made.Complete path.now last ≡ other.now) }
-{
-    match other {
-        Op::Complete(same, written) => is_same_path(path, same) && is_same_last(last, *written),
         _ => false,
     }
 }
@@ -259,18 +217,6 @@ fn is_same_update(update: &Update<'_>, other: &Op) -> bool
         Update::SetAcl(path, change) => is_set_acl(path, change, other),
         Update::AddUser(user, groups) => is_add_user(user, groups, other),
         Update::SetGroups(user, groups) => is_set_groups(user, groups, other),
-    }
-}
-
-fn is_same_write(write: &Write<'_>, other: &Op) -> bool
-    ensures { Decides result (verbs.write_op write.now ≡ other.now) }
-{
-    match write {
-        Write::Create(path, mode, replication, over) => {
-            is_create(path, *mode, *replication, *over, other)
-        }
-        Write::Complete(path, last) => is_complete(path, *last, other),
-        Write::Delete(path, recursive) => is_delete(path, *recursive, other),
     }
 }
 

@@ -13,6 +13,8 @@ use Rattle.hdfs_values.specs.Replication.{is_replication}
 use Rattle.hdfs_values.specs.declared.fault.IllFormed.{IllFormed}
 use Rattle.hdfs_values.specs.declared.fault.IllFormed.TheVariants.{BadLine, BadPath, BadName, BadMode, BadAcl}
 use Rattle.block_records.specs.declared.last_block.LastBlock.{LastBlock}
+use Rattle.hdfs_types.specs.declared.op.Op.{Op}
+use Rattle.hdfs_types.specs.declared.op.Op.TheVariants.{Rename}
 use Rattle.permission_specs.specs.declared.entry.Entry.{Entry}
 use Rattle.hdfs_values.specs.declared.fault.AclFault.{AclFault}
 use Rattle.permission_specs.specs.declared.acl_change.AclChange.{AclChange}
@@ -69,6 +71,13 @@ last_words block bytes = do
   b ← number_word block
   n ← number_word bytes
   Ok (record { block = b; length = n })
+
+-- a rename of the first path to the second
+abbrev pub rename_words : List ℕ → List ℕ → Result Op IllFormed
+rename_words from to = do
+  f ← path_word from
+  t ← path_word to
+  Ok (Rename f t)
 
 abbrev pub new_who_word : List ℕ → Result (Option (List ℕ)) IllFormed
 new_who_word word = do

@@ -1,4 +1,4 @@
-//! The lines of a script, their words, and what a word says.
+//! The lines of a script, their words, and what words say.
 #![tactic(auto)]
 
 pub mod acl_words;

@@ -6,6 +6,7 @@ use crate::words::is_word;
 use file_paths::path::Path;
 use hdfs_types::file::LastBlock;
 use hdfs_types::key::Key;
+use hdfs_types::op::Op;
 use hdfs_values::fault::{IllFormed, ParseFault};
 use hdfs_values::ids::BlockId;
 use hdfs_values::moment::Moment;
@@ -149,6 +150,18 @@ pub fn last_words(block: &str, bytes: &str) -> Result<LastBlock, ParseFault>
     let block = BlockId::new(number_word(block)?);
     let length = number_word(bytes)?;
     Ok(LastBlock { block, length })
+}
+
+/// A rename of the first path to the second.
+///
+/// # Errors
+/// `BadPath` where one of the words is no path within the limits, or out of memory.
+pub fn rename_words(alloc: Global, from: &str, to: &str) -> Result<Op, ParseFault>
+    ensures { Forms result (spec.rename_words from.now to.now) }
+{
+    let from = path_word(alloc, from)?;
+    let to = path_word(alloc, to)?;
+    Ok(Op::Rename(from, to))
 }
 
 /// A new owner or group; `None` for the `-` that keeps the one that there is.

@@ -1,7 +1,8 @@
 use Rattle.std.proofs.Common.{◌∙◌, ap, map}
 use Rattle.cluster_core.specs.Past.{World}
 use Rattle.cluster_core.specs.World.{state_after}
-use Rattle.explanations.specs.Explanation.{trail_text, trail_on}
+use Rattle.flat_rows.specs.DenialText.{trail_text}
+use Rattle.explanations.specs.Explanation.{trail_on}
 use Rattle.explanations.proofs.explain.explain_request.Goals as goal
 
 pub returns-clause-text : goal.returns-clause-text
