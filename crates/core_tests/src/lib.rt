@@ -1,9 +1,13 @@
 //! Tests of what no contract says of the core, the hints of where open files are, recoveries from their
-//! beginning to their end, and what DataNodes are told. Nothing stands on this crate.
+//! beginning to their end, and what DataNodes are told; and of the rows and the tree below it. Nothing stands on this crate.
 #![tactic(auto)]
 
 #[cfg(test)]
 mod block_tests;
+#[cfg(test)]
+mod blocks;
+#[cfg(test)]
+mod namespaces;
 #[cfg(test)]
 mod node_tests;
 #[cfg(test)]

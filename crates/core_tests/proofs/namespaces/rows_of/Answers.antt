@@ -2,7 +2,7 @@ use Rattle.std.proofs.Common.{◌≡◌, ◌∷◌, [], List, refl, sym, ap, ◌
 use Rattle.flat_rows.specs.Changes.{rows_under}
 use Rattle.namespace_rows.specs.declared.row.Row.{Row}
 use Rattle.namespace_rows.specs.Namespace.{IsNamespace}
-use Rattle.namespace_tests.proofs.namespaces.rows_of.Goals as goal
+use Rattle.core_tests.proofs.namespaces.rows_of.Goals as goal
 
 all_under : (rows : List Row) → rows_under [] rows ≡ rows
 all_under [] = refl

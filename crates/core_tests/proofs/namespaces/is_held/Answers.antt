@@ -5,7 +5,7 @@ use Rattle.namespace_rows.specs.declared.row.Row.{Row}
 use Rattle.namespace_rows.specs.Rows.{directory_of, is_none}
 use Rattle.namespace_rows.specs.Namespace.{has_parent}
 use Rattle.fs_operations.proofs.Renaming.{parent_there}
-use Rattle.namespace_tests.proofs.namespaces.is_held.Goals as goal
+use Rattle.core_tests.proofs.namespaces.is_held.Goals as goal
 
 held : (found : Option (Bor Row)) (path : List (List ℕ)) (rows : List Row) → option_copied found ≡ directory_of path rows → is_some found ≡ true → has_parent path rows ≡ true
 held None path rows e there = cc
