@@ -1,4 +1,4 @@
-ghost use Rattle.std.specs.Prelude.{◌≡◌, ℕ, List, IfOk, OnErr, unwrap_or};
+ghost use Rattle.std.specs.Prelude.{◌≡◌, IfOk, OnErr, unwrap_or};
 ghost use Rattle.hdfs_types.specs.Verb.{update_op};
 ghost use Rattle.principals.specs.Users.{Users, caller_of};
 ghost use Rattle.partial_acl.specs.AclChange.{acl_change};
@@ -6,7 +6,6 @@ ghost use Rattle.required_rights.specs.RequiredRights.{required_rights};
 ghost use Rattle.flat_rows.specs.Facts.{Facts};
 ghost use Rattle.flat_rows.specs.Outcome as spec;
 ghost use Rattle.inode_tree.specs.Tree.{branch_at};
-ghost use Rattle.perm_walk.specs.Reached.{IsReach};
 ghost use Rattle.perm_walk.specs.Walked.{AreOn};
 ghost use Rattle.perm_walk.specs.JudgedStep.{judged_step};
 
@@ -26,8 +25,7 @@ use inode_tree::inode::Inode;
 use inode_tree::tree::Tree;
 use namespace_rows::row::Change;
 use partial_acl::fault::AclChangeFault;
-use perm_walk::found::{Found, standing};
-use perm_walk::reach::Reach;
+use path_refusals::refused::{refusal_of_mkdirs, refusal_of_rename};
 use perm_walk::target::{Target, TargetFile, walk_to, walk_to_file};
 use perm_walk::walk::{Walked, WalkedBoth, walk, walk_along, walk_along_both};
 use permission_bits::mode::Mode;
@@ -54,14 +52,12 @@ fn mkdirs(
         Walked::Denied(denial) => return Ok(Verdict::Denied(denial)),
         Walked::Reached(reach) => reach,
     };
-    if let Some(file) = reach.file {
-        return Ok(Verdict::Refused(Refusal::NotDirectory(file.to_path(alloc)?)));
+    let is_there = reach.at.is_some();
+    if let Some(refusal) = refusal_of_mkdirs(alloc, reach)? {
+        return Ok(Verdict::Refused(refusal));
     }
-    if let Some(component) = reach.at {
-        return match component.inode().kind() {
-            ObjectKind::Directory => Ok(Verdict::Done(Reply::Empty)),
-            ObjectKind::File => Ok(Verdict::Refused(Refusal::Exists)),
-        };
+    if is_there {
+        return Ok(Verdict::Done(Reply::Empty));
     }
     tree.make(path, mode, None, caller.name())?;
     Ok(Verdict::Done(Reply::Empty))
@@ -202,43 +198,6 @@ fn set_replication(
     }
     tree.rewrite(path, Change::Replication(replication));
     Ok(Verdict::Done(Reply::Empty))
-}
-
-/// Why what has a path can't be moved to another, where it can't.
-fn refusal_of_rename(
-    alloc: Global,
-    tree: &Tree,
-    from: &Path,
-    to: &Path,
-    from_reach: Reach<'_>,
-    to_reach: Reach<'_>,
-) -> Result<Option<Refusal>, AllocError>
-    requires from { IsReach from.now tree.now from_reach }
-    requires to { IsReach to.now tree.now to_reach }
-    ensures { (facts : Facts) (user : List ℕ) (users : Users) → IfOk result (λ refusal. refusal ≡ spec.first_refusal facts user (Op.Rename from.now to.now) tree.now users) }
-{
-    if from.depth() == 0 || to.depth() == 0 {
-        return Ok(Some(Refusal::IsRoot));
-    }
-    if let Found::Refused(refusal) = standing(alloc, from_reach)? {
-        return Ok(Some(refusal));
-    }
-    if let Some(file) = to_reach.file {
-        return Ok(Some(Refusal::NotDirectory(file.to_path(alloc)?)));
-    }
-    if to.is_at_or_under(from) {
-        return Ok(Some(Refusal::UnderItself));
-    }
-    if to_reach.at.is_some() {
-        return Ok(Some(Refusal::Exists));
-    }
-    if to_reach.parent.is_none() {
-        return Ok(Some(Refusal::NotFound));
-    }
-    if !tree.can_move(from, to) {
-        return Ok(Some(Refusal::BadPath));
-    }
-    Ok(None)
 }
 
 /// Moves what has a path, with all that is beneath it, to another path. Costs the paths, and where the new one is deeper or
