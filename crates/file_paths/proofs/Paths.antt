@@ -1,5 +1,5 @@
 -- Names, pieces and the text of a path.
-use Rattle.std.proofs.Common.{◌≡◌, ℕ, ◌<◌, Bool, true, false, List, [], ◌∷◌, ◌++◌, length, Some, None, eqb, cond, refl, sym, ap, ◌∙◌, arith, append-nil}
+use Rattle.std.proofs.Common.{◌≡◌, ℕ, ◌<◌, Bool, true, false, List, [], ◌∷◌, ◌++◌, length, Option, Some, None, eqb, cond, refl, sym, ap, ◌∙◌, arith, append-nil}
 use Rattle.std.specs.List.{list_all, join_with_byte, slice_split}
 use Rattle.std.proofs.lemmas.Bool.Decides.{nat_tests}
 use Rattle.std.proofs.lemmas.List.{nil_from_length}
@@ -48,3 +48,11 @@ module _ (text rest : List ℕ) (behind : text ≡ 47 ∷ rest) where
 
   pub pieces_spelled : (b : Bool) → 0 < length rest → is_path (slice_split is_slash rest) ≡ b → path_of text ≡ cond b (Some (slice_split is_slash rest)) None
   pieces_spelled b some is = ap path_of behind ∙ (path_behind rest some ∙ is_its_path (slice_split is_slash rest) b is)
+
+abbrev from_some : Option ℕ → ℕ
+from_some None = 0
+from_some (Some n) = n
+
+pub some_if : (b : Bool) (n m : ℕ) → Some m ≡ cond b (Some n) None → (b ≡ true) × (m ≡ n)
+some_if true n m is = (refl, ap from_some is)
+some_if false n m is = cc

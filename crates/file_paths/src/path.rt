@@ -1,5 +1,5 @@
-ghost use Rattle.std.specs.Prelude.{◌≡◌, ℕ, List, ◌≤◌, ◌<◌, true, IfOk, length, take, [], ◌∷◌, ◌++◌, Some, MatchOption};
-ghost use Rattle.std.specs.List.{count_by, list_all, slice_split};
+ghost use Rattle.std.specs.Prelude.{◌≡◌, ℕ, List, ◌≤◌, true, IfOk, length, take, [], ◌∷◌, ◌++◌, Some, None, if◌then◌else◌, MatchOption};
+ghost use Rattle.std.specs.List.{list_all, slice_split};
 ghost use Rattle.hdfs_values.specs.Parsed.{Parses};
 ghost use Rattle.file_paths.specs.Name.{is_name};
 ghost use Rattle.file_paths.specs.Path.{IsPath, IsRelative, is_slash, path_of, path_text, parent_of};
@@ -46,55 +46,46 @@ fn behind_slash(text: &str) -> Option<&str>
     text.strip_prefix('/')
 }
 
-/// How many slashes there are.
-fn slash_count(bytes: &[u8]) -> usize
-    ensures count { result ≡ count_by is_slash bytes.now }
-    ensures few { result ≤ length bytes.now }
-{
-    let mut count = 0;
-    for byte in bytes {
-        if *byte == b'/' {
-            count += 1;
-        }
-    }
-    count
-}
-
-/// How many pieces stand between the slashes of a text.
-fn piece_count(text: &str) -> usize
-    ensures { result ≡ length (slice_split is_slash text.now) }
-{
-    slash_count(text.as_bytes()) + 1
-}
-
-/// Whether each piece between the slashes of a text is a name.
-fn are_names(text: &str) -> bool
-    ensures { result ≡ list_all is_name (slice_split is_slash text.now) }
+/// How many names stand between the slashes of a text; `None` where a piece is no name. Takes no memory.
+fn name_count(text: &str) -> Option<usize>
+    ensures { result ≡ (if list_all is_name (slice_split is_slash text.now) then Some (length (slice_split is_slash text.now)) else None) }
 {
     let mut rest = text;
+    let mut count = 1;
     while let Some((piece, behind)) = cut_at(rest, b'/') {
         if !is_name(piece) {
-            return false;
+            return None;
         }
         rest = behind;
+        count += 1;
     }
-    is_name(rest)
+    if is_name(rest) { Some(count) } else { None }
 }
 
-/// Whether a text, which is a slash with `rest` behind it, is that of a path other than the root. Takes no memory.
-fn is_path(text: &str, rest: &str) -> bool
+/// How many names a path other than the root has whose text is a slash with `rest` behind it; `None` where that is the text of none.
+/// Takes no memory.
+fn depth_of(text: &str, rest: &str) -> Option<usize>
     requires { text.now ≡ 47 ∷ rest.now }
-    ensures { result ≡ spec.is_path (slice_split is_slash rest.now) }
+    ensures { result ≡ (if spec.is_path (slice_split is_slash rest.now) then Some (length (slice_split is_slash rest.now)) else None) }
 {
-    text.len() <= Path::MAX_BYTES && piece_count(rest) <= Path::MAX_NAMES && are_names(rest)
+    if text.len() > Path::MAX_BYTES {
+        return None;
+    }
+    let Some(count) = name_count(rest) else {
+        return None;
+    };
+    if count > Path::MAX_NAMES {
+        return None;
+    }
+    Some(count)
 }
 
-/// The names between the slashes of a text.
-fn names_in(alloc: Global, text: &str) -> Result<Vec<Name>, AllocError>
+/// The names between the slashes of a text, which are so many.
+fn names_in(alloc: Global, text: &str, count: usize) -> Result<Vec<Name>, AllocError>
     requires { list_all is_name (slice_split is_slash text.now) ≡ true }
     ensures { IfOk result (λ names. names.items ≡ slice_split is_slash text.now) }
 {
-    let mut names = Vec::with_capacity(alloc, piece_count(text))?;
+    let mut names = Vec::with_capacity(alloc, count)?;
     let mut rest = text;
     while let Some((piece, behind)) = cut_at(rest, b'/') {
         names.push(Name::copied(alloc, piece)?)?;
@@ -133,11 +124,11 @@ impl Path {
         if rest.is_empty() {
             return Ok(Path::root(alloc));
         }
-        if !is_path(text, rest) {
+        let Some(depth) = depth_of(text, rest) else {
             return Err(NO_PATH);
-        }
+        };
         Ok(Path {
-            names: names_in(alloc, rest)?,
+            names: names_in(alloc, rest, depth)?,
         })
     }
 

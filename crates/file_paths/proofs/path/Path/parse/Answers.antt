@@ -8,8 +8,8 @@ use Rattle.file_paths.proofs.path.Path.parse.Goals as goal
 pub returns-in_default : goal.returns-in_default
 returns-in_default c = (refl, no_slash c.args.text.now c.in_default.ensures)
 
-pub returns-then-not-is_path : goal.returns-then-not-is_path
-returns-then-not-is_path c =
+pub returns-in_default-depth_of : goal.returns-in_default-depth_of
+returns-in_default-depth_of c =
     let rest = c.in-Some.rest.now in
     let is : is_path (slice_split is_slash rest) ≡ false = search rules in
     (refl, pieces_spelled c.args.text.now rest c.in-Some.ensures false (some_text_left (length rest) c.if-is_empty.ensures) is)
