@@ -2,3 +2,4 @@ pub mod Paths
 pub mod Fronts
 pub mod Spelling
 pub mod Beneath
+pub mod Slashes

@@ -57,11 +57,10 @@ fn is_dots(bytes: &[u8]) -> bool
     }
 }
 
-/// Whether a text is a name. Takes no memory.
-pub(crate) fn is_name(text: &str) -> bool
-    ensures { result ≡ spec.is_name text.now }
+/// Whether bytes are those of a name. Takes no memory.
+pub(crate) fn is_name(bytes: &[u8]) -> bool
+    ensures { result ≡ spec.is_name bytes.now }
 {
-    let bytes = text.as_bytes();
     if bytes.is_empty() || bytes.len() > Name::MAX_BYTES || is_dots(bytes) {
         return false;
     }
@@ -79,7 +78,7 @@ impl Name {
     pub fn parse(alloc: Global, text: &str) -> Result<Name, ParseFault>
         ensures { Parses IllFormed.BadPath result (name_of text.now) }
     {
-        if !is_name(text) {
+        if !is_name(text.as_bytes()) {
             return Err(ParseFault::IllFormed(IllFormed::BadPath));
         }
         Ok(Name::copied(alloc, text)?)

@@ -1,5 +1,5 @@
-ghost use Rattle.std.specs.Prelude.{◌≡◌, ℕ, List, ◌≤◌, true, IfOk, length, take, [], ◌∷◌, ◌++◌, Some, None, if◌then◌else◌, MatchOption};
-ghost use Rattle.std.specs.List.{list_all, slice_split};
+ghost use Rattle.std.specs.Prelude.{◌≡◌, ℕ, List, ◌≤◌, ◌<◌, true, IfOk, IfSome, length, take, [], ◌∷◌, ◌++◌, Some, None, if◌then◌else◌, MatchOption};
+ghost use Rattle.std.specs.List.{list_all, position_or_len, slice_split};
 ghost use Rattle.hdfs_values.specs.Parsed.{Parses};
 ghost use Rattle.file_paths.specs.Name.{is_name};
 ghost use Rattle.file_paths.specs.Path.{IsPath, IsRelative, is_slash, path_of, path_text, parent_of};
@@ -12,7 +12,6 @@ ghost use Rattle.std.specs.Ordering.{as_partial_cmp};
 
 use crate::name::{Name, is_name};
 use hdfs_values::fault::{IllFormed, ParseFault};
-use hdfs_values::pieces::cut_at;
 use std::alloc::{AllocError, Global};
 use std::cmp::Ordering;
 use std::fmt;
@@ -46,13 +45,54 @@ fn behind_slash(text: &str) -> Option<&str>
     text.strip_prefix('/')
 }
 
+/// Where a slash first stands; the length where none does. Names are short, so that a look at each byte takes less than a search of
+/// many at once.
+fn slash_at(bytes: &[u8]) -> usize
+    ensures place { result ≡ position_or_len is_slash bytes.now }
+    ensures bound { result ≤ length bytes.now }
+{
+    let mut at = 0;
+    while at < bytes.len() && bytes[at] != b'/' {
+        at += 1;
+    }
+    at
+}
+
+/// What stands before the first slash, and what stands behind it. Costs what stands before.
+#[inline(always)]
+fn cut_bytes(bytes: &[u8]) -> Option<(&[u8], &[u8])>
+    ensures pieces { MatchOption result (slice_split is_slash bytes.now ≡ bytes.now ∷ [])
+        (λ cut. slice_split is_slash bytes.now ≡ cut.0.now ∷ slice_split is_slash cut.1.now) }
+    ensures shorter { IfSome result (λ cut. length cut.1.now < length bytes.now) }
+{
+    let at = slash_at(bytes);
+    if at == bytes.len() {
+        return None;
+    }
+    Some((&bytes[..at], &bytes[at + 1..]))
+}
+
+/// What stands before the first slash, and what stands behind it. Costs what stands before.
+#[inline(always)]
+fn cut_text(text: &str) -> Option<(&str, &str)>
+    ensures pieces { MatchOption result (slice_split is_slash text.now ≡ text.now ∷ [])
+        (λ cut. slice_split is_slash text.now ≡ cut.0.now ∷ slice_split is_slash cut.1.now) }
+    ensures shorter { IfSome result (λ cut. length cut.1.now < length text.now) }
+{
+    let at = slash_at(text.as_bytes());
+    if at == text.len() {
+        return None;
+    }
+    Some((&text[..at], &text[at + 1..]))
+}
+
 /// How many names stand between the slashes of a text; `None` where a piece is no name. Takes no memory.
-fn name_count(text: &str) -> Option<usize>
+fn name_count(text: &[u8]) -> Option<usize>
     ensures { result ≡ (if list_all is_name (slice_split is_slash text.now) then Some (length (slice_split is_slash text.now)) else None) }
 {
     let mut rest = text;
     let mut count = 1;
-    while let Some((piece, behind)) = cut_at(rest, b'/') {
+    while let Some((piece, behind)) = cut_bytes(rest) {
         if !is_name(piece) {
             return None;
         }
@@ -71,7 +111,7 @@ fn depth_of(text: &str, rest: &str) -> Option<usize>
     if text.len() > Path::MAX_BYTES {
         return None;
     }
-    let Some(count) = name_count(rest) else {
+    let Some(count) = name_count(rest.as_bytes()) else {
         return None;
     };
     if count > Path::MAX_NAMES {
@@ -87,7 +127,7 @@ fn names_in(alloc: Global, text: &str, count: usize) -> Result<Vec<Name>, AllocE
 {
     let mut names = Vec::with_capacity(alloc, count)?;
     let mut rest = text;
-    while let Some((piece, behind)) = cut_at(rest, b'/') {
+    while let Some((piece, behind)) = cut_text(rest) {
         names.push(Name::copied(alloc, piece)?)?;
         rest = behind;
     }
