@@ -1,5 +1,5 @@
 -- A table of nodes by ascending ids in a vector: what a search finds, and what an edit at that place does.
-use Rattle.std.proofs.Common.{◌≡◌, ℕ, zero, suc, ◌<◌, ◌≤◌, Bool, true, false, ◌||◌, cond, ◌++◌, is_some, List, [], ◌∷◌, length, get_or, set, Option, Some, None, Result, Ok, Err, IfOk, IfErr, is_ok, refl, sym, ap, ◌∙◌, subst, ⊎_elim, arith}
+use Rattle.std.proofs.Common.{◌≡◌, ℕ, zero, suc, ◌<◌, ◌≤◌, Bool, true, false, ◌||◌, cond, ◌++◌, is_some, List, [], ◌∷◌, length, get_or, set, Option, Some, None, Result, Ok, Err, IfOk, IfErr, OnOk, OnErr, is_ok, refl, sym, ap, ◌∙◌, subst, ⊎_elim, arith}
 use Rattle.std.specs.List.{insert, remove, AllByRecursion}
 use Rattle.std.specs.List.Sorted.{IsSearchInRange, IsBinarySearchResult, IsNonDecreasingBy, IsStrictlySortedBy}
 use Rattle.std.specs.BTreeMap.{insert_entry}
@@ -182,6 +182,11 @@ module _ {X : Type 0} where
       by Equal is rest = up
       by Greater is rest = (inserted_above entry.0 node value table (less_behind entry.0 node is) (sorted_head nat_cmp entry.0 (keys_of table) up), rest)
 
+  pub ordered_either_way : {A E : Type 0} (r : Result A E) (node : ℕ) (value : X) (table new : List (ℕ × X)) → IsOrdered table
+      → OnOk r (new ≡ insert_entry nat_cmp table node value) → OnErr r (new ≡ table) → IsOrdered new
+  ordered_either_way (Ok a) node value table new up ok err = subst (λ (left : List (ℕ × X)). IsOrdered left) (sym ok) (inserted_ordered node value table up)
+  ordered_either_way (Err e) node value table new up ok err = subst (λ (left : List (ℕ × X)). IsOrdered left) (sym err) up
+
   removed_above : (low node : ℕ) (table : List (ℕ × X)) → AllByRecursion (λ y. nat_cmp low y ≡ Less) (keys_of table) → AllByRecursion (λ y. nat_cmp low y ≡ Less) (keys_of (remove_entry (is_number node) table))
   removed_above low node [] above = tt
   removed_above low node (entry ∷ table) above = by (is_number node entry.0) (removed_above low node table above.1)
@@ -224,6 +229,11 @@ module _ {X : Type 0} where
 
   pub entry_behind : (node : ℕ) (value : X) (q : ℕ) (table : List (ℕ × X)) → entry_at q (insert_entry nat_cmp table node value) ≡ cond (is_number node q) (Some value) (entry_at q table)
   entry_behind node value q table = behind node value q table ∙ ap (λ b. cond b (Some value) (entry_at q table)) (either_way q node)
+
+  pub entries_behind : {A E : Type 0} (r : Result A E) (node : ℕ) (value : X) (table new : List (ℕ × X)) → OnOk r (new ≡ insert_entry nat_cmp table node value)
+      → OnOk r ((q : ℕ) → entry_at q new ≡ cond (is_number node q) (Some value) (entry_at q table))
+  entries_behind (Ok a) node value table new ok = λ q. ap (entry_at q) ok ∙ entry_behind node value q table
+  entries_behind (Err e) node value table new ok = tt
 
   pub entry_left : (node q : ℕ) (table : List (ℕ × X)) → IsOrdered table → entry_at q (remove_entry (is_number node) table) ≡ cond (is_number node q) None (entry_at q table)
   entry_left node q [] up = by (is_number node q)
@@ -281,3 +291,7 @@ module _ {X : Type 0} where
 pub none_ordered : (X : Type 0) → IsOrdered {X = X} []
 unfolding IsStrictlySortedBy
 none_ordered X = tt
+
+pub single_ordered : (report : ℕ × ℕ) → IsOrdered (report ∷ [])
+unfolding IsStrictlySortedBy
+single_ordered report = (tt, tt)

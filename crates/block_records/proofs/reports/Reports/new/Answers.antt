@@ -1,6 +1,6 @@
-use Rattle.std.proofs.Common.{sym, subst, List, ℕ}
-use Rattle.block_records.proofs.Standing.{IsOrdered, none_ordered}
+use Rattle.std.proofs.Common.{ℕ}
+use Rattle.block_records.proofs.Standing.{none_ordered}
 use Rattle.block_records.proofs.reports.Reports.new.Goals as goal
 
 pub invariant_of-result : goal.invariant_of-result
-invariant_of-result c = subst (λ (reports : List (ℕ × ℕ)). IsOrdered reports) (sym c.new.ensures.items) (none_ordered ℕ)
+invariant_of-result c = none_ordered ℕ
