@@ -24,6 +24,7 @@ use node_calls::refusal::NodeRefusal;
 use node_calls::reply::NodeReply;
 use node_ids::node_id::NodeId;
 use node_replies::{asking, sending};
+use replicas::held::Held;
 use replicas::replica::Replica;
 use replicas::replicas::Replicas;
 use std::alloc::{AllocError, Global};
@@ -165,13 +166,15 @@ impl DataNode {
         }
     }
 
-    // What a call that presents a token is refused for.
+    // What a call that presents a token is refused for, where this is held of its block.
     fn judge(
         &self,
         clock: Moment,
         presented: &Presented,
         call: &TokenCall,
+        held: &Held,
     ) -> Result<(), NodeRefusal>
+        requires { held.now ≡ held_at presented.now.block self.now.blocks }
         ensures { spec.TellsNodeRefusal result (spec.call_refusal self.now clock presented.now call.now) }
     {
         let mode = asking::mode_of(call);
@@ -182,22 +185,21 @@ impl DataNode {
         {
             return Err(NodeRefusal::Token(refusal));
         }
-        let judged = self
-            .replicas
-            .judge(self.limit, call, presented.stamp, presented.block);
-        match judged {
+        match held.judge(self.limit, call, presented.stamp) {
             Ok(()) => Ok(()),
             Err(refusal) => Err(NodeRefusal::Replica(refusal)),
         }
     }
 
-    // What is noted down of a call.
+    // What is noted down of a call, where this is held of its block.
     fn record(
         &self,
         clock: Moment,
         presented: &Presented,
         call: &TokenCall,
+        held: &Held,
     ) -> Result<AccessRecord, AllocError>
+        requires { held.now ≡ held_at presented.now.block self.now.blocks }
         ensures { IfOk result (λ entry. entry ≡ record_of self.now.id clock presented.now call.now (held_at presented.now.block self.now.blocks)) }
     {
         Ok(AccessRecord {
@@ -207,7 +209,7 @@ impl DataNode {
             block: presented.block,
             mode: asking::mode_of(call),
             offset: asking::recorded_offset(call),
-            length: asking::recorded_length(call, &self.replicas, presented.block),
+            length: asking::recorded_length(call, held),
             token: presented.token.clone()?,
         })
     }
@@ -218,13 +220,14 @@ impl DataNode {
         clock: Moment,
         presented: &Presented,
         call: &TokenCall,
+        entry: AccessRecord,
     ) -> Result<(), AllocError>
-        requires { spec.call_refusal self.old clock presented.now call.now ≡ None }
+        requires allowed { spec.call_refusal self.old clock presented.now call.now ≡ None }
+        requires noted { entry ≡ record_of self.old.id clock presented.now call.now (held_at presented.now.block self.old.blocks) }
         ensures ok { OnOk result (self.new ≡ spec.call_served self.old clock presented.now call.now) }
         ensures err { OnErr result (self.new ≡ self.old) }
     {
         read_bytes(presented.token.as_bytes());
-        let entry = self.record(clock, presented, call)?;
         self.log.push(entry)?;
         match self.replicas.apply(call, presented.stamp, presented.block) {
             Ok(()) => Ok(()),
@@ -235,19 +238,25 @@ impl DataNode {
         }
     }
 
-    // What is answered to a call that isn't refused.
-    fn answer(&self, presented: &Presented, call: &TokenCall) -> Result<Answered, AllocError>
+    // What is answered to a call that isn't refused, where this is held of its block.
+    fn answer(
+        &self,
+        presented: &Presented,
+        call: &TokenCall,
+        held: &Held,
+    ) -> Result<Answered, AllocError>
+        requires { held.now ≡ held_at presented.now.block self.now.blocks }
         ensures { IfOk result (λ answered. answered ≡ spec.call_told self.now presented.now call.now) }
     {
-        let messages = sending::sends(self.alloc, self.id, presented, call, &self.replicas)?;
-        let told = sending::reply_to(call, &self.replicas, presented.block)?;
+        let messages = sending::sends(self.alloc, self.id, presented, call, held)?;
+        let told = sending::reply_to(self.alloc, call, held)?;
         Ok(Answered {
             result: Ok(told),
             messages,
         })
     }
 
-    // A call that presents a token, in the name of who presents it.
+    // A call that presents a token, in the name of who presents it. What is held of its block is looked up once, before anything changes.
     #[tactic(auto, unfolding(crate::specs::NodeStep::presented_after, crate::specs::NodeStep::presented_answer))]
     fn serve(
         &mut self,
@@ -259,11 +268,14 @@ impl DataNode {
         ensures answer { IfOk result (λ answered. answered ≡ spec.presented_answer self.old clock presented.now call.now) }
         ensures err { OnErr result (self.new ≡ self.old) }
     {
-        if let Err(refusal) = self.judge(clock, presented, call) {
+        let nothing = Held::nothing();
+        let held = self.replicas.get_or(presented.block, &nothing);
+        if let Err(refusal) = self.judge(clock, presented, call, held) {
             return Ok(self.refuse(clock, refusal));
         }
-        let answered = self.answer(presented, call)?;
-        self.note(clock, presented, call)?;
+        let answered = self.answer(presented, call, held)?;
+        let entry = self.record(clock, presented, call, held)?;
+        self.note(clock, presented, call, entry)?;
         self.move_on(clock);
         Ok(answered)
     }

@@ -1,11 +1,9 @@
 ghost use Rattle.std.specs.Prelude.{◌≡◌};
-ghost use Rattle.replicas.specs.ReplicaStep.{held_at};
 ghost use Rattle.node_replies.specs.Asking as spec;
 
-use hdfs_values::ids::BlockId;
 use node_calls::call::TokenCall;
 use permission_bits::modes::Modes;
-use replicas::replicas::Replicas;
+use replicas::held::Held;
 
 /// Whether the call is one that a node makes in its own name: to send a copy. Takes no memory.
 pub fn sends_copy(call: &TokenCall) -> bool
@@ -56,9 +54,9 @@ pub fn recorded_offset(call: &TokenCall) -> u64
 }
 
 /// The length that is noted down of a call, in bytes: that of a packet or a read, 0 of what begins, else that of the replica behind it.
-/// Costs a look-up, and takes no memory.
-pub fn recorded_length(call: &TokenCall, replicas: &Replicas, block: BlockId) -> u64
-    ensures { result ≡ spec.recorded_length call.now (held_at block replicas.now) }
+/// Takes no memory.
+pub fn recorded_length(call: &TokenCall, held: &Held) -> u64
+    ensures { result ≡ spec.recorded_length call.now held.now }
 {
     match call {
         TokenCall::Begin(_) => 0,
@@ -67,7 +65,7 @@ pub fn recorded_length(call: &TokenCall, replicas: &Replicas, block: BlockId) ->
         TokenCall::Read(_, count) => *count,
         TokenCall::InitRecovery => 0,
         TokenCall::UpdateReplica(count) => *count,
-        TokenCall::SendCopy(_) => replicas.length(block),
+        TokenCall::SendCopy(_) => held.length(),
         TokenCall::TakeCopy(bytes) => bytes.len(),
     }
 }

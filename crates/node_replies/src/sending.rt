@@ -5,10 +5,10 @@ ghost use Rattle.node_calls.specs.declared.call.TokenCall.TheVariants as made;
 ghost use Rattle.node_calls.specs.declared.call.PlanCall.TheVariants as plan;
 ghost use Rattle.node_calls.specs.declared.message.Message.TheVariants as message;
 ghost use Rattle.node_calls.specs.declared.reply.NodeReply.TheVariants as reply;
-ghost use Rattle.replicas.specs.ReplicaStep.{own, held_at};
+ghost use Rattle.replicas.specs.ReplicaStep.{own};
 ghost use Rattle.node_replies.specs.Sending as spec;
 
-use hdfs_values::ids::{BlockId, Stamp};
+use hdfs_values::ids::Stamp;
 use node_calls::block_bytes::BlockBytes;
 use node_calls::call::{NodeCall, PlanCall, ReplicaState, TokenCall};
 use node_calls::message::{Message, Messages};
@@ -16,7 +16,7 @@ use node_calls::node_list::NodeList;
 use node_calls::presented::Presented;
 use node_calls::reply::NodeReply;
 use node_ids::node_id::{NodeId, node_of};
-use replicas::replicas::Replicas;
+use replicas::held::Held;
 use std::alloc::{AllocError, Global};
 
 // ---- replies
@@ -31,33 +31,28 @@ fn taken(offset: u64, count: u64) -> Result<NodeReply, AllocError>
     }
 }
 
-fn read(
-    replicas: &Replicas,
-    offset: u64,
-    count: u64,
-    block: BlockId,
-) -> Result<NodeReply, AllocError>
-    ensures { IfOk result (λ answer. answer ≡ reply.Read (take count (drop offset (own (held_at block replicas.now)).bytes))) }
+fn read(alloc: Global, held: &Held, offset: u64, count: u64) -> Result<NodeReply, AllocError>
+    ensures { IfOk result (λ answer. answer ≡ reply.Read (take count (drop offset (own held.now).bytes))) }
 {
-    Ok(NodeReply::Read(replicas.read(offset, count, block)?))
+    Ok(NodeReply::Read(held.read(alloc, offset, count)?))
 }
 
-// The stamp, the length and the state of a block's replica; of none those of an empty one.
-fn facts(replicas: &Replicas, block: BlockId) -> (Stamp, u64, ReplicaState)
-    ensures stamp { result.0 ≡ (own (held_at block replicas.now)).stamp }
-    ensures count { result.1 ≡ length (own (held_at block replicas.now)).bytes }
-    ensures state { result.2 ≡ (own (held_at block replicas.now)).state }
+// The stamp, the length and the state of the replica; of none those of an empty one.
+fn facts(held: &Held) -> (Stamp, u64, ReplicaState)
+    ensures stamp { result.0 ≡ (own held.now).stamp }
+    ensures count { result.1 ≡ length (own held.now).bytes }
+    ensures state { result.2 ≡ (own held.now).state }
 {
-    match replicas.replica(block) {
+    match &held.replica {
         Some(replica) => (replica.stamp, replica.bytes.len(), replica.state),
         None => (Stamp::new(0), 0, ReplicaState::Writing),
     }
 }
 
-fn replica_told(replicas: &Replicas, block: BlockId) -> NodeReply
-    ensures { result ≡ reply.Replica (own (held_at block replicas.now)).stamp (length (own (held_at block replicas.now)).bytes) (own (held_at block replicas.now)).state }
+fn replica_told(held: &Held) -> NodeReply
+    ensures { result ≡ reply.Replica (own held.now).stamp (length (own held.now).bytes) (own held.now).state }
 {
-    let (stamp, count, state) = facts(replicas, block);
+    let (stamp, count, state) = facts(held);
     NodeReply::Replica(stamp, count, state)
 }
 
@@ -65,21 +60,17 @@ fn replica_told(replicas: &Replicas, block: BlockId) -> NodeReply
 ///
 /// # Errors
 /// Out of memory.
-pub fn reply_to(
-    call: &TokenCall,
-    replicas: &Replicas,
-    block: BlockId,
-) -> Result<NodeReply, AllocError>
-    ensures { IfOk result (λ answer. answer ≡ spec.call_reply call.now (held_at block replicas.now)) }
+pub fn reply_to(alloc: Global, call: &TokenCall, held: &Held) -> Result<NodeReply, AllocError>
+    ensures { IfOk result (λ answer. answer ≡ spec.call_reply call.now held.now) }
 {
     match call {
         TokenCall::Begin(_) => Ok(NodeReply::Begun),
         TokenCall::Packet(offset, bytes, _) => taken(*offset, bytes.len()),
         TokenCall::Finalize(count, _) => Ok(NodeReply::Finalized(*count)),
-        TokenCall::Read(offset, count) => read(replicas, *offset, *count, block),
-        TokenCall::InitRecovery => Ok(replica_told(replicas, block)),
+        TokenCall::Read(offset, count) => read(alloc, held, *offset, *count),
+        TokenCall::InitRecovery => Ok(replica_told(held)),
         TokenCall::UpdateReplica(count) => Ok(NodeReply::Updated(*count)),
-        TokenCall::SendCopy(_) => Ok(NodeReply::Copied(replicas.length(block))),
+        TokenCall::SendCopy(_) => Ok(NodeReply::Copied(held.length())),
         TokenCall::TakeCopy(bytes) => Ok(NodeReply::Stored(bytes.len())),
     }
 }
@@ -171,15 +162,15 @@ fn tell_replica(
     alloc: Global,
     node: NodeId,
     presented: &Presented,
-    replicas: &Replicas,
+    held: &Held,
 ) -> Result<Messages, AllocError>
-    ensures { IfOk result (λ sent. sent ≡ spec.call_sends node presented.now made.InitRecovery (held_at presented.now.block replicas.now)) }
+    ensures { IfOk result (λ sent. sent ≡ spec.call_sends node presented.now made.InitRecovery held.now) }
 {
     let Some(primary) = node_of(&presented.caller) else {
         return Ok(Messages::new(alloc));
     };
     let (block, stamp) = (presented.block, presented.stamp);
-    let (_, count, state) = facts(replicas, block);
+    let (_, count, state) = facts(held);
     let told = PlanCall::Reply(node, block, stamp, state, count);
     Messages::one(alloc, Message::Plan(primary, told))
 }
@@ -198,11 +189,11 @@ fn copy_to(
     alloc: Global,
     presented: &Presented,
     to: NodeId,
-    replicas: &Replicas,
+    held: &Held,
 ) -> Result<Messages, AllocError>
-    ensures { IfOk result (λ sent. sent ≡ message.Node to (Presenting presented.now (made.TakeCopy (own (held_at presented.now.block replicas.now)).bytes)) ∷ []) }
+    ensures { IfOk result (λ sent. sent ≡ message.Node to (Presenting presented.now (made.TakeCopy (own held.now).bytes)) ∷ []) }
 {
-    let call = TokenCall::TakeCopy(replicas.copied(presented.block)?);
+    let call = TokenCall::TakeCopy(held.copied()?);
     pass_on(alloc, presented, to, call)
 }
 
@@ -216,9 +207,9 @@ pub fn sends(
     node: NodeId,
     presented: &Presented,
     call: &TokenCall,
-    replicas: &Replicas,
+    held: &Held,
 ) -> Result<Messages, AllocError>
-    ensures { IfOk result (λ sent. sent ≡ spec.call_sends node presented.now call.now (held_at presented.now.block replicas.now)) }
+    ensures { IfOk result (λ sent. sent ≡ spec.call_sends node presented.now call.now held.now) }
 {
     match call {
         TokenCall::Begin(next) => forward_begin(alloc, presented, next),
@@ -230,12 +221,12 @@ pub fn sends(
             reported(sent, node, presented, *count)
         }
         TokenCall::Read(_, _) => Ok(Messages::new(alloc)),
-        TokenCall::InitRecovery => tell_replica(alloc, node, presented, replicas),
+        TokenCall::InitRecovery => tell_replica(alloc, node, presented, held),
         TokenCall::UpdateReplica(count) => {
             let sent = tell_updated(alloc, node, presented)?;
             reported(sent, node, presented, *count)
         }
-        TokenCall::SendCopy(to) => copy_to(alloc, presented, *to, replicas),
+        TokenCall::SendCopy(to) => copy_to(alloc, presented, *to, held),
         TokenCall::TakeCopy(bytes) => {
             reported(Messages::new(alloc), node, presented, bytes.len())
         }

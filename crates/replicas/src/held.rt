@@ -1,11 +1,14 @@
-ghost use Rattle.std.specs.Prelude.{◌≡◌, OnOk, OnErr};
-ghost use Rattle.replicas.specs.ReplicaStep.{with_bytes_appended, with_replica_finalized, with_promise, with_replica_recovered, with_no_replica};
+ghost use Rattle.std.specs.Prelude.{◌≡◌, take, drop, length, IfOk, OnOk, OnErr};
+ghost use Rattle.replicas.specs.ReplicaStep.{TellsReplicaRefusal, replica_refusal, nothing, own, with_bytes_appended, with_replica_finalized, with_promise, with_replica_recovered, with_no_replica};
 
+use crate::judge;
 use crate::replica::Replica;
 use hdfs_values::ids::Stamp;
 use node_calls::block_bytes::BlockBytes;
-use node_calls::call::ReplicaState;
-use std::alloc::AllocError;
+use node_calls::call::{ReplicaState, TokenCall};
+use node_calls::chunks::Chunks;
+use node_calls::refusal::ReplicaRefusal;
+use std::alloc::{AllocError, Global};
 
 /// What a DataNode has of a block: a replica or none, and the greatest generation stamp that it ever held or promised. Nothing is begun
 /// at a stamp that isn't greater.
@@ -25,6 +28,80 @@ impl Drop for Held {
 }
 
 impl Held {
+    /// What is held of a block of which there never was a replica: stamp 0 is promised. Takes no memory.
+    pub fn nothing() -> Held
+        ensures { result ≡ nothing }
+    {
+        Held {
+            replica: None,
+            promised: Stamp::new(0),
+        }
+    }
+
+    /// How many bytes the replica has; 0 where there is none. Takes no memory.
+    pub fn length(&self) -> u64
+        ensures { result ≡ length (own self.now).bytes }
+    {
+        match &self.replica {
+            Some(replica) => replica.bytes.len(),
+            None => 0,
+        }
+    }
+
+    /// From an offset of the replica so many bytes; those that aren't there are left out. Costs the bytes.
+    ///
+    /// # Errors
+    /// Out of memory.
+    pub fn read(&self, alloc: Global, offset: u64, count: u64) -> Result<Chunks, AllocError>
+        ensures { IfOk result (λ chunks. chunks ≡ take count (drop offset (own self.now).bytes)) }
+    {
+        match &self.replica {
+            Some(replica) => replica.bytes.read(alloc, offset, count),
+            None => Chunks::copied(alloc, &[]),
+        }
+    }
+
+    /// A copy of all bytes of the replica; none where there is none. Costs the bytes.
+    ///
+    /// # Errors
+    /// Out of memory.
+    pub fn copied(&self) -> Result<BlockBytes, AllocError>
+        ensures { IfOk result (λ bytes. bytes ≡ (own self.now).bytes) }
+    {
+        match &self.replica {
+            Some(replica) => replica.bytes.copied(),
+            None => Ok(BlockBytes::repeated(0, 0)),
+        }
+    }
+
+    /// What a call at a stamp is refused for, where a replica holds at most so many bytes. Takes no memory.
+    ///
+    /// # Errors
+    /// The first refusal that applies.
+    pub fn judge(&self, limit: u64, call: &TokenCall, stamp: Stamp) -> Result<(), ReplicaRefusal>
+        ensures { TellsReplicaRefusal result (replica_refusal limit call.now stamp self.now) }
+    {
+        let (replica, promised) = (self.replica.as_ref(), self.promised);
+        match call {
+            TokenCall::Begin(_) => judge::judge_begin(replica, promised, stamp),
+            TokenCall::Packet(offset, bytes, _) => {
+                judge::judge_packet(limit, replica, promised, stamp, *offset, bytes)
+            }
+            TokenCall::Finalize(count, _) => {
+                judge::judge_finalize(replica, promised, stamp, *count)
+            }
+            TokenCall::Read(offset, count) => judge::judge_read(replica, stamp, *offset, *count),
+            TokenCall::InitRecovery => judge::judge_init(replica, promised, stamp),
+            TokenCall::UpdateReplica(count) => {
+                judge::judge_update(replica, promised, stamp, *count)
+            }
+            TokenCall::SendCopy(_) => judge::judge_copy(replica, stamp),
+            TokenCall::TakeCopy(bytes) => {
+                judge::judge_take(limit, replica, promised, stamp, bytes)
+            }
+        }
+    }
+
     /// Puts bytes behind those of the replica, if there is one. Costs the bytes, amortized.
     ///
     /// # Errors

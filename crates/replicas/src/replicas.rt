@@ -1,6 +1,7 @@
-ghost use Rattle.std.specs.Prelude.{◌≡◌, [], take, drop, length, option_copied, IfOk, OnOk, OnErr};
+ghost use Rattle.std.specs.Prelude.{◌≡◌, [], take, drop, length, option_copied, unwrap_or, IfOk, OnOk, OnErr};
 ghost use Rattle.std.specs.BTreeMap.{insert_entry};
 ghost use Rattle.std.specs.Ordering.{nat_cmp};
+ghost use Rattle.block_records.specs.Numbers.{entry_at};
 ghost use Rattle.node_calls.specs.declared.call.ReplicaState.TheVariants.{Writing, Finalized};
 ghost use Rattle.replicas.specs.ReplicaStep.{TellsReplicaRefusal, replica_refusal, removal_refusal, held_at, own, newly_held, with_held_changed, with_bytes_appended, with_replica_finalized, with_promise, with_replica_recovered, without_replica_of, replicas_after};
 
@@ -69,14 +70,22 @@ impl Replicas {
         }
     }
 
+    /// What is held of a block, or else this, where there never was a replica. Costs a look-up, and takes no memory.
+    pub fn get_or<'a>(&'a self, block: BlockId, other: &'a Held) -> &'a Held
+        ensures { result.now ≡ unwrap_or (entry_at block self.now) other.now }
+    {
+        match self.blocks.get(&block) {
+            Some(held) => held,
+            None => other,
+        }
+    }
+
     /// How many bytes the replica of a block has; 0 where there is none. Costs a look-up, and takes no memory.
     pub fn length(&self, block: BlockId) -> u64
         ensures { result ≡ length (own (held_at block self.now)).bytes }
     {
-        match self.replica(block) {
-            Some(replica) => replica.bytes.len(),
-            None => 0,
-        }
+        let nothing = Held::nothing();
+        self.get_or(block, &nothing).length()
     }
 
     /// From an offset of a block's replica so many bytes; those that aren't there are left out. Costs a look-up, and the bytes.
@@ -86,34 +95,8 @@ impl Replicas {
     pub fn read(&self, offset: u64, count: u64, block: BlockId) -> Result<Chunks, AllocError>
         ensures { IfOk result (λ chunks. chunks ≡ take count (drop offset (own (held_at block self.now)).bytes)) }
     {
-        match self.replica(block) {
-            Some(replica) => replica.bytes.read(self.alloc, offset, count),
-            None => Chunks::copied(self.alloc, &[]),
-        }
-    }
-
-    /// A copy of all bytes of a block's replica; none where there is none. Costs a look-up, and the bytes.
-    ///
-    /// # Errors
-    /// Out of memory.
-    pub fn copied(&self, block: BlockId) -> Result<BlockBytes, AllocError>
-        ensures { IfOk result (λ bytes. bytes ≡ (own (held_at block self.now)).bytes) }
-    {
-        match self.replica(block) {
-            Some(replica) => replica.bytes.copied(),
-            None => Ok(BlockBytes::repeated(0, 0)),
-        }
-    }
-
-    // The replica of a block, and the greatest stamp that was ever held or promised of it; 0 before any.
-    fn held(&self, block: BlockId) -> (Option<&Replica>, Stamp)
-        ensures replica { option_copied result.0 ≡ (held_at block self.now).replica }
-        ensures promised { result.1 ≡ (held_at block self.now).promised }
-    {
-        match self.blocks.get(&block) {
-            Some(held) => (held.replica.as_ref(), held.promised),
-            None => (None, Stamp::new(0)),
-        }
+        let nothing = Held::nothing();
+        self.get_or(block, &nothing).read(self.alloc, offset, count)
     }
 
     /// What a call at a stamp is refused for, where a replica holds at most so many bytes. Costs a look-up, and takes no memory.
@@ -129,25 +112,8 @@ impl Replicas {
     ) -> Result<(), ReplicaRefusal>
         ensures { TellsReplicaRefusal result (replica_refusal limit call.now stamp (held_at block self.now)) }
     {
-        let (replica, promised) = self.held(block);
-        match call {
-            TokenCall::Begin(_) => judge::judge_begin(replica, promised, stamp),
-            TokenCall::Packet(offset, bytes, _) => {
-                judge::judge_packet(limit, replica, promised, stamp, *offset, bytes)
-            }
-            TokenCall::Finalize(count, _) => {
-                judge::judge_finalize(replica, promised, stamp, *count)
-            }
-            TokenCall::Read(offset, count) => judge::judge_read(replica, stamp, *offset, *count),
-            TokenCall::InitRecovery => judge::judge_init(replica, promised, stamp),
-            TokenCall::UpdateReplica(count) => {
-                judge::judge_update(replica, promised, stamp, *count)
-            }
-            TokenCall::SendCopy(_) => judge::judge_copy(replica, stamp),
-            TokenCall::TakeCopy(bytes) => {
-                judge::judge_take(limit, replica, promised, stamp, bytes)
-            }
-        }
+        let nothing = Held::nothing();
+        self.get_or(block, &nothing).judge(limit, call, stamp)
     }
 
     /// What a removal is refused for. Costs a look-up, and takes no memory.

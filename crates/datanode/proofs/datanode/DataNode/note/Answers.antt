@@ -17,10 +17,10 @@ invariant_of-self-in-Ok c =
       log = c.self.inside.log;
     } in
     let allowed : call_refusal node c.args.clock c.args.presented.now c.args.call.now ≡ None =
-    subst (λ (own : DataNode). call_refusal own c.args.clock c.args.presented.now c.args.call.now ≡ None) (sym c.self.view_is) c.requires in
+    subst (λ (own : DataNode). call_refusal own c.args.clock c.args.presented.now c.args.call.now ≡ None) (sym c.self.view_is) c.requires.allowed in
     let logged : c.push.new.self ≡ node.log ++ record_of node.id c.args.clock c.args.presented.now c.args.call.now (held_at c.args.presented.now.block node.blocks) ∷ [] =
     c.in_ok-push.ensures.ok ∙ ap (λ entry. c.self.inside.log ++ entry ∷ [])
-    (c.in_ok-entry.ensures ∙ ap (λ (own : DataNode). record_of own.id c.args.clock c.args.presented.now c.args.call.now (held_at c.args.presented.now.block own.blocks)) (sym c.self.view_is)) in
+    (c.requires.noted ∙ ap (λ (own : DataNode). record_of own.id c.args.clock c.args.presented.now c.args.call.now (held_at c.args.presented.now.block own.blocks)) (sym c.self.view_is)) in
     record {
       principal = c.self.invariant.principal;
       covered = subst AreCovered (sym logged)
