@@ -1,3 +1,4 @@
 pub mod NodeStep
 pub mod Kept
 pub mod Laws
+pub mod Served

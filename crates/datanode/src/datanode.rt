@@ -1,15 +1,19 @@
 ghost use Rattle.std.specs.Prelude.{◌≡◌, ℕ, ◌<◌, [], None, IfOk, OnOk, OnErr, option_copied, slice_index};
 ghost use Rattle.node_ids.specs.NodeId.{node_principal};
+ghost use Rattle.block_tokens.specs.TokenTest.{TellsTokenRefusal, token_test};
+ghost use Rattle.block_records.specs.Numbers.{entry_at};
 ghost use Rattle.node_calls.specs.declared.call.NodeCall.TheVariants as asked;
 ghost use Rattle.node_calls.specs.declared.call.TokenCall.TheVariants as made;
-ghost use Rattle.replicas.specs.ReplicaStep.{held_at};
+ghost use Rattle.replicas.specs.ReplicaStep.{held_at, replica_refusal};
 ghost use Rattle.node_replies.specs.Asking.{record_of};
 ghost use Rattle.datanode.specs.Kept.{AreBelow, AreCovered};
 ghost use Rattle.datanode.specs.NodeStep as spec;
+ghost use Rattle.datanode.specs.Served.{held_by, log_by, told_of, told_unless};
 
 use crate::answered::Answered;
 use block_tokens::cache::KeyCache;
 use block_tokens::key::KeyList;
+use block_tokens::refusal::TokenRefusal;
 use hdfs_values::ids::{BlockId, Stamp};
 use hdfs_values::moment::Moment;
 use hdfs_values::who::Who;
@@ -91,6 +95,88 @@ fn read_bytes(bytes: &[u8])
     let _bytes = bytes;
 }
 
+// A refusal sends nothing.
+fn refused(alloc: Global, refusal: NodeRefusal) -> Answered
+    ensures { result ≡ spec.call_refused refusal }
+{
+    Answered {
+        result: Err(refusal),
+        messages: Messages::new(alloc),
+    }
+}
+
+// What is noted down of a call, where this is held of its block.
+fn record(
+    node: NodeId,
+    clock: Moment,
+    presented: &Presented,
+    call: &TokenCall,
+    held: &Held,
+) -> Result<AccessRecord, AllocError>
+    ensures { IfOk result (λ entry. entry ≡ record_of node clock presented.now call.now held.now) }
+{
+    Ok(AccessRecord {
+        node,
+        moment: clock,
+        caller: presented.caller.clone()?,
+        block: presented.block,
+        mode: asking::mode_of(call),
+        offset: asking::recorded_offset(call),
+        length: asking::recorded_length(call, held),
+        token: presented.token.clone()?,
+    })
+}
+
+// What is answered to a call that isn't refused, where this is held of its block.
+fn answer(
+    alloc: Global,
+    node: NodeId,
+    presented: &Presented,
+    call: &TokenCall,
+    held: &Held,
+) -> Result<Answered, AllocError>
+    ensures { IfOk result (λ answered. answered ≡ told_of node presented.now call.now held.now) }
+{
+    let messages = sending::sends(alloc, node, presented, call, held)?;
+    let told = sending::reply_to(alloc, call, held)?;
+    Ok(Answered {
+        result: Ok(told),
+        messages,
+    })
+}
+
+// A call whose token is taken, where this is held of its block.
+fn serve_held(
+    alloc: Global,
+    node: NodeId,
+    limit: u64,
+    clock: Moment,
+    presented: &Presented,
+    call: &TokenCall,
+    held: &mut Held,
+    log: &mut AccessLog,
+) -> Result<Answered, AllocError>
+    ensures held { OnOk result (held.new ≡ held_by call.now presented.now.stamp held.old (replica_refusal limit call.now presented.now.stamp held.old)) }
+    ensures noted { OnOk result (log.new ≡ log_by log.old (record_of node clock presented.now call.now held.old) (replica_refusal limit call.now presented.now.stamp held.old)) }
+    ensures answer { IfOk result (λ answered. answered ≡ told_unless node presented.now call.now held.old (replica_refusal limit call.now presented.now.stamp held.old)) }
+    ensures held_err { OnErr result (held.new ≡ held.old) }
+    ensures log_err { OnErr result (log.new ≡ log.old) }
+{
+    if let Err(refusal) = held.judge(limit, call, presented.stamp) {
+        return Ok(refused(alloc, NodeRefusal::Replica(refusal)));
+    }
+    let answered = answer(alloc, node, presented, call, held)?;
+    let entry = record(node, clock, presented, call, held)?;
+    log.push(entry)?;
+    match held.apply(alloc, call, presented.stamp) {
+        Ok(()) => Ok(answered),
+        Err(fault) => {
+            log.take_back();
+            Err(fault)
+        }
+    }
+}
+
 impl DataNode {
     /// No replica, no key, nothing noted down, and the clock at 0. A replica has at most so many bytes.
     ///
@@ -160,58 +246,22 @@ impl DataNode {
         ensures answer { result ≡ spec.call_refused refusal }
     {
         self.move_on(moment);
-        Answered {
-            result: Err(refusal),
-            messages: Messages::new(self.alloc),
-        }
+        refused(self.alloc, refusal)
     }
 
-    // What a call that presents a token is refused for, where this is held of its block.
+    // What the token of a call is refused for.
     fn judge(
         &self,
         clock: Moment,
         presented: &Presented,
         call: &TokenCall,
-        held: &Held,
-    ) -> Result<(), NodeRefusal>
-        requires { held.now ≡ held_at presented.now.block self.now.blocks }
-        ensures { spec.TellsNodeRefusal result (spec.call_refusal self.now clock presented.now call.now) }
+    ) -> Result<(), TokenRefusal>
+        ensures { TellsTokenRefusal result (token_test self.now.keys (spec.access_of clock presented.now call.now) presented.now.token) }
     {
         let mode = asking::mode_of(call);
         let token = presented.token.as_bytes();
-        if let Err(refusal) = self
-            .keys
+        self.keys
             .check(clock, &presented.caller, presented.block, mode, token)
-        {
-            return Err(NodeRefusal::Token(refusal));
-        }
-        match held.judge(self.limit, call, presented.stamp) {
-            Ok(()) => Ok(()),
-            Err(refusal) => Err(NodeRefusal::Replica(refusal)),
-        }
-    }
-
-    // What is noted down of a call, where this is held of its block.
-    fn record(
-        &self,
-        clock: Moment,
-        presented: &Presented,
-        call: &TokenCall,
-        held: &Held,
-    ) -> Result<AccessRecord, AllocError>
-        requires { held.now ≡ held_at presented.now.block self.now.blocks }
-        ensures { IfOk result (λ entry. entry ≡ record_of self.now.id clock presented.now call.now (held_at presented.now.block self.now.blocks)) }
-    {
-        Ok(AccessRecord {
-            node: self.id,
-            moment: clock,
-            caller: presented.caller.clone()?,
-            block: presented.block,
-            mode: asking::mode_of(call),
-            offset: asking::recorded_offset(call),
-            length: asking::recorded_length(call, held),
-            token: presented.token.clone()?,
-        })
     }
 
     // Does what a call that isn't refused does, and notes it down.
@@ -238,25 +288,60 @@ impl DataNode {
         }
     }
 
-    // What is answered to a call that isn't refused, where this is held of its block.
-    fn answer(
-        &self,
+    // A call whose token is taken, where there never was a replica of its block.
+    fn serve_unheld(
+        &mut self,
+        clock: Moment,
         presented: &Presented,
         call: &TokenCall,
-        held: &Held,
     ) -> Result<Answered, AllocError>
-        requires { held.now ≡ held_at presented.now.block self.now.blocks }
-        ensures { IfOk result (λ answered. answered ≡ spec.call_told self.now presented.now call.now) }
+        requires token { token_test self.old.keys (spec.access_of clock presented.now call.now) presented.now.token ≡ None }
+        requires unheld { entry_at presented.now.block self.old.blocks ≡ None }
+        ensures ok { OnOk result (self.new ≡ spec.presented_by self.old clock presented.now call.now (spec.call_refusal self.old clock presented.now call.now)) }
+        ensures answer { IfOk result (λ answered. answered ≡ spec.told_by self.old presented.now call.now (spec.call_refusal self.old clock presented.now call.now)) }
+        ensures err { OnErr result (self.new ≡ self.old) }
     {
-        let messages = sending::sends(self.alloc, self.id, presented, call, held)?;
-        let told = sending::reply_to(self.alloc, call, held)?;
-        Ok(Answered {
-            result: Ok(told),
-            messages,
-        })
+        let held = Held::nothing();
+        if let Err(refusal) = held.judge(self.limit, call, presented.stamp) {
+            return Ok(refused(self.alloc, NodeRefusal::Replica(refusal)));
+        }
+        let answered = answer(self.alloc, self.id, presented, call, &held)?;
+        let entry = record(self.id, clock, presented, call, &held)?;
+        self.note(clock, presented, call, entry)?;
+        Ok(answered)
     }
 
-    // A call that presents a token, in the name of who presents it. What is held of its block is looked up once, before anything changes.
+    // A call whose token is taken. What is held of its block is looked up once.
+    fn serve_taken(
+        &mut self,
+        clock: Moment,
+        presented: &Presented,
+        call: &TokenCall,
+    ) -> Result<Answered, AllocError>
+        requires { token_test self.old.keys (spec.access_of clock presented.now call.now) presented.now.token ≡ None }
+        ensures ok { OnOk result (self.new ≡ spec.presented_by self.old clock presented.now call.now (spec.call_refusal self.old clock presented.now call.now)) }
+        ensures answer { IfOk result (λ answered. answered ≡ spec.told_by self.old presented.now call.now (spec.call_refusal self.old clock presented.now call.now)) }
+        ensures err { OnErr result (self.new ≡ self.old) }
+    {
+        read_bytes(presented.token.as_bytes());
+        let (alloc, node, limit) = (self.alloc, self.id, self.limit);
+        let Some(held) = self.replicas.get_mut(presented.block) else {
+            return self.serve_unheld(clock, presented, call);
+        };
+        let answered = serve_held(
+            alloc,
+            node,
+            limit,
+            clock,
+            presented,
+            call,
+            held,
+            &mut self.log,
+        )?;
+        Ok(answered)
+    }
+
+    // A call that presents a token, in the name of who presents it.
     #[tactic(auto, unfolding(crate::specs::NodeStep::presented_after, crate::specs::NodeStep::presented_answer))]
     fn serve(
         &mut self,
@@ -268,14 +353,10 @@ impl DataNode {
         ensures answer { IfOk result (λ answered. answered ≡ spec.presented_answer self.old clock presented.now call.now) }
         ensures err { OnErr result (self.new ≡ self.old) }
     {
-        let nothing = Held::nothing();
-        let held = self.replicas.get_or(presented.block, &nothing);
-        if let Err(refusal) = self.judge(clock, presented, call, held) {
-            return Ok(self.refuse(clock, refusal));
+        if let Err(refusal) = self.judge(clock, presented, call) {
+            return Ok(self.refuse(clock, NodeRefusal::Token(refusal)));
         }
-        let answered = self.answer(presented, call, held)?;
-        let entry = self.record(clock, presented, call, held)?;
-        self.note(clock, presented, call, entry)?;
+        let answered = self.serve_taken(clock, presented, call)?;
         self.move_on(clock);
         Ok(answered)
     }

@@ -102,6 +102,17 @@ with_replica_recovered stamp count = with_replica (λ replica. record { stamp = 
 abbrev pub with_no_replica : Held → Held
 with_no_replica held = record held { replica = None }
 
+-- behind a call that isn't refused
+abbrev pub held_after : TokenCall → ℕ → Held → Held
+held_after (call.Begin next) stamp held = newly_held stamp Writing []
+held_after (call.Packet offset bytes next) stamp held = with_bytes_appended bytes held
+held_after (call.Finalize count next) stamp held = with_replica_finalized held
+held_after (call.Read offset count) stamp held = held
+held_after call.InitRecovery stamp held = with_promise stamp held
+held_after (call.UpdateReplica count) stamp held = with_replica_recovered stamp count held
+held_after (call.SendCopy to) stamp held = held
+held_after (call.TakeCopy bytes) stamp held = newly_held stamp Finalized bytes
+
 -- the replica; where there is none, an empty one, which no answer tells
 abbrev pub own : Held → Replica
 own held = unwrap_or held.replica (record { stamp = 0; state = Writing; bytes = [] })

@@ -1,8 +1,8 @@
 ghost use Rattle.std.specs.Prelude.{◌≡◌, take, drop, length, IfOk, OnOk, OnErr};
-ghost use Rattle.replicas.specs.ReplicaStep.{TellsReplicaRefusal, replica_refusal, nothing, own, with_bytes_appended, with_replica_finalized, with_promise, with_replica_recovered, with_no_replica};
+ghost use Rattle.replicas.specs.ReplicaStep.{TellsReplicaRefusal, replica_refusal, nothing, own, newly_held, held_after, with_bytes_appended, with_replica_finalized, with_promise, with_replica_recovered, with_no_replica};
 
 use crate::judge;
-use crate::replica::Replica;
+use crate::replica::{Replica, ReplicaBytes};
 use hdfs_values::ids::Stamp;
 use node_calls::block_bytes::BlockBytes;
 use node_calls::call::{ReplicaState, TokenCall};
@@ -100,6 +100,45 @@ impl Held {
                 judge::judge_take(limit, replica, promised, stamp, bytes)
             }
         }
+    }
+
+    // A new replica, at a stamp that is promised with it.
+    fn renew(&mut self, stamp: Stamp, state: ReplicaState, bytes: ReplicaBytes)
+        ensures { self.new ≡ newly_held stamp state bytes }
+    {
+        self.replica = Some(Replica {
+            stamp,
+            state,
+            bytes,
+        });
+        self.promise(stamp);
+    }
+
+    /// Does what a call that isn't refused does. Costs the bytes that come.
+    ///
+    /// # Errors
+    /// Out of memory. Nothing has changed then.
+    pub fn apply(&mut self, alloc: Global, call: &TokenCall, stamp: Stamp) -> Result<(), AllocError>
+        ensures ok { OnOk result (self.new ≡ held_after call.now stamp self.old) }
+        ensures err { OnErr result (self.new ≡ self.old) }
+    {
+        match call {
+            TokenCall::Begin(_) => {
+                let bytes = ReplicaBytes::new(alloc);
+                self.renew(stamp, ReplicaState::Writing, bytes);
+            }
+            TokenCall::Packet(_, bytes, _) => return self.append(bytes),
+            TokenCall::Finalize(_, _) => self.finalize(),
+            TokenCall::Read(_, _) => return Ok(()),
+            TokenCall::SendCopy(_) => return Ok(()),
+            TokenCall::InitRecovery => self.promise(stamp),
+            TokenCall::UpdateReplica(count) => self.update(stamp, *count),
+            TokenCall::TakeCopy(bytes) => {
+                let own = ReplicaBytes::of(alloc, bytes)?;
+                self.renew(stamp, ReplicaState::Finalized, own);
+            }
+        }
+        Ok(())
     }
 
     /// Puts bytes behind those of the replica, if there is one. Costs the bytes, amortized.

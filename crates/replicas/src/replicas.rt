@@ -1,8 +1,13 @@
 ghost use Rattle.std.specs.Prelude.{◌≡◌, [], take, drop, length, option_copied, unwrap_or, IfOk, OnOk, OnErr};
+ghost use Rattle.std.specs.Borrow.{sem};
 ghost use Rattle.std.specs.BTreeMap.{insert_entry};
+ghost use Rattle.std.specs.List.Sorted.{IsStrictlySortedBy};
+ghost use Rattle.std.specs.Map.{keys_of};
+ghost use Rattle.std.specs.Option.{option_copied_mut};
 ghost use Rattle.std.specs.Ordering.{nat_cmp};
 ghost use Rattle.block_records.specs.Numbers.{entry_at};
 ghost use Rattle.node_calls.specs.declared.call.ReplicaState.TheVariants.{Writing, Finalized};
+ghost use Rattle.replicas.specs.Lending.{LendsHeld};
 ghost use Rattle.replicas.specs.ReplicaStep.{TellsReplicaRefusal, replica_refusal, removal_refusal, held_at, own, newly_held, with_held_changed, with_bytes_appended, with_replica_finalized, with_promise, with_replica_recovered, without_replica_of, replicas_after};
 
 use crate::held::Held;
@@ -80,6 +85,15 @@ impl Replicas {
         }
     }
 
+    /// What is held of a block, to be changed; `None` where there never was a replica. Costs a look-up, and takes no memory.
+    pub fn get_mut(&mut self, block: BlockId) -> Option<&mut Held>
+        ensures* writes_back { sem 𝓛 (LendsHeld block self.entry result) }
+        ensures value { option_copied_mut result ≡ entry_at block self.old }
+        ensures ascending { IsStrictlySortedBy nat_cmp (keys_of self.old) }
+    {
+        self.blocks.get_mut(&block)
+    }
+
     /// How many bytes the replica of a block has; 0 where there is none. Costs a look-up, and takes no memory.
     pub fn length(&self, block: BlockId) -> u64
         ensures { result ≡ length (own (held_at block self.now)).bytes }
@@ -126,6 +140,18 @@ impl Replicas {
         judge::judge_removal(self.replica(block), stamp)
     }
 
+    /// Puts in what is held of a block. Costs a look-up.
+    ///
+    /// # Errors
+    /// Out of memory. Nothing has changed then.
+    pub fn insert(&mut self, block: BlockId, held: Held) -> Result<(), AllocError>
+        ensures ok { OnOk result (self.new ≡ insert_entry nat_cmp self.old block held) }
+        ensures err { OnErr result (self.new ≡ self.old) }
+    {
+        self.blocks.insert(block, held)?;
+        Ok(())
+    }
+
     // Puts a new replica in its place.
     fn place(
         &mut self,
@@ -145,8 +171,7 @@ impl Replicas {
             }),
             promised: stamp,
         };
-        self.blocks.insert(block, held)?;
-        Ok(())
+        self.insert(block, held)
     }
 
     /// Begins a replica. Costs a look-up.
