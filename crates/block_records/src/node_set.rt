@@ -1,26 +1,50 @@
 ghost use Rattle.std.specs.Prelude.{◌≡◌, ◌+◌, ◌<◌, ℕ, [], IsTrue, not, filter, ◌↔◌, length, slice_index, IfOk, IfSome, IsSome, if◌then◌else◌};
 ghost use Rattle.std.specs.List.Sorted.{IsStrictlyIncreasing};
+ghost use Rattle.block_records.specs.Held.{listed_nodes};
 ghost use Rattle.block_records.specs.Numbers.{has_number};
 
 use node_ids::node_id::NodeId;
 use std::alloc::{AllocError, Global};
 use std::marker::Model;
 
+// The nodes of a set. Up to three of them, as many as files have replicas unless they ask for more, stand in the value: they take no
+// memory, and who has the value at hand looks nowhere else.
+#[derive(Drop)]
+enum Listed {
+    One([NodeId; 1]),
+    Two([NodeId; 2]),
+    Three([NodeId; 3]),
+    Several(Vec<NodeId>),
+}
+
 /// DataNodes by their ids, ascending, none twice.
 #[derive(Drop)]
 pub struct NodeSet {
-    nodes: Vec<NodeId>,
+    listed: Listed,
 }
 
 impl Model for NodeSet {
     ghost use Rattle.std.specs.Prelude.{List, ℕ};
     ghost use Rattle.std.specs.List.Sorted.{IsStrictlyIncreasing};
+    ghost use Rattle.block_records.specs.Held.{listed_nodes};
 
     ghost Value = { List ℕ };
 
-    ghost view = { λ set. set.nodes.items };
+    ghost view = { λ set. listed_nodes set.listed };
 
-    ghost invariant = { λ set. IsStrictlyIncreasing set.nodes.items };
+    ghost invariant = { λ set. IsStrictlyIncreasing (listed_nodes set.listed) };
+}
+
+// These nodes as a set holds them.
+fn with_listed(nodes: Vec<NodeId>) -> Listed
+    ensures { listed_nodes result ≡ nodes.items }
+{
+    match nodes.len() {
+        1 => Listed::One([nodes[0]]),
+        2 => Listed::Two([nodes[0], nodes[1]]),
+        3 => Listed::Three([nodes[0], nodes[1], nodes[2]]),
+        _ => Listed::Several(nodes),
+    }
 }
 
 // Whether each id is below the next.
@@ -41,7 +65,7 @@ impl NodeSet {
         ensures { result ≡ [] }
     {
         NodeSet {
-            nodes: Vec::new(alloc),
+            listed: Listed::Several(Vec::new(alloc)),
         }
     }
 
@@ -53,7 +77,9 @@ impl NodeSet {
         if !are_ascending(&nodes) {
             return None;
         }
-        Some(NodeSet { nodes })
+        Some(NodeSet {
+            listed: with_listed(nodes),
+        })
     }
 
     /// These nodes, whose ids ascend. Takes no memory.
@@ -61,7 +87,9 @@ impl NodeSet {
         requires { IsStrictlyIncreasing nodes.items }
         ensures { result ≡ nodes.items }
     {
-        NodeSet { nodes }
+        NodeSet {
+            listed: with_listed(nodes),
+        }
     }
 
     /// The nodes in the order of their ids. Takes no memory.
@@ -69,7 +97,12 @@ impl NodeSet {
         ensures nodes { result.now ≡ self.now }
         ensures ascending { IsStrictlyIncreasing self.now }
     {
-        &self.nodes
+        match &self.listed {
+            Listed::One(nodes) => nodes,
+            Listed::Two(nodes) => nodes,
+            Listed::Three(nodes) => nodes,
+            Listed::Several(nodes) => nodes,
+        }
     }
 
     /// Of these nodes those that aren't among them. Costs a look-up for each.
@@ -90,7 +123,7 @@ impl NodeSet {
     pub fn contains(&self, node: NodeId) -> bool
         ensures { result ≡ has_number node self.now }
     {
-        self.nodes.binary_search(&node).is_ok()
+        self.as_slice().binary_search(&node).is_ok()
     }
 }
 
@@ -98,8 +131,12 @@ impl Clone for NodeSet {
     ghost is_clone = { λ set copy. copy ≡ set };
 
     fn clone(&self) -> Result<NodeSet, AllocError> {
-        Ok(NodeSet {
-            nodes: self.nodes.clone()?,
-        })
+        let listed = match &self.listed {
+            Listed::One(nodes) => Listed::One(*nodes),
+            Listed::Two(nodes) => Listed::Two(*nodes),
+            Listed::Three(nodes) => Listed::Three(*nodes),
+            Listed::Several(nodes) => Listed::Several(nodes.clone()?),
+        };
+        Ok(NodeSet { listed })
     }
 }

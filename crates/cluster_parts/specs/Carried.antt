@@ -24,6 +24,7 @@ use Rattle.cluster_parts.specs.declared.carried.Carried.TheVariants as carried
 -- the message that was found
 abbrev pub message_of_found : Found → Message
 message_of_found (found.Kept own) = own.now
+message_of_found (found.Report node own) = message.Reported node own.block own.stamp own.length
 message_of_found (found.Keys node keys) = message.Node node (Keys keys.now)
 message_of_found (found.Recovery node own) = recover_message node own.now
 message_of_found (found.Removal node own) = removal_message node own

@@ -47,21 +47,28 @@ fn report(
     alloc: Global,
     node: NodeId,
     now: Moment,
-    block: BlockId,
-    stamp: Stamp,
-    length: u64,
+    replica: ReportedReplica,
 ) -> Result<Request, AllocError>
-    ensures { IfOk result (λ request. request ≡ report_request node now block stamp length) }
+    ensures { IfOk result (λ request. request ≡ report_request node now replica.block replica.stamp replica.length) }
 {
     Ok(Request {
         caller: principal_of(alloc, node)?,
         moment: now,
-        op: Op::Reported(ReportedReplica {
-            block,
-            stamp,
-            length,
-        }),
+        op: Op::Reported(replica),
     })
+}
+
+// Tells the NameNode that a DataNode holds a replica.
+fn carry_report(
+    alloc: Global,
+    node: NodeId,
+    now: Moment,
+    replica: ReportedReplica,
+) -> Result<Carried, AllocError>
+    ensures { IfOk result (λ carried. carried ≡ Carried.Told (report_request node now replica.block replica.stamp replica.length)) }
+{
+    let request = report(alloc, node, now, replica)?;
+    Ok(Carried::Told(request))
 }
 
 // The request by which a node ends a recovery that it led.
@@ -140,8 +147,12 @@ fn carry_message(
             Ok(Carried::Led(answered))
         }
         Message::Reported(node, block, stamp, length) => {
-            let request = report(alloc, *node, now, *block, *stamp, *length)?;
-            Ok(Carried::Told(request))
+            let replica = ReportedReplica {
+                block: *block,
+                stamp: *stamp,
+                length: *length,
+            };
+            carry_report(alloc, *node, now, replica)
         }
         Message::CommitRecovery(node, block, stamp, length, held_by) => {
             let request = commit(alloc, *node, now, *block, *stamp, *length, held_by)?;
@@ -223,6 +234,7 @@ fn carry_found(
 {
     match found {
         Found::Kept(message) => carry_message(alloc, nodes, leaders, now, message),
+        Found::Report(node, replica) => carry_report(alloc, *node, now, *replica),
         Found::Keys(node, keys) => carry_keys(nodes, *node, now, keys),
         Found::Recovery(node, own) => carry_recovery(leaders, *node, own),
         Found::Removal(node, own) => carry_removal(nodes, *node, now, *own),

@@ -42,7 +42,7 @@ pub fn note_answer(sent: &mut Sent, answered: Option<Answered>) -> Outcome
     let count = answered.messages.as_slice().len() as u64;
     Outcome {
         answer: EventAnswer::Called(answered.result),
-        first: sent.add(Source::Own(answered.messages), count),
+        first: sent.add(Source::of(answered.messages), count),
         count,
     }
 }
