@@ -8,7 +8,7 @@ ghost use Rattle.block_recovery.specs.Plans.{IsPlanFaultOf, with_entry_changed};
 use crate::answer::Answer;
 use crate::decision::{Commit, Decision};
 use crate::fault::{PlanFault, PlanRefusal};
-use crate::plan::Plan;
+use crate::plan::{KeptPlan, Plan};
 use hdfs_values::ids::Stamp;
 use node_ids::node_id::NodeId;
 use std::alloc::{AllocError, Global};
@@ -18,7 +18,7 @@ use std::marker::Model;
 // The plans of one block by their stamps.
 #[derive(Drop)]
 pub(crate) struct BlockPlans {
-    plans: BTreeMap<Stamp, Plan>,
+    plans: BTreeMap<Stamp, KeptPlan>,
 }
 
 impl Model for BlockPlans {
@@ -57,14 +57,23 @@ impl BlockPlans {
     pub(crate) fn get(&self, stamp: Stamp) -> Option<&Plan>
         ensures { option_copied result ≡ entry_at stamp self.now }
     {
-        self.plans.get(&stamp)
+        match self.plans.get(&stamp) {
+            Some(kept) => Some(kept.plan()),
+            None => None,
+        }
     }
 
-    pub(crate) fn insert(&mut self, stamp: Stamp, plan: Plan) -> Result<(), AllocError>
+    pub(crate) fn insert(
+        &mut self,
+        alloc: Global,
+        stamp: Stamp,
+        plan: Plan,
+    ) -> Result<(), AllocError>
         ensures ok { OnOk result (self.new ≡ insert_entry nat_cmp self.old stamp plan) }
         ensures err { OnErr result (self.new ≡ self.old) }
     {
-        self.plans.insert(stamp, plan)?;
+        let kept = KeptPlan::new(alloc, plan)?;
+        self.plans.insert(stamp, kept)?;
         Ok(())
     }
 

@@ -12,6 +12,7 @@ use block_answers::token_bytes::TokenBytes;
 use block_records::node_set::NodeSet;
 use node_ids::node_id::NodeId;
 use std::alloc::{AllocError, Global};
+use std::marker::Model;
 
 /// A recovery of a block that was begun (HDFS-265, "Block recovery").
 pub struct Plan {
@@ -137,5 +138,63 @@ impl Plan {
             length: decision.length,
             nodes: self.updated.nodes(alloc)?,
         })
+    }
+}
+
+// A plan in memory of its own, so that the table of a block's plans, of which there is mostly one, is small.
+#[derive(Drop)]
+pub(crate) struct KeptPlan {
+    plan: Box<Plan>,
+}
+
+impl Model for KeptPlan {
+    ghost use Rattle.block_recovery.specs.declared.plan.Plan.{Plan};
+
+    ghost Value = { Plan };
+
+    ghost view = { λ kept. kept.plan.value };
+}
+
+impl KeptPlan {
+    pub(crate) fn new(alloc: Global, plan: Plan) -> Result<KeptPlan, AllocError>
+        ensures { IfOk result (λ kept. kept ≡ plan) }
+    {
+        Ok(KeptPlan {
+            plan: Box::new(alloc, plan)?,
+        })
+    }
+
+    pub(crate) fn plan(&self) -> &Plan
+        ensures { result.now ≡ self.now }
+    {
+        &self.plan
+    }
+
+    pub(crate) fn reply(&mut self, node: NodeId, answer: Answer) -> Result<(), PlanFault>
+        ensures allowed { OnOk result (spec.refused_reply node (Some self.old) ≡ None) }
+        ensures ok { OnOk result (self.new ≡ spec.with_answer node answer self.old) }
+        ensures fault { IfErr result (IsPlanFaultOf (spec.refused_reply node (Some self.old))) }
+        ensures err { OnErr result (self.new ≡ self.old) }
+    {
+        self.plan.reply(node, answer)
+    }
+
+    pub(crate) fn decide(&mut self, alloc: Global) -> Result<Decision, PlanFault>
+        ensures allowed { OnOk result (spec.refused_decide (Some self.old) ≡ None) }
+        ensures told { IfOk result (λ decision. decision_of self.old.answers ≡ Some decision) }
+        ensures ok { OnOk result (self.new ≡ spec.with_decision self.old) }
+        ensures fault { IfErr result (IsPlanFaultOf (spec.refused_decide (Some self.old))) }
+        ensures err { OnErr result (self.new ≡ self.old) }
+    {
+        self.plan.decide(alloc)
+    }
+
+    pub(crate) fn update(&mut self, node: NodeId) -> Result<(), PlanFault>
+        ensures allowed { OnOk result (spec.refused_updated node (Some self.old) ≡ None) }
+        ensures ok { OnOk result (self.new ≡ spec.with_updated node self.old) }
+        ensures fault { IfErr result (IsPlanFaultOf (spec.refused_updated node (Some self.old))) }
+        ensures err { OnErr result (self.new ≡ self.old) }
+    {
+        self.plan.update(node)
     }
 }

@@ -75,10 +75,10 @@ impl Plans {
         ensures err { OnErr result (self.new ≡ self.old) }
     {
         if let Some(own) = self.by_block.get_mut(&block) {
-            return own.insert(stamp, plan);
+            return own.insert(self.alloc, stamp, plan);
         }
         let mut own = BlockPlans::new(self.alloc);
-        own.insert(stamp, plan)?;
+        own.insert(self.alloc, stamp, plan)?;
         self.by_block.insert(block, own)?;
         Ok(())
     }

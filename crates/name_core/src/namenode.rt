@@ -10,7 +10,6 @@ ghost use Rattle.name_core.specs.NameCore.{Steps, Looks, with_next_entry};
 
 use block_map::blocks::Blocks;
 use block_tokens::ring::KeyRing;
-use fs_operations::apply::answer_look;
 use grant_ledger::ledger::Ledger;
 use hdfs_types::key::Key;
 use hdfs_types::op::Request;
@@ -24,7 +23,7 @@ use history::recording::{RequestCopies, add_entry, copies, next_place};
 use inode_tree::tree::Tree;
 use lease_manager::open_paths::OpenPaths;
 use lease_manager::writers::Writers;
-use namesystem::namesystem::{Namesystem, perform, perform_with_copy};
+use namesystem::namesystem::{Namesystem, answer_look, perform, perform_with_copy};
 use namesystem::told::Told;
 use principals::users::Users;
 use std::alloc::{AllocError, Global};

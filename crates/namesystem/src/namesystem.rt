@@ -27,6 +27,7 @@ use file_takeovers::expiry::expire;
 use file_takeovers::recovery::end_recovery;
 use file_takeovers::taking::{reopen, take_over};
 use flat_rows::verdict::Verdict;
+pub use fs_operations::apply::answer_look;
 use fs_operations::apply::needs;
 use fs_operations::change::{apply_replication, apply_update};
 use fs_operations::read::answer;
