@@ -16,6 +16,7 @@ use Rattle.block_recovery.specs.Plans.{PlanTable}
 use Rattle.cluster_trace.specs.Trace.{recover_message, removal_message, copy_message, report_request, commit_request}
 use Rattle.cluster_parts.specs.Leaders.{plans_led, answer_led}
 use Rattle.cluster_parts.specs.Nodes.{nodes_after, answer_at}
+use Rattle.cluster_parts.specs.Single.{message_of_single}
 use Rattle.cluster_parts.specs.declared.found.Found.{Found}
 use Rattle.cluster_parts.specs.declared.found.Found.TheVariants as found
 use Rattle.cluster_parts.specs.declared.carried.Carried.{Carried}
@@ -24,7 +25,7 @@ use Rattle.cluster_parts.specs.declared.carried.Carried.TheVariants as carried
 -- the message that was found
 abbrev pub message_of_found : Found → Message
 message_of_found (found.Kept own) = own.now
-message_of_found (found.Report node own) = message.Reported node own.block own.stamp own.length
+message_of_found (found.Single own) = message_of_single own
 message_of_found (found.Keys node keys) = message.Node node (Keys keys.now)
 message_of_found (found.Recovery node own) = recover_message node own.now
 message_of_found (found.Removal node own) = removal_message node own

@@ -1,6 +1,7 @@
 pub mod Nodes
 pub mod Leaders
 pub mod Sent
+pub mod Single
 pub mod Carried
 pub mod Kept
 pub mod Noted

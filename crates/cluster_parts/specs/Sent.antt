@@ -1,14 +1,14 @@
 -- How the messages are kept: in batches, each of one event. A batch is the commands of an entry of the NameNode's history, which stay
--- there, a single report, or a list of its own. The history has the oldest entry first here.
+-- there, a single message of a few numbers, or a list of its own. The history has the oldest entry first here.
 use Rattle.std.specs.Prelude.{◌≡◌, ℕ, ◌+◌, ◌<◌, List, [], ◌∷◌, length, flat_map, Option, Some, None, slice_get}
 use Rattle.std.specs.Bool.{⊤}
 use Rattle.history.specs.declared.entry.HistoryEntry.{HistoryEntry}
 use Rattle.node_calls.specs.declared.message.Message.{Message}
-use Rattle.node_calls.specs.declared.message.Message.TheVariants.{Reported}
+use Rattle.cluster_parts.specs.Single.{message_of_single}
 use Rattle.cluster_trace.specs.Trace.{entry_messages}
 use Rattle.cluster_parts.specs.declared.sent.Batch.{Batch}
 use Rattle.cluster_parts.specs.declared.sent.Source.{Source}
-use Rattle.cluster_parts.specs.declared.sent.Source.TheVariants.{Entry, Report, Own}
+use Rattle.cluster_parts.specs.declared.sent.Source.TheVariants.{Entry, Single, Own}
 
 abbrev pub messages_at : Option HistoryEntry → List Message
 messages_at None = []
@@ -16,7 +16,7 @@ messages_at (Some entry) = entry_messages entry
 
 abbrev pub source_messages : List HistoryEntry → Source → List Message
 source_messages history (Entry index) = messages_at (slice_get history index)
-source_messages history (Report node replica) = Reported node replica.block replica.stamp replica.length ∷ []
+source_messages history (Single own) = message_of_single own ∷ []
 source_messages history (Own messages) = messages
 
 abbrev pub messages_of : List HistoryEntry → List Batch → List Message
@@ -25,7 +25,7 @@ messages_of history batches = flat_map (λ (batch : Batch). source_messages hist
 -- the entry stands in the history
 abbrev pub IsWithin : List HistoryEntry → Source → Type 0
 IsWithin history (Entry index) = index < length history
-IsWithin history (Report node replica) = ⊤
+IsWithin history (Single own) = ⊤
 IsWithin history (Own messages) = ⊤
 
 -- behind so many messages, each batch says the number of its first, and so many there are in the end

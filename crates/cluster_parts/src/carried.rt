@@ -1,18 +1,20 @@
-ghost use Rattle.std.specs.Prelude.{◌≡◌, IfOk, OnOk, OnErr, Some};
+ghost use Rattle.std.specs.Prelude.{◌≡◌, ℕ, List, IfOk, OnOk, OnErr, Some};
 ghost use Rattle.node_calls.specs.declared.call.NodeCall.TheVariants as asked;
 ghost use Rattle.node_calls.specs.declared.call.PlanCall.TheVariants as plan;
-ghost use Rattle.datanode.specs.NodeStep.{copy_call};
+ghost use Rattle.datanode.specs.NodeStep.{DataNode, copy_call};
 ghost use Rattle.cluster_trace.specs.Trace.{report_request, commit_request};
 ghost use Rattle.cluster_trace.specs.Typed.{PresentsBytes, CallFits};
 ghost use Rattle.cluster_trace.specs.Provenance.{call_brought};
 ghost use Rattle.cluster_parts.specs.Carried.{message_of_found, found_message, carried_out, nodes_carried, plans_carried};
 ghost use Rattle.cluster_parts.specs.Leaders.{plans_led, answer_led};
 ghost use Rattle.cluster_parts.specs.Nodes.{nodes_after, answer_at};
+ghost use Rattle.cluster_parts.specs.Single.{message_of_single};
 
 use crate::found::Found;
 use crate::leaders::Leaders;
 use crate::nodes::Nodes;
 use crate::ranges::read_call;
+use crate::single::Single;
 use block_answers::commands::{CopyOrder, Recover, Removal};
 use block_answers::key_list::KeyList;
 use block_records::node_set::NodeSet;
@@ -21,7 +23,7 @@ use hdfs_types::op::{Op, Request};
 use hdfs_types::replica::{RecoveredBlock, ReportedReplica};
 use hdfs_values::ids::{BlockId, Stamp};
 use hdfs_values::moment::Moment;
-use node_calls::call::{NodeCall, TokenCall};
+use node_calls::call::{NodeCall, PlanCall, TokenCall};
 use node_calls::message::Message;
 use node_calls::presented::{Presented, PresentedToken};
 use node_calls::principal::principal_of;
@@ -126,6 +128,42 @@ fn call(
     Ok(Carried::Called(answered))
 }
 
+// Calls a DataNode about a recovery that it leads.
+fn carry_plan(leaders: &mut Leaders, leader: NodeId, call: &PlanCall) -> Result<Carried, AllocError>
+    ensures ok { OnOk result (leaders.new ≡ plans_led leader call.now leaders.old) }
+    ensures carried { IfOk result (λ carried. carried ≡ Carried.Led (answer_led leader call.now leaders.old)) }
+    ensures err { OnErr result (leaders.new ≡ leaders.old) }
+{
+    let answered = leaders.lead(leader, call)?;
+    Ok(Carried::Led(answered))
+}
+
+// Carries out a message of a few numbers.
+fn carry_single(
+    alloc: Global,
+    leaders: &mut Leaders,
+    now: Moment,
+    single: Single,
+) -> Result<Carried, AllocError>
+    ensures leaders { OnOk result (leaders.new ≡ plans_carried leaders.old (Some (message_of_single single))) }
+    ensures carried { (nodes : List (ℕ × DataNode)) → IfOk result (λ carried. carried ≡ carried_out nodes leaders.old now (Some (message_of_single single))) }
+    ensures nodes { (nodes : List (ℕ × DataNode)) → nodes_carried nodes now (Some (message_of_single single)) ≡ nodes }
+    ensures bytes { CallFits (call_brought now (Some (message_of_single single))) }
+    ensures err { OnErr result (leaders.new ≡ leaders.old) }
+{
+    match single {
+        Single::Report(node, replica) => carry_report(alloc, node, now, replica),
+        Single::Reply(state, leader, node, block, stamp, length) => carry_plan(
+            leaders,
+            leader,
+            &PlanCall::Reply(node, block, stamp, state, length),
+        ),
+        Single::Updated(leader, node, block, stamp) => {
+            carry_plan(leaders, leader, &PlanCall::Updated(node, block, stamp))
+        }
+    }
+}
+
 // Carries out a message that is kept on its own.
 fn carry_message(
     alloc: Global,
@@ -142,10 +180,7 @@ fn carry_message(
 {
     match message {
         Message::Node(node, asked) => call(nodes, *node, now, asked),
-        Message::Plan(node, asked) => {
-            let answered = leaders.lead(*node, asked)?;
-            Ok(Carried::Led(answered))
-        }
+        Message::Plan(node, asked) => carry_plan(leaders, *node, asked),
         Message::Reported(node, block, stamp, length) => {
             let replica = ReportedReplica {
                 block: *block,
@@ -234,7 +269,7 @@ fn carry_found(
 {
     match found {
         Found::Kept(message) => carry_message(alloc, nodes, leaders, now, message),
-        Found::Report(node, replica) => carry_report(alloc, *node, now, *replica),
+        Found::Single(single) => carry_single(alloc, leaders, now, *single),
         Found::Keys(node, keys) => carry_keys(nodes, *node, now, keys),
         Found::Recovery(node, own) => carry_recovery(leaders, *node, own),
         Found::Removal(node, own) => carry_removal(nodes, *node, now, *own),

@@ -1,14 +1,14 @@
 ghost use Rattle.std.specs.Prelude.{◌≡◌, ℕ, ◌<◌, ◌^◌, [], ◌∷◌, length, option_map, slice_get};
-ghost use Rattle.node_calls.specs.declared.message.Message.TheVariants as message;
 ghost use Rattle.cluster_trace.specs.Trace.{command_messages, entry_messages, message_at};
 ghost use Rattle.cluster_parts.specs.Sent.{messages_at, messages_of, AreLaid};
+ghost use Rattle.cluster_parts.specs.Single.{message_of_single};
 ghost use Rattle.cluster_parts.specs.Carried.{message_of_found, commands_seen, commands_for};
 
 use crate::sent::{Sent, Source, begun_near};
+use crate::single::Single;
 use block_answers::commands::{Commands, CopyOrder, Recover, Removal};
 use block_answers::key_list::KeyList;
 use flat_rows::verdict::Verdict;
-use hdfs_types::replica::ReportedReplica;
 use hdfs_types::reply::Reply;
 use history::entry::HistoryEntry;
 use node_calls::message::{Message, Messages};
@@ -19,8 +19,8 @@ use node_ids::node_id::{NodeId, node_of};
 pub enum Found<'a> {
     /// A message that is kept on its own.
     Kept(&'a Message),
-    /// The DataNode tells the NameNode that it holds this replica.
-    Report(NodeId, ReportedReplica),
+    /// A message of a few numbers.
+    Single(Single),
     /// The DataNode is brought these keys.
     Keys(NodeId, &'a KeyList),
     /// The DataNode is to lead this recovery of a block.
@@ -112,13 +112,13 @@ fn history_message(history: &[HistoryEntry], entry: usize, index: usize) -> Opti
 }
 
 // The message at an index, where there is this one alone.
-fn only_message<'a>(node: NodeId, replica: ReportedReplica, index: usize) -> Option<Found<'a>>
-    ensures { option_map message_of_found result ≡ slice_get (message.Reported node replica.block replica.stamp replica.length ∷ []) index }
+fn only_message<'a>(single: Single, index: usize) -> Option<Found<'a>>
+    ensures { option_map message_of_found result ≡ slice_get (message_of_single single ∷ []) index }
 {
     if index != 0 {
         return None;
     }
-    Some(Found::Report(node, replica))
+    Some(Found::Single(single))
 }
 
 // The message at an index of a list.
@@ -152,7 +152,7 @@ pub fn find<'a>(
     let index = (number - batch.first) as usize;
     match &batch.source {
         Source::Entry(entry) => history_message(history, *entry, index),
-        Source::Report(node, replica) => only_message(*node, *replica, index),
+        Source::Single(single) => only_message(*single, index),
         Source::Own(messages) => own_message(messages, index),
     }
 }

@@ -10,3 +10,4 @@ pub mod nodes;
 pub mod noted;
 pub mod ranges;
 pub mod sent;
+pub mod single;

@@ -2,20 +2,18 @@ ghost use Rattle.std.specs.Prelude.{◌≡◌, ℕ, ◌+◌, ◌<◌, ◌≤◌,
 ghost use Rattle.history.specs.declared.entry.HistoryEntry.{HistoryEntry};
 ghost use Rattle.cluster_parts.specs.Sent.{source_messages, messages_of, IsWithin, AreLaid};
 ghost use Rattle.cluster_parts.specs.declared.sent.Batch.{Batch};
-ghost use Rattle.node_calls.specs.declared.message.Message.TheVariants as message;
+ghost use Rattle.cluster_parts.specs.Single.{message_of_single};
 
-use hdfs_types::replica::ReportedReplica;
-use node_calls::message::{Message, Messages};
-use node_ids::node_id::NodeId;
+use crate::single::Single;
+use node_calls::message::Messages;
 use std::alloc::{AllocError, Global};
 
 /// Where the messages of one event are.
 pub enum Source {
     /// They are the commands in the entry with this index of the NameNode's history.
     Entry(usize),
-    /// There is one, in which this DataNode tells the NameNode that it holds this replica. It stands here, so that who finds the batch has
-    /// the message at hand.
-    Report(NodeId, ReportedReplica),
+    /// There is this one.
+    Single(Single),
     /// They are these.
     Own(Messages),
 }
@@ -24,41 +22,31 @@ impl Drop for Source {
     fn drop(self) {
         match self {
             Source::Entry(_) => {}
-            Source::Report(_, _) => {}
+            Source::Single(_) => {}
             Source::Own(part) => drop(part),
         }
     }
 }
 
-// The report that a list is, where it is one.
-fn report_of(messages: &Messages) -> Option<(NodeId, ReportedReplica)>
-    ensures { IfSome result (λ report. messages.now ≡ message.Reported report.0 report.1.block report.1.stamp report.1.length ∷ []) }
+// The message that a list holds, where it holds one, of a few numbers.
+fn single_of(messages: &Messages) -> Option<Single>
+    ensures { IfSome result (λ single. messages.now ≡ message_of_single single ∷ []) }
 {
     let messages = messages.as_slice();
     if messages.len() != 1 {
         return None;
     }
-    match &messages[0] {
-        Message::Reported(node, block, stamp, length) => Some((
-            *node,
-            ReportedReplica {
-                block: *block,
-                stamp: *stamp,
-                length: *length,
-            },
-        )),
-        _ => None,
-    }
+    Single::of(&messages[0])
 }
 
 impl Source {
-    /// These messages, of which one that is a report takes no memory. Takes none.
+    /// These messages; one of a few numbers alone is kept without memory. Takes none.
     pub fn of(messages: Messages) -> Source
         ensures messages { (history : List HistoryEntry) → source_messages history result ≡ messages }
         ensures within { (history : List HistoryEntry) → IsWithin history result }
     {
-        match report_of(&messages) {
-            Some((node, replica)) => Source::Report(node, replica),
+        match single_of(&messages) {
+            Some(single) => Source::Single(single),
             None => Source::Own(messages),
         }
     }
