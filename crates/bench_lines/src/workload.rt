@@ -50,6 +50,8 @@ pub struct Block {
 /// - `step_stat`: a caller asks as often what has a path, among as many closed files.
 /// - `script`: half of the lines make a directory, and the others look at one.
 /// - `addblock`: each file gets its first block: its nodes are chosen, and the writer is granted a token.
+/// - `addblock_complete`: files of one block are made, the block is written on one DataNode, which reports it, and the files are closed with
+///   its length. An operation is one block, of seven lines.
 /// - `open`: a caller opens files, among as many whose one block isn't committed. Nothing is granted.
 /// - `open_granted`: a caller opens as often files, of which each block has a length and a DataNode that holds it: it is told, and a
 ///   token to read it is granted.
@@ -80,6 +82,7 @@ tick_expired 1000 open writers older_files late_files | late_tick
 step_stat lines open writers closed_files | looks
 script lines shared | mix
 addblock lines open writers nodes creations | first_blocks
+addblock_complete size open writers one_node | held_blocks reports ends_of_held
 open lines open writers nodes creations first_blocks | openings
 open_granted lines open writers one_node held_blocks reports ends_of_held | openings
 report lines open writers one_node held_blocks | reports

@@ -69,7 +69,13 @@ impl Model for Blocks {
 impl Blocks {
     /// No block is known, and no DataNode. The limits are in milliseconds; blocks and stamps are given from these numbers on.
     /// Takes no memory.
-    pub fn new(alloc: Global, dead: u32, retry: u32, first_block: u64, first_stamp: u64) -> Blocks
+    pub fn new(
+        alloc: Global,
+        dead: u32,
+        retry: u32,
+        first_block: BlockId,
+        first_stamp: Stamp,
+    ) -> Blocks
         ensures { result ≡ record { retry = retry; known = record { next_block = first_block; next_stamp = first_stamp; blocks = [] }; nodes = record { dead = dead; last = [] }; marks = []; queued = [] } }
     {
         Blocks {

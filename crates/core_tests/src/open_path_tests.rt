@@ -1,6 +1,7 @@
-//! Where the files are that clients have open.
+//! Where the files are that clients have open, and those whose last block is recovered.
 
 use file_paths::path::Path;
+use hdfs_values::ids::BlockId;
 use hdfs_values::who::Who;
 use lease_manager::open_paths::OpenPaths;
 use std::alloc::Global;
@@ -19,6 +20,14 @@ enum Noted {
     Closed,
     // by bob, who has nothing open
     ClosedByOther,
+    // of this block, which alice wrote
+    RecoveryBegun(u64),
+    // of this block, whose file moves to another path
+    RecoveryMoved(&'static str, u64),
+    RecoveryBegunAnew(u64),
+    RecoveryEnded(u64),
+    // with this block
+    DeletedWith(u64),
 }
 
 // Notes what happens at a path.
@@ -37,14 +46,25 @@ fn note(
         Noted::Deleted => paths.delete(path, clients, &[]),
         Noted::Closed => paths.close(path, alice),
         Noted::ClosedByOther => paths.close(path, bob),
+        Noted::RecoveryBegun(block) => paths.recover(path, alice, BlockId::new(block)),
+        Noted::RecoveryMoved(to, block) => {
+            paths.move_recovery(&Path::parse(alloc, to)?, BlockId::new(block))
+        }
+        Noted::RecoveryBegunAnew(block) => paths.keep_recovery(path, BlockId::new(block)),
+        Noted::RecoveryEnded(block) => paths.end_recovery(BlockId::new(block)),
+        Noted::DeletedWith(block) => paths.delete(path, clients, &[BlockId::new(block)]),
     }
     Ok(())
 }
 
-// Writes the paths of the files that a client has open, each with a blank behind it, and a stop behind all.
+// Writes the paths of the files that a client has open, each with a blank behind it, then that of the file whose block 7 is recovered, and a
+// stop behind all.
 fn tell(paths: &OpenPaths, client: &Who, text: &mut String) -> Result<(), Fail> {
     for path in &paths.of_client(client)? {
         write!(text, "{path} ")?;
+    }
+    if let Some(path) = paths.of_recovery(BlockId::new(7)) {
+        write!(text, "7 at {path} ")?;
     }
     Ok(text.push('.')?)
 }
@@ -106,6 +126,45 @@ fn files_are_known_as_long_as_they_are_open(rt: HostRuntime) -> Result<(), Fail>
     assert_eq!(rt;
         text.as_str(),
         "/a/b ./a/b /a/c/d ./a/b /a/c/d /a-b ./a-b ./a-b .."
+    );
+    Ok(())
+}
+
+const RECOVERED: [(Noted, &str); 6] = [
+    (Noted::Opened, "/a/b"),
+    (Noted::Opened, "/a/c"),
+    (Noted::RecoveryBegun(7), "/a/b"),
+    (Noted::DirectoryMoved("/x"), "/a"),
+    (Noted::RecoveryMoved("/y", 7), "/x/b"),
+    (Noted::RecoveryEnded(7), "/y"),
+];
+
+#[test]
+fn files_are_known_behind_the_recovery_of_another(rt: HostRuntime) -> Result<(), Fail> {
+    let text = told(rt.alloc(), &RECOVERED)?;
+    assert_eq!(rt;
+        text.as_str(),
+        "/a/b ./a/b /a/c ./a/c 7 at /a/b ./x/c 7 at /x/b ./x/c 7 at /y ./x/c ."
+    );
+    Ok(())
+}
+
+const FORGOTTEN: [(Noted, &str); 7] = [
+    (Noted::Opened, "/a/b"),
+    (Noted::Opened, "/c"),
+    (Noted::RecoveryBegun(7), "/a/b"),
+    (Noted::DeletedWith(8), "/z"),
+    (Noted::DeletedWith(7), "/a"),
+    (Noted::RecoveryBegunAnew(7), "/d"),
+    (Noted::RecoveryBegunAnew(7), "/e"),
+];
+
+#[test]
+fn a_recovery_is_forgotten_with_its_block_and_known_anew(rt: HostRuntime) -> Result<(), Fail> {
+    let text = told(rt.alloc(), &FORGOTTEN)?;
+    assert_eq!(rt;
+        text.as_str(),
+        "/a/b ./a/b /c ./c 7 at /a/b ./c 7 at /a/b ./c ./c 7 at /d ./c 7 at /e ."
     );
     Ok(())
 }

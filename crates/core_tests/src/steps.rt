@@ -130,9 +130,10 @@ fn append(
             nodes,
         })
     };
-    core.append(0, 0, Request { caller, moment, op })?;
-    let entry = core.last().ok_or("an entry")?;
-    write_verdict(0, &entry.verdict, text)
+    let request = Request { caller, moment, op };
+    let answer = core.step(0, 0, &request);
+    drop(request);
+    write_verdict(0, &answer?.verdict, text)
 }
 
 fn replica(block: u64, stamp: u64, length: u64) -> ReportedReplica {

@@ -87,6 +87,21 @@ fn note_taken(open_paths: &mut OpenPaths, path: &Path, holder: &Who, block: Opti
     }
 }
 
+/// Notes that a recovery that lasted too long begins anew, so that the tree isn't gone through for it a second time.
+fn note_begun_anew(open_paths: &mut OpenPaths, path: &Path, block: Option<BlockId>) {
+    if let Some(block) = block {
+        open_paths.keep_recovery(path, block);
+    }
+}
+
+/// Notes where a file is that stays as it is, since no recovery can begin, so that the tree isn't gone through for it at each tick.
+fn note_left(open_paths: &mut OpenPaths, path: &Path, file: &Sought) {
+    match &file.holder {
+        Some(holder) => open_paths.keep_open(path, holder),
+        None => note_begun_anew(open_paths, path, file.block),
+    }
+}
+
 /// Gives a file another state, in which nobody has it open, and notes that. Takes no memory but for the note.
 fn take(
     tree: &mut Tree,
@@ -106,6 +121,7 @@ fn take(
 {
     let Some(holder) = &file.holder else {
         tree.rewrite(path, Change::State(state));
+        note_begun_anew(open_paths, path, file.block);
         return;
     };
     end_writing(tree, writers, path, holder, state);
@@ -129,8 +145,9 @@ fn take_where(
     ensures limits { writers.new.leases.limits ≡ writers.old.leases.limits }
     ensures latest { lease.latest_moment writers.new.leases.renewals ≤ lease.latest_moment writers.old.leases.renewals }
 {
-    if let Some(state) = state {
-        take(tree, writers, open_paths, path, file, state);
+    match state {
+        Some(state) => take(tree, writers, open_paths, path, file, state),
+        None => note_left(open_paths, path, file),
     }
 }
 

@@ -18,21 +18,21 @@ use hdfs_values::who::Who;
 use inode_tree::tree::Tree;
 use lease_manager::open_paths::OpenPaths;
 use lease_manager::writers::Writers;
-use namespace_rows::file_row::FileRow;
+use namespace_rows::file_row::{FileRow, ShownFile};
 use namespace_rows::row::Row;
 use std::alloc::{AllocError, Global};
 use std::collections::BTreeMap;
 
 // ---- one file
 
-/// What a tick does with a file of a client whose lease is past the hard limit.
-fn taken_from(holder: &Who, file: &FileRow) -> Result<Sought, AllocError>
-    ensures { IfOk result (λ sought. sought ≡ record { holder = Some holder.now; block = unfinished_block file.now.blocks }) }
+/// What a tick does with a file of a client whose lease is past the hard limit, where this is its last block, if that isn't committed.
+fn taken_from(holder: &Who, unfinished: Option<BlockId>) -> Result<Sought, AllocError>
+    ensures { IfOk result (λ sought. sought ≡ record { holder = Some holder.now; block = unfinished }) }
 {
     let holder = holder.clone()?;
     Ok(Sought {
         holder: Some(holder),
-        block: file.blocks.unfinished(),
+        block: unfinished,
     })
 }
 
@@ -53,7 +53,7 @@ fn held_by(file: &FileRow, client: &Who) -> Result<Option<Sought>, AllocError>
     if client != holder {
         return Ok(None);
     }
-    let sought = taken_from(holder, file)?;
+    let sought = taken_from(holder, file.blocks.unfinished())?;
     Ok(Some(sought))
 }
 
@@ -206,20 +206,20 @@ fn have_open(writers: &Writers, clients: &[Who], number: usize, beside: usize) -
 
 /// What a tick does with a file, where these clients' leases are past the hard limit. Costs the clients.
 fn sought_of(
-    file: &FileRow,
+    file: &ShownFile,
     past: &[Who],
     retry: u32,
     now: Moment,
 ) -> Result<Option<Sought>, AllocError>
     ensures { IfOk result (λ sought. sought ≡ spec.sought_by (record { past = past.now; retry = retry; now = now }) (Some file.now)) }
 {
-    match &file.state {
+    match file.state() {
         FileState::Closed => Ok(None),
         FileState::Open(holder) => {
             if !past.contains(holder) {
                 return Ok(None);
             }
-            let sought = taken_from(holder, file)?;
+            let sought = taken_from(holder, file.blocks().unfinished())?;
             Ok(Some(sought))
         }
         FileState::Recovering(block, _, begun) => {

@@ -60,7 +60,7 @@ fn status_of(alloc: Global, component: &Component) -> Result<Reply, AllocError>
     Ok(Reply::Status(BoxedStatus::new(alloc, status)?))
 }
 
-/// Reports what has a path. Costs also the blocks of a file.
+/// Reports what has a path.
 fn stat(
     alloc: Global,
     tree: &Tree,
@@ -197,9 +197,9 @@ fn summary(
 }
 
 /// Answers a verb that changes nothing, with its needs, over what is lent: the first need that fails, or else the first refusal of the
-/// operation's list that applies, or else what it asks for. Costs the path that it names, one look-up in a map for each name; `stat`
-/// also the blocks of the file, `ls` what is listed, and `du` the sub-tree with its blocks (HDFS Architecture, "The File
-/// System Namespace"; HDFS Permissions Guide, "Permission Checks").
+/// operation's list that applies, or else what it asks for. Costs the path that it names, one look-up in a map for each name; `ls`
+/// also what is listed, and `du` the sub-tree (HDFS Architecture, "The File System Namespace"; HDFS Permissions Guide, "Permission
+/// Checks").
 ///
 /// # Errors
 /// Out of memory.

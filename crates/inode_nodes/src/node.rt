@@ -13,7 +13,7 @@ use file_paths::name::Name;
 use hdfs_types::file::FileState;
 use hdfs_types::reply::ObjectKind;
 use hdfs_values::who::Who;
-use namespace_rows::file_row::FileRow;
+use namespace_rows::file_row::{FileRow, ShownFile};
 use permission_bits::rights::Rights;
 use std::alloc::{AllocError, Global};
 use std::collections::BTreeMap;
@@ -116,15 +116,15 @@ impl Node {
         }
     }
 
-    /// A copy of it.
+    /// It as it is, to be kept. Costs what `FileBlocks::shown` does.
     ///
     /// # Errors
     /// Out of memory.
-    pub fn file_copy(&self) -> Result<Option<FileRow>, AllocError>
+    pub fn file_shown(&self) -> Result<Option<ShownFile>, AllocError>
         ensures { IfOk result (λ file. file ≡ self.now.top.file) }
     {
         match self.file() {
-            Some(file) => Ok(Some(file.clone()?)),
+            Some(file) => Ok(Some(file.shown()?)),
             None => Ok(None),
         }
     }

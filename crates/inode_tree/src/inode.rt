@@ -11,7 +11,7 @@ use file_paths::name::Name;
 use hdfs_types::reply::ObjectKind;
 use hdfs_values::who::Who;
 use inode_nodes::node::Node;
-use namespace_rows::file_row::FileRow;
+use namespace_rows::file_row::{FileRow, ShownFile};
 use permission_bits::rights::Rights;
 use std::alloc::AllocError;
 
@@ -64,14 +64,14 @@ impl<'a> Inode<'a> {
         self.node.file()
     }
 
-    /// A copy of it. Costs the blocks of the file.
+    /// It as it is, to be kept. Costs what `FileBlocks::shown` does.
     ///
     /// # Errors
     /// Out of memory.
-    pub fn file_copy(&self) -> Result<Option<FileRow>, AllocError>
+    pub fn file_shown(&self) -> Result<Option<ShownFile>, AllocError>
         ensures { IfOk result (λ file. file ≡ (branch_at self.now).top.file) }
     {
-        self.node.file_copy()
+        self.node.file_shown()
     }
 
     /// The client who has the file open.

@@ -103,12 +103,12 @@ fn begin_each(table: &mut WatchedTable, begun: &[BegunRecovery], now: Moment)
 
 impl KnownBlocks {
     /// No block is known; blocks and stamps are given from these numbers on. Takes no memory.
-    pub fn new(alloc: Global, first_block: u64, first_stamp: u64) -> KnownBlocks
+    pub fn new(alloc: Global, first_block: BlockId, first_stamp: Stamp) -> KnownBlocks
         ensures { result ≡ record { next_block = first_block; next_stamp = first_stamp; blocks = [] } }
     {
         KnownBlocks {
-            next_block: first_block,
-            next_stamp: first_stamp,
+            next_block: first_block.get(),
+            next_stamp: first_stamp.get(),
             table: WatchedTable::new(alloc),
             running: BlockSet::new(alloc),
             alloc,

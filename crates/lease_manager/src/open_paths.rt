@@ -130,6 +130,16 @@ impl OpenPaths {
         let _noted = self.put(path, client);
     }
 
+    /// Notes that a client has a file open, where that isn't known any more. Where there is no memory for the path, it is left out.
+    pub fn keep_open(&mut self, path: &Path, client: &Who) {
+        if let Some(paths) = self.clients.get(client)
+            && paths.contains(path)
+        {
+            return;
+        }
+        self.open(path, client);
+    }
+
     fn put(&mut self, path: &Path, client: &Who) -> Result<(), AllocError> {
         let path = path.clone()?;
         if let Some(paths) = self.clients.get_mut(client) {
@@ -167,6 +177,16 @@ impl OpenPaths {
     fn put_recovery(&mut self, path: &Path, block: BlockId) -> Result<(), AllocError> {
         self.recovering.insert(block, path.clone()?)?;
         Ok(())
+    }
+
+    /// Notes that a file's last block is recovered, where that isn't known any more. Where there is no memory for the path, it is left out.
+    pub fn keep_recovery(&mut self, path: &Path, block: BlockId) {
+        if let Some(known) = self.of_recovery(block)
+            && known == path
+        {
+            return;
+        }
+        let _noted = self.put_recovery(path, block);
     }
 
     /// Notes that the recovery of a block has ended. Takes no memory.

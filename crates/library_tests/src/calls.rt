@@ -331,7 +331,8 @@ pub struct Case {
 
 /// Writes what the calls of a case answer.
 pub fn tell(alloc: Global, case: &Case, text: &mut String) -> Result<(), Fail> {
-    let mut blocks = Blocks::new(alloc, DEAD, RETRY, case.first_block, case.first_stamp);
+    let (block, stamp) = (BlockId::new(case.first_block), Stamp::new(case.first_stamp));
+    let mut blocks = Blocks::new(alloc, DEAD, RETRY, block, stamp);
     let done = perform(alloc, &mut blocks, case.calls, text);
     drop(blocks);
     done

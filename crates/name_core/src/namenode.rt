@@ -14,7 +14,7 @@ use grant_ledger::ledger::Ledger;
 use hdfs_types::key::Key;
 use hdfs_types::op::Request;
 use hdfs_values::fault::ParseFault;
-use hdfs_values::ids::Serial;
+use hdfs_values::ids::{BlockId, Serial, Stamp};
 use hdfs_values::moment::Moment;
 use hdfs_values::who::Who;
 use history::config::Config;
@@ -126,6 +126,7 @@ impl NameCore {
         let users = Users::new(alloc, superuser, supergroup);
         let first = config.first();
         let serial = Serial::new(first.serial);
+        let (block, stamp) = (BlockId::new(first.block), Stamp::new(first.stamp));
         let (dead, retry) = (durations.dead_limit, durations.retry_limit);
         Ok(NameCore {
             config,
@@ -135,7 +136,7 @@ impl NameCore {
                 users,
                 writers,
                 ring: KeyRing::new(alloc, serial, key, durations.token_lifetime),
-                blocks: Blocks::new(alloc, dead, retry, first.block, first.stamp),
+                blocks: Blocks::new(alloc, dead, retry, block, stamp),
             },
             open_paths: OpenPaths::new(alloc),
             ledger: Ledger::new(alloc),

@@ -2,7 +2,7 @@ ghost use Rattle.std.specs.Prelude.{◌≡◌, IfOk};
 ghost use Rattle.namespace_rows.specs.Rows as spec;
 ghost use Rattle.namespace_rows.specs.Judgement.{judgement};
 
-use crate::file_row::FileRow;
+use crate::file_row::ShownFile;
 use acl_entries::access_check::chosen;
 use acl_entries::acl::Acl;
 use acl_entries::deciding_entry::Chosen;
@@ -23,7 +23,7 @@ pub struct Row {
     pub group: Who,
     pub acl: Acl,
     /// What a file has beside what a directory has; `None` for a directory.
-    pub file: Option<FileRow>,
+    pub file: Option<ShownFile>,
 }
 
 impl Drop for Row {
@@ -70,7 +70,7 @@ impl Row {
 }
 
 /// A copy of what a file has; a directory has none.
-fn copied(file: &Option<FileRow>) -> Result<Option<FileRow>, AllocError>
+fn copied(file: &Option<ShownFile>) -> Result<Option<ShownFile>, AllocError>
     ensures { IfOk result (λ copy. copy ≡ file.now) }
 {
     match file {

@@ -84,7 +84,8 @@ impl<'a> Component<'a> {
         Ok((path, owner, group))
     }
 
-    /// A copy, as a row of the namespace. Costs the path, and the blocks of a file.
+    /// A copy, as a row of the namespace. Costs the path, and a look at the blocks of a file, which the rows of one file share as long as they
+    /// stay the same.
     ///
     /// # Errors
     /// Out of memory.
@@ -93,7 +94,7 @@ impl<'a> Component<'a> {
     {
         let (path, owner, group) = self.copied_names(alloc)?;
         let acl = self.inode.acl().clone()?;
-        let file = self.inode.file_copy()?;
+        let file = self.inode.file_shown()?;
         Ok(Row {
             path,
             kind: self.inode.kind(),

@@ -41,7 +41,7 @@ pub fn standing<'a>(alloc: Global, reach: Reach<'a>) -> Result<Found<'a>, AllocE
     }
 }
 
-/// The bytes of the blocks of a file whose length is committed. Costs its blocks, and takes no memory.
+/// The bytes of the blocks of a file whose length is committed. Takes no memory.
 ///
 /// # Errors
 /// Out of memory stands for a number that doesn't fit in 64 bits.

@@ -2,7 +2,7 @@ ghost use Rattle.std.specs.Prelude.{◌≡◌};
 ghost use Rattle.std.specs.Bool.{Decides};
 
 use hdfs_types::file::FileState;
-use namespace_rows::file_row::{FileBlock, FileRow};
+use namespace_rows::file_row::{ShownFile, are_same_blocks};
 use namespace_rows::row::Row;
 use same_values::acls::is_same_acl;
 use same_values::names::{is_same_path, is_same_who};
@@ -21,35 +21,15 @@ pub fn is_same_state(state: &FileState, other: &FileState) -> bool
     }
 }
 
-fn is_same_block(block: FileBlock, other: FileBlock) -> bool
-    ensures { Decides result (block ≡ other) }
-{
-    block.id == other.id && block.committed == other.committed
-}
-
-fn are_same_blocks(blocks: &[FileBlock], others: &[FileBlock]) -> bool
-    ensures { Decides result (blocks.now ≡ others.now) }
-{
-    if blocks.len() != others.len() {
-        return false;
-    }
-    for i in 0..blocks.len() {
-        if !is_same_block(blocks[i], others[i]) {
-            return false;
-        }
-    }
-    true
-}
-
-fn is_same_file(file: &FileRow, other: &FileRow) -> bool
+fn is_same_file(file: &ShownFile, other: &ShownFile) -> bool
     ensures { Decides result (file.now ≡ other.now) }
 {
-    file.replication == other.replication
-        && are_same_blocks(file.blocks.as_slice(), other.blocks.as_slice())
-        && is_same_state(&file.state, &other.state)
+    file.replication() == other.replication()
+        && are_same_blocks(file.blocks().as_slice(), other.blocks().as_slice())
+        && is_same_state(file.state(), other.state())
 }
 
-fn is_same_optional_file(file: &Option<FileRow>, other: &Option<FileRow>) -> bool
+fn is_same_optional_file(file: &Option<ShownFile>, other: &Option<ShownFile>) -> bool
     ensures { Decides result (file.now ≡ other.now) }
 {
     match (file, other) {
