@@ -34,8 +34,7 @@ impl FileBlock {
 #[derive(Drop)]
 struct KeptBlocks {
     list: Vec<FileBlock>,
-    // The bytes of those before the last whose length is committed; `None` where their sum doesn't fit in 64 bits. That of the last changes,
-    // and theirs don't.
+    // The bytes of those before the last whose length is committed; `None` where their sum doesn't fit in 64 bits.
     front_bytes: Option<u64>,
     // The blocks when they were last shown, which may be other ones by now.
     last_shown: Cell<Option<Rc<Vec<FileBlock>>>>,
@@ -110,16 +109,22 @@ impl KeptBlocks {
         self.front_bytes = front_length_of(&self.list);
     }
 
-    // Puts a block in the place of one.
+    // Puts a block in the place of one. Costs the blocks where one that isn't the last has a length already.
     #[tactic(auto, using(crate::proofs::Lengths::front_stays))]
     fn put(&mut self, place: usize, block: FileBlock)
         requires { place < length self.old }
         ensures { self.new ≡ slice_set self.old place block }
     {
+        let before = self.list[place];
         self.list[place] = block;
-        if place + 1 < self.list.len() {
-            self.front_bytes = front_length_of(&self.list);
+        if place + 1 == self.list.len() {
+            return;
         }
+        let None = before.committed else {
+            self.front_bytes = front_length_of(&self.list);
+            return;
+        };
+        self.front_bytes = sum(self.front_bytes, block.bytes());
     }
 
     fn commit(&mut self, id: BlockId, bytes: u64)
