@@ -76,7 +76,7 @@ fn file_at(alloc: Global, path: &str) -> Option<Row> {
     let path = path_of(alloc, path)?;
     let owner = who_of(alloc, "ann")?;
     let group = who_of(alloc, "crew")?;
-    let file = opened(alloc)?.shown().ok()?;
+    let file = opened(alloc)?.to_shown().ok()?;
     Some(Row {
         path,
         kind: ObjectKind::File,

@@ -25,6 +25,7 @@ enum Noted {
     // of this block, whose file moves to another path
     RecoveryMoved(&'static str, u64),
     RecoveryBegunAnew(u64),
+    StaysOpen,
     RecoveryEnded(u64),
     // with this block
     DeletedWith(u64),
@@ -51,6 +52,7 @@ fn note(
             paths.move_recovery(&Path::parse(alloc, to)?, BlockId::new(block))
         }
         Noted::RecoveryBegunAnew(block) => paths.keep_recovery(path, BlockId::new(block)),
+        Noted::StaysOpen => paths.keep_open(path, alice),
         Noted::RecoveryEnded(block) => paths.end_recovery(BlockId::new(block)),
         Noted::DeletedWith(block) => paths.delete(path, clients, &[BlockId::new(block)]),
     }
@@ -149,7 +151,7 @@ fn files_are_known_behind_the_recovery_of_another(rt: HostRuntime) -> Result<(),
     Ok(())
 }
 
-const FORGOTTEN: [(Noted, &str); 7] = [
+const FORGOTTEN: [(Noted, &str); 9] = [
     (Noted::Opened, "/a/b"),
     (Noted::Opened, "/c"),
     (Noted::RecoveryBegun(7), "/a/b"),
@@ -157,6 +159,8 @@ const FORGOTTEN: [(Noted, &str); 7] = [
     (Noted::DeletedWith(7), "/a"),
     (Noted::RecoveryBegunAnew(7), "/d"),
     (Noted::RecoveryBegunAnew(7), "/e"),
+    (Noted::StaysOpen, "/c"),
+    (Noted::StaysOpen, "/b"),
 ];
 
 #[test]
@@ -164,7 +168,7 @@ fn a_recovery_is_forgotten_with_its_block_and_known_anew(rt: HostRuntime) -> Res
     let text = told(rt.alloc(), &FORGOTTEN)?;
     assert_eq!(rt;
         text.as_str(),
-        "/a/b ./a/b /c ./c 7 at /a/b ./c 7 at /a/b ./c ./c 7 at /d ./c 7 at /e ."
+        "/a/b ./a/b /c ./c 7 at /a/b ./c 7 at /a/b ./c ./c 7 at /d ./c 7 at /e ./c 7 at /e ./b /c 7 at /e ."
     );
     Ok(())
 }

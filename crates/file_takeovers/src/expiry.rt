@@ -87,8 +87,8 @@ fn note_taken(open_paths: &mut OpenPaths, path: &Path, holder: &Who, block: Opti
     }
 }
 
-/// Notes that a recovery that lasted too long begins anew, so that the tree isn't gone through for it a second time.
-fn note_begun_anew(open_paths: &mut OpenPaths, path: &Path, block: Option<BlockId>) {
+/// Notes where a file is whose last block was in a recovery before the tick, so that the tree isn't gone through for it at each tick.
+fn note_recovery(open_paths: &mut OpenPaths, path: &Path, block: Option<BlockId>) {
     if let Some(block) = block {
         open_paths.keep_recovery(path, block);
     }
@@ -98,7 +98,7 @@ fn note_begun_anew(open_paths: &mut OpenPaths, path: &Path, block: Option<BlockI
 fn note_left(open_paths: &mut OpenPaths, path: &Path, file: &Sought) {
     match &file.holder {
         Some(holder) => open_paths.keep_open(path, holder),
-        None => note_begun_anew(open_paths, path, file.block),
+        None => note_recovery(open_paths, path, file.block),
     }
 }
 
@@ -121,7 +121,7 @@ fn take(
 {
     let Some(holder) = &file.holder else {
         tree.rewrite(path, Change::State(state));
-        note_begun_anew(open_paths, path, file.block);
+        note_recovery(open_paths, path, file.block);
         return;
     };
     end_writing(tree, writers, path, holder, state);

@@ -116,7 +116,7 @@ impl Node {
         }
     }
 
-    /// It as it is, to be kept. Costs what `FileBlocks::shown` does.
+    /// It as it is, to be kept. Costs what `FileBlocks::to_shown` does.
     ///
     /// # Errors
     /// Out of memory.
@@ -124,7 +124,20 @@ impl Node {
         ensures { IfOk result (λ file. file ≡ self.now.top.file) }
     {
         match self.file() {
-            Some(file) => Ok(Some(file.shown()?)),
+            Some(file) => Ok(Some(file.to_shown()?)),
+            None => Ok(None),
+        }
+    }
+
+    /// The same, but a copy of its blocks isn't remembered. Costs the blocks.
+    ///
+    /// # Errors
+    /// Out of memory.
+    pub fn file_copied(&self) -> Result<Option<ShownFile>, AllocError>
+        ensures { IfOk result (λ file. file ≡ self.now.top.file) }
+    {
+        match self.file() {
+            Some(file) => Ok(Some(file.to_copied()?)),
             None => Ok(None),
         }
     }

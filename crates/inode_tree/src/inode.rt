@@ -64,7 +64,7 @@ impl<'a> Inode<'a> {
         self.node.file()
     }
 
-    /// It as it is, to be kept. Costs what `FileBlocks::shown` does.
+    /// It as it is, to be kept. Costs what `FileBlocks::to_shown` does.
     ///
     /// # Errors
     /// Out of memory.

@@ -93,7 +93,7 @@ impl Tree {
     }
 
     /// How many directories and how many files stand at a path and beneath it, and how many bytes the files hold. Costs also what
-    /// stands there with the blocks of its files, and takes no memory.
+    /// stands there, and takes no memory.
     pub fn count(&self, path: &Path) -> Counts
         ensures { result ≡ counts_of (rows_under path.now self.now) }
     {

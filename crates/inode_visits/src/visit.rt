@@ -203,7 +203,7 @@ fn row_at(node: &Node, path: Path) -> Result<Row, AllocError>
 {
     let (owner, group) = owners_of(node)?;
     let acl = node.acl().clone()?;
-    let file = node.file_shown()?;
+    let file = node.file_copied()?;
     Ok(Row {
         path,
         kind: node.kind(),

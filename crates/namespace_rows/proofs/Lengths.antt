@@ -102,3 +102,9 @@ front_grows blocks place block before h here none =
     ap (λ n. length_of (take (n - 1) (slice_set blocks place block))) (length_stays block blocks place)
     ∙ (ap length_of (front_set block (length blocks - 1) place blocks)
     ∙ length_grows block (but_last blocks) place before (in_front blocks (length blocks - 1) place (omega (arith, h)) ∙ here) none)
+
+-- the same block in its place
+pub same_stays : (blocks : List FileBlock) (place : ℕ) (block : FileBlock) → slice_get blocks place ≡ Some block → slice_set blocks place block ≡ blocks
+same_stays [] place block h = cc
+same_stays (own ∷ blocks) zero block h = ap (λ b. b ∷ blocks) (sym (one_is own block h))
+same_stays (own ∷ blocks) (suc place) block h = ap (λ l. own ∷ l) (same_stays blocks place block h)

@@ -9,9 +9,9 @@ use hdfs_values::ids::BlockId;
 use hdfs_values::replication::Repl;
 use hdfs_values::who::Who;
 use std::alloc::{AllocError, Global};
-use std::cell::Cell;
 use std::marker::Model;
 use std::rc::Rc;
+use std::sync::OnceLock;
 
 /// A block of a file (HDFS Architecture, "Data Replication").
 #[derive(Clone, Copy, PartialEq, Eq)]
@@ -30,41 +30,41 @@ impl FileBlock {
     }
 }
 
-// The blocks of a file that has some.
+// The blocks of a file that has had some.
 #[derive(Drop)]
-struct KeptBlocks {
+struct OwnBlocks {
     list: Vec<FileBlock>,
     // The bytes of those before the last whose length is committed; `None` where their sum doesn't fit in 64 bits.
     front_bytes: Option<u64>,
-    // The blocks when they were last shown, which may be other ones by now.
-    last_shown: Cell<Option<Rc<Vec<FileBlock>>>>,
+    // The list as it was shown, which is forgotten when it changes.
+    shown: OnceLock<Rc<Vec<FileBlock>>>,
 }
 
-impl Model for KeptBlocks {
+impl Model for OwnBlocks {
     ghost use Rattle.std.specs.Prelude.{List};
     ghost use Rattle.namespace_rows.specs.declared.file_row.FileBlock.{FileBlock};
 
     ghost Value = { List FileBlock };
 
-    ghost view = { λ kept. kept.list.items };
+    ghost view = { λ own. own.list.items };
 
     ghost use Rattle.std.specs.Prelude.{◌≡◌};
     ghost use Rattle.namespace_rows.specs.Files.{but_last, length_of, told_length};
 
-    ghost invariant = { λ kept. kept.front_bytes ≡ told_length (length_of (but_last kept.list.items)) };
+    ghost invariant = { λ own. own.front_bytes ≡ told_length (length_of (but_last own.list.items)) };
 }
 
-impl KeptBlocks {
+impl OwnBlocks {
     // A first block.
-    fn one(alloc: Global, id: BlockId) -> Result<KeptBlocks, AllocError>
-        ensures { IfOk result (λ kept. kept ≡ spec.new_block id ∷ []) }
+    fn first(alloc: Global, id: BlockId) -> Result<OwnBlocks, AllocError>
+        ensures { IfOk result (λ own. own ≡ spec.new_block id ∷ []) }
     {
         let mut list = Vec::with_capacity(alloc, 1)?;
         list.push_reserved(new_block(id));
-        Ok(KeptBlocks {
+        Ok(OwnBlocks {
             list,
             front_bytes: Some(0),
-            last_shown: Cell::new(None),
+            shown: OnceLock::new(),
         })
     }
 
@@ -79,7 +79,7 @@ impl KeptBlocks {
         ensures { result ≡ spec.told_length (spec.length_of self.now) }
     {
         match self.list.last() {
-            Some(last) => sum(self.front_bytes, last.bytes()),
+            Some(last) => with_more(self.front_bytes, last.bytes()),
             None => Some(0),
         }
     }
@@ -88,7 +88,7 @@ impl KeptBlocks {
     fn bytes_behind_last(&self, bytes: u64) -> Option<u64>
         ensures { result ≡ spec.told_length (spec.length_of (spec.but_last self.now) + bytes) }
     {
-        sum(self.front_bytes, bytes)
+        with_more(self.front_bytes, bytes)
     }
 
     #[tactic(auto, using(crate::proofs::Lengths::all_but_new))]
@@ -99,6 +99,7 @@ impl KeptBlocks {
         let bytes = self.bytes();
         self.list.push(new_block(id))?;
         self.front_bytes = bytes;
+        self.forget_shown();
         Ok(())
     }
 
@@ -107,24 +108,36 @@ impl KeptBlocks {
     {
         let _last = self.list.pop();
         self.front_bytes = front_length_of(&self.list);
+        self.forget_shown();
     }
 
-    // Puts a block in the place of one. Costs the blocks where one that isn't the last has a length already.
+    // Forgets the list that was shown, since the blocks change. Who was shown it keeps it.
+    fn forget_shown(&mut self)
+        ensures { self.new ≡ self.old }
+    {
+        let _shown = self.shown.take();
+    }
+
+    // Puts a block in the place of one. Costs the blocks where one that isn't the last gets another length in the place of one.
     #[tactic(auto, using(crate::proofs::Lengths::front_stays))]
-    fn put(&mut self, place: usize, block: FileBlock)
+    fn replace(&mut self, place: usize, block: FileBlock)
         requires { place < length self.old }
         ensures { self.new ≡ slice_set self.old place block }
     {
-        let before = self.list[place];
+        if is_same_block(&self.list[place], &block) {
+            return;
+        }
+        let _shown = self.shown.take();
+        let before = self.list[place].committed;
         self.list[place] = block;
         if place + 1 == self.list.len() {
             return;
         }
-        let None = before.committed else {
+        let None = before else {
             self.front_bytes = front_length_of(&self.list);
             return;
         };
-        self.front_bytes = sum(self.front_bytes, block.bytes());
+        self.front_bytes = with_more(self.front_bytes, block.bytes());
     }
 
     fn commit(&mut self, id: BlockId, bytes: u64)
@@ -136,20 +149,27 @@ impl KeptBlocks {
                 id,
                 committed: Some(bytes),
             };
-            self.put(place, block);
+            self.replace(place, block);
         }
     }
 
-    // The blocks as they are, shared with who was shown the same ones last.
-    fn shown(&self, alloc: Global) -> Result<ShownBlocks, AllocError>
-        ensures { IfOk result (λ shown. shown ≡ self.now) }
+    // The list that was shown, where one is remembered, else a copy.
+    fn list_of(&self, alloc: Global) -> Result<Rc<Vec<FileBlock>>, AllocError>
+        ensures { IfOk result (λ list. list.value.items ≡ self.now) }
     {
-        let list = match same_as(self.last_shown.take(), &self.list) {
-            Some(list) => list,
-            None => Rc::new(alloc, self.list.clone()?)?,
-        };
-        self.last_shown.set(Some(list.clone()?));
-        Ok(ShownBlocks { list: Some(list) })
+        match shared_with(self.shown.get(), &self.list)? {
+            Some(list) => Ok(list),
+            None => Ok(Rc::new(alloc, self.list.clone()?)?),
+        }
+    }
+
+    // The same, which is remembered.
+    fn list_shown(&self, alloc: Global) -> Result<Rc<Vec<FileBlock>>, AllocError>
+        ensures { IfOk result (λ list. list.value.items ≡ self.now) }
+    {
+        let list = self.list_of(alloc)?;
+        let _remembered = self.shown.try_set(list.clone()?);
+        Ok(list)
     }
 }
 
@@ -166,14 +186,14 @@ fn new_block(id: BlockId) -> FileBlock
 /// The blocks of a file, in the order of the file.
 pub struct FileBlocks {
     // In memory of their own, which a file takes with its first block: so what a directory has is no larger for them.
-    kept: Option<Box<KeptBlocks>>,
+    own: Option<Box<OwnBlocks>>,
     alloc: Global,
 }
 
 impl Drop for FileBlocks {
     fn drop(self) {
-        let FileBlocks { kept, alloc: _ } = self;
-        drop(kept);
+        let FileBlocks { own, alloc: _ } = self;
+        drop(own);
     }
 }
 
@@ -184,7 +204,7 @@ impl Model for FileBlocks {
 
     ghost Value = { List FileBlock };
 
-    ghost view = { λ blocks. unwrap_or (option_map (λ kept. kept.value) blocks.kept) [] };
+    ghost view = { λ blocks. unwrap_or (option_map (λ own. own.value) blocks.own) [] };
 }
 
 impl FileBlocks {
@@ -192,15 +212,15 @@ impl FileBlocks {
     pub fn new(alloc: Global) -> FileBlocks
         ensures { result ≡ [] }
     {
-        FileBlocks { kept: None, alloc }
+        FileBlocks { own: None, alloc }
     }
 
     /// The blocks in the order of the file.
     pub fn as_slice(&self) -> &[FileBlock]
         ensures { result.now ≡ self.now }
     {
-        match &self.kept {
-            Some(kept) => kept.as_slice(),
+        match &self.own {
+            Some(own) => own.as_slice(),
             None => &[],
         }
     }
@@ -209,8 +229,8 @@ impl FileBlocks {
     pub fn length(&self) -> Option<u64>
         ensures { result ≡ spec.told_length (spec.length_of self.now) }
     {
-        match &self.kept {
-            Some(kept) => kept.bytes(),
+        match &self.own {
+            Some(own) => own.bytes(),
             None => Some(0),
         }
     }
@@ -220,8 +240,8 @@ impl FileBlocks {
     pub fn length_behind_last(&self, bytes: u64) -> Option<u64>
         ensures { result ≡ spec.told_length (spec.length_of (spec.but_last self.now) + bytes) }
     {
-        match &self.kept {
-            Some(kept) => kept.bytes_behind_last(bytes),
+        match &self.own {
+            Some(own) => own.bytes_behind_last(bytes),
             None => Some(bytes),
         }
     }
@@ -240,15 +260,33 @@ impl FileBlocks {
         self.as_slice().last()
     }
 
-    /// The blocks as they are, to be kept. Who was shown the same blocks last shares them: that costs a look at each of them, and no memory.
+    /// The blocks as they are, to be own. Where they were shown and haven't changed since, they are shared, which costs a look at each and
+    /// takes no memory; else they are copied, and remembered.
     ///
     /// # Errors
     /// Out of memory.
-    pub fn shown(&self) -> Result<ShownBlocks, AllocError>
+    pub fn to_shown(&self) -> Result<ShownBlocks, AllocError>
         ensures { IfOk result (λ shown. shown ≡ self.now) }
     {
-        match &self.kept {
-            Some(kept) => kept.shown(self.alloc),
+        match &self.own {
+            Some(own) => Ok(ShownBlocks {
+                list: Some(own.list_shown(self.alloc)?),
+            }),
+            None => Ok(ShownBlocks { list: None }),
+        }
+    }
+
+    /// The same, but a copy isn't remembered. Costs the blocks.
+    ///
+    /// # Errors
+    /// Out of memory.
+    pub fn to_copied(&self) -> Result<ShownBlocks, AllocError>
+        ensures { IfOk result (λ shown. shown ≡ self.now) }
+    {
+        match &self.own {
+            Some(own) => Ok(ShownBlocks {
+                list: Some(own.list_of(self.alloc)?),
+            }),
             None => Ok(ShownBlocks { list: None }),
         }
     }
@@ -261,31 +299,31 @@ impl FileBlocks {
         ensures ok { OnOk result (self.new ≡ self.old ++ spec.new_block id ∷ []) }
         ensures err { OnErr result (self.new ≡ self.old) }
     {
-        if let Some(kept) = &mut self.kept {
-            return kept.push(id);
+        if let Some(own) = &mut self.own {
+            return own.push(id);
         }
-        let first = KeptBlocks::one(self.alloc, id)?;
-        self.kept = Some(Box::new(self.alloc, first)?);
+        let first = OwnBlocks::first(self.alloc, id)?;
+        self.own = Some(Box::new(self.alloc, first)?);
         Ok(())
     }
 
-    /// Takes the last block out, where there is one. Takes no memory.
+    /// Takes the last block out, where there is one. Costs the blocks, and takes no memory.
     pub fn pop(&mut self)
         ensures { self.new ≡ spec.but_last self.old }
     {
-        if let Some(kept) = &mut self.kept {
-            kept.pop();
+        if let Some(own) = &mut self.own {
+            own.pop();
         }
     }
 
-    /// Commits the length of the block with this id, where it is there. Costs the blocks from that on to the end, since it is
-    /// nearly always the last; takes no memory.
+    /// Commits the length of the block with this id, where it is there. Costs the blocks from that on to the end, since it is nearly always
+    /// one of the last two, and all where another length of one before the last takes the place of one; takes no memory.
     pub fn commit(&mut self, id: BlockId, bytes: u64)
         ensures last { self.new ≡ spec.committed_in id bytes self.old }
         ensures each { IsTrue (spec.are_distinct self.old) → self.new ≡ map (λ block. spec.with_length_where (spec.has_id id block) bytes block) self.old }
     {
-        if let Some(kept) = &mut self.kept {
-            kept.commit(id, bytes);
+        if let Some(own) = &mut self.own {
+            own.commit(id, bytes);
         }
     }
 }
@@ -301,8 +339,8 @@ fn unfinished_of(blocks: &[FileBlock]) -> Option<BlockId>
     Some(last.id)
 }
 
-fn is_same_block(block: FileBlock, other: FileBlock) -> bool
-    ensures { Decides result (block ≡ other) }
+fn is_same_block(block: &FileBlock, other: &FileBlock) -> bool
+    ensures { Decides result (block.now ≡ other.now) }
 {
     block.id == other.id && block.committed == other.committed
 }
@@ -315,22 +353,27 @@ pub fn are_same_blocks(blocks: &[FileBlock], others: &[FileBlock]) -> bool
         return false;
     }
     for i in 0..blocks.len() {
-        if !is_same_block(blocks[i], others[i]) {
+        if !is_same_block(&blocks[i], &others[i]) {
             return false;
         }
     }
     true
 }
 
-/// What was shown before, if these are the same blocks.
-fn same_as(before: Option<Rc<Vec<FileBlock>>>, blocks: &[FileBlock]) -> Option<Rc<Vec<FileBlock>>>
-    ensures { IfSome result (λ same. same.value.items ≡ blocks.now) }
+/// A list that was shown once more, if there is one, and it has these blocks.
+fn shared_with(
+    shown: Option<&Rc<Vec<FileBlock>>>,
+    blocks: &[FileBlock],
+) -> Result<Option<Rc<Vec<FileBlock>>>, AllocError>
+    ensures { IfOk result (λ found. IfSome found (λ list. list.value.items ≡ blocks.now)) }
 {
-    let before = before?;
-    if are_same_blocks(&before, blocks) {
-        return Some(before);
+    let Some(shown) = shown else {
+        return Ok(None);
+    };
+    if !are_same_blocks(shown, blocks) {
+        return Ok(None);
     }
-    None
+    Ok(Some(shown.clone()?))
 }
 
 /// The place of the last block with this id.
@@ -371,7 +414,7 @@ fn front_length_of(blocks: &[FileBlock]) -> Option<u64>
 }
 
 /// A length and so many bytes more.
-fn sum(length: Option<u64>, bytes: u64) -> Option<u64>
+fn with_more(length: Option<u64>, bytes: u64) -> Option<u64>
     ensures { (own : ℕ) → length ≡ spec.told_length own → result ≡ spec.told_length (own + bytes) }
 {
     length?.checked_add(bytes)
@@ -464,16 +507,30 @@ impl FileRow {
         }
     }
 
-    /// It as it is, to be kept. Costs what `FileBlocks::shown` does.
+    /// It as it is, to be own. Costs what `FileBlocks::to_shown` does.
     ///
     /// # Errors
     /// Out of memory.
-    pub fn shown(&self) -> Result<ShownFile, AllocError>
+    pub fn to_shown(&self) -> Result<ShownFile, AllocError>
         ensures { IfOk result (λ shown. shown ≡ self.now) }
     {
         Ok(ShownFile {
             replication: self.replication,
-            blocks: self.blocks.shown()?,
+            blocks: self.blocks.to_shown()?,
+            state: self.state.clone()?,
+        })
+    }
+
+    /// The same, but a copy of its blocks isn't remembered. Costs the blocks.
+    ///
+    /// # Errors
+    /// Out of memory.
+    pub fn to_copied(&self) -> Result<ShownFile, AllocError>
+        ensures { IfOk result (λ shown. shown ≡ self.now) }
+    {
+        Ok(ShownFile {
+            replication: self.replication,
+            blocks: self.blocks.to_copied()?,
             state: self.state.clone()?,
         })
     }

@@ -2,15 +2,15 @@ use Rattle.std.proofs.Common.{◌≡◌, false, ◌∙◌, subst}
 use Rattle.std.specs.List.{list_any}
 use Rattle.namespace_rows.specs.Files.{IsLastPlace, has_id}
 use Rattle.namespace_rows.proofs.Commits.{none_committed, place_committed, committed_each}
-use Rattle.namespace_rows.proofs.file_row.KeptBlocks.commit.Goals as goal
+use Rattle.namespace_rows.proofs.file_row.OwnBlocks.commit.Goals as goal
 
 pub returns-in-Some-clause-last : goal.returns-in-Some-clause-last
 returns-in-Some-clause-last c =
-    c.put.ensures ∙ place_committed c.args.id c.args.bytes c.args.self.now c.in-Some.place (subst (λ l. IsLastPlace c.args.id l c.in-Some.place) (c.deref.ensures.value ∙ c.self.view_is) c.in-Some.ensures)
+    c.replace.ensures ∙ place_committed c.args.id c.args.bytes c.args.self.now c.in-Some.place (subst (λ l. IsLastPlace c.args.id l c.in-Some.place) (c.deref.ensures.value ∙ c.self.view_is) c.in-Some.ensures)
 
 pub returns-in-Some-clause-each : goal.returns-in-Some-clause-each
 returns-in-Some-clause-each c =
-    λ distinct. c.put.ensures ∙ place_committed c.args.id c.args.bytes c.args.self.now c.in-Some.place (subst (λ l. IsLastPlace c.args.id l c.in-Some.place) (c.deref.ensures.value ∙ c.self.view_is) c.in-Some.ensures)
+    λ distinct. c.replace.ensures ∙ place_committed c.args.id c.args.bytes c.args.self.now c.in-Some.place (subst (λ l. IsLastPlace c.args.id l c.in-Some.place) (c.deref.ensures.value ∙ c.self.view_is) c.in-Some.ensures)
     ∙ committed_each c.args.id c.args.bytes c.args.self.now distinct
 
 pub returns-in_default-clause-last : goal.returns-in_default-clause-last
