@@ -50,8 +50,8 @@ pub struct Block {
 /// - `step_stat`: a caller asks as often what has a path, among as many closed files.
 /// - `script`: half of the lines make a directory, and the others look at one.
 /// - `addblock`: each file gets its first block: its nodes are chosen, and the writer is granted a token.
-/// - `addblock_complete`: files of one block are made, the block is written on one DataNode, which reports it, and the files are closed with
-///   its length. An operation is one block, of seven lines.
+/// - `addblock_complete`: by turns a file gets its first block, and another one, whose block a DataNode has reported, is closed with its
+///   length. An operation is a line.
 /// - `open`: a caller opens files, among as many whose one block isn't committed. Nothing is granted.
 /// - `open_granted`: a caller opens as often files, of which each block has a length and a DataNode that holds it: it is told, and a
 ///   token to read it is granted.
@@ -82,7 +82,7 @@ tick_expired 1000 open writers older_files late_files | late_tick
 step_stat lines open writers closed_files | looks
 script lines shared | mix
 addblock lines open writers nodes creations | first_blocks
-addblock_complete size open writers one_node | held_blocks reports ends_of_held
+addblock_complete lines open writers one_node held_blocks reports later_files | blocks_and_ends
 open lines open writers nodes creations first_blocks | openings
 open_granted lines open writers one_node held_blocks reports ends_of_held | openings
 report lines open writers one_node held_blocks | reports
@@ -208,6 +208,13 @@ hard one: the first append releases the file, and the second opens it.
 0 - deliver {1n+2}
 =- The files are closed, so that a reader is told their blocks.
 =ends_of_held size
+0 {writer} complete {path} {1n+1} 64
+=- As many other files, which have no block.
+=later_files size
+0 {writer} create {behind} 777 1
+=- One of these gets a block, and one of the former is closed, by turns.
+=blocks_and_ends size
+0 {writer} addblock {behind}
 0 {writer} complete {path} {1n+1} 64
 =- The ten nodes are heard of again and again.
 =heartbeats 2000
