@@ -4,13 +4,14 @@ use Rattle.std.specs.List.{list_any}
 use Rattle.std.specs.Option.{option_map}
 use Rattle.file_paths.specs.PathOrder.{same_path}
 use Rattle.hdfs_types.specs.declared.file.FileState.{FileState}
-use Rattle.namespace_rows.specs.declared.file_row.FileBlock.{FileBlock}
+use Rattle.file_blocks.specs.declared.blocks.FileBlock.{FileBlock}
 use Rattle.namespace_rows.specs.declared.file_row.FileRow.{FileRow}
 use Rattle.namespace_rows.specs.declared.row.Row.{Row}
 use Rattle.namespace_rows.specs.declared.row.Change.{Change}
 use Rattle.namespace_rows.specs.declared.row.Change.TheVariants as change
 use Rattle.namespace_rows.specs.First.{first}
-use Rattle.namespace_rows.specs.Files.{with_state, with_file_replication, with_block, with_length_where, has_id, new_block, committed_in, committed_at}
+use Rattle.file_blocks.specs.Blocks.{with_length_where, has_id, new_block, committed_in}
+use Rattle.namespace_rows.specs.Files.{with_state, with_file_replication, with_block, committed_at}
 use Rattle.namespace_rows.specs.Rows.{row_at}
 use Rattle.namespace_rows.specs.Namespace.{is_ascending}
 use Rattle.flat_rows.specs.BlockOutcome as file

@@ -20,10 +20,11 @@ use Rattle.block_effect_laws.specs.Laws.{IsSound, KeepsKnown}
 use Rattle.block_effect_laws.proofs.Turning.{kept_same, kept_in_turn}
 use Rattle.block_effect_laws.proofs.Effects.{removals, replication_keeps, commit_keeps, request_keeps, begin_keeps, begins_keep, recovery_keeps, heartbeat_keeps, report_keeps}
 use Rattle.principals.specs.Users.{Users}
-use Rattle.namespace_rows.specs.declared.file_row.FileBlock.{FileBlock}
+use Rattle.file_blocks.specs.declared.blocks.FileBlock.{FileBlock}
 use Rattle.namespace_rows.specs.declared.row.Row.{Row}
 use Rattle.namespace_rows.specs.declared.row.Change.TheVariants as change
-use Rattle.namespace_rows.specs.Files.{blocks_in, with_block, new_file, new_block, last_of}
+use Rattle.file_blocks.specs.Blocks.{new_block, last_of}
+use Rattle.namespace_rows.specs.Files.{blocks_in, with_block, new_file}
 use Rattle.namespace_rows.specs.Namespace.{IsNamespace}
 use Rattle.namespace_rows.specs.Rows.{row_at, ancestor}
 use Rattle.namespace_rows.proofs.Namespaces.{namespace_tests}

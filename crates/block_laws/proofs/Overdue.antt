@@ -20,7 +20,8 @@ use Rattle.block_map.specs.BlockFacts.{Blocks}
 use Rattle.namespace_rows.specs.declared.file_row.FileRow.{FileRow}
 use Rattle.namespace_rows.specs.declared.row.Row.{Row}
 use Rattle.namespace_rows.specs.First.{first}
-use Rattle.namespace_rows.specs.Files.{unfinished_block, state_recovers, recovered_at}
+use Rattle.file_blocks.specs.Blocks.{unfinished_block}
+use Rattle.namespace_rows.specs.Files.{state_recovers, recovered_at}
 use Rattle.namespace_rows.specs.Rows.{row_at}
 use Rattle.namespace_rows.proofs.Tests.{and}
 use Rattle.flat_rows.specs.Changes.{is_recovered, recovers_nowhere_else, recovery_ended}

@@ -18,10 +18,11 @@ use Rattle.block_map.specs.BlockFacts.{Blocks}
 use Rattle.block_map.specs.BlockEffects.{recoveries_begun, with_recoveries_begun}
 use Rattle.block_map.proofs.InTurn.{all_begun_where_done}
 use Rattle.block_effect_laws.proofs.Looking.{changed_at}
-use Rattle.namespace_rows.specs.declared.file_row.FileBlock.{FileBlock}
+use Rattle.file_blocks.specs.declared.blocks.FileBlock.{FileBlock}
 use Rattle.namespace_rows.specs.declared.file_row.FileRow.{FileRow}
 use Rattle.namespace_rows.specs.declared.row.Row.{Row}
-use Rattle.namespace_rows.specs.Files.{last_of, if_uncommitted, unfinished_block, blocks_in}
+use Rattle.file_blocks.specs.Blocks.{last_of, if_uncommitted, unfinished_block}
+use Rattle.namespace_rows.specs.Files.{blocks_in}
 use Rattle.namespace_rows.specs.Rows.{row_at}
 use Rattle.flat_rows.specs.Takeover.{stamp_in}
 use Rattle.block_laws.proofs.Sums.{once, Count, sum_files, sum_given, spare, sum_spared, none_both, part}

@@ -21,7 +21,8 @@ use Rattle.principals.specs.Users.{Users}
 use Rattle.namespace_rows.specs.declared.file_row.FileRow.{FileRow}
 use Rattle.namespace_rows.specs.declared.row.Row.{Row}
 use Rattle.namespace_rows.specs.declared.row.Change.TheVariants as change
-use Rattle.namespace_rows.specs.Files.{blocks_in, unfinished_block, with_state, with_file_replication, with_block, committed_at, new_file}
+use Rattle.file_blocks.specs.Blocks.{unfinished_block}
+use Rattle.namespace_rows.specs.Files.{blocks_in, with_state, with_file_replication, with_block, committed_at, new_file}
 use Rattle.namespace_rows.specs.Namespace.{IsNamespace}
 use Rattle.namespace_rows.specs.Rows.{row_at, ancestor}
 use Rattle.namespace_rows.proofs.Namespaces.{namespace_tests}

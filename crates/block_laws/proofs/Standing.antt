@@ -6,9 +6,10 @@ use Rattle.block_records.specs.Numbers.{is_number, has_number}
 use Rattle.block_records.specs.declared.block_record.BlockRecord.{BlockRecord}
 use Rattle.block_records.proofs.Numbers.{number_is}
 use Rattle.block_records.proofs.Reporting.{number_eq}
-use Rattle.namespace_rows.specs.declared.file_row.FileBlock.{FileBlock}
+use Rattle.file_blocks.specs.declared.blocks.FileBlock.{FileBlock}
 use Rattle.namespace_rows.specs.declared.row.Row.{Row}
-use Rattle.namespace_rows.specs.Files.{blocks_in, has_id, with_length_where, new_block}
+use Rattle.file_blocks.specs.Blocks.{has_id, with_length_where, new_block}
+use Rattle.namespace_rows.specs.Files.{blocks_in}
 use Rattle.block_laws.specs.Laws.{times}
 use Rattle.block_laws.proofs.Totals.{bit, Weight, in_rows, has, rows_same, rows_less, rows_where, rows_apart, is_gone, times_in, times_some, times_none}
 use Rattle.block_laws.proofs.Changes.{committed}

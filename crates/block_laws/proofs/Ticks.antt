@@ -14,7 +14,8 @@ use Rattle.block_changes.specs.Leaders.{leader_of, blocks_with_leaders}
 use Rattle.block_map.specs.BlockEffects.{with_recoveries_begun}
 use Rattle.namespace_rows.specs.declared.file_row.FileRow.{FileRow}
 use Rattle.namespace_rows.specs.declared.row.Row.{Row}
-use Rattle.namespace_rows.specs.Files.{unfinished_block, with_state}
+use Rattle.file_blocks.specs.Blocks.{unfinished_block}
+use Rattle.namespace_rows.specs.Files.{with_state}
 use Rattle.flat_rows.specs.Facts.{Facts}
 use Rattle.flat_rows.specs.Takeover.{sought_by_state, sought_of, stamp_in, recovering_from, with_begun, taken_row, is_overdue, sought_in, sought_blocks, begun_in, row_ticked}
 use Rattle.flat_rows.specs.declared.takeover.Sought.{Sought}

@@ -4,7 +4,7 @@ use Rattle.std.proofs.lemmas.Bool.{eq-eqb}
 use Rattle.std.proofs.lemmas.List.Elements.{filter-append}
 use Rattle.std.proofs.lemmas.List.{length-append}
 use Rattle.block_records.specs.Numbers.{has_number}
-use Rattle.namespace_rows.specs.declared.file_row.FileBlock.{FileBlock}
+use Rattle.file_blocks.specs.declared.blocks.FileBlock.{FileBlock}
 use Rattle.namespace_rows.specs.declared.file_row.FileRow.{FileRow}
 use Rattle.namespace_rows.specs.declared.row.Row.{Row}
 use Rattle.namespace_rows.specs.Files.{ids_in, blocks_in}

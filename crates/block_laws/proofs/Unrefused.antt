@@ -22,7 +22,7 @@ use Rattle.known_blocks.specs.Known.{KnownBlocks, block_of, refused_new_block}
 use Rattle.principals.specs.Users.{Users}
 use Rattle.namespace_rows.specs.declared.file_row.FileRow.{FileRow}
 use Rattle.namespace_rows.specs.declared.row.Row.{Row}
-use Rattle.namespace_rows.specs.Files.{unfinished_block}
+use Rattle.file_blocks.specs.Blocks.{unfinished_block}
 use Rattle.namespace_rows.specs.Namespace.{IsNamespace, is_root, suits_parts, suits_kind}
 use Rattle.namespace_rows.specs.Rows.{is_directory, is_none, is_missing, row_at, file_above, directory_of}
 use Rattle.namespace_rows.proofs.Namespaces.{namespace_tests}

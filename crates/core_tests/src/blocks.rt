@@ -1,10 +1,10 @@
 use crate::namespaces::{opening_tree, path_of, put_file};
+use file_blocks::blocks::FileBlock;
 use file_paths::path::Path;
 use hdfs_types::file::FileState;
 use hdfs_values::ids::{BlockId, Stamp};
 use hdfs_values::moment::Moment;
 use inode_tree::tree::Tree;
-use namespace_rows::file_row::FileBlock;
 use namespace_rows::row::Change;
 use std::alloc::Global;
 

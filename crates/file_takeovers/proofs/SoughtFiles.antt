@@ -17,7 +17,8 @@ use Rattle.namespace_rows.specs.declared.row.Row.{Row}
 use Rattle.namespace_rows.specs.First.{first}
 use Rattle.namespace_rows.specs.Rows.{row_at}
 use Rattle.namespace_rows.specs.Namespace.{IsNamespace, is_ascending, is_before_all}
-use Rattle.namespace_rows.specs.Files.{holder_of, holder_of_file, is_client, unfinished_block}
+use Rattle.file_blocks.specs.Blocks.{unfinished_block}
+use Rattle.namespace_rows.specs.Files.{holder_of, holder_of_file, is_client}
 use Rattle.namespace_rows.proofs.Namespaces.{namespace_tests}
 use Rattle.namespace_rows.proofs.PathOrders.{same_path_is, less_is}
 use Rattle.namespace_rows.proofs.Tests.{both, and}

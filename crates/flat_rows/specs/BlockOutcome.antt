@@ -20,11 +20,12 @@ use Rattle.block_records.specs.declared.fault.BlockRefusal.{BlockRefusal}
 use Rattle.block_changes.specs.declared.behind.NewBlock.{NewBlock}
 use Rattle.block_map.specs.BlockFacts.{Blocks, known_block, refused_commit}
 use Rattle.block_map.specs.BlockEffects.{refused_behind, given_behind}
-use Rattle.namespace_rows.specs.declared.file_row.FileBlock.{FileBlock}
+use Rattle.file_blocks.specs.declared.blocks.FileBlock.{FileBlock}
 use Rattle.namespace_rows.specs.declared.file_row.FileRow.{FileRow}
 use Rattle.namespace_rows.specs.declared.row.Row.{Row}
 use Rattle.namespace_rows.specs.declared.row.Change.TheVariants as change
-use Rattle.namespace_rows.specs.Files.{last_of, length_of, ids_in, committed_at}
+use Rattle.file_blocks.specs.Blocks.{last_of, length_of}
+use Rattle.namespace_rows.specs.Files.{ids_in, committed_at}
 use Rattle.flat_rows.specs.Changes.{row_rewritten, block_added}
 use Rattle.flat_rows.specs.NodeOutcome.{Tokens}
 

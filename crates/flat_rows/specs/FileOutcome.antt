@@ -10,7 +10,8 @@ use Rattle.refusals.specs.declared.refusal.Refusal.TheVariants.{IsDirectory, Exi
 use Rattle.namespace_rows.specs.declared.file_row.FileRow.{FileRow}
 use Rattle.namespace_rows.specs.declared.row.Row.{Row}
 use Rattle.namespace_rows.specs.Rows.{is_directory}
-use Rattle.namespace_rows.specs.Files.{length_of, holder_of, holder_of_file}
+use Rattle.file_blocks.specs.Blocks.{length_of}
+use Rattle.namespace_rows.specs.Files.{holder_of, holder_of_file}
 
 -- how the leases of clients stand when a request is judged
 pub record LeaseFacts : Type 0 where

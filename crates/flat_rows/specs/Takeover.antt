@@ -18,7 +18,7 @@ use Rattle.block_map.specs.BlockEffects.{recoveries_begun}
 use Rattle.namespace_rows.specs.declared.file_row.FileRow.{FileRow}
 use Rattle.namespace_rows.specs.declared.row.Row.{Row}
 use Rattle.namespace_rows.specs.declared.row.Change.TheVariants as change
-use Rattle.namespace_rows.specs.Files.{unfinished_block}
+use Rattle.file_blocks.specs.Blocks.{unfinished_block}
 use Rattle.flat_rows.specs.BlockOutcome.{refused_by}
 use Rattle.flat_rows.specs.Changes.{with_change}
 use Rattle.flat_rows.specs.Facts.{Facts}

@@ -20,7 +20,8 @@ use Rattle.flat_rows.specs.Denial as denied
 use Rattle.flat_rows.specs.Decision.{decision}
 use Rattle.namespace_rows.specs.Rows.{row_at, file_above, is_directory}
 use Rattle.namespace_rows.specs.Namespace.{is_ascending, is_before_all}
-use Rattle.namespace_rows.specs.Files.{holder_of, holder_of_file, is_open_by, is_client, unfinished_block}
+use Rattle.file_blocks.specs.Blocks.{unfinished_block}
+use Rattle.namespace_rows.specs.Files.{holder_of, holder_of_file, is_open_by, is_client}
 use Rattle.flat_rows.specs.FileOutcome.{directory_there, if_some_file, of_file, holder_at}
 use Rattle.flat_rows.specs.Takeover.{refused_taking, refused_state, refused_append}
 use Rattle.flat_rows.specs.Facts.{Facts}

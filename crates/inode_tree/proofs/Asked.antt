@@ -5,7 +5,8 @@ use Rattle.std.specs.List.{filter, list_all}
 use Rattle.std.specs.Option.{option_map}
 use Rattle.file_paths.specs.Path.{is_path, IsPath}
 use Rattle.namespace_rows.specs.declared.row.Row.{Row}
-use Rattle.namespace_rows.specs.Files.{told_length, holders}
+use Rattle.file_blocks.specs.Blocks.{told_length}
+use Rattle.namespace_rows.specs.Files.{holders}
 use Rattle.flat_rows.specs.Outcome.{bytes_in}
 use Rattle.namespace_rows.specs.First.{first}
 use Rattle.namespace_rows.specs.Rows.{is_directory}

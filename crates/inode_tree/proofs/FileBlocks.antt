@@ -5,13 +5,14 @@ use Rattle.std.specs.Option.{option_map}
 use Rattle.std.specs.declared.alloc.AllocError.{AllocError}
 use Rattle.file_paths.specs.PathOrder.{same_path}
 use Rattle.hdfs_types.specs.declared.file.FileState.TheVariants.{Closed}
-use Rattle.namespace_rows.specs.declared.file_row.FileBlock.{FileBlock}
+use Rattle.file_blocks.specs.declared.blocks.FileBlock.{FileBlock}
 use Rattle.namespace_rows.specs.declared.file_row.FileRow.{FileRow}
 use Rattle.namespace_rows.specs.declared.row.Row.{Row}
 use Rattle.namespace_rows.specs.declared.row.Change.TheVariants as change
-use Rattle.namespace_rows.specs.Files.{ids_in, blocks_in, new_block, with_block, with_state, but_last, without_last, committed_at, recovered_at}
+use Rattle.file_blocks.specs.Blocks.{new_block, but_last}
+use Rattle.namespace_rows.specs.Files.{ids_in, blocks_in, with_block, with_state, without_last, committed_at, recovered_at}
 use Rattle.namespace_rows.proofs.Tests.{both}
-use Rattle.namespace_rows.proofs.Commits.{committed_before}
+use Rattle.file_blocks.proofs.Commits.{committed_before}
 use Rattle.flat_rows.specs.Changes.{with_file, file_edited, row_rewritten, block_added, is_recovered, recovers_nowhere_else, recovery_ended, rows_under, suits_change}
 use Rattle.flat_rows.proofs.Changes.{edited_namespace, edited_paths}
 use Rattle.inode_nodes.specs.Node.{Node, flatten, rows, rows_or, under, row_placed}

@@ -2,12 +2,12 @@ ghost use Rattle.std.specs.Prelude.{◌≡◌, ◌++◌, map, IfOk, OnOk};
 ghost use Rattle.namespace_rows.specs.Files.{blocks_in, holders};
 ghost use Rattle.inode_nodes.specs.Node.{rows, flatten};
 
+use file_blocks::blocks::FileBlock;
 use file_paths::name::Name;
 use hdfs_values::ids::BlockId;
 use hdfs_values::who::Who;
 use inode_nodes::node::{Held, Node};
 use inode_visits::visit::push_holder;
-use namespace_rows::file_row::FileBlock;
 use std::alloc::{AllocError, Global};
 use std::collections::BTreeMap;
 

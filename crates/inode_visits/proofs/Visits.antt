@@ -8,7 +8,8 @@ use Rattle.std.specs.List.{filter}
 use Rattle.std.specs.Option.{option_map, option_to_list}
 use Rattle.file_paths.specs.Path.{is_path}
 use Rattle.namespace_rows.specs.declared.row.Row.{Row}
-use Rattle.namespace_rows.specs.Files.{told_length, holders, holder_of_file}
+use Rattle.file_blocks.specs.Blocks.{told_length}
+use Rattle.namespace_rows.specs.Files.{holders, holder_of_file}
 use Rattle.flat_rows.specs.FileOutcome.{file_bytes}
 use Rattle.flat_rows.specs.Outcome.{bytes_in}
 use Rattle.namespace_rows.specs.First.{first}

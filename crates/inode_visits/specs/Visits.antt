@@ -5,7 +5,7 @@ use Rattle.permission_bits.specs.declared.rights.Rights.{Rights}
 use Rattle.hdfs_types.specs.declared.reply.ObjectKind.TheVariants.{Directory}
 use Rattle.namespace_rows.specs.declared.row.Row.{Row}
 use Rattle.namespace_rows.specs.Rows.{is_directory}
-use Rattle.namespace_rows.specs.Files.{told_length}
+use Rattle.file_blocks.specs.Blocks.{told_length}
 use Rattle.flat_rows.specs.Outcome.{bytes_in}
 use Rattle.namespace_rows.specs.Judgement.{judgement}
 use Rattle.inode_visits.specs.declared.visit.Counts.{Counts}

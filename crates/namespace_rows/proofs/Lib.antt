@@ -1,5 +1,3 @@
-pub mod Lengths
-pub mod Commits
 pub mod PathOrders
 pub mod Namespaces
 pub mod Tests

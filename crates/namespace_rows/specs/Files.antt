@@ -1,33 +1,13 @@
 -- What a file has beside what a directory has: its replication, its blocks, and who may write it.
 -- (HDFS Architecture, "The File System Namespace" and "Data Replication".)
-use Rattle.std.specs.Prelude.{◌≡◌, ℕ, ◌+◌, ◌-◌, ◌<◌, ◌^◌, ◌==◌, Bool, true, false, ◌&&◌, nat_lt, not, if◌then◌else◌, List, [], ◌∷◌, ◌++◌, map, filter, length, take, drop, is_some, Option, Some, None, unwrap_or}
-use Rattle.std.specs.List.{list_any, flat_map, slice_get}
-use Rattle.std.specs.Option.{option_and_then, option_to_list}
+use Rattle.std.specs.Prelude.{ℕ, ◌+◌, ◌-◌, ◌==◌, Bool, false, if◌then◌else◌, List, [], ◌∷◌, ◌++◌, map, filter, length, Option, Some, None}
+use Rattle.std.specs.List.{list_any, flat_map}
+use Rattle.std.specs.Option.{option_to_list}
 use Rattle.hdfs_values.specs.Text.{same}
 use Rattle.hdfs_types.specs.declared.file.FileState.{FileState}
 use Rattle.hdfs_types.specs.declared.file.FileState.TheVariants.{Closed, Open, Recovering}
-use Rattle.namespace_rows.specs.declared.file_row.FileBlock.{FileBlock}
 use Rattle.namespace_rows.specs.declared.file_row.FileRow.{FileRow}
 use Rattle.namespace_rows.specs.declared.row.Row.{Row}
-
--- the bytes of the blocks whose length is committed
-abbrev pub length_of : List FileBlock → ℕ
-length_of [] = 0
-length_of (block ∷ blocks) = unwrap_or block.committed 0 + length_of blocks
-
--- a length, if it fits in 64 bits; otherwise the call fails as if out of memory
-abbrev pub told_length : ℕ → Option ℕ
-told_length length = if nat_lt length (2 ^ 64) then Some length else None
-
-abbrev pub last_of : List FileBlock → Option FileBlock
-last_of blocks = slice_get blocks (length blocks - 1)
-
-abbrev pub if_uncommitted : FileBlock → Option ℕ
-if_uncommitted block = if is_some block.committed then None else Some block.id
-
--- the last block, where its length isn't committed
-abbrev pub unfinished_block : List FileBlock → Option ℕ
-unfinished_block blocks = option_and_then if_uncommitted (last_of blocks)
 
 -- a new file, open for a client to write
 abbrev pub new_file : ℕ → List ℕ → FileRow
@@ -52,42 +32,13 @@ ids_in (Some file) = ids_of file
 abbrev pub blocks_in : List Row → List ℕ
 blocks_in rows = flat_map (λ row. ids_in row.file) rows
 
--- a block that is begun: what it holds isn't committed
-abbrev pub new_block : ℕ → FileBlock
-new_block id = record { id = id; committed = None }
-
 -- a new block at the end of the file ("Data Replication": a client that writes asks for one block after the other)
 abbrev pub with_block : ℕ → FileRow → FileRow
 with_block id file = record file { blocks = file.blocks ++ new_block id ∷ [] }
 
-abbrev pub but_last : List FileBlock → List FileBlock
-but_last blocks = take (length blocks - 1) blocks
-
 -- the file without its last block
 abbrev pub without_last : FileRow → FileRow
 without_last file = record file { blocks = but_last file.blocks }
-
-abbrev pub has_id : ℕ → FileBlock → Bool
-has_id id block = block.id == id
-
--- no block has the id of another
-abbrev pub are_distinct : List FileBlock → Bool
-are_distinct [] = true
-are_distinct (block ∷ blocks) = not (list_any (has_id block.id) blocks) && are_distinct blocks
-
--- the block at this place has this id, and none behind it
-pub record IsLastPlace (id : ℕ) (blocks : List FileBlock) (place : ℕ) : Type 0 where
-  pub within : place < length blocks
-  pub here : (block : FileBlock) → slice_get blocks place ≡ Some block → block.id ≡ id
-  pub behind : list_any (has_id id) (drop (place + 1) blocks) ≡ false
-
-abbrev pub with_length_where : Bool → ℕ → FileBlock → FileBlock
-with_length_where here bytes block = if here then record block { committed = Some bytes } else block
-
--- the block with this id has this length committed; if several had that id, it would be the last of them
-abbrev pub committed_in : ℕ → ℕ → List FileBlock → List FileBlock
-committed_in id bytes [] = []
-committed_in id bytes (block ∷ blocks) = with_length_where (has_id id block && not (list_any (has_id id) blocks)) bytes block ∷ committed_in id bytes blocks
 
 abbrev pub committed_at : ℕ → ℕ → FileRow → FileRow
 committed_at id bytes file = record file { blocks = committed_in id bytes file.blocks }

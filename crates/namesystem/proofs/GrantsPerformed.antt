@@ -14,7 +14,7 @@ use Rattle.block_map.specs.BlockFacts.{Blocks}
 use Rattle.block_map.specs.BlockEffects.{added_behind, given_behind}
 use Rattle.grant_ledger.specs.declared.ledger.LedgerRow.{LedgerRow}
 use Rattle.namespace_rows.specs.declared.row.Row.{Row}
-use Rattle.namespace_rows.specs.declared.file_row.FileBlock.{FileBlock}
+use Rattle.file_blocks.specs.declared.blocks.FileBlock.{FileBlock}
 use Rattle.namespace_rows.specs.Rows.{row_at}
 use Rattle.flat_rows.specs.declared.verdict.Verdict.{Verdict}
 use Rattle.flat_rows.specs.declared.verdict.Verdict.TheVariants.{Done, Denied, Refused}

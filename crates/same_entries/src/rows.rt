@@ -1,8 +1,9 @@
 ghost use Rattle.std.specs.Prelude.{◌≡◌};
 ghost use Rattle.std.specs.Bool.{Decides};
 
+use file_blocks::blocks::are_same_blocks;
 use hdfs_types::file::FileState;
-use namespace_rows::file_row::{ShownFile, are_same_blocks};
+use namespace_rows::file_row::ShownFile;
 use namespace_rows::row::Row;
 use same_values::acls::is_same_acl;
 use same_values::names::{is_same_path, is_same_who};

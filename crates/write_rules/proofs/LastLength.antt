@@ -3,8 +3,8 @@ use Rattle.std.proofs.Common.{◌≡◌, ℕ, zero, suc, ◌+◌, ◌-◌, ◌^�
 use Rattle.std.specs.Prelude.{unwrap_or}
 use Rattle.std.specs.List.{list_any}
 use Rattle.block_records.specs.declared.last_block.LastBlock.{LastBlock}
-use Rattle.namespace_rows.specs.declared.file_row.FileBlock.{FileBlock}
-use Rattle.namespace_rows.specs.Files.{last_of, length_of, told_length, but_last, has_id, with_length_where, committed_in}
+use Rattle.file_blocks.specs.declared.blocks.FileBlock.{FileBlock}
+use Rattle.file_blocks.specs.Blocks.{last_of, length_of, told_length, but_last, has_id, with_length_where, committed_in}
 use Rattle.flat_rows.specs.BlockOutcome.{has_block_id, is_last}
 
 flipped : (a b : ℕ) → (a == b) ≡ true → (b == a) ≡ true

@@ -13,7 +13,8 @@ use Rattle.principals.specs.Users.{Users, Caller}
 use Rattle.namespace_rows.specs.declared.file_row.FileRow.{FileRow}
 use Rattle.namespace_rows.specs.declared.row.Row.{Row}
 use Rattle.namespace_rows.specs.Rows.{row_at}
-use Rattle.namespace_rows.specs.Files.{holder_of, holder_of_file, unfinished_block}
+use Rattle.file_blocks.specs.Blocks.{unfinished_block}
+use Rattle.namespace_rows.specs.Files.{holder_of, holder_of_file}
 use Rattle.flat_rows.specs.FileOutcome.{directory_there, of_file, if_some_file, refused_write, holder_at}
 use Rattle.flat_rows.specs.Takeover.{refused_append, appended_reply, unfinished_of, unfinished_at}
 use Rattle.flat_rows.specs.BlockOutcome.{replication_of, replication_at, refused_unless_last, refused_new, refused_end, added_reply, added_to, opened_reply, blocks_of_file, blocks_of_row, bytes_behind, bytes_behind_at}

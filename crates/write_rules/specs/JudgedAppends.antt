@@ -7,7 +7,7 @@ use Rattle.hdfs_types.specs.declared.reply.Reply.TheVariants.{Empty}
 use Rattle.namespace_rows.specs.declared.file_row.FileRow.{FileRow}
 use Rattle.namespace_rows.specs.declared.row.Row.{Row}
 use Rattle.namespace_rows.specs.Rows.{row_at}
-use Rattle.namespace_rows.specs.Files.{unfinished_block}
+use Rattle.file_blocks.specs.Blocks.{unfinished_block}
 use Rattle.flat_rows.specs.Facts.{Facts}
 use Rattle.flat_rows.specs.Takeover.{refused_taking, taken_reply}
 use Rattle.flat_rows.specs.Verdicts.{is_done}

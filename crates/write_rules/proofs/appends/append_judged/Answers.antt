@@ -1,6 +1,7 @@
 use Rattle.std.proofs.Common.{◌∙◌, ap, subst}
 use Rattle.flat_rows.specs.Takeover.{appended_reply, refused_append}
-use Rattle.namespace_rows.specs.Files.{holder_of, unfinished_block}
+use Rattle.file_blocks.specs.Blocks.{unfinished_block}
+use Rattle.namespace_rows.specs.Files.{holder_of}
 use Rattle.perm_walk.specs.Target.{IsTargetFile}
 use Rattle.write_rules.specs.Judged.{refused_or}
 use Rattle.std.proofs.lemmas.Result.{IfOk-weaker}

@@ -1,6 +1,6 @@
 use Rattle.std.proofs.Common.{◌∙◌, true, sym, ap, ◌≡◌}
 use Rattle.flat_rows.specs.BlockOutcome.{is_last, with_last}
-use Rattle.namespace_rows.specs.Files.{length_of}
+use Rattle.file_blocks.specs.Blocks.{length_of}
 use Rattle.write_rules.proofs.LastLength.{told_is, length_committed}
 use Rattle.write_rules.proofs.ends.length_behind.Goals as goal
 

@@ -1,7 +1,7 @@
 use Rattle.std.proofs.Common.{◌≡◌, ◌≤◌, false, length, drop}
 use Rattle.std.specs.List.{list_any}
-use Rattle.namespace_rows.specs.Files as spec
-use Rattle.namespace_rows.proofs.file_row.place_of.Given as goal
+use Rattle.file_blocks.specs.Blocks as spec
+use Rattle.file_blocks.proofs.blocks.place_of.Given as goal
 
 abbrev pub invariant-loop-left : goal.invariant-loop-left
 invariant-loop-left l = (l.left ≤ length l.blocks) × (list_any (spec.has_id l.id) (drop l.left l.blocks) ≡ false)

@@ -1,7 +1,7 @@
 use Rattle.std.proofs.Common.{◌+◌, ◌<◌, length, ◌∙◌, ap, sym, subst, arith}
-use Rattle.namespace_rows.specs.Files.{length_of, told_length, but_last}
-use Rattle.namespace_rows.proofs.Lengths.{front_grows, get_is, length_stays}
-use Rattle.namespace_rows.proofs.file_row.OwnBlocks.replace.Goals as goal
+use Rattle.file_blocks.specs.Blocks.{length_of, told_length, but_last}
+use Rattle.file_blocks.proofs.Lengths.{front_grows, get_is, length_stays}
+use Rattle.file_blocks.proofs.blocks.OwnBlocks.replace.Goals as goal
 
 pub invariant_of-self-2 : goal.invariant_of-self-2
 invariant_of-self-2 c =

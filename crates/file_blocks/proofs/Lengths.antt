@@ -1,9 +1,9 @@
 -- What is left of a file's length behind some of its blocks.
-use Rattle.std.proofs.Common.{◌≡◌, ℕ, zero, suc, ◌+◌, ◌-◌, ◌≤◌, ◌<◌, ◌^◌, nat_lt, List, [], ◌∷◌, ◌++◌, length, drop, take, Some, None, refl, sym, ap, ◌∙◌, arith}
+use Rattle.std.proofs.Common.{◌≡◌, ℕ, zero, suc, ◌+◌, ◌-◌, ◌≤◌, ◌<◌, ◌^◌, List, [], ◌∷◌, ◌++◌, length, drop, take, Some, None, refl, sym, ap, ◌∙◌, arith}
 use Rattle.std.specs.Prelude.{unwrap_or, get_or, slice_get, slice_set}
 use Rattle.std.proofs.lemmas.Bool.{lt-ltb}
-use Rattle.namespace_rows.specs.declared.file_row.FileBlock.{FileBlock}
-use Rattle.namespace_rows.specs.Files.{length_of, told_length, last_of, but_last}
+use Rattle.file_blocks.specs.declared.blocks.FileBlock.{FileBlock}
+use Rattle.file_blocks.specs.Blocks.{length_of, told_length, last_of, but_last}
 
 next : (i : ℕ) → suc i + 1 ≡ suc (i + 1)
 next i = omega arith

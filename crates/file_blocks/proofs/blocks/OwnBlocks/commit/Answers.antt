@@ -1,8 +1,8 @@
 use Rattle.std.proofs.Common.{◌≡◌, false, ◌∙◌, subst}
 use Rattle.std.specs.List.{list_any}
-use Rattle.namespace_rows.specs.Files.{IsLastPlace, has_id}
-use Rattle.namespace_rows.proofs.Commits.{none_committed, place_committed, committed_each}
-use Rattle.namespace_rows.proofs.file_row.OwnBlocks.commit.Goals as goal
+use Rattle.file_blocks.specs.Blocks.{IsLastPlace, has_id}
+use Rattle.file_blocks.proofs.Commits.{none_committed, place_committed, committed_each}
+use Rattle.file_blocks.proofs.blocks.OwnBlocks.commit.Goals as goal
 
 pub returns-in-Some-clause-last : goal.returns-in-Some-clause-last
 returns-in-Some-clause-last c =

@@ -3,15 +3,30 @@ use Rattle.std.proofs.Common.{◌≡◌, ℕ, zero, suc, ◌+◌, ◌<◌, Bool,
 use Rattle.std.proofs.lemmas.Bool.{eq-eqb, eqb-true}
 use Rattle.std.specs.Prelude.{slice_get, slice_set}
 use Rattle.std.specs.List.{list_any}
-use Rattle.namespace_rows.specs.declared.file_row.FileBlock.{FileBlock}
-use Rattle.namespace_rows.specs.Files.{IsLastPlace, are_distinct, has_id, with_length_where, committed_in}
-use Rattle.namespace_rows.proofs.Tests.{both, or_left, or_right, and_false}
+use Rattle.file_blocks.specs.declared.blocks.FileBlock.{FileBlock}
+use Rattle.file_blocks.specs.Blocks.{IsLastPlace, are_distinct, has_id, with_length_where, committed_in}
 
 next : (i : ℕ) → suc i + 1 ≡ suc (i + 1)
 next i = omega arith
 
 same_number : (a b : ℕ) → a ≡ b → nat_eq a b ≡ true
 same_number a b h = eq-eqb a b h
+
+both : (a b : Bool) → (a && b) ≡ true → (a ≡ true) × (b ≡ true)
+both true true h = (refl, refl)
+both true false h = cc
+both false b h = cc
+
+and_false : (a : Bool) → (a && false) ≡ false
+and_false true = refl
+and_false false = refl
+
+or_left : (a b : Bool) → a ≡ true → (a || b) ≡ true
+or_left a b h = rw h refl
+
+or_right : (a b : Bool) → b ≡ true → (a || b) ≡ true
+or_right true b h = refl
+or_right false b h = h
 
 none_left : (a b : Bool) → (a || b) ≡ false → (a ≡ false) × (b ≡ false)
 none_left true b h = cc
