@@ -133,7 +133,8 @@ fn append(
     let request = Request { caller, moment, op };
     let answer = core.step(0, 0, &request);
     drop(request);
-    write_verdict(0, &answer?.verdict, text)
+    let answer = answer?;
+    write_verdict(0, &answer.verdict, text)
 }
 
 fn replica(block: u64, stamp: u64, length: u64) -> ReportedReplica {
