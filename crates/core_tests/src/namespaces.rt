@@ -76,7 +76,8 @@ fn file_at(alloc: Global, path: &str) -> Option<Row> {
     let path = path_of(alloc, path)?;
     let owner = who_of(alloc, "ann")?;
     let group = who_of(alloc, "crew")?;
-    let file = opened(alloc)?.to_shown().ok()?;
+    let opened = opened(alloc)?;
+    let file = opened.to_shown().ok()?;
     Some(Row {
         path,
         kind: ObjectKind::File,
