@@ -11,7 +11,7 @@ use Rattle.history.specs.Config.{standard}
 use Rattle.history.specs.Grants.{ledger_of}
 use Rattle.cluster_trace.specs.Trace.{ClusterOpening, event_outcome}
 use Rattle.cluster_trace.specs.declared.event.Event.{Event}
-use Rattle.cluster_core.specs.Past.{World}
+pub use Rattle.cluster_core.specs.Past.{World}
 use Rattle.cluster_core.specs.World.{state_after, with_event}
 use Rattle.script_words.specs.Words.{lines_of, without_return, is_skipped, words_of}
 use Rattle.script_runs.specs.Status.{status_by}

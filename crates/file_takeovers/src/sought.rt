@@ -1,6 +1,5 @@
 ghost use Rattle.std.specs.Prelude.{◌≡◌, ◌+◌, ◌-◌, ◌==◌, ◌++◌, ◌∷◌, [], ℕ, nat_lt, List, Option, Some, None, true, IfOk, IfSome, OnOk, Bool};
 ghost use Rattle.namespace_rows.specs.declared.row.Row.{Row};
-ghost use Rattle.file_blocks.specs.Blocks.{unfinished_block};
 ghost use Rattle.namespace_rows.specs.Namespace.{IsNamespace, is_ascending};
 ghost use Rattle.namespace_rows.specs.Rows.{row_at};
 ghost use Rattle.block_map.specs.BlockFacts.{due_recoveries};

@@ -7,9 +7,8 @@ use Rattle.hdfs_values.specs.declared.fault.IllFormed.{IllFormed}
 use Rattle.script_words.specs.Words.{without_return, is_skipped}
 use Rattle.script_runs.proofs.Lines.{fold_step}
 use Rattle.cluster_trace.specs.declared.event.Event.{Event}
-use Rattle.cluster_core.specs.Past.{World}
 use Rattle.script_hints.specs.Hints.{fault_in}
-use Rattle.cluster_runs.specs.Output.{State, Numbered, ledger_after, no_lines, line_answered, event_in, after_answer, after_line, after_lines, behind_lines}
+use Rattle.cluster_runs.specs.Output.{World, State, Numbered, ledger_after, no_lines, line_answered, event_in, after_answer, after_line, after_lines, behind_lines}
 use Rattle.cluster_runs.specs.Shown.{Shows}
 use Rattle.cluster_runs.specs.declared.session.Session.{Session}
 use Rattle.hdfs_cli.specs.Hinted.{NumberedFault, faults_at, bad_at, bad_answers}

@@ -5,8 +5,7 @@ use Rattle.namespace_rows.specs.Rows.{row_at}
 use Rattle.flat_rows.specs.Changes.{recovers_nowhere_else}
 use Rattle.history.specs.State.{rows_of, blocks_of}
 use Rattle.block_laws.proofs.Overdue.{one_file_recovers, overdue_are_due}
-use Rattle.file_takeovers.specs.Recovered.{recovers_at}
-use Rattle.namesystem.specs.Performed.{KnowsRecoveries}
+use Rattle.namesystem.specs.Performed.{KnowsRecoveries, recovers_at}
 use Rattle.name_core.specs.declared.namenode.NameCore.TheInside.{Inside}
 use Rattle.name_core.specs.Kept.{IsKept, entries_of, opening_of}
 

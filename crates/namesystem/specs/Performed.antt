@@ -13,7 +13,7 @@ use Rattle.block_map.specs.BlockFacts.{Blocks}
 use Rattle.namespace_rows.specs.declared.row.Row.{Row}
 use Rattle.file_effects.specs.Effected.{IsExact, renewed_where}
 use Rattle.file_takeovers.specs.Expiry.{AreDue}
-use Rattle.file_takeovers.specs.Recovered.{RecoversOnce}
+pub use Rattle.file_takeovers.specs.Recovered.{RecoversOnce, recovers_at}
 use Rattle.namesystem.specs.declared.namesystem.Namesystem.{Namesystem}
 use Rattle.namesystem.specs.Told.{may_change}
 

@@ -9,4 +9,4 @@ equal false e = cc
 
 pub returns : goal.returns
 returns c = λ expiry among.
-    held_is expiry c.args.client.now c.in-Open.holder c.args.file.now c.in_ok-sought.sought c.in-Open.is (same_is c.args.client.now c.in-Open.holder (equal _ c.if-ne.ensures)) c.in_ok-sought.ensures among
+    held_is expiry c.args.client.now c.in-Open.holder c.args.file.now c.in_ok-sought.sought c.in-Open.is (same_is c.args.client.now c.in-Open.holder (equal _ c.if-ne.ensures)) (rw c.unfinished.ensures at c.in_ok-sought.ensures) among
