@@ -257,7 +257,7 @@ impl FileBlocks {
         self.as_slice().last()
     }
 
-    /// The blocks as they are, to be own. Where they were shown and haven't changed since, they are shared, which costs a look at each and
+    /// The blocks as they are, to be kept. Where they were shown and haven't changed since, they are shared, which costs a look at each and
     /// takes no memory; else they are copied, and remembered.
     ///
     /// # Errors
@@ -357,7 +357,7 @@ pub fn are_same_blocks(blocks: &[FileBlock], others: &[FileBlock]) -> bool
     true
 }
 
-/// A list that was shown once more, if there is one, and it has these blocks.
+/// The list that was shown, shared once more, if one is remembered and has these blocks.
 fn shared_with(
     shown: Option<&Rc<Vec<FileBlock>>>,
     blocks: &[FileBlock],

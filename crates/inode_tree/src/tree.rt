@@ -342,7 +342,7 @@ impl Tree {
         self.root.push_block(path.names(), block)
     }
 
-    /// Takes the last block out of the file at a path, and so undoes `push_block`. Takes no memory.
+    /// Takes the last block out of the file at a path, and so undoes `push_block`. Costs also the blocks of the file, and takes no memory.
     pub fn pop_block(&mut self, path: &Path)
         ensures taken { self.new ≡ row_rewritten path.now change.LastTaken self.old }
         ensures undone { (block : ℕ) (rows : List Row) → self.old ≡ block_added path.now block rows → self.new ≡ rows }

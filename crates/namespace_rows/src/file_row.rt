@@ -42,7 +42,7 @@ impl FileRow {
         }
     }
 
-    /// It as it is, to be own. Costs what `FileBlocks::to_shown` does.
+    /// It as it is, to be kept. Costs what `FileBlocks::to_shown` does.
     ///
     /// # Errors
     /// Out of memory.
