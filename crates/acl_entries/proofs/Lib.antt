@@ -1,2 +1,3 @@
+pub mod Everyone
 pub mod Searches
 pub mod Printing

@@ -1,4 +1,5 @@
 pub mod Acl
+pub mod Everyone
 pub mod JudgedEntry
 pub mod Kept
 pub mod Printed

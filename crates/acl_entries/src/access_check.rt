@@ -5,6 +5,7 @@ ghost use Rattle.hdfs_values.specs.Groups.{has_group as is_member};
 ghost use Rattle.hdfs_values.specs.Text.{same};
 ghost use Rattle.permission_bits.specs.Rights.{covers};
 ghost use Rattle.acl_entries.specs.JudgedEntry.{judged_entry, judged_by_groups, effective_rights};
+ghost use Rattle.acl_entries.specs.Everyone as spec;
 
 use crate::acl::Acl;
 use crate::deciding_entry::{Chosen, grants};
@@ -94,4 +95,34 @@ pub fn chosen<'a>(
         return Chosen::by_named_entry(EntryKind::User, entry, access.mask(), need);
     }
     chosen_by_groups(group, access, groups, need)
+}
+
+/// Whether a list names nobody, and grants owner, owning group and all others alike what is needed: so whoever asks is granted it.
+fn grants_all(access: &EntryList, need: Rights) -> bool
+    ensures { result ≡ spec.grants_all access.now need }
+{
+    access.users().is_empty()
+        && access.groups().is_empty()
+        && access.user().covers(need)
+        && grants(access.group(), access.mask(), need)
+        && access.other().covers(need)
+}
+
+/// Whether the entry that decides for a caller, as `chosen` answers it, grants what is needed. Where it's granted to all alike, nobody's
+/// name is looked at; else costs what `chosen` does. Takes no memory (HDFS Permissions Guide, "ACLs (Access Control Lists)").
+#[tactic(auto, using(crate::proofs::Everyone::granted_to_all))]
+pub fn is_granted(
+    owner: &Who,
+    group: &Who,
+    acl: &Acl,
+    caller: &Who,
+    groups: &[Who],
+    need: Rights,
+) -> bool
+    ensures { result ≡ (judged_entry owner.now group.now acl.now caller.now groups.now need).granted }
+{
+    if grants_all(acl.access(), need) {
+        return true;
+    }
+    chosen(owner, group, acl, caller, groups, need).is_granted()
 }

@@ -5,6 +5,7 @@ ghost use Rattle.known_blocks.specs.Known.{block_of, with_new_block, with_block_
 ghost use Rattle.block_tables.specs.Changes.{with_length};
 ghost use Rattle.block_changes.specs.Behind as spec;
 
+use block_records::block_record::BlockRecord;
 use block_records::fault::{BlockFault, BlockRefusal};
 use block_records::last_block::LastBlock;
 use block_records::mark::{Mark, Marks};
@@ -45,9 +46,10 @@ pub fn marks_of(
         .collect(alloc)
 }
 
-// Whether a node reported the length of a file's last block.
-fn check_last(known: &KnownBlocks, last: LastBlock) -> Result<(), BlockRefusal>
+// What is known of a file's last block, of which a node reported this length.
+fn reported(known: &KnownBlocks, last: LastBlock) -> Result<&BlockRecord, BlockRefusal>
     ensures ok { OnOk result (spec.refused_length (block_of known.now last.block) last.length ≡ None) }
+    ensures own { IfOk result (λ own. block_of known.now last.block ≡ Some own.now) }
     ensures err { IfErr result (λ refusal. spec.refused_length (block_of known.now last.block) last.length ≡ Some refusal) }
 {
     let Some(own) = known.get(last.block) else {
@@ -56,7 +58,7 @@ fn check_last(known: &KnownBlocks, last: LastBlock) -> Result<(), BlockRefusal>
     if !own.reports.has_length(last.length) {
         return Err(BlockRefusal::NotYetReplicated);
     }
-    Ok(())
+    Ok(own)
 }
 
 // Whether one of these nodes is there, and numbers for a new block.
@@ -76,39 +78,28 @@ fn check(known: &KnownBlocks, live: &NodeSet, last: &Option<LastBlock>) -> Resul
     ensures err { IfErr result (λ refusal. spec.refused_block_behind last.now known.now live.now ≡ Some refusal) }
 {
     if let Some(last) = last {
-        if let Err(refusal) = check_last(known, *last) {
+        if let Err(refusal) = reported(known, *last) {
             return Err(refusal);
         }
     }
     check_new(known, live)
 }
 
-// The nodes that reported another length of a file's last block than the one that is to be committed.
-fn others_of(alloc: Global, known: &KnownBlocks, last: LastBlock) -> Result<Vec<NodeId>, AllocError>
-    ensures { IfOk result (λ others. IfSome (block_of known.now last.block) (λ own. others.items ≡ others_of last.length own.reports)) }
-{
-    let Some(own) = known.get(last.block) else {
-        return Ok(Vec::new(alloc));
-    };
-    let others = own.reports.others(alloc, last.length)?;
-    Ok(others)
+// The nodes that reported another length of a file's last block than the one that is to be committed, and the marks of their replicas.
+#[derive(Drop)]
+struct Others {
+    nodes: Vec<NodeId>,
+    marks: Vec<Mark>,
 }
 
-// The marks of their replicas.
-fn marks_of_others(
-    alloc: Global,
-    known: &KnownBlocks,
-    last: LastBlock,
-    others: &[NodeId],
-) -> Result<Vec<Mark>, AllocError>
-    requires { IfSome (block_of known.now last.block) (λ own. others.now ≡ others_of last.length own.reports) }
-    ensures { IfOk result (λ marks. marks.items ≡ spec.marks_of_others last.block last.length (block_of known.now last.block)) }
+// Those of a block of which this is known.
+fn others_of(alloc: Global, own: &BlockRecord, last: LastBlock) -> Result<Others, AllocError>
+    ensures nodes { IfOk result (λ others. others.nodes.items ≡ others_of last.length own.now.reports) }
+    ensures marks { IfOk result (λ others. others.marks.items ≡ spec.marks_of_others last.block last.length (Some own.now)) }
 {
-    let Some(own) = known.get(last.block) else {
-        return Ok(Vec::new(alloc));
-    };
-    let marks = marks_of(alloc, others, last.block, own.stamp)?;
-    Ok(marks)
+    let nodes = own.reports.others(alloc, last.length)?;
+    let marks = marks_of(alloc, &nodes, last.block, own.stamp)?;
+    Ok(Others { nodes, marks })
 }
 
 // The nodes that are to hold a new block.
@@ -173,13 +164,13 @@ pub fn commit(
     ensures fault { IfErr result (spec.IsFaultOf (spec.refused_length (block_of known.old last.now.block) last.now.length)) }
     ensures err { OnErr result ((known.new ≡ known.old) × (marks.new ≡ marks.old)) }
 {
-    if let Err(refusal) = check_last(known, *last) {
-        return Err(BlockFault::Refused(refusal));
-    }
-    let others = others_of(alloc, known, *last)?;
-    let left = marks_of_others(alloc, known, *last, &others)?;
-    marks.add_all(left)?;
-    known.commit(last.block, last.length, &others);
+    let own = match reported(known, *last) {
+        Ok(own) => own,
+        Err(refusal) => return Err(BlockFault::Refused(refusal)),
+    };
+    let Others { nodes, marks: more } = others_of(alloc, own, *last)?;
+    marks.add_all(more)?;
+    known.commit(last.block, last.length, &nodes);
     Ok(())
 }
 
@@ -198,9 +189,11 @@ fn add_next(
     ensures marked { OnOk result (marks.new ≡ with_marks marks.old (spec.marks_of_others last.now.block last.now.length (block_of known.old last.now.block))) }
     ensures err { OnErr result ((known.new ≡ known.old) × (marks.new ≡ marks.old)) }
 {
-    let others = others_of(alloc, known, *last)?;
-    let more = marks_of_others(alloc, known, *last, &others)?;
-    known.add_behind(*last, &others, targets, replication, marks, more)
+    let Some(own) = known.get(last.block) else {
+        unreachable!()
+    };
+    let Others { nodes, marks: more } = others_of(alloc, own, *last)?;
+    known.add_behind(*last, &nodes, targets, replication, marks, more)
 }
 
 /// Adds a new block that these nodes are to hold, under the next id and the next stamp: the length of the file's last block is

@@ -301,6 +301,27 @@ fn release(
     open_paths.close(path, client);
 }
 
+/// Closes a file that a client has open, with the length of its last block committed, and notes that. Takes no memory but for the note.
+fn release_with(
+    tree: &mut Tree,
+    writers: &mut Writers,
+    open_paths: &mut OpenPaths,
+    path: &Path,
+    last: LastBlock,
+    client: &Who,
+)
+    requires held { holder_at (row_at path.now tree.old) ≡ Some client.now }
+    requires namespace { IsNamespace tree.old }
+    ensures tree { tree.new ≡ ended_at path.now (Some last) tree.old }
+    ensures exact { (last : List ℕ → Option ℕ) → IsExact last tree.old writers.old → IsExact last tree.new writers.new }
+    ensures limits { writers.new.leases.limits ≡ writers.old.leases.limits }
+    ensures latest { lease.latest_moment writers.new.leases.renewals ≤ lease.latest_moment writers.old.leases.renewals }
+{
+    writers.close(client);
+    tree.complete(path, last.block, last.length);
+    open_paths.close(path, client);
+}
+
 /// Deletes what has a path, with all that is beneath it: its blocks are known no more.
 fn delete(
     alloc: Global,
@@ -353,8 +374,7 @@ fn complete(
     };
     match blocks.commit(last.block, last.length) {
         Ok(()) => {
-            release(tree, writers, open_paths, path, caller);
-            tree.commit_block(path, last.block, last.length);
+            release_with(tree, writers, open_paths, path, last, caller);
             Ok(())
         }
         Err(BlockFault::OutOfMemory) => Err(AllocError),

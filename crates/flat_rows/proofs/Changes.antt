@@ -16,7 +16,7 @@ use Rattle.namespace_rows.specs.declared.row.Change.{Change}
 use Rattle.namespace_rows.specs.declared.row.Change.TheVariants as change
 use Rattle.std.specs.Option.{option_map}
 use Rattle.acl_entries.specs.Acl.{suits_file}
-use Rattle.namespace_rows.specs.Files.{with_state, with_file_replication, without_last, committed_at, recovered_at}
+use Rattle.namespace_rows.specs.Files.{with_state, with_file_replication, without_last, committed_at, completed_at, recovered_at}
 use Rattle.namespace_rows.specs.First.{first}
 use Rattle.namespace_rows.specs.Rows.{is_directory, row_at, ancestor, is_before, is_beyond, rows_replaced, with_sub_tree}
 use Rattle.namespace_rows.specs.Namespace.{IsNamespace, is_ascending, is_before_all, is_child, has_parent, is_root, is_rooted, have_parents, suits_parts, suits_kind, fits}
@@ -165,6 +165,7 @@ changed_path (change.List acl) row = refl
 changed_path (change.State state) row = refl
 changed_path (change.Replication replication) row = refl
 changed_path (change.Committed block bytes) row = refl
+changed_path (change.Completed block bytes) row = refl
 changed_path change.LastTaken row = refl
 changed_path (change.Recovered block bytes) row = refl
 
@@ -174,6 +175,7 @@ changed_kind (change.List acl) row = refl
 changed_kind (change.State state) row = refl
 changed_kind (change.Replication replication) row = refl
 changed_kind (change.Committed block bytes) row = refl
+changed_kind (change.Completed block bytes) row = refl
 changed_kind change.LastTaken row = refl
 changed_kind (change.Recovered block bytes) row = refl
 
@@ -197,6 +199,7 @@ changed_suits (change.List acl) row h k = listed_suits (is_directory row) row.ac
 changed_suits (change.State state) row h k = filed_suits (with_state state) (is_directory row) row.acl row.file h
 changed_suits (change.Replication replication) row h k = filed_suits (with_file_replication replication) (is_directory row) row.acl row.file h
 changed_suits (change.Committed block bytes) row h k = filed_suits (committed_at block bytes) (is_directory row) row.acl row.file h
+changed_suits (change.Completed block bytes) row h k = filed_suits (completed_at block bytes) (is_directory row) row.acl row.file h
 changed_suits change.LastTaken row h k = filed_suits without_last (is_directory row) row.acl row.file h
 changed_suits (change.Recovered block bytes) row h k = filed_suits (recovered_at block bytes) (is_directory row) row.acl row.file h
 

@@ -10,7 +10,7 @@ use Rattle.namespace_rows.specs.declared.row.Row.{Row}
 use Rattle.namespace_rows.specs.declared.row.Change.{Change}
 use Rattle.namespace_rows.specs.declared.row.Change.TheVariants as change
 use Rattle.namespace_rows.specs.declared.file_row.FileRow.{FileRow}
-use Rattle.namespace_rows.specs.Files.{with_state, with_file_replication, with_block, committed_at, without_last, state_recovers, recovered_at}
+use Rattle.namespace_rows.specs.Files.{with_state, with_file_replication, with_block, committed_at, completed_at, without_last, state_recovers, recovered_at}
 use Rattle.namespace_rows.specs.Rows.{is_directory, rows_replaced}
 use Rattle.namespace_rows.specs.Namespace.{is_child}
 
@@ -57,6 +57,7 @@ with_change (change.List acl) row = record row { acl = acl }
 with_change (change.State state) row = with_file (option_map (with_state state) row.file) row
 with_change (change.Replication replication) row = with_file (option_map (with_file_replication replication) row.file) row
 with_change (change.Committed block bytes) row = file_edited (committed_at block bytes) row
+with_change (change.Completed block bytes) row = file_edited (completed_at block bytes) row
 with_change change.LastTaken row = file_edited without_last row
 with_change (change.Recovered block bytes) row = file_edited (recovered_at block bytes) row
 
@@ -87,6 +88,7 @@ suits_row (change.List acl) row = is_directory row || suits_file acl
 suits_row (change.State state) row = true
 suits_row (change.Replication replication) row = true
 suits_row (change.Committed block bytes) row = true
+suits_row (change.Completed block bytes) row = true
 suits_row change.LastTaken row = true
 suits_row (change.Recovered block bytes) row = true
 

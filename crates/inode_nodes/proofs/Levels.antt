@@ -12,7 +12,7 @@ use Rattle.namespace_rows.specs.declared.row.Change.TheVariants as change
 use Rattle.namespace_rows.specs.declared.row.Row.{Row}
 use Rattle.namespace_rows.specs.Rows.{is_before, is_beyond, rows_replaced}
 use Rattle.namespace_rows.specs.declared.file_row.FileRow.{FileRow}
-use Rattle.namespace_rows.specs.Files.{with_state, with_file_replication, without_last, committed_at, recovered_at}
+use Rattle.namespace_rows.specs.Files.{with_state, with_file_replication, without_last, committed_at, completed_at, recovered_at}
 use Rattle.flat_rows.specs.Changes.{without, file_edited, with_change}
 use Rattle.inode_nodes.specs.Node.{Node, Top, flatten, rows, row_of, top_of, under, row_placed}
 use Rattle.inode_nodes.specs.Change.{branch_grafted}
@@ -156,6 +156,7 @@ changed_pathless (change.List acl) = record { under_name = λ n row. refl; top =
 changed_pathless (change.State state) = edited_pathless (with_state state)
 changed_pathless (change.Replication replication) = edited_pathless (with_file_replication replication)
 changed_pathless (change.Committed block bytes) = edited_pathless (committed_at block bytes)
+changed_pathless (change.Completed block bytes) = edited_pathless (completed_at block bytes)
 changed_pathless change.LastTaken = edited_pathless without_last
 changed_pathless (change.Recovered block bytes) = edited_pathless (recovered_at block bytes)
 

@@ -5,7 +5,7 @@ ghost use Rattle.file_paths.specs.Path.{is_prefix};
 ghost use Rattle.hdfs_values.specs.Text.{text_cmp};
 ghost use Rattle.namespace_rows.specs.Rows.{is_missing, file_above, ancestor};
 ghost use Rattle.namespace_rows.specs.Namespace.{has_parent};
-ghost use Rattle.namespace_rows.specs.Files.{with_state, with_file_replication, without_last, committed_at, recovered_at};
+ghost use Rattle.namespace_rows.specs.Files.{with_state, with_file_replication, without_last, committed_at, completed_at, recovered_at};
 ghost use Rattle.flat_rows.specs.Outcome.{kind_of_new, with_new};
 ghost use Rattle.flat_rows.specs.Changes.{without, with_rows_moved, row_rewritten};
 ghost use Rattle.inode_nodes.specs.Node.{Top, rows, row_of, under, flatten, with_rows};
@@ -124,6 +124,7 @@ impl Node {
             Change::State(state) => self.held.give_state(state),
             Change::Replication(replication) => self.held.give_replication(replication),
             Change::Committed(block, bytes) => self.held.commit(block, bytes),
+            Change::Completed(block, bytes) => self.held.complete(block, bytes),
             Change::LastTaken => self.held.take_last(),
             Change::Recovered(block, bytes) => self.held.end_recovery(block, bytes),
         }
@@ -279,6 +280,20 @@ impl Held {
     {
         match self {
             Held::File(file) => file.blocks.commit(block, bytes),
+            Held::Directory(_) => (),
+        }
+    }
+
+    /// Commits the length of a file's block, and closes the file.
+    fn complete(&mut self, block: BlockId, bytes: u64)
+        requires { IsSorted self.old }
+        ensures sorted { IsSorted self.new }
+        ensures kind { kind_of_held self.new ≡ kind_of_held self.old }
+        ensures file { file_of self.new ≡ option_map (completed_at block bytes) (file_of self.old) }
+        ensures rows { rows_in self.new ≡ rows_in self.old }
+    {
+        match self {
+            Held::File(file) => file.complete(block, bytes),
             Held::Directory(_) => (),
         }
     }

@@ -6,7 +6,7 @@ ghost use Rattle.flat_rows.specs.Outcome.{is_alone, kind_of_new};
 ghost use Rattle.inode_nodes.specs.Node.{rows};
 ghost use Rattle.inode_nodes.specs.Part.{IsPart, IsWhole};
 
-use acl_entries::access_check::chosen;
+use acl_entries::access_check::{chosen, is_granted};
 use acl_entries::acl::Acl;
 use acl_entries::deciding_entry::Chosen;
 use file_paths::name::Name;
@@ -158,6 +158,13 @@ impl Node {
         ensures { result ≡ judged_entry self.now.top.owner self.now.top.group self.now.top.acl caller.now groups.now need }
     {
         chosen(&self.owner, &self.group, &self.acl, caller, groups, need)
+    }
+
+    /// Whether that entry grants what is needed.
+    pub fn grants(&self, caller: &Who, groups: &[Who], need: Rights) -> bool
+        ensures { result ≡ (judged_entry self.now.top.owner self.now.top.group self.now.top.acl caller.now groups.now need).granted }
+    {
+        is_granted(&self.owner, &self.group, &self.acl, caller, groups, need)
     }
 
     /// What the directory holds by this name.

@@ -10,7 +10,7 @@ use Rattle.namespace_rows.specs.declared.file_row.FileRow.{FileRow}
 use Rattle.namespace_rows.specs.declared.row.Row.{Row}
 use Rattle.namespace_rows.specs.declared.row.Change.TheVariants as change
 use Rattle.file_blocks.specs.Blocks.{new_block, but_last}
-use Rattle.namespace_rows.specs.Files.{ids_in, blocks_in, with_block, with_state, without_last, committed_at, recovered_at}
+use Rattle.namespace_rows.specs.Files.{ids_in, blocks_in, with_block, with_state, without_last, committed_at, completed_at, recovered_at}
 use Rattle.namespace_rows.proofs.Tests.{both}
 use Rattle.file_blocks.proofs.Commits.{committed_before}
 use Rattle.flat_rows.specs.Changes.{with_file, file_edited, row_rewritten, block_added, is_recovered, recovers_nowhere_else, recovery_ended, rows_under, suits_change}
@@ -103,6 +103,34 @@ module _ (path : List (List ℕ)) (block bytes added : ℕ) (other : nat_eq adde
   pub committed_as_before : (old new rows : List Row) → new ≡ row_rewritten path (change.Committed block bytes) old → old ≡ block_added path added rows → new ≡ block_added path added (row_rewritten path (change.Committed block bytes) rows)
   committed_as_before old new rows done is = done ∙ ap (row_rewritten path (change.Committed block bytes)) is ∙ before_added rows
 
+-- a file that is closed with the length of a block
+
+module _ (path : List (List ℕ)) (block bytes : ℕ) where
+  abbrev file_closed : Row → Row
+  file_closed row = file_edited (with_state Closed) row
+
+  file_done : (file : Option FileRow) → option_map (completed_at block bytes) file ≡ option_map (committed_at block bytes) (option_map (with_state Closed) file)
+  file_done None = refl
+  file_done (Some file) = refl
+
+  row_done : (row : Row) → file_edited (completed_at block bytes) row ≡ file_edited (committed_at block bytes) (file_closed row)
+  row_done row = ap (λ file. with_file file row) (file_done row.file)
+
+  pub both_done : (rows : List Row) → row_rewritten path (change.Completed block bytes) rows ≡ row_rewritten path (change.Committed block bytes) (row_rewritten path (change.State Closed) rows)
+  both_done [] = refl
+  both_done (row ∷ rows) = by (same_path path row.path) refl (both_done rows)
+    where
+      once : List Row
+      once = row_rewritten path (change.Completed block bytes) rows
+
+      twice : List Row
+      twice = row_rewritten path (change.Committed block bytes) (row_rewritten path (change.State Closed) rows)
+
+      by : (b : Bool) → same_path path row.path ≡ b → once ≡ twice
+          → cond b (file_edited (completed_at block bytes) row) row ∷ once ≡ row_rewritten path (change.Committed block bytes) (cond b (file_closed row) row ∷ row_rewritten path (change.State Closed) rows)
+      by true e rest = ap (λ r. r ∷ once) (row_done row) ∙ ap (λ l. file_edited (committed_at block bytes) (file_closed row) ∷ l) rest ∙ ap (λ b. cond b (file_edited (committed_at block bytes) (file_closed row)) (file_closed row) ∷ twice) (sym e)
+      by false e rest = ap (λ l. row ∷ l) rest ∙ ap (λ b. cond b (file_edited (committed_at block bytes) row) row ∷ twice) (sym e)
+
 -- the end of a recovery
 
 module _ (path : List (List ℕ)) (block bytes : ℕ) where
@@ -136,6 +164,10 @@ taking_suits (Some row) = refl
 pub committing_suits : (block bytes : ℕ) (found : Option Row) → suits_change (change.Committed block bytes) found ≡ true
 committing_suits block bytes None = refl
 committing_suits block bytes (Some row) = refl
+
+pub completing_suits : (block bytes : ℕ) (found : Option Row) → suits_change (change.Completed block bytes) found ≡ true
+completing_suits block bytes None = refl
+completing_suits block bytes (Some row) = refl
 
 pub ending_suits : (block bytes : ℕ) (found : Option Row) → suits_change (change.Recovered block bytes) found ≡ true
 ending_suits block bytes None = refl

@@ -89,6 +89,14 @@ impl<'a> Inode<'a> {
         self.node.judged(caller, groups, need)
     }
 
+    /// Whether that entry grants what is needed. Where all are granted it alike, nobody's name is looked at; else costs what `judged` does.
+    /// Takes no memory.
+    pub fn grants(&self, caller: &Who, groups: &[Who], need: Rights) -> bool
+        ensures { result ≡ (judged_entry (branch_at self.now).top.owner (branch_at self.now).top.group (branch_at self.now).top.acl caller.now groups.now need).granted }
+    {
+        self.node.grants(caller, groups, need)
+    }
+
     /// What a directory holds by this name; a file holds nothing. Costs the logarithm of what it holds, in comparisons of
     /// names, and takes no memory.
     pub fn child(&self, name: &Name) -> Option<Inode<'a>>

@@ -1,6 +1,7 @@
 ghost use Rattle.std.specs.Prelude.{ℕ, List, ◌≡◌, ◌==◌, false, [], ◌∷◌, ◌||◌, map, filter, not, None, Some, IsTrue, IfOk, OnOk, OnErr};
 ghost use Rattle.std.specs.Option.{option_map};
 ghost use Rattle.file_paths.specs.Path.{is_prefix};
+ghost use Rattle.hdfs_types.specs.declared.file.FileState.TheVariants.{Closed};
 ghost use Rattle.acl_entries.specs.Acl.{suits_file};
 ghost use Rattle.namespace_rows.specs.Opening.{root_row};
 ghost use Rattle.namespace_rows.specs.Rows.{row_at, is_directory_kind, is_missing, file_above, ancestor, with_sub_tree};
@@ -358,6 +359,16 @@ impl Tree {
     {
         self.root
             .rewrite(path.names(), Change::Committed(block, bytes));
+    }
+
+    /// Closes the file at a path, with the length of one of its blocks committed (HDFS Architecture, "Data Replication"). Costs also the
+    /// blocks behind that one; takes no memory.
+    #[tactic(auto, using(crate::proofs::FileBlocks::both_done))]
+    pub fn complete(&mut self, path: &Path, block: BlockId, bytes: u64)
+        ensures { self.new ≡ row_rewritten path.now (change.Committed block bytes) (row_rewritten path.now (change.State Closed) self.old) }
+    {
+        self.root
+            .rewrite(path.names(), Change::Completed(block, bytes));
     }
 
     /// Ends the recovery of a block in the file at a path, where the state of that is one of this block: the block's length is

@@ -107,7 +107,7 @@ pub fn first_closed(
     match &node.held {
         Held::File(_) => Ok(None),
         Held::Directory(map) => {
-            if node.judged(caller, groups, need).is_granted() {
+            if node.grants(caller, groups, need) {
                 return first_closed_in(alloc, map, caller, groups, need);
             }
             Ok(Some(Found {

@@ -44,6 +44,10 @@ without_last file = record file { blocks = but_last file.blocks }
 abbrev pub committed_at : ℕ → ℕ → FileRow → FileRow
 committed_at id bytes file = record file { blocks = committed_in id bytes file.blocks }
 
+-- the file as its writer leaves it: with the length of this block committed, and closed ("Data Replication")
+abbrev pub completed_at : ℕ → ℕ → FileRow → FileRow
+completed_at id bytes file = with_state Closed (committed_at id bytes file)
+
 -- the state of a file whose last block, this one, is recovered ("Data Replication"; HDFS-265, "Block recovery")
 abbrev pub state_recovers : ℕ → FileState → Bool
 state_recovers id Closed = false
@@ -52,7 +56,7 @@ state_recovers id (Recovering own stamp begun) = own == id
 
 -- where this block is recovered, the end of that: its length is committed, and the file closed
 abbrev pub recovered_at : ℕ → ℕ → FileRow → FileRow
-recovered_at id bytes file = if state_recovers id file.state then with_state Closed (committed_at id bytes file) else file
+recovered_at id bytes file = if state_recovers id file.state then completed_at id bytes file else file
 
 -- the client who has the file open
 abbrev pub holder_of : FileState → Option (List ℕ)

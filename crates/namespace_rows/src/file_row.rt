@@ -77,14 +77,22 @@ impl FileRow {
         recovers(&self.state, id)
     }
 
+    /// Commits the length of this block of the file, and closes the file. Costs what `FileBlocks::commit` does; takes no memory (HDFS
+    /// Architecture, "Data Replication").
+    pub fn complete(&mut self, id: BlockId, bytes: u64)
+        ensures { self.new ≡ spec.completed_at id bytes self.old }
+    {
+        self.blocks.commit(id, bytes);
+        self.state = FileState::Closed;
+    }
+
     /// Where this block of the file is recovered, commits its length and closes the file. Costs what `FileBlocks::commit` does;
     /// takes no memory (HDFS Architecture, "Data Replication").
     pub fn end_recovery(&mut self, id: BlockId, bytes: u64)
         ensures { self.new ≡ spec.recovered_at id bytes self.old }
     {
         if self.recovers(id) {
-            self.blocks.commit(id, bytes);
-            self.state = FileState::Closed;
+            self.complete(id, bytes);
         }
     }
 }

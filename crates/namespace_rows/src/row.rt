@@ -110,6 +110,8 @@ pub enum Change {
     Replication(Repl),
     /// Where it is a file that has this block, this length for that block.
     Committed(BlockId, u64),
+    /// Where it is a file, this length for that block, and no writer.
+    Completed(BlockId, u64),
     /// Where it is a file, its blocks without the last.
     LastTaken,
     /// Where it is a file whose last block, this one, is recovered, this length for that block, and no writer.

@@ -26,9 +26,8 @@ use Rattle.history.specs.Blocks.{taken_over}
 use Rattle.history.specs.ClockAndLease.{has_opened, is_lease_live, state_at}
 use Rattle.lease_manager.specs.declared.writers.Writers.{Writers}
 use Rattle.lease_manager.specs.Writers.{renewal_moment_of}
-use Rattle.perm_walk.specs.Target.{file_at_row}
 use Rattle.write_rules.specs.Judged.{refused_or}
-use Rattle.write_rules.specs.JudgedAppends.{refused_held, verdict_of_append, IsJudgedAt}
+use Rattle.write_rules.specs.JudgedAppends.{file_at_row, refused_held, verdict_of_append, IsJudgedAt}
 use Rattle.write_rules.specs.declared.appends.JudgedAppend.{JudgedAppend}
 use Rattle.write_rules.specs.declared.appends.JudgedAppend.TheVariants.{Closed, Held}
 use Rattle.file_effects.specs.Effected.{IsExact, renewed_where}

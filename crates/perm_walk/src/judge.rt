@@ -85,10 +85,8 @@ fn if_closed(
     let Some(component) = component else {
         return Ok(None);
     };
-    let judged = component
-        .inode()
-        .judged(caller.name(), caller.groups(), asked);
-    if judged.is_granted() {
+    let inode = component.inode();
+    if inode.grants(caller.name(), caller.groups(), asked) {
         return Ok(None);
     }
     Ok(Some(component.to_row(alloc)?))
@@ -148,9 +146,7 @@ fn is_met(need: &Need, component: &Component, above: &Who, caller: &Caller) -> b
 {
     let inode = component.inode();
     match need {
-        Need::Rights(asked) => inode
-            .judged(caller.name(), caller.groups(), *asked)
-            .is_granted(),
+        Need::Rights(asked) => inode.grants(caller.name(), caller.groups(), *asked),
         Need::Sticky => caller.name() == inode.owner() || caller.name() == above,
         Need::Owner => caller.name() == inode.owner(),
         Need::Member(group) => has_group(caller.groups(), group),

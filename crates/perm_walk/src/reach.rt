@@ -44,10 +44,7 @@ fn is_shut(inode: Inode<'_>, caller: &Caller, asked: Option<Rights>) -> bool
     let Some(asked) = asked else {
         return false;
     };
-    inode.kind() == ObjectKind::Directory
-        && !inode
-            .judged(caller.name(), caller.groups(), asked)
-            .is_granted()
+    inode.kind() == ObjectKind::Directory && !inode.grants(caller.name(), caller.groups(), asked)
 }
 
 /// Where nothing is beneath the last component.

@@ -6,8 +6,8 @@ ghost use Rattle.permission_bits.specs.Mode as spec;
 use crate::rights::Rights;
 use bitflags::Flags;
 use hdfs_values::fault::IllFormed;
-use std::fmt;
 use std::marker::Model;
+use std::{fmt, str};
 
 /// The permission bits of a file or a directory: the sticky bit, and three bits each for the owner, the group and all
 /// others (HDFS Permissions Guide, "Overview"). Octal 0 to 1777.
@@ -151,11 +151,12 @@ impl Mode {
     }
 }
 
-fn digit(value: u16) -> char
+fn digit(value: u16) -> u8
     requires { value < 8 }
-    ensures { result ≡ 48 + value }
+    ensures byte { result ≡ 48 + value }
+    ensures ascii { result < 128 }
 {
-    char::from(b'0' + value as u8)
+    b'0' + value as u8
 }
 
 /// Prints four octal digits.
@@ -163,11 +164,13 @@ impl fmt::Display for Mode {
     ghost output = { λ mode. Some (mode_text mode) };
 
     fn fmt<W: fmt::Write>(&self, f: &mut fmt::Formatter<W>) -> fmt::Result {
-        let sticky = digit(self.bits / 512 % 8);
-        let user = digit(self.bits / 64 % 8);
-        let group = digit(self.bits / 8 % 8);
-        let other = digit(self.bits % 8);
-        write!(f, "{sticky}{user}{group}{other}")
+        let digits = [
+            digit(self.bits / 512 % 8),
+            digit(self.bits / 64 % 8),
+            digit(self.bits / 8 % 8),
+            digit(self.bits % 8),
+        ];
+        f.write_str(unsafe { str::from_utf8_unchecked(&digits) })
     }
 }
 

@@ -7,9 +7,9 @@ use crate::caller::Caller;
 use hdfs_types::reply::Refusal;
 use hdfs_values::groups::{Groups, has_group};
 use hdfs_values::who::Who;
+use indexmap::IndexMap;
 use node_ids::node_id::node_of;
 use std::alloc::{AllocError, AllocFailed, Global};
-use std::collections::BTreeMap;
 use std::marker::Model;
 use thiserror::Error;
 
@@ -41,7 +41,7 @@ impl<T: Drop> From<AllocFailed<T>> for UserFault {
 /// The known users with their groups, the superuser and the supergroup (HDFS Permissions Guide, "Group Mapping" and "The
 /// Super-User").
 pub struct Users {
-    known: BTreeMap<Who, Groups>,
+    known: IndexMap<Who, Groups>,
     superuser: Who,
     supergroup: Who,
 }
@@ -73,7 +73,7 @@ impl Users {
         ensures { result ≡ record { known = []; superuser = superuser; supergroup = supergroup } }
     {
         Users {
-            known: BTreeMap::new(alloc),
+            known: IndexMap::new(alloc),
             superuser,
             supergroup,
         }
@@ -93,8 +93,7 @@ impl Users {
         &self.supergroup
     }
 
-    /// The groups last set for a user; one that isn't known has none. Costs a look-up among the known users, and takes no
-    /// memory.
+    /// The groups last set for a user; one that isn't known has none. Costs a look-up, and takes no memory.
     pub fn groups_of(&self, user: &Who) -> &[Who]
         ensures { result.now ≡ spec.groups_of self.now user.now }
     {
@@ -126,6 +125,7 @@ impl Users {
     /// # Errors
     /// `BadName` for the name of a DataNode, else `Exists` for a user that is known, else out of memory. Nothing has changed
     /// then.
+    #[tactic(auto, using(crate::proofs::Added::new_last))]
     pub fn add(&mut self, user: Who, groups: Groups) -> Result<(), UserFault>
         ensures ok { OnOk result ((spec.refusal_of_new self.old user ≡ None) × (self.new ≡ spec.with_user self.old user groups)) }
         ensures refused { IfRefused result (λ refusal. spec.refusal_of_new self.old user ≡ Some refusal) }

@@ -13,7 +13,7 @@ use Rattle.flat_rows.specs.Takeover.{refused_taking, taken_reply}
 use Rattle.flat_rows.specs.Verdicts.{is_done}
 use Rattle.flat_rows.specs.declared.verdict.Verdict as answer
 use Rattle.flat_rows.specs.declared.verdict.Verdict.TheVariants.{Done}
-use Rattle.perm_walk.specs.Target.{file_at_row}
+pub use Rattle.perm_walk.specs.Target.{file_at_row}
 use Rattle.write_rules.specs.Judged.{refused_or}
 use Rattle.write_rules.specs.declared.appends.JudgedAppend.{JudgedAppend}
 use Rattle.write_rules.specs.declared.appends.JudgedAppend.TheVariants.{Verdict, Closed, Held}
