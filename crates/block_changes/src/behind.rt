@@ -1,4 +1,4 @@
-ghost use Rattle.std.specs.Prelude.{◌≡◌, None, Some, true, is_some, OnOk, OnErr, IfOk, IfErr, IfSome};
+ghost use Rattle.std.specs.Prelude.{◌≡◌, None, Some, true, is_some, OnOk, OnErr, IfOk, IfErr};
 ghost use Rattle.block_records.specs.Marks.{with_marks};
 ghost use Rattle.block_records.specs.Reports.{others_of};
 ghost use Rattle.known_blocks.specs.Known.{block_of, with_new_block, with_block_changed, refused_new_block};

@@ -1,15 +1,12 @@
-ghost use Rattle.std.specs.Prelude.{◌≡◌, ◌≤◌, ◌+◌, ℕ, List, Option, None, Some, Bool, true, false, [], if◌then◌else◌, map, not, IfOk, OnOk, OnErr};
-ghost use Rattle.std.specs.Option.{IsSome};
+ghost use Rattle.std.specs.Prelude.{◌≡◌, ◌≤◌, ℕ, List, Option, None, Some, Bool, true, false, [], if◌then◌else◌, map, not, IfOk, OnOk, OnErr};
 ghost use Rattle.flat_rows.specs.FileOutcome.{holder_at, directory_there};
-ghost use Rattle.namespace_rows.specs.Files.{holder_of, holders, new_file, blocks_in};
+ghost use Rattle.namespace_rows.specs.Files.{holder_of, holders, blocks_in};
 ghost use Rattle.flat_rows.specs.Changes.{rows_under, row_rewritten};
 ghost use Rattle.namespace_rows.specs.declared.row.Change.TheVariants as change;
 ghost use Rattle.namespace_rows.specs.Namespace.{IsNamespace, is_root};
 ghost use Rattle.flat_rows.specs.Facts.{Facts};
-ghost use Rattle.flat_rows.specs.Outcome.{with_new};
-ghost use Rattle.namespace_rows.specs.Rows.{row_at, file_above, ancestor, is_missing};
+ghost use Rattle.namespace_rows.specs.Rows.{row_at, file_above, is_missing};
 ghost use Rattle.hdfs_types.specs.Verb.{write_op};
-ghost use Rattle.hdfs_values.specs.Text.{same};
 ghost use Rattle.hdfs_types.specs.declared.file.FileState.TheVariants.{Closed};
 ghost use Rattle.hdfs_types.specs.declared.op.Op.TheVariants as op;
 ghost use Rattle.lease_manager.specs.Leases as lease;
@@ -18,7 +15,7 @@ ghost use Rattle.block_map.specs.BlockEffects.{with_blocks_removed};
 ghost use Rattle.flat_rows.specs.BlockOutcome.{refused_end, ended_at};
 ghost use Rattle.history.specs.Blocks.{file_ended, blocks_after};
 ghost use Rattle.file_effects.specs.Effected.{IsCreated, IsExact, IsFree, IsEffected, refused_end_of};
-ghost use Rattle.lease_manager.specs.Writers.{count_of, renewal_moment_of, CanCountOneMore, IsAlike};
+ghost use Rattle.lease_manager.specs.Writers.{renewal_moment_of, CanCountOneMore, IsAlike};
 
 use crate::make::make_file;
 use block_map::blocks::Blocks;
@@ -283,7 +280,7 @@ pub fn end_writing(
 }
 
 /// Closes a file that a client has open, and notes that. Takes no memory but for the note.
-fn release(
+fn close(
     tree: &mut Tree,
     writers: &mut Writers,
     open_paths: &mut OpenPaths,
@@ -301,8 +298,9 @@ fn release(
     open_paths.close(path, client);
 }
 
-/// Closes a file that a client has open, with the length of its last block committed, and notes that. Takes no memory but for the note.
-fn release_with(
+/// Closes a file in the tree that a client has open, with the length of its last block committed there, and notes that. Takes no memory
+/// but for the note.
+fn close_with_last(
     tree: &mut Tree,
     writers: &mut Writers,
     open_paths: &mut OpenPaths,
@@ -369,12 +367,12 @@ fn complete(
     ensures err_blocks { OnErr result (blocks.new ≡ blocks.old) }
 {
     let Some(last) = last else {
-        release(tree, writers, open_paths, path, caller);
+        close(tree, writers, open_paths, path, caller);
         return Ok(());
     };
     match blocks.commit(last.block, last.length) {
         Ok(()) => {
-            release_with(tree, writers, open_paths, path, last, caller);
+            close_with_last(tree, writers, open_paths, path, last, caller);
             Ok(())
         }
         Err(BlockFault::OutOfMemory) => Err(AllocError),

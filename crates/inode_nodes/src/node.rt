@@ -6,9 +6,8 @@ ghost use Rattle.flat_rows.specs.Outcome.{is_alone, kind_of_new};
 ghost use Rattle.inode_nodes.specs.Node.{rows};
 ghost use Rattle.inode_nodes.specs.Part.{IsPart, IsWhole};
 
-use acl_entries::access_check::{chosen, is_granted};
+use acl_entries::access_check::is_granted;
 use acl_entries::acl::Acl;
-use acl_entries::deciding_entry::Chosen;
 use file_paths::name::Name;
 use hdfs_types::file::FileState;
 use hdfs_types::reply::ObjectKind;
@@ -153,14 +152,7 @@ impl Node {
         }
     }
 
-    /// The entry that decides for a caller with these groups.
-    pub fn judged<'a>(&'a self, caller: &Who, groups: &[Who], need: Rights) -> Chosen<'a>
-        ensures { result ≡ judged_entry self.now.top.owner self.now.top.group self.now.top.acl caller.now groups.now need }
-    {
-        chosen(&self.owner, &self.group, &self.acl, caller, groups, need)
-    }
-
-    /// Whether that entry grants what is needed.
+    /// Whether the entry that decides for a caller with these groups grants what is needed.
     pub fn grants(&self, caller: &Who, groups: &[Who], need: Rights) -> bool
         ensures { result ≡ (judged_entry self.now.top.owner self.now.top.group self.now.top.acl caller.now groups.now need).granted }
     {

@@ -6,7 +6,6 @@ ghost use Rattle.inode_nodes.specs.Part.{IsPart};
 ghost use Rattle.inode_tree.specs.Tree.{branch_at};
 
 use acl_entries::acl::Acl;
-use acl_entries::deciding_entry::Chosen;
 use file_paths::name::Name;
 use hdfs_types::reply::ObjectKind;
 use hdfs_values::who::Who;
@@ -81,16 +80,9 @@ impl<'a> Inode<'a> {
         self.node.holder()
     }
 
-    /// The entry that decides for a caller with these groups. Costs the named users of the access list, and its named groups times the
-    /// caller's groups, and takes no memory.
-    pub fn judged(&self, caller: &Who, groups: &[Who], need: Rights) -> Chosen<'a>
-        ensures { result ≡ judged_entry (branch_at self.now).top.owner (branch_at self.now).top.group (branch_at self.now).top.acl caller.now groups.now need }
-    {
-        self.node.judged(caller, groups, need)
-    }
-
-    /// Whether that entry grants what is needed. Where all are granted it alike, nobody's name is looked at; else costs what `judged` does.
-    /// Takes no memory.
+    /// Whether the entry that decides for a caller with these groups grants what is needed. Where the list names nobody and all have the
+    /// rights, no name is looked at; else costs the named users of the access list, and its named groups times the caller's groups. Takes
+    /// no memory.
     pub fn grants(&self, caller: &Who, groups: &[Who], need: Rights) -> bool
         ensures { result ≡ (judged_entry (branch_at self.now).top.owner (branch_at self.now).top.group (branch_at self.now).top.acl caller.now groups.now need).granted }
     {

@@ -361,8 +361,8 @@ impl Tree {
             .rewrite(path.names(), Change::Committed(block, bytes));
     }
 
-    /// Closes the file at a path, with the length of one of its blocks committed (HDFS Architecture, "Data Replication"). Costs also the
-    /// blocks behind that one; takes no memory.
+    /// Closes the file at a path, and commits the length of a block, where the file has it; where no file stands there, changes nothing (HDFS
+    /// Architecture, "Data Replication"). Costs also the blocks behind that one; takes no memory.
     #[tactic(auto, using(crate::proofs::FileBlocks::both_done))]
     pub fn complete(&mut self, path: &Path, block: BlockId, bytes: u64)
         ensures { self.new ≡ row_rewritten path.now (change.Committed block bytes) (row_rewritten path.now (change.State Closed) self.old) }

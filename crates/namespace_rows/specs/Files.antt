@@ -44,7 +44,7 @@ without_last file = record file { blocks = but_last file.blocks }
 abbrev pub committed_at : ℕ → ℕ → FileRow → FileRow
 committed_at id bytes file = record file { blocks = committed_in id bytes file.blocks }
 
--- the file as its writer leaves it: with the length of this block committed, and closed ("Data Replication")
+-- the file closed, with the length of this block committed ("Data Replication")
 abbrev pub completed_at : ℕ → ℕ → FileRow → FileRow
 completed_at id bytes file = with_state Closed (committed_at id bytes file)
 

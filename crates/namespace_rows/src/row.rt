@@ -110,7 +110,7 @@ pub enum Change {
     Replication(Repl),
     /// Where it is a file that has this block, this length for that block.
     Committed(BlockId, u64),
-    /// Where it is a file, this length for that block, and no writer.
+    /// Where it is a file, no writer, and where it has this block, this length for that block.
     Completed(BlockId, u64),
     /// Where it is a file, its blocks without the last.
     LastTaken,

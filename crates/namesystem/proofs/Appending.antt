@@ -1,7 +1,6 @@
 -- What an append leaves: a closed file is opened, and one that another client has open is taken from him once his lease isn't live.
 use Rattle.std.proofs.Common.{◌≡◌, ℕ, Bool, true, false, ◌&&◌, List, Option, Some, None, Result, Ok, Err, refl, sym, ap, ◌∙◌, subst, cond}
 use Rattle.std.specs.Result.{IfOk}
-use Rattle.hdfs_values.specs.Text.{same}
 use Rattle.hdfs_types.specs.declared.op.Op.TheVariants as op
 use Rattle.hdfs_types.specs.declared.reply.Reply.TheVariants as reply
 use Rattle.refusals.specs.declared.refusal.Refusal.{Refusal}
@@ -27,14 +26,13 @@ use Rattle.history.specs.ClockAndLease.{has_opened, is_lease_live, state_at}
 use Rattle.lease_manager.specs.declared.writers.Writers.{Writers}
 use Rattle.lease_manager.specs.Writers.{renewal_moment_of}
 use Rattle.write_rules.specs.Judged.{refused_or}
-use Rattle.write_rules.specs.JudgedAppends.{file_at_row, refused_held, verdict_of_append, IsJudgedAt}
-use Rattle.write_rules.specs.declared.appends.JudgedAppend.{JudgedAppend}
+use Rattle.write_rules.specs.JudgedAppends.{file_at_row, verdict_of_append, IsJudgedAt}
 use Rattle.write_rules.specs.declared.appends.JudgedAppend.TheVariants.{Closed, Held}
 use Rattle.file_effects.specs.Effected.{IsExact, renewed_where}
 use Rattle.file_takeovers.specs.Taken.{IsClosedFile, takeover_verdict, refused_or_taken, recovered_for, IsTaken}
 use Rattle.namesystem.specs.declared.namesystem.Namesystem.{Namesystem}
 use Rattle.namesystem.specs.Told.{may_change}
-use Rattle.namesystem.specs.Performed.{IsPerformed, IsUndone, facts_in}
+use Rattle.namesystem.specs.Performed.{IsPerformed, facts_in}
 use Rattle.namesystem.proofs.Performing.{changing, lease_is, performed_done, performed_not_done}
 
 -- ---- what was found

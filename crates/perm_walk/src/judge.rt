@@ -1,5 +1,5 @@
 ghost use Rattle.std.specs.Prelude.{◌≡◌, ℕ, List, false, map, unwrap_or, IfOk, IfSome};
-ghost use Rattle.std.specs.Option.{option_to_list, option_copied, option_map, option_and_then};
+ghost use Rattle.std.specs.Option.{option_to_list, option_map, option_and_then};
 ghost use Rattle.file_paths.specs.Path.{IsPath};
 ghost use Rattle.namespace_rows.specs.declared.row.Row.{Row};
 ghost use Rattle.flat_rows.specs.Denial.{need_decided, denial_at};

@@ -4,7 +4,7 @@ use Rattle.namespace_rows.specs.declared.row.Change.TheVariants as change
 use Rattle.flat_rows.specs.Changes.{row_rewritten}
 use Rattle.file_effects.proofs.BlockChanges.{exact_committed}
 use Rattle.file_effects.proofs.Effected.{exact_close}
-use Rattle.file_effects.proofs.effect.release_with.Goals as goal
+use Rattle.file_effects.proofs.effect.close_with_last.Goals as goal
 
 pub returns-clause-exact : goal.returns-clause-exact
 returns-clause-exact c =
