@@ -50,15 +50,11 @@ use Rattle.cluster_trace.specs.declared.event.Event.TheVariants.{Name, Deliver, 
 use Rattle.cluster_trace.specs.declared.outcome.ClusterRefusal.TheVariants.{NotFromOutside}
 use Rattle.cluster_trace.proofs.Each.{some_is, never_some, each_append, each_more, each_map}
 use Rattle.cluster_trace.proofs.Sound.{message_brings}
-use Rattle.fencing_laws.specs.Fencing.{plan_in, HasDecided, UpdatesAreDecided, CommitsAreDecided}
+use Rattle.fencing_laws.specs.Fencing.{plan_in, HasDecided, IsDecided, UpdatesCarryDecisions, UpdatesAreDecided, CommitsAreDecided}
 use Rattle.fencing_laws.proofs.Behind.{set_there}
 use Rattle.fencing_laws.proofs.Plans.{event_stays}
 
 -- ---- what a message carries was decided
-
-abbrev pub UpdateDecided : Cluster → ℕ → ℕ → ℕ → ℕ → Type 0
-UpdateDecided state node block stamp count =
-    (leader : ℕ) × (decision : Decision) × HasDecided state leader block stamp decision × (decision.length ≡ count) × (has_number node decision.nodes ≡ true)
 
 abbrev pub CommitDecided : Cluster → ℕ → ℕ → ℕ → ℕ → Type 0
 CommitDecided state leader block stamp count = (decision : Decision) × HasDecided state leader block stamp decision × (decision.length ≡ count)
@@ -69,7 +65,7 @@ AskCarries state node presented (call.Packet offset bytes next) = ⊤
 AskCarries state node presented (call.Finalize count next) = ⊤
 AskCarries state node presented (call.Read offset count) = ⊤
 AskCarries state node presented call.InitRecovery = ⊤
-AskCarries state node presented (call.UpdateReplica count) = UpdateDecided state node presented.block presented.stamp count
+AskCarries state node presented (call.UpdateReplica count) = IsDecided state node presented count
 AskCarries state node presented (call.SendCopy to) = ⊤
 AskCarries state node presented (call.TakeCopy bytes) = ⊤
 
@@ -98,7 +94,7 @@ module _ (state : Cluster) (event : Event) where
   ask_stays node presented (call.Finalize count next) h = tt
   ask_stays node presented (call.Read offset count) h = tt
   ask_stays node presented call.InitRecovery h = tt
-  ask_stays node presented (call.UpdateReplica count) h = (h.0, h.1, decided_stays state event h.0 presented.block presented.stamp h.1 h.2, h.3, h.4)
+  ask_stays node presented (call.UpdateReplica count) h = (h.0, h.1, decided_stays state event h.0 presented.block presented.stamp h.1 h.2, h.3, h.4, h.5)
   ask_stays node presented (call.SendCopy to) h = tt
   ask_stays node presented (call.TakeCopy bytes) h = tt
 
@@ -214,7 +210,7 @@ module _ (state : Cluster) (id : ℕ) (plans : PlanTable) where
       sent own at None is = tt
       sent own at (Some decision) is =
           each_of (λ (node : ℕ). has_number node decision.nodes ≡ true) (Carries state) (λ (node : ℕ). message.Node node (Presenting (presented_by_leader id block stamp own.token) (call.UpdateReplica decision.length)))
-          (λ (node : ℕ) known. (id, decision, has own decision at is, refl, known)) decision.nodes (all_known decision.nodes)
+          (λ (node : ℕ) known. (id, decision, has own decision at is, refl, known, refl)) decision.nodes (all_known decision.nodes)
 
       by : (found : Option Plan) → plan_at block stamp plans ≡ found
           → AllByRecursion (Carries state) (to_each (presented_by_leader id block stamp (unwrap_or found no_plan).token) (call.UpdateReplica (decision_there (unwrap_or found no_plan)).length) (decision_there (unwrap_or found no_plan)).nodes)
@@ -321,6 +317,10 @@ asked_carried state (Deliver number now) asked all e =
     brought state now (message_at number state.messages) asked (λ own is. message_brings (Carries state) state.messages number own all is) e
 asked_carried state (Data node now own) asked all e =
     brought state now (Some (as_message node own)) asked (λ other is. subst (Carries state) (some_is (as_message node own) other is) (outside_carries state node own)) e
+
+pub updates_carry_decisions : UpdatesCarryDecisions
+updates_carry_decisions opening events number node count presented is =
+    message_brings (Carries (after opening events)) (after opening events).messages number (message.Node node (Presenting presented (call.UpdateReplica count))) (all_carry opening events) is
 
 pub updates_are_decided : UpdatesAreDecided
 updates_are_decided opening earlier event node count presented serves =

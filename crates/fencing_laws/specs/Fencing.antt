@@ -3,6 +3,7 @@
 -- (HDFS-265, "Generation stamp" and "Block recovery".)
 use Rattle.std.specs.Prelude.{◌≡◌, ℕ, ◌≤◌, true, List, [], ◌∷◌, ◌++◌, Option, Some, Ok, unwrap_or, option_map, is_some}
 use Rattle.block_records.specs.Numbers.{has_number, entry_at}
+use Rattle.node_ids.specs.NodeId.{node_principal}
 use Rattle.node_calls.specs.declared.call.NodeCall.TheVariants.{Presenting}
 use Rattle.node_calls.specs.declared.call.TokenCall.{TokenCall}
 use Rattle.node_calls.specs.declared.call.TokenCall.TheVariants as call
@@ -77,10 +78,22 @@ PlansAreRight = (opening : ClusterOpening) (events : List Event) (node block sta
 abbrev pub HasDecided : Cluster → ℕ → ℕ → ℕ → Decision → Type 0
 HasDecided state leader block stamp decision = (plan : Plan) × (plan_in state leader block stamp ≡ Some plan) × (plan.decision ≡ Some decision)
 
--- a replica is recovered to a length that a plan of the block at that stamp decided, in which its node takes part
+-- who asks this DataNode to recover its replica to a length leads a plan of the block at that stamp, which decided so, and in which the node
+-- takes part
+abbrev pub IsDecided : Cluster → ℕ → Presented → ℕ → Type 0
+IsDecided state node presented count =
+    (leader : ℕ) × (decision : Decision) × HasDecided state leader presented.block presented.stamp decision × (decision.length ≡ count) × (has_number node decision.nodes ≡ true)
+    × (presented.caller ≡ node_principal leader)
+
+-- so it is in each message that has a replica recovered
+abbrev pub UpdatesCarryDecisions : Type 0
+UpdatesCarryDecisions = (opening : ClusterOpening) (events : List Event) (number node count : ℕ) (presented : Presented)
+    → message_at number (after opening events).messages ≡ Some (message.Node node (Presenting presented (call.UpdateReplica count))) → IsDecided (after opening events) node presented count
+
+-- and wherever one is recovered
 abbrev pub UpdatesAreDecided : Type 0
 UpdatesAreDecided = (opening : ClusterOpening) (earlier : List Event) (event : Event) (node count : ℕ) (presented : Presented) → Serves opening earlier event node presented (call.UpdateReplica count)
-    → (leader : ℕ) × (decision : Decision) × HasDecided (after opening earlier) leader presented.block presented.stamp decision × (decision.length ≡ count) × (has_number node decision.nodes ≡ true)
+    → IsDecided (after opening earlier) node presented count
 
 -- and the NameNode is told the length that the sender's plan decided
 abbrev pub CommitsAreDecided : Type 0

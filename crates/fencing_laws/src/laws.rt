@@ -19,9 +19,11 @@ pub fn plans_stay()
     ensures right { law.PlansAreRight }
 {}
 
-/// Whatever messages are lost, repeated or late, a replica is recovered to a length that a plan decided, in which its node takes part, and
-/// the NameNode is told what the plan of the sender decided (HDFS-265, "Block recovery").
+/// Whatever messages are lost, repeated or late, a DataNode is asked to recover its replica to a length, and recovers it, where the plan of
+/// the sender decided so and the node takes part in it, and the NameNode is told what the plan of the sender decided (HDFS-265, "Block
+/// recovery").
 pub fn decisions_are_carried()
+    ensures asked { law.UpdatesCarryDecisions }
     ensures updates { law.UpdatesAreDecided }
     ensures commits { law.CommitsAreDecided }
 {}

@@ -1,5 +1,5 @@
 -- Over every list of events, DataNodes tell the leading node of replicas that they had when they let a recovery begin, and when they were updated.
-use Rattle.std.proofs.Common.{◌≡◌, ℕ, List, [], ◌∷◌, length, Option, Some, None, unwrap_or, refl, sym, ap, ◌∙◌, subst, cond}
+use Rattle.std.proofs.Common.{◌≡◌, ℕ, List, [], ◌∷◌, length, Option, Some, None, Ok, Err, unwrap_or, refl, sym, ap, ◌∙◌, subst, cond}
 use Rattle.std.specs.Prelude.{option_map}
 use Rattle.std.specs.Bool.{⊤}
 use Rattle.std.specs.List.{AllByRecursion}
@@ -15,33 +15,37 @@ use Rattle.node_calls.specs.declared.call.NodeCall.TheVariants.{Presenting}
 use Rattle.node_calls.specs.declared.call.PlanCall.{PlanCall}
 use Rattle.node_calls.specs.declared.call.PlanCall.TheVariants as plan
 use Rattle.node_calls.specs.declared.call.ReplicaState.{ReplicaState}
-use Rattle.node_calls.specs.declared.call.ReplicaState.TheVariants.{Writing}
+use Rattle.node_calls.specs.declared.call.ReplicaState.TheVariants.{Writing, Finalized}
 use Rattle.node_calls.specs.declared.call.TokenCall.{TokenCall}
 use Rattle.node_calls.specs.declared.call.TokenCall.TheVariants as call
 use Rattle.node_calls.specs.declared.message.Message.{Message}
 use Rattle.node_calls.specs.declared.message.Message.TheVariants as message
 use Rattle.node_calls.specs.declared.presented.Presented.{Presented}
+use Rattle.node_calls.specs.declared.refusal.NodeRefusal.{NodeRefusal}
 use Rattle.node_calls.specs.declared.refusal.ReplicaRefusal.TheVariants.{NoReplica}
+use Rattle.node_calls.specs.declared.reply.NodeReply.{NodeReply}
 use Rattle.node_replies.specs.Asking.{asked_by}
 use Rattle.node_replies.specs.Sending.{call_reply}
 use Rattle.replicas.specs.ReplicaStep as step
 use Rattle.replicas.specs.ReplicaStep.{held_at, replica_refusal, replicas_after}
 use Rattle.replicas.specs.declared.held.Held.{Held}
 use Rattle.replicas.specs.declared.replica.Replica.{Replica}
-use Rattle.datanode.specs.NodeStep.{DataNode, node_after, node_answer, clock_with, call_refusal, access_of}
+use Rattle.datanode.specs.NodeStep.{DataNode, node_after, node_answer, presented_answer, told_by, clock_with, call_refusal, access_of}
 use Rattle.cluster_trace.specs.Provenance.{call_of}
-use Rattle.cluster_trace.specs.Trace.{ClusterOpening, Happened, event_happened, after}
+use Rattle.cluster_trace.specs.Trace.{Cluster, ClusterOpening, Happened, called_at, event_happened, after}
 use Rattle.cluster_trace.specs.declared.event.Event.{Event}
 use Rattle.cluster_trace.proofs.Each.{each_append, each_more}
 use Rattle.cluster_trace.proofs.Sound.{message_brings}
 use Rattle.fencing_laws.specs.Fencing.{Serves}
 use Rattle.fencing_laws.proofs.Behind.{set_there}
+use Rattle.fencing_laws.proofs.Writers.{event_call, served_by}
 use Rattle.kept_bytes_laws.proofs.Fronts.{asked_block, served_answer}
 use Rattle.kept_bytes_laws.proofs.Held.{IsFinal, update_leaves}
 use Rattle.kept_bytes_laws.proofs.Sent.{Calls, event_sends, entry_sends}
 use Rattle.kept_bytes_laws.proofs.Told.{blocks_left, asked_stamp}
 use Rattle.kept_bytes_laws.proofs.Since.{served_at, answered_at, ids_stand}
-use Rattle.kept_bytes_laws.specs.Carried.{HasAnswered, HasUpdated, AnswersAreHeld}
+use Rattle.kept_bytes_laws.specs.KeptBytes.{replica_in}
+use Rattle.kept_bytes_laws.specs.Carried.{HasAnswered, HasUpdated, AnswersAreHeld, UpdatesSetTheLength}
 
 -- ---- a call that is served
 
@@ -65,6 +69,10 @@ CarriesHeld opening events (message.Node to asked) = ⊤
 CarriesHeld opening events (message.Plan to asked) = PlanCarries opening events asked
 CarriesHeld opening events (message.Reported node block stamp count) = ⊤
 CarriesHeld opening events (message.CommitRecovery leader block stamp count nodes) = ⊤
+
+-- a DataNode has a finalized replica of so many bytes
+abbrev Has : Cluster → ℕ → ℕ → ℕ → ℕ → Type 0
+Has state node block stamp count = (replica : Replica) × (replica_in state node block ≡ Some replica) × (replica.stamp ≡ stamp) × (replica.state ≡ Finalized) × (length replica.bytes ≡ count)
 
 module _ (opening : ClusterOpening) (event : Event) (earlier : List Event) where
   -- ---- what was held before
@@ -174,12 +182,27 @@ module _ (opening : ClusterOpening) (event : Event) (earlier : List Event) where
         ∙ (set_there own.id own.id own.node (node_after own.node own.now own.called) (after opening earlier).nodes own.there
         ∙ ap (λ b. cond b (Some (node_after own.node own.now own.called)) (entry_at own.id (after opening earlier).nodes)) (itself own.id)))
 
-    updates : (count : ℕ) → asked ≡ call.UpdateReplica count → HasUpdated opening (event ∷ earlier) own.node.id with_token.block with_token.stamp count
-    updates count e =
-        let final : IsFinal with_token.stamp count (held_at with_token.block (node_after own.node own.now own.called).blocks) =
+    final_left : (count : ℕ) → asked ≡ call.UpdateReplica count → IsFinal with_token.stamp count (held_at with_token.block (node_after own.node own.now own.called).blocks)
+    final_left count e =
         subst (λ blocks. IsFinal with_token.stamp count (held_at with_token.block blocks))
         (sym (left ∙ ap (λ (c : TokenCall). replicas_after c with_token.stamp with_token.block own.node.blocks) e))
-        (update_leaves own.node.limit with_token.stamp with_token.block count own.node.blocks (passes (call.UpdateReplica count) e)) in
+        (update_leaves own.node.limit with_token.stamp with_token.block count own.node.blocks (passes (call.UpdateReplica count) e))
+
+    -- what an update leaves of the replica
+    sets : (count : ℕ) → asked ≡ call.UpdateReplica count → Has (after opening (event ∷ earlier)) own.node.id with_token.block with_token.stamp count
+    sets count e =
+        let final = final_left count e in
+        (
+          final.replica,
+          in_node (entry_at own.node.id (after opening (event ∷ earlier)).nodes) (node_after own.node own.now own.called) final.replica node_left final.there,
+          final.stamped,
+          final.done,
+          final.long,
+        )
+
+    updates : (count : ℕ) → asked ≡ call.UpdateReplica count → HasUpdated opening (event ∷ earlier) own.node.id with_token.block with_token.stamp count
+    updates count e =
+        let final = final_left count e in
         record {
           later = [];
           earlier = earlier;
@@ -221,3 +244,41 @@ all_carried opening (event ∷ earlier) =
 pub answers_are_held : AnswersAreHeld
 answers_are_held opening events number primary node block stamp count state is =
     message_brings (CarriesHeld opening events) (after opening events).messages number (message.Plan primary (plan.Reply node block stamp state count)) (all_carried opening events) is
+
+-- ---- a call that is served was refused by nothing
+
+err_ok : (told : NodeReply) (refusal : NodeRefusal) → Err refusal ≡ Ok told → ⊥
+err_ok told refusal e = cc
+
+allowed_at : (node : DataNode) (clock : ℕ) (own : Presented) (asked : TokenCall) (told : NodeReply) → (presented_answer node clock own asked).result ≡ Ok told → call_refusal node clock own asked ≡ None
+unfolding presented_answer
+allowed_at node clock own asked told served = by (call_refusal node clock own asked) refl served
+  where
+    by : (refused : Option NodeRefusal) → call_refusal node clock own asked ≡ refused → (told_by node own asked refused).result ≡ Ok told → call_refusal node clock own asked ≡ None
+    by (Some refusal) e h = absurd (err_ok told refusal h)
+    by None e h = e
+
+allowed_in : (node : DataNode) (now : ℕ) (presented : Presented) (asked : TokenCall) (told : NodeReply) → (node_answer node now (Presenting presented asked)).result ≡ Ok told
+    → call_refusal node (clock_with node now) (asked_by node.id presented asked) asked ≡ None
+unfolding node_answer
+allowed_in node now presented asked told served = allowed_at node (clock_with node now) (asked_by node.id presented asked) asked told served
+
+pub updates_set_the_length : UpdatesSetTheLength
+updates_set_the_length opening earlier event node count presented serves =
+    let state = after opening earlier in
+    let asked : NodeCall = Presenting presented (call.UpdateReplica count) in
+    let by = served_by state event node serves.now asked serves.told serves.asks serves.served in
+    let calls : Calls state (call_of state event) (event_happened state event) = record {
+      id = node;
+      now = serves.now;
+      called = asked;
+      node = by.own;
+      asks = serves.asks;
+      there = by.there;
+      is = event_call state event (record { node = node; now = serves.now; call = asked }) serves.asks ∙ ap (called_at state node serves.now asked) by.there;
+    } in
+    let id : by.own.id ≡ node = ids_stand opening earlier node by.own by.there in
+    let set = sets opening event earlier calls presented (call.UpdateReplica count) refl (allowed_in by.own serves.now presented (call.UpdateReplica count) serves.told by.answer) count refl in
+    subst (λ n. Has (after opening (event ∷ earlier)) n presented.block presented.stamp count) id
+    (subst (λ b. Has (after opening (event ∷ earlier)) by.own.id b presented.stamp count) (asked_block by.own.id presented (call.UpdateReplica count))
+    (subst (λ s. Has (after opening (event ∷ earlier)) by.own.id (asked_by by.own.id presented (call.UpdateReplica count)).block s count) (asked_stamp by.own.id presented (call.UpdateReplica count)) set))

@@ -60,3 +60,8 @@ abbrev pub CommitsNameTheUpdated : Type 0
 CommitsNameTheUpdated = (opening : ClusterOpening) (events : List Event) (number leader block stamp count node : ℕ) (nodes : List ℕ)
     → message_at number (after opening events).messages ≡ Some (message.CommitRecovery leader block stamp count nodes) → has_number node nodes ≡ true
     → HasUpdated opening events node block stamp count
+
+-- and where a DataNode recovers its replica to a length, it has a replica of so many bytes at that stamp behind it, finalized
+abbrev pub UpdatesSetTheLength : Type 0
+UpdatesSetTheLength = (opening : ClusterOpening) (earlier : List Event) (event : Event) (node count : ℕ) (presented : Presented) → Serves opening earlier event node presented (call.UpdateReplica count)
+    → (replica : Replica) × (replica_in (after opening (event ∷ earlier)) node presented.block ≡ Some replica) × (replica.stamp ≡ presented.stamp) × (replica.state ≡ Finalized) × (length replica.bytes ≡ count)
