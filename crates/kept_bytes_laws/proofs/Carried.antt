@@ -191,8 +191,7 @@ module _ (opening : ClusterOpening) (event : Event) (earlier : List Event) where
     -- what an update leaves of the replica
     sets : (count : ℕ) → asked ≡ call.UpdateReplica count → Has (after opening (event ∷ earlier)) own.node.id with_token.block with_token.stamp count
     sets count e =
-        let final = final_left count e in
-        (
+        let final = final_left count e in (
           final.replica,
           in_node (entry_at own.node.id (after opening (event ∷ earlier)).nodes) (node_after own.node own.now own.called) final.replica node_left final.there,
           final.stamped,
