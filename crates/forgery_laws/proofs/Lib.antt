@@ -2,4 +2,3 @@ pub mod Members
 pub mod Orders
 pub mod Scripts
 pub mod Sent
-pub mod Openings

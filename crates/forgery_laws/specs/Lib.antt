@@ -1,2 +1,1 @@
 pub mod Forgeries
-pub mod Openings

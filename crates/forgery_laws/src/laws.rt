@@ -1,5 +1,4 @@
 ghost use Rattle.forgery_laws.specs.Forgeries.{ClientsAloneForge, ScriptsForgeNothing};
-ghost use Rattle.forgery_laws.specs.Openings.{ScriptsOpenWithNodeIds};
 
 /// Whatever happens in a cluster, a forged token comes from a client: as long as clients themselves present no other tokens than those that
 /// the NameNode granted before, no message brings another one to a DataNode, and no event presents a forged token (HADOOP-4359). Does
@@ -13,11 +12,4 @@ pub fn clients_alone_forge()
 /// it. Does nothing.
 pub fn scripts_forge_nothing()
     ensures { ScriptsForgeNothing }
-{}
-
-/// The cluster of every script opens with ids of DataNodes. So what `listed_nodes_have_held` of `kept_bytes_laws` says holds of every script:
-/// each DataNode that an `open` lists with a block had a finalized replica of it before, of the stamp and the length that are listed. Does
-/// nothing.
-pub fn scripts_open_with_node_ids()
-    ensures { ScriptsOpenWithNodeIds }
 {}

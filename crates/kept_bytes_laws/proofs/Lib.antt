@@ -9,6 +9,7 @@ pub mod Answers
 pub mod Safe
 pub mod Held
 pub mod Told
+pub mod Spelled
 pub mod Listed
 pub mod Carried
 pub mod NotedCommits

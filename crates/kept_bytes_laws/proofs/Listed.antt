@@ -1,6 +1,5 @@
 -- The NameNode lists DataNodes with what they have held.
-use Rattle.std.proofs.Common.{◌≡◌, ℕ, suc, ◌==◌, Bool, true, false, ◌||◌, inl, inr, List, [], ◌∷◌, filter, fold, length, Option, Some, None, refl, sym, ap, ◌∙◌, subst, cond, arith}
-use Rattle.std.specs.Prelude.{IsTrue}
+use Rattle.std.proofs.Common.{◌≡◌, ℕ, suc, ◌==◌, Bool, true, false, ◌||◌, inl, inr, List, [], ◌∷◌, filter, length, Option, Some, None, refl, sym, ap, ◌∙◌, subst, cond, arith}
 use Rattle.std.specs.BTreeMap.{insert_entry}
 use Rattle.std.specs.Bool.{⊤}
 use Rattle.std.specs.List.{AllByRecursion}
@@ -10,19 +9,17 @@ use Rattle.std.specs.Ordering.{nat_cmp, is_eq, match_ordering}
 use Rattle.std.specs.declared.cmp.Ordering.{Ordering}
 use Rattle.std.specs.declared.cmp.Ordering.TheVariants.{Less, Equal, Greater}
 use Rattle.std.proofs.lemmas.Bool.{eqb-true, eq-eqb}
-use Rattle.block_records.specs.Numbers.{is_number, has_number, entry_at}
+use Rattle.block_records.specs.Numbers.{is_number, has_number}
 use Rattle.block_records.specs.Reports.{agreeing_reports, with_reports_of}
 use Rattle.block_records.specs.declared.block_record.BlockRecord.{BlockRecord}
 use Rattle.block_records.specs.declared.last_block.LastBlock.{LastBlock}
 use Rattle.block_records.proofs.Numbers.{number_is}
 use Rattle.block_recovery.specs.declared.decision.Decision.{Decision}
 use Rattle.block_recovery.specs.declared.plan.Plan.{Plan}
-use Rattle.block_recovery.proofs.Lookups.{lookup_inserted}
 use Rattle.block_effect_laws.specs.Laws.{AgreeOn}
 use Rattle.block_map.specs.BlockFacts.{known_block, committed_length}
-use Rattle.node_ids.specs.NodeId.{is_node_id, node_of}
+use Rattle.node_ids.specs.NodeId.{node_of}
 use Rattle.file_paths.specs.PathOrder.{same_path}
-use Rattle.node_ids.proofs.Nodes.{principal_read}
 use Rattle.block_answers.specs.declared.located.LocatedBlock.{LocatedBlock}
 use Rattle.hdfs_types.specs.declared.op.Op.{Op}
 use Rattle.hdfs_types.specs.declared.op.Op.TheVariants as op
@@ -50,21 +47,18 @@ use Rattle.block_laws.specs.Laws.{LengthsAre}
 use Rattle.block_laws.proofs.Histories.{stands, files_tell}
 use Rattle.block_laws.proofs.Unrefused.{was_done}
 use Rattle.node_calls.specs.declared.message.Message.TheVariants as message
-use Rattle.replicas.specs.ReplicaStep.{held_at}
-use Rattle.replicas.specs.declared.held.Held.{Held}
-use Rattle.datanode.specs.NodeStep.{DataNode}
 use Rattle.cluster_trace.specs.Provenance.{call_of}
-use Rattle.cluster_trace.specs.Trace.{Cluster, ClusterOpening, Happened, new_node, with_new_node, entry_of, request_named, event_happened, left_by, after}
+use Rattle.cluster_trace.specs.Trace.{Cluster, ClusterOpening, Happened, entry_of, request_named, event_happened, left_by, after}
 use Rattle.cluster_trace.specs.declared.event.Event.{Event}
 use Rattle.cluster_trace.proofs.Each.{some_is, never_some, each_more, each_in}
 use Rattle.fencing_laws.specs.Fencing.{HasDecided}
-use Rattle.fencing_laws.proofs.Behind.{always_holds}
 use Rattle.fencing_laws.proofs.Decided.{CommitDecided, Carries, all_carry}
 use Rattle.fencing_laws.proofs.Leaders.{each_both, facts_in, leaders}
 use Rattle.fencing_laws.proofs.Orders.{each_found}
-use Rattle.kept_bytes_laws.specs.Listed.{HasHeld, HasNodeIds, ListedNodesHeld}
+use Rattle.kept_bytes_laws.specs.Listed.{HasHeld, ListedNodesHeld}
 use Rattle.kept_bytes_laws.proofs.Noted.{NotedBy, Noted, all_noted}
 use Rattle.kept_bytes_laws.proofs.Records.{OfEach, Stays, each_after}
+use Rattle.kept_bytes_laws.proofs.Spelled.{named}
 use Rattle.kept_bytes_laws.proofs.Sent.{Asks, Does, does}
 use Rattle.kept_bytes_laws.proofs.Told.{TellsHeld, all_told, held_later, all_noted_held}
 
@@ -110,33 +104,6 @@ module _ (P : ℕ → ℕ → Type 0) where
       behind true b h = refl
       behind false b h = h
 
--- ---- ids of DataNodes
-
-module _ (opening : ClusterOpening) (ids : HasNodeIds opening) where
-  start_valid : (id : ℕ) (numbers : List ℕ) (nodes : List (ℕ × DataNode)) → AllByRecursion (λ (n : ℕ). IsTrue (is_node_id n)) numbers → ((own : DataNode) → entry_at id nodes ≡ Some own → IsTrue (is_node_id id))
-      → (own : DataNode) → entry_at id (fold (with_new_node opening.name.config.replica_limit) nodes numbers) ≡ Some own → IsTrue (is_node_id id)
-  start_valid id [] nodes all before own there = before own there
-  start_valid id (n ∷ numbers) nodes all before own there =
-      start_valid id numbers (with_new_node opening.name.config.replica_limit nodes n) all.1
-      (λ one e. by one (is_number id n) refl (sym (lookup_inserted n id (new_node opening.name.config.replica_limit n) nodes) ∙ e)) own there
-    where
-      by : (one : DataNode) (b : Bool) → is_number id n ≡ b → cond b (Some (new_node opening.name.config.replica_limit n)) (entry_at id nodes) ≡ Some one → IsTrue (is_node_id id)
-      by one true at h = subst (λ m. IsTrue (is_node_id m)) (sym (number_is id n at)) all.0
-      by one false at h = before one h
-
-  valid : (events : List Event) (id : ℕ) (own : DataNode) → entry_at id (after opening events).nodes ≡ Some own → IsTrue (is_node_id id)
-  valid events id own there =
-      always_holds id (λ (one : DataNode). IsTrue (is_node_id id)) (λ one now asked h. h) opening events
-      (λ one e. start_valid id opening.nodes [] ids (λ other f. absurd (never_some other f)) one e) own there
-
-  -- who has held a replica has such an id
-  holder_valid : (events : List Event) (node block stamp count : ℕ) → HasHeld opening events node block stamp count → IsTrue (is_node_id node)
-  holder_valid events node block stamp count h = by (entry_at node (after opening h.earlier).nodes) refl h.there
-    where
-      by : (found : Option DataNode) → entry_at node (after opening h.earlier).nodes ≡ found → option_and_then (λ (held : Held). held.replica) (option_map (λ (own : DataNode). held_at block own.blocks) found) ≡ Some h.replica → IsTrue (is_node_id node)
-      by None e there = absurd (never_some h.replica there)
-      by (Some own) e there = valid h.earlier node own e
-
 -- ---- what is known of blocks
 
 -- each node that reported the block has held what it reported
@@ -159,7 +126,7 @@ module _ (opening : ClusterOpening) (events : List Event) where
     recovery = λ block stamp now own h. tt;
   }
 
-module _ (opening : ClusterOpening) (ids : HasNodeIds opening) (earlier : List Event) (event : Event) (before : AreTrue opening earlier) where
+module _ (opening : ClusterOpening) (earlier : List Event) (event : Event) (before : AreTrue opening earlier) where
   abbrev state : Cluster
   state = after opening earlier
 
@@ -180,8 +147,7 @@ module _ (opening : ClusterOpening) (ids : HasNodeIds opening) (earlier : List E
         let report = own.report replica is in
         let told : HasHeld opening earlier report.0 replica.block replica.stamp replica.length =
         each_in (TellsHeld opening earlier) (after opening earlier).messages (message.Reported report.0 replica.block replica.stamp replica.length) (all_told opening earlier) report.2 in
-        let sender_is : report.0 ≡ node =
-        some_is report.0 node (sym (principal_read report.0 (holder_valid opening ids earlier report.0 replica.block replica.stamp replica.length told)) ∙ (ap node_of (sym report.1) ∙ sender)) in
+        let sender_is : report.0 ≡ node = named report.0 node (ap node_of (sym report.1) ∙ sender) in
         subst (λ s. HasHeld opening (event ∷ earlier) node replica.block s replica.length) (sym same)
         (subst (λ n. HasHeld opening (event ∷ earlier) n replica.block replica.stamp replica.length) sender_is
         (held_later opening event earlier report.0 replica.block replica.stamp replica.length told))
@@ -236,9 +202,9 @@ module _ (opening : ClusterOpening) (ids : HasNodeIds opening) (earlier : List E
       by (inr (inr (inl own))) = subst (λ (what : Happened). OfEach (ReportsHeld opening (event ∷ earlier)) (facts_in (left_by (after opening earlier) what)).known.blocks) (sym own.is) true_later
       by (inr (inr (inr own))) = subst (λ (what : Happened). OfEach (ReportsHeld opening (event ∷ earlier)) (facts_in (left_by (after opening earlier) what)).known.blocks) (sym own.is) (true_asked own)
 
-all_true : (opening : ClusterOpening) → HasNodeIds opening → (events : List Event) → AreTrue opening events
-all_true opening ids [] = λ block own there. cc
-all_true opening ids (event ∷ earlier) = true_now opening ids earlier event (all_true opening ids earlier)
+all_true : (opening : ClusterOpening) (events : List Event) → AreTrue opening events
+all_true opening [] = λ block own there. cc
+all_true opening (event ∷ earlier) = true_now opening earlier event (all_true opening earlier)
 
 -- ---- what a reader is told
 
@@ -352,7 +318,7 @@ entry_is : (first other : HistoryEntry) (entries : List HistoryEntry) → first 
 entry_is first other entries e = cc
 
 pub listed_held : ListedNodesHeld
-listed_held opening earlier event entry file listed node ids entries opened i has = by (does (after opening earlier) event)
+listed_held opening earlier event entry file listed node entries opened i has = by (does (after opening earlier) event)
   where
     state : Cluster
     state = after opening earlier
@@ -372,7 +338,7 @@ listed_held opening earlier event entry file listed node ids entries opened i ha
         let done : Done (reply.Opened file) ≡ (entry_of state request).verdict = sym opened ∙ ap (λ (e : HistoryEntry). e.verdict) (sym made) in
         let was = was_done facts rows (users_of state.entries) request.caller request.op (reply.Opened file) done in
         let legal = (leaders opening earlier).legal in
-        let lists = reply_lists opening earlier facts request.caller rows (all_true opening ids earlier)
+        let lists = reply_lists opening earlier facts request.caller rows (all_true opening earlier)
         (λ block own_record there. ((stands state.opening state.entries legal).sound.each block own_record there).agreed) (files_tell state.opening state.entries legal) request.op in
         let all : ListsHeld opening earlier (reply.Opened file) = subst (ListsHeld opening earlier) (sym was.told_is) lists in
         each_in (Lists opening earlier) file.blocks listed all i node has

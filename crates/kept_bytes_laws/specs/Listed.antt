@@ -1,10 +1,8 @@
 -- Readers are told of replicas that were there: each DataNode that is listed with a block of a file that was opened has had a finalized
 -- replica of the block, of the stamp and the length that are listed. All this holds over every list of events, and whatever tokens are forged.
 -- (HDFS Architecture, "Data Replication": DataNodes report the replicas that they have, and readers are told of these.)
-use Rattle.std.specs.Prelude.{◌≡◌, ℕ, true, List, ◌∷◌, ◌++◌, length, Some, IsTrue}
-use Rattle.std.specs.List.{AllByRecursion}
+use Rattle.std.specs.Prelude.{◌≡◌, ℕ, true, List, ◌∷◌, ◌++◌, length, Some}
 use Rattle.block_records.specs.Numbers.{has_number}
-use Rattle.node_ids.specs.NodeId.{is_node_id}
 use Rattle.block_answers.specs.LocatedBlocks.{OpenedFile}
 use Rattle.block_answers.specs.declared.located.LocatedBlock.{LocatedBlock}
 use Rattle.hdfs_types.specs.declared.reply.Reply.TheVariants as reply
@@ -28,12 +26,8 @@ pub record HasHeld (opening : ClusterOpening) (events : List Event) (node block 
   pub finalized : replica.state ≡ Finalized
   pub long : length replica.bytes ≡ count
 
--- a cluster opens with the ids of DataNodes
-abbrev pub HasNodeIds : ClusterOpening → Type 0
-HasNodeIds opening = AllByRecursion (λ (id : ℕ). IsTrue (is_node_id id)) opening.nodes
-
 -- at this event a file is opened
 abbrev pub ListedNodesHeld : Type 0
 ListedNodesHeld = (opening : ClusterOpening) (earlier : List Event) (event : Event) (entry : HistoryEntry) (file : OpenedFile) (listed : LocatedBlock) (node : ℕ)
-    → HasNodeIds opening → (event_happened (after opening earlier) event).entries ≡ entry ∷ (after opening earlier).entries → entry.verdict ≡ Done (reply.Opened file)
+    → (event_happened (after opening earlier) event).entries ≡ entry ∷ (after opening earlier).entries → entry.verdict ≡ Done (reply.Opened file)
     → IsIn listed file.blocks → has_number node listed.nodes ≡ true → HasHeld opening earlier node listed.block listed.stamp listed.length
