@@ -108,8 +108,8 @@ fn grants_all(access: &EntryList, need: Rights) -> bool
         && access.other().covers(need)
 }
 
-/// Whether the entry that decides for a caller, as `chosen` answers it, grants what is needed. Where it's granted to all alike, nobody's
-/// name is looked at; else costs what `chosen` does. Takes no memory (HDFS Permissions Guide, "ACLs (Access Control Lists)").
+/// Whether the entry that decides for a caller, as `chosen` answers it, grants what is needed. Where the list names nobody and all are
+/// granted it, no name is looked at; else costs what `chosen` does. Takes no memory (HDFS Permissions Guide, "ACLs (Access Control Lists)").
 #[tactic(auto, using(crate::proofs::Everyone::granted_to_all))]
 pub fn is_granted(
     owner: &Who,

@@ -93,7 +93,7 @@ impl Users {
         &self.supergroup
     }
 
-    /// The groups last set for a user; one that isn't known has none. Costs a look-up, and takes no memory.
+    /// The groups last set for a user; one that isn't known has none. Costs a look-up by hash, and takes no memory.
     pub fn groups_of(&self, user: &Who) -> &[Who]
         ensures { result.now ≡ spec.groups_of self.now user.now }
     {
@@ -103,7 +103,7 @@ impl Users {
         }
     }
 
-    /// Whether this is the superuser, or a known member of the supergroup. Costs a look-up and the user's groups, and takes
+    /// Whether this is the superuser, or a known member of the supergroup. Costs a look-up by hash and the user's groups, and takes
     /// no memory.
     pub fn is_super(&self, user: &Who) -> bool
         ensures { result ≡ spec.is_super self.now user.now }
@@ -111,7 +111,7 @@ impl Users {
         *user == self.superuser || has_group(self.groups_of(user), &self.supergroup)
     }
 
-    /// The caller of this name, with the groups last set for it. Costs a look-up and the caller's groups, and takes no memory.
+    /// The caller of this name, with the groups last set for it. Costs a look-up by hash and the caller's groups, and takes no memory.
     pub fn caller<'a>(&'a self, name: &'a Who) -> Caller<'a>
         ensures { result ≡ spec.caller_of self.now name.now }
     {
@@ -120,7 +120,7 @@ impl Users {
         Caller::new(name, groups, is_superuser)
     }
 
-    /// Makes a user known, with these groups. Costs a look-up.
+    /// Makes a user known, with these groups. Costs look-ups by hash, and the known users where the table grows.
     ///
     /// # Errors
     /// `BadName` for the name of a DataNode, else `Exists` for a user that is known, else out of memory. Nothing has changed
@@ -141,7 +141,7 @@ impl Users {
         Ok(())
     }
 
-    /// Gives a known user these groups, instead of those that it had. Costs a look-up, and takes no memory.
+    /// Gives a known user these groups, instead of those that it had. Costs a look-up by hash, and takes no memory.
     ///
     /// # Errors
     /// `NotFound` for a user that isn't known. Nothing has changed then.
