@@ -19,8 +19,8 @@ pub fn plans_stay()
     ensures right { law.PlansAreRight }
 {}
 
-/// Whatever messages are lost, repeated or late, a DataNode is asked to recover its replica to a length, and recovers it, where the plan of
-/// the sender decided so and the node takes part in it, and the NameNode is told what the plan of the sender decided (HDFS-265, "Block
+/// Whatever messages are lost, repeated or late, a DataNode is asked to recover its replica to a length, and recovers it, only where the plan
+/// of the sender decided so and the node takes part in it, and the NameNode is told what the plan of the sender decided (HDFS-265, "Block
 /// recovery").
 pub fn decisions_are_carried()
     ensures asked { law.UpdatesCarryDecisions }

@@ -15,7 +15,7 @@ use Rattle.node_calls.specs.declared.call.NodeCall.TheVariants.{Presenting}
 use Rattle.node_calls.specs.declared.call.PlanCall.{PlanCall}
 use Rattle.node_calls.specs.declared.call.PlanCall.TheVariants as plan
 use Rattle.node_calls.specs.declared.call.ReplicaState.{ReplicaState}
-use Rattle.node_calls.specs.declared.call.ReplicaState.TheVariants.{Writing, Finalized}
+use Rattle.node_calls.specs.declared.call.ReplicaState.TheVariants.{Writing}
 use Rattle.node_calls.specs.declared.call.TokenCall.{TokenCall}
 use Rattle.node_calls.specs.declared.call.TokenCall.TheVariants as call
 use Rattle.node_calls.specs.declared.message.Message.{Message}
@@ -32,7 +32,7 @@ use Rattle.replicas.specs.declared.held.Held.{Held}
 use Rattle.replicas.specs.declared.replica.Replica.{Replica}
 use Rattle.datanode.specs.NodeStep.{DataNode, node_after, node_answer, presented_answer, told_by, clock_with, call_refusal, access_of}
 use Rattle.cluster_trace.specs.Provenance.{call_of}
-use Rattle.cluster_trace.specs.Trace.{Cluster, ClusterOpening, Happened, called_at, event_happened, after}
+use Rattle.cluster_trace.specs.Trace.{ClusterOpening, Happened, called_at, event_happened, after}
 use Rattle.cluster_trace.specs.declared.event.Event.{Event}
 use Rattle.cluster_trace.proofs.Each.{each_append, each_more}
 use Rattle.cluster_trace.proofs.Sound.{message_brings}
@@ -44,8 +44,7 @@ use Rattle.kept_bytes_laws.proofs.Held.{IsFinal, update_leaves}
 use Rattle.kept_bytes_laws.proofs.Sent.{Calls, event_sends, entry_sends}
 use Rattle.kept_bytes_laws.proofs.Told.{blocks_left, asked_stamp}
 use Rattle.kept_bytes_laws.proofs.Since.{served_at, answered_at, ids_stand}
-use Rattle.kept_bytes_laws.specs.KeptBytes.{replica_in}
-use Rattle.kept_bytes_laws.specs.Carried.{HasAnswered, HasUpdated, AnswersAreHeld, UpdatesSetTheLength}
+use Rattle.kept_bytes_laws.specs.Carried.{HasAnswered, HasUpdated, HasFinalized, AnswersAreHeld, UpdatesSetTheLength}
 
 -- ---- a call that is served
 
@@ -69,10 +68,6 @@ CarriesHeld opening events (message.Node to asked) = ⊤
 CarriesHeld opening events (message.Plan to asked) = PlanCarries opening events asked
 CarriesHeld opening events (message.Reported node block stamp count) = ⊤
 CarriesHeld opening events (message.CommitRecovery leader block stamp count nodes) = ⊤
-
--- a DataNode has a finalized replica of so many bytes
-abbrev Has : Cluster → ℕ → ℕ → ℕ → ℕ → Type 0
-Has state node block stamp count = (replica : Replica) × (replica_in state node block ≡ Some replica) × (replica.stamp ≡ stamp) × (replica.state ≡ Finalized) × (length replica.bytes ≡ count)
 
 module _ (opening : ClusterOpening) (event : Event) (earlier : List Event) where
   -- ---- what was held before
@@ -189,7 +184,7 @@ module _ (opening : ClusterOpening) (event : Event) (earlier : List Event) where
         (update_leaves own.node.limit with_token.stamp with_token.block count own.node.blocks (passes (call.UpdateReplica count) e))
 
     -- what an update leaves of the replica
-    sets : (count : ℕ) → asked ≡ call.UpdateReplica count → Has (after opening (event ∷ earlier)) own.node.id with_token.block with_token.stamp count
+    sets : (count : ℕ) → asked ≡ call.UpdateReplica count → HasFinalized (after opening (event ∷ earlier)) own.node.id with_token.block with_token.stamp count
     sets count e =
         let final = final_left count e in (
           final.replica,
@@ -278,6 +273,6 @@ updates_set_the_length opening earlier event node count presented serves =
     } in
     let id : by.own.id ≡ node = ids_stand opening earlier node by.own by.there in
     let set = sets opening event earlier calls presented (call.UpdateReplica count) refl (allowed_in by.own serves.now presented (call.UpdateReplica count) serves.told by.answer) count refl in
-    subst (λ n. Has (after opening (event ∷ earlier)) n presented.block presented.stamp count) id
-    (subst (λ b. Has (after opening (event ∷ earlier)) by.own.id b presented.stamp count) (asked_block by.own.id presented (call.UpdateReplica count))
-    (subst (λ s. Has (after opening (event ∷ earlier)) by.own.id (asked_by by.own.id presented (call.UpdateReplica count)).block s count) (asked_stamp by.own.id presented (call.UpdateReplica count)) set))
+    subst (λ n. HasFinalized (after opening (event ∷ earlier)) n presented.block presented.stamp count) id
+    (subst (λ b. HasFinalized (after opening (event ∷ earlier)) by.own.id b presented.stamp count) (asked_block by.own.id presented (call.UpdateReplica count))
+    (subst (λ s. HasFinalized (after opening (event ∷ earlier)) by.own.id (asked_by by.own.id presented (call.UpdateReplica count)).block s count) (asked_stamp by.own.id presented (call.UpdateReplica count)) set))

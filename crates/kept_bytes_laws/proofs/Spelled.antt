@@ -1,5 +1,5 @@
 -- A number that is spelled as an id of a DataNode is that id, however great it is.
-use Rattle.std.proofs.Common.{◌≡◌, ℕ, zero, suc, ◌+◌, ◌*◌, ◌/◌, ◌%◌, ◌<◌, ◌≤◌, ◌^◌, Bool, true, false, List, [], ◌∷◌, drop, length, cond, IsTrue, nat_lt, refl, ap, ◌∙◌, arith, Some}
+use Rattle.std.proofs.Common.{◌≡◌, ℕ, zero, suc, ◌+◌, ◌*◌, ◌/◌, ◌%◌, ◌<◌, ◌≤◌, ◌^◌, Bool, true, false, List, [], ◌∷◌, drop, length, cond, nat_lt, refl, ap, ◌∙◌, arith, Some}
 use Rattle.std.specs.Prelude.{◌==◌}
 use Rattle.std.specs.Fmt.{digit_glyph, digits_onto, digits, decimal}
 use Rattle.std.proofs.lemmas.Bool.Decides.{nat_tests}
@@ -50,9 +50,6 @@ both_last n m xs ys p q e =
     let a : n / 10 ≡ 0 = grind (arith, nat_tests) in
     let b : m / 10 ≡ 0 = grind (arith, nat_tests) in
     (omega (arith, a, b, glyph_is n, glyph_is m, ap head e), ap (drop 1) e)
-
-one_last : (k m : ℕ) (n : ℕ) (xs ys : List ℕ) → length xs ≡ length ys → glyph n ∷ xs ≡ digits_onto (suc k) 10 false m (glyph n ∷ ys) → ⊥
-one_last k m n xs ys alike e = omega (arith, alike, ap length e, longer k m (glyph n ∷ ys))
 
 -- with room for two digits more than the lesser of the two has, the same digits are of the same number
 same_number : (j n m : ℕ) (xs ys : List ℕ) → m < most j → length xs ≡ length ys → digits_onto (suc (suc j)) 10 false n xs ≡ digits_onto (suc (suc j)) 10 false m ys → (n ≡ m) × (xs ≡ ys)

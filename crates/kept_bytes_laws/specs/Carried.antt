@@ -11,7 +11,7 @@ use Rattle.node_calls.specs.declared.call.TokenCall.TheVariants as call
 use Rattle.node_calls.specs.declared.message.Message.TheVariants as message
 use Rattle.node_calls.specs.declared.presented.Presented.{Presented}
 use Rattle.replicas.specs.declared.replica.Replica.{Replica}
-use Rattle.cluster_trace.specs.Trace.{ClusterOpening, message_at, after}
+use Rattle.cluster_trace.specs.Trace.{Cluster, ClusterOpening, message_at, after}
 use Rattle.cluster_trace.specs.declared.event.Event.{Event}
 use Rattle.fencing_laws.specs.Fencing.{Serves}
 use Rattle.kept_bytes_laws.specs.KeptBytes.{replica_in}
@@ -61,7 +61,12 @@ CommitsNameTheUpdated = (opening : ClusterOpening) (events : List Event) (number
     → message_at number (after opening events).messages ≡ Some (message.CommitRecovery leader block stamp count nodes) → has_number node nodes ≡ true
     → HasUpdated opening events node block stamp count
 
--- and where a DataNode recovers its replica to a length, it has a replica of so many bytes at that stamp behind it, finalized
+-- a DataNode has a finalized replica of a block, of this stamp and of so many bytes
+abbrev pub HasFinalized : Cluster → ℕ → ℕ → ℕ → ℕ → Type 0
+HasFinalized state node block stamp count =
+    (replica : Replica) × (replica_in state node block ≡ Some replica) × (replica.stamp ≡ stamp) × (replica.state ≡ Finalized) × (length replica.bytes ≡ count)
+
+-- and where one recovers its replica to a length, it has such a replica behind that
 abbrev pub UpdatesSetTheLength : Type 0
 UpdatesSetTheLength = (opening : ClusterOpening) (earlier : List Event) (event : Event) (node count : ℕ) (presented : Presented) → Serves opening earlier event node presented (call.UpdateReplica count)
-    → (replica : Replica) × (replica_in (after opening (event ∷ earlier)) node presented.block ≡ Some replica) × (replica.stamp ≡ presented.stamp) × (replica.state ≡ Finalized) × (length replica.bytes ≡ count)
+    → HasFinalized (after opening (event ∷ earlier)) node presented.block presented.stamp count
