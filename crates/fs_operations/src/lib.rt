@@ -4,4 +4,5 @@
 
 pub mod apply;
 pub mod change;
-pub mod read;
+
+pub use fs_reads::read;
