@@ -2,7 +2,7 @@
 use Rattle.std.proofs.Common.{◌≡◌, ℕ, Bool, true, false, ◌&&◌, List, [], ◌∷◌, ◌++◌, map, cond, Option, Some, None, refl, sym, ap, ◌∙◌}
 use Rattle.std.specs.Prelude.{filter, unwrap_or, if◌then◌else◌}
 use Rattle.std.specs.List.{find, slice_get}
-use Rattle.std.specs.Option.{option_map, option_map_or, option_or, option_copied}
+use Rattle.std.specs.Option.{option_map, option_or}
 use Rattle.hdfs_values.specs.Groups.{has_group}
 use Rattle.permission_bits.specs.Rights.{covers}
 use Rattle.permission_bits.specs.declared.rights.Rights.{Rights}
@@ -10,7 +10,7 @@ use Rattle.permission_specs.specs.declared.entry.EntryKind.TheVariants.{Group, O
 use Rattle.permission_specs.specs.declared.entry.Scope.TheVariants.{Access}
 use Rattle.acl_entries.specs.declared.entry_list.NamedEntry.{NamedEntry}
 use Rattle.acl_entries.specs.Acl.{EntryList, base_entry, named_entry}
-use Rattle.acl_entries.specs.JudgedEntry.{Chosen, judged_by, judged_by_groups, best_judgement, group_entries, effective_rights}
+use Rattle.acl_entries.specs.JudgedEntry.{Chosen, judged_by, judged_by_groups, best_judgement, effective_rights}
 
 module _ {X Y : Type 0} (p : X → Bool) (g : X → Y) (f : Y → Chosen) where
   abbrev judged : List X → List Chosen

@@ -98,11 +98,11 @@ pub fn chosen<'a>(
 }
 
 /// Whether a list names nobody, and grants owner, owning group and all others alike what is needed: so whoever asks is granted it.
-fn grants_all(access: &EntryList, need: Rights) -> bool
-    ensures { result ≡ spec.grants_all access.now need }
+fn grants_all(acl: &Acl, need: Rights) -> bool
+    ensures { result ≡ spec.grants_all acl.now.access need }
 {
-    access.users().is_empty()
-        && access.groups().is_empty()
+    let access = acl.access();
+    !acl.is_extended()
         && access.user().covers(need)
         && grants(access.group(), access.mask(), need)
         && access.other().covers(need)
@@ -121,7 +121,7 @@ pub fn is_granted(
 ) -> bool
     ensures { result ≡ (judged_entry owner.now group.now acl.now caller.now groups.now need).granted }
 {
-    if grants_all(acl.access(), need) {
+    if grants_all(acl, need) {
         return true;
     }
     chosen(owner, group, acl, caller, groups, need).is_granted()

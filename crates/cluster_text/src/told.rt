@@ -8,9 +8,9 @@ use flat_rows::verdict::Verdict;
 use hdfs_values::fault::IllFormed;
 use itoa::Buffer;
 use node_text::node_reply::print_called;
-use node_text::numbers::push_number;
 use node_text::plan_reply::print_led;
-use script_text::answer::Answer;
+use script_text::answer::print_verdict;
+use script_text::numbers::push_number;
 use std::alloc::AllocError;
 
 /// Adds the verdict on a request, where the ledger had so many rows before.
@@ -20,9 +20,7 @@ fn print_ruled(rows: usize, newest: Option<&Verdict>, line: &mut String) -> Resu
     let Some(verdict) = newest else {
         return Ok(());
     };
-    let answer = Answer::Given { rows, verdict };
-    write!(line, "{answer}")?;
-    Ok(())
+    print_verdict(rows, verdict, line)
 }
 
 fn print_lost(refusal: ClusterRefusal, line: &mut String) -> Result<(), AllocError>

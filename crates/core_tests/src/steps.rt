@@ -14,7 +14,7 @@ use hdfs_values::who::Who;
 use history::config::{Config, Counters};
 use name_core::namenode::NameCore;
 use node_ids::node_id::NodeId;
-use script_text::answer::Answer;
+use script_text::answer::print_verdict;
 use script_text::line::read_line;
 use std::alloc::Global;
 use std::fmt::Write;
@@ -70,8 +70,7 @@ fn write_commands(commands: &Commands, text: &mut String) -> Result<(), Fail> {
 
 // A verdict as a script would print it, with the tokens numbered behind so many rows, and what a DataNode is told.
 fn write_verdict(rows: usize, verdict: &Verdict, text: &mut String) -> Result<(), Fail> {
-    let answer = Answer::Given { rows, verdict };
-    write!(text, "{answer}")?;
+    print_verdict(rows, verdict, text)?;
     if let Verdict::Done(Reply::Commands(commands)) = verdict {
         write_commands(commands, text)?;
     }

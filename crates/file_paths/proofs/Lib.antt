@@ -3,3 +3,4 @@ pub mod Fronts
 pub mod Spelling
 pub mod Beneath
 pub mod Slashes
+pub mod FirstNames

@@ -1,5 +1,5 @@
 -- Where a slash first stands.
-use Rattle.std.proofs.Common.{◌≡◌, ℕ, ◌<◌, ◌≤◌, ◌+◌, ◌-◌, true, false, List, [], ◌∷◌, length, take, drop, get_or, refl, sym, ap, ◌∙◌, subst, zero, suc, arith}
+use Rattle.std.proofs.Common.{◌≡◌, ℕ, ◌<◌, ◌≤◌, ◌+◌, ◌-◌, true, List, [], ◌∷◌, length, take, drop, refl, sym, ap, ◌∙◌, subst, zero, suc, arith}
 use Rattle.std.specs.List.{position_or_len, slice_split}
 use Rattle.std.proofs.lemmas.Bool.Decides.{nat_tests}
 use Rattle.std.proofs.lemmas.List.{length-drop}
@@ -9,7 +9,7 @@ use Rattle.file_paths.specs.Path.{is_slash}
 pub slash_low : (byte : ℕ) → is_slash byte ≡ true → byte < 128
 slash_low byte h = grind (arith, nat_tests, h)
 
-take_whole : {X : Type 0} (xs : List X) (n : ℕ) → length xs ≤ n → take n xs ≡ xs
+pub take_whole : {X : Type 0} (xs : List X) (n : ℕ) → length xs ≤ n → take n xs ≡ xs
 take_whole [] zero le = refl
 take_whole [] (suc n) le = refl
 take_whole (x ∷ xs) zero le = absurd (omega arith)

@@ -1,4 +1,4 @@
-ghost use Rattle.std.specs.Prelude.{◌≡◌, Some, IfOk};
+ghost use Rattle.std.specs.Prelude.{◌≡◌, true, Some, IfOk};
 ghost use Rattle.std.proofs.Common.{rules};
 ghost use Rattle.std.specs.Cmp.{partial_order_from_own_ties};
 ghost use Rattle.std.specs.Cmp.Rules.{comparing};
@@ -35,7 +35,7 @@ impl Model for Name {
     ghost invariant = { λ name. IsName name.text };
 }
 
-fn is_name_byte(byte: u8) -> bool
+pub(crate) fn is_name_byte(byte: u8) -> bool
     ensures { result ≡ spec.is_name_byte byte }
 {
     byte != b'/' && byte != b':' && byte != 0 && byte != b'\n'
@@ -57,14 +57,19 @@ fn is_dots(bytes: &[u8]) -> bool
     }
 }
 
-/// Whether bytes are those of a name. Takes no memory.
-pub(crate) fn is_name(bytes: &[u8]) -> bool
+/// Whether bytes that names may have make one: it is neither empty nor too long, and neither `.` nor `..`.
+pub(crate) fn makes_name(bytes: &[u8]) -> bool
+    requires { list_all spec.is_name_byte bytes.now ≡ true }
     ensures { result ≡ spec.is_name bytes.now }
 {
-    if bytes.is_empty() || bytes.len() > Name::MAX_BYTES || is_dots(bytes) {
-        return false;
-    }
-    are_name_bytes(bytes)
+    !bytes.is_empty() && bytes.len() <= Name::MAX_BYTES && !is_dots(bytes)
+}
+
+/// Whether bytes are those of a name. Takes no memory.
+fn is_name(bytes: &[u8]) -> bool
+    ensures { result ≡ spec.is_name bytes.now }
+{
+    are_name_bytes(bytes) && makes_name(bytes)
 }
 
 impl Name {

@@ -1,7 +1,7 @@
-ghost use Rattle.std.specs.Prelude.{◌≡◌, ℕ, List, ◌≤◌, ◌<◌, true, IfOk, IfSome, length, take, [], ◌∷◌, ◌++◌, Some, None, if◌then◌else◌, MatchOption};
+ghost use Rattle.std.specs.Prelude.{◌≡◌, ℕ, List, ◌≤◌, ◌<◌, true, false, get_or, IfOk, IfSome, length, take, [], ◌∷◌, ◌++◌, Some, None, if◌then◌else◌, MatchOption};
 ghost use Rattle.std.specs.List.{list_all, position_or_len, slice_split};
 ghost use Rattle.hdfs_values.specs.Parsed.{Parses};
-ghost use Rattle.file_paths.specs.Name.{is_name};
+ghost use Rattle.file_paths.specs.Name.{is_name, is_name_byte};
 ghost use Rattle.file_paths.specs.Path.{IsPath, IsRelative, is_slash, path_of, path_text, parent_of};
 ghost use Rattle.file_paths.specs.Path as spec;
 ghost use Rattle.file_paths.specs.PathOrder.{path_cmp, same_path, paths_total};
@@ -10,7 +10,7 @@ ghost use Rattle.std.specs.Cmp.{partial_order_from_agreeing_total};
 ghost use Rattle.std.specs.Cmp.Rules.{comparing};
 ghost use Rattle.std.specs.Ordering.{as_partial_cmp};
 
-use crate::name::{Name, is_name};
+use crate::name::{Name, is_name_byte, makes_name};
 use hdfs_values::fault::{IllFormed, ParseFault};
 use std::alloc::{AllocError, Global};
 use std::cmp::Ordering;
@@ -60,20 +60,6 @@ fn slash_at(bytes: &[u8]) -> usize
 
 /// What stands before the first slash, and what stands behind it. Costs what stands before.
 #[inline(always)]
-fn cut_bytes(bytes: &[u8]) -> Option<(&[u8], &[u8])>
-    ensures pieces { MatchOption result (slice_split is_slash bytes.now ≡ bytes.now ∷ [])
-        (λ cut. slice_split is_slash bytes.now ≡ cut.0.now ∷ slice_split is_slash cut.1.now) }
-    ensures shorter { IfSome result (λ cut. length cut.1.now < length bytes.now) }
-{
-    let at = slash_at(bytes);
-    if at == bytes.len() {
-        return None;
-    }
-    Some((&bytes[..at], &bytes[at + 1..]))
-}
-
-/// What stands before the first slash, and what stands behind it. Costs what stands before.
-#[inline(always)]
 fn cut_text(text: &str) -> Option<(&str, &str)>
     ensures pieces { MatchOption result (slice_split is_slash text.now ≡ text.now ∷ [])
         (λ cut. slice_split is_slash text.now ≡ cut.0.now ∷ slice_split is_slash cut.1.now) }
@@ -86,20 +72,52 @@ fn cut_text(text: &str) -> Option<(&str, &str)>
     Some((&text[..at], &text[at + 1..]))
 }
 
+/// Where the first byte stands that no name has; the length where all are of names.
+fn name_end(bytes: &[u8]) -> usize
+    ensures names { (k : ℕ) → k < result → is_name_byte (get_or bytes.now k 0) ≡ true }
+    ensures end { result < length bytes.now → is_name_byte (get_or bytes.now result 0) ≡ false }
+    ensures bound { result ≤ length bytes.now }
+{
+    let mut at = 0;
+    while at < bytes.len() && is_name_byte(bytes[at]) {
+        at += 1;
+    }
+    at
+}
+
+/// How long the name is that stands before the first slash; `None` where a piece between slashes is no name. Looks at each byte of the
+/// name once.
+#[inline(always)]
+fn first_name(bytes: &[u8]) -> Option<usize>
+    ensures name { MatchOption result (list_all is_name (slice_split is_slash bytes.now) ≡ false)
+        (λ end. (end ≡ position_or_len is_slash bytes.now) × (is_name (take end bytes.now) ≡ true)) }
+    ensures bound { IfSome result (λ end. end ≤ length bytes.now) }
+{
+    let end = name_end(bytes);
+    if end < bytes.len() && bytes[end] != b'/' {
+        return None;
+    }
+    if makes_name(&bytes[..end]) {
+        Some(end)
+    } else {
+        None
+    }
+}
+
 /// How many names stand between the slashes of a text; `None` where a piece is no name. Takes no memory.
 fn name_count(text: &[u8]) -> Option<usize>
     ensures { result ≡ (if list_all is_name (slice_split is_slash text.now) then Some (length (slice_split is_slash text.now)) else None) }
 {
     let mut rest = text;
     let mut count = 1;
-    while let Some((piece, behind)) = cut_bytes(rest) {
-        if !is_name(piece) {
-            return None;
+    while let Some(end) = first_name(rest) {
+        if end == rest.len() {
+            return Some(count);
         }
-        rest = behind;
+        rest = &rest[end + 1..];
         count += 1;
     }
-    if is_name(rest) { Some(count) } else { None }
+    None
 }
 
 /// How many names a path other than the root has whose text is a slash with `rest` behind it; `None` where that is the text of none.

@@ -6,7 +6,7 @@ use hdfs_types::reply::{Counter, Refusal, Reply};
 use hdfs_values::fault::IllFormed;
 use hdfs_values::ids::{BlockId, Stamp};
 use node_ids::node_id::NodeId;
-use script_text::answer::Answer;
+use script_text::answer::print_verdict;
 use std::alloc::{AllocError, Global};
 use std::test::Fail;
 
@@ -54,13 +54,11 @@ fn opened(alloc: Global) -> Result<Reply, AllocError> {
 
 /// What is printed of a verdict, where the ledger had so many rows before. It has no clauses, so that no proof of a test computes it.
 fn text_of(alloc: Global, rows: usize, verdict: Verdict) -> Result<String, AllocError> {
-    let text = Answer::Given {
-        rows,
-        verdict: &verdict,
-    }
-    .to_string(alloc);
+    let mut text = String::new(alloc);
+    let printed = print_verdict(rows, &verdict, &mut text);
     drop(verdict);
-    text
+    printed?;
+    Ok(text)
 }
 
 /// Fails where anything else is printed.
@@ -170,7 +168,7 @@ fn refusals_of_blocks_are_told(rt: HostRuntime) -> Result<(), Fail> {
 }
 
 #[test]
-fn ill_formed_lines_are_told(rt: HostRuntime) -> Result<(), Fail> {
-    let text = Answer::Bad(IllFormed::BadLine).to_string(rt.alloc())?;
-    is_text(text.as_str(), "bad 0 BadLine")
+fn ill_formed_lines_are_named(rt: HostRuntime) -> Result<(), Fail> {
+    let text = IllFormed::BadLine.to_string(rt.alloc())?;
+    is_text(text.as_str(), "0 BadLine")
 }

@@ -2,5 +2,4 @@
 #![tactic(auto)]
 
 pub mod node_reply;
-pub mod numbers;
 pub mod plan_reply;

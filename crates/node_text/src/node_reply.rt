@@ -6,13 +6,13 @@ ghost use Rattle.hex.specs.Hex.{encode_lower, lower_digits};
 ghost use Rattle.node_calls.specs.declared.reply.NodeReply.TheVariants as reply;
 ghost use Rattle.node_text.specs.ReplyText as spec;
 
-use crate::numbers::push_number;
 use bytes::Bytes;
 use hdfs_values::ids::Stamp;
 use node_calls::call::ReplicaState;
 use node_calls::chunks::Chunks;
 use node_calls::refusal::NodeRefusal;
 use node_calls::reply::NodeReply;
+use script_text::numbers::{print_number, push_number};
 use std::alloc::AllocError;
 
 /// The digit of a number below 16.
@@ -119,18 +119,12 @@ fn print_replica(
 ) -> Result<(), AllocError>
     ensures { OnOk result (string_bytes line.new ≡ string_bytes line.old ++ spec.node_reply_text (reply.Replica stamp length state)) }
 {
-    let stamp = stamp.get();
-    let state = state_word(state);
-    write!(line, "ok replica {stamp} {length} {state}")?;
-    Ok(())
-}
-
-/// Adds a number behind its word.
-fn print_number(word: &str, number: u64, line: &mut String) -> Result<(), AllocError>
-    ensures { OnOk result (string_bytes line.new ≡ string_bytes line.old ++ (word.now ++ decimal number)) }
-{
-    line.push_str(word)?;
-    push_number(number, line)
+    line.push_str("ok replica ")?;
+    push_number(stamp.get(), line)?;
+    line.push(' ')?;
+    push_number(length, line)?;
+    line.push(' ')?;
+    line.push_str(state_word(state))
 }
 
 fn print_reply(reply: &NodeReply, line: &mut String) -> Result<(), AllocError>

@@ -1,4 +1,4 @@
-ghost use Rattle.std.specs.Prelude.{◌≡◌, ◌+◌, ◌*◌, ◌%◌, true, ◌<◌, ◌≤◌, ◌^◌, ℕ, length, Some, if◌then◌else◌, IsTrue, None, ok_or};
+ghost use Rattle.std.specs.Prelude.{◌≡◌, ◌+◌, ◌*◌, ◌%◌, true, ◌<◌, ◌≤◌, ℕ, length, Some, if◌then◌else◌, IsTrue, None, ok_or};
 ghost use Rattle.std.specs.List.{list_all};
 ghost use Rattle.permission_bits.specs.Mode.{mode_of, octal_onto, mode_text};
 ghost use Rattle.permission_bits.specs.Mode as spec;

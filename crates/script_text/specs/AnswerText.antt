@@ -1,8 +1,6 @@
--- The answer to a line, and how it is printed.
-use Rattle.std.specs.Prelude.{ℕ, ◌+◌, Bool, true, false, List, [], ◌∷◌, ◌++◌, Result, Ok, Err, codes}
+-- How a verdict is printed.
+use Rattle.std.specs.Prelude.{ℕ, ◌+◌, List, ◌∷◌, ◌++◌, codes}
 use Rattle.std.specs.Fmt.{decimal}
-use Rattle.hdfs_values.specs.Faults.{ill_formed_text}
-use Rattle.hdfs_values.specs.declared.fault.IllFormed.{IllFormed}
 use Rattle.hdfs_types.specs.Reply.{status_text, acl_status_text, names_text, summary_text}
 use Rattle.refusals.specs.Refusal.{refusal_text}
 use Rattle.hdfs_types.specs.declared.reply.Expired.{Expired as ExpiredFiles}
@@ -11,8 +9,6 @@ use Rattle.hdfs_types.specs.declared.reply.Reply.TheVariants.{Empty, Status, Acl
 use Rattle.flat_rows.specs.DenialText.{denial_text}
 use Rattle.flat_rows.specs.declared.verdict.Verdict.{Verdict}
 use Rattle.flat_rows.specs.declared.verdict.Verdict.TheVariants.{Done, Denied, Refused}
-use Rattle.script_text.specs.declared.answer.Answer.{Answer}
-use Rattle.script_text.specs.declared.answer.Answer.TheVariants.{Bad, Given}
 use Rattle.script_text.specs.BlockText.{added_text, opened_text}
 
 -- how many files were closed, and of how many the last block is recovered
@@ -40,27 +36,3 @@ abbrev pub verdict_text : ℕ → Verdict → List ℕ
 verdict_text rows (Done reply) = reply_text rows reply
 verdict_text rows (Denied denial) = codes "denied " ++ denial_text denial
 verdict_text rows (Refused refusal) = codes "refused " ++ refusal_text refusal
-
--- a verdict, and how many rows the ledger had before its request
-pub record Ruling : Type 0 where
-  pub rows : ℕ
-  pub verdict : Verdict
-
--- a line is answered by the verdict on its request, or by how it is ill-formed
-abbrev pub answer_text : Result Ruling IllFormed → List ℕ
-answer_text (Err fault) = codes "bad " ++ ill_formed_text fault
-answer_text (Ok ruling) = verdict_text ruling.rows ruling.verdict
-
--- what an answer tells
-abbrev pub said_by : Answer → Result Ruling IllFormed
-said_by (Bad fault) = Err fault
-said_by (Given rows verdict) = Ok (record { rows = rows; verdict = verdict.now })
-
--- the line's number, a blank, the answer and a line feed
-abbrev pub ruling_line : ℕ → Result Ruling IllFormed → List ℕ
-ruling_line number answer = decimal number ++ (32 ∷ (answer_text answer ++ (10 ∷ [])))
-
--- whether the line was ill-formed
-abbrev pub is_bad_ruling : Result Ruling IllFormed → Bool
-is_bad_ruling (Err fault) = true
-is_bad_ruling (Ok ruling) = false

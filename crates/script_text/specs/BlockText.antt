@@ -20,10 +20,13 @@ abbrev pub added_text : ℕ → AddedBlock → List ℕ
 added_text row added =
     decimal added.block ++ (32 ∷ (decimal added.stamp ++ (codes " targets " ++ (nodes_text added.targets ++ (codes " token " ++ token_text row)))))
 
--- a block to be read, behind a blank: the nodes that reported it, and the token to read it
+-- a block to be read, behind a blank: its id, its stamp, its length, and the nodes that reported it
+abbrev pub held_text : LocatedBlock → List ℕ
+held_text block = 32 ∷ (decimal block.block ++ (58 ∷ (decimal block.stamp ++ (58 ∷ (decimal block.length ++ (58 ∷ nodes_text block.nodes))))))
+
+-- behind it the token to read it
 abbrev pub located_text : ℕ → LocatedBlock → List ℕ
-located_text row block =
-    32 ∷ (decimal block.block ++ (58 ∷ (decimal block.stamp ++ (58 ∷ (decimal block.length ++ (58 ∷ (nodes_text block.nodes ++ (58 ∷ token_text row))))))))
+located_text row block = held_text block ++ (58 ∷ token_text row)
 
 -- blocks to be read, whose tokens are in one row after another
 abbrev pub blocks_text : ℕ → List LocatedBlock → List ℕ

@@ -1,103 +1,164 @@
-ghost use Rattle.std.specs.Prelude.{◌≡◌, ◌++◌, Some, codes};
-ghost use Rattle.std.specs.Fmt.{DisplaysOnOk};
-ghost use Rattle.std.specs.Option.{option_map};
-ghost use Rattle.hdfs_types.specs.declared.reply.Reply.TheVariants.{Recovering};
+ghost use Rattle.std.specs.Prelude.{◌≡◌, ◌++◌, OnOk, codes};
+ghost use Rattle.std.specs.String.{string_bytes};
+ghost use Rattle.flat_rows.specs.DenialText.{denial_text};
+ghost use Rattle.hdfs_types.specs.Reply.{object_kind_text, acl_mark, file_text};
+ghost use Rattle.permission_bits.specs.Mode.{mode_text};
+ghost use Rattle.hdfs_types.specs.declared.reply.Reply.TheVariants as reply;
+ghost use Rattle.refusals.specs.Refusal.{refusal_text};
 ghost use Rattle.script_text.specs.AnswerText as spec;
 
-use crate::blocks::{AddedBehind, OpenedBehind};
+use crate::blocks::{print_added, print_opened};
+use crate::numbers::print_number;
+use flat_rows::denial::Denial;
 use flat_rows::verdict::Verdict;
-use hdfs_types::reply::{Expired, Reply};
-use hdfs_values::fault::IllFormed;
+use hdfs_types::file::FileDetail;
+use hdfs_types::reply::{
+    AclStatus, ContentSummary, Expired, FileStatus, Names, ObjectKind, Refusal, Reply,
+};
 use hdfs_values::ids::{BlockId, Stamp};
-use std::fmt;
+use permission_bits::mode::Mode;
+use std::alloc::AllocError;
 
-/// What is printed for a line of a script that the NameNode answers, or that is ill-formed.
-#[derive(Clone, Copy)]
-pub enum Answer<'a> {
-    /// The line is ill-formed, in this way.
-    Bad(IllFormed),
-    /// What the NameNode answered, and how many rows the ledger of granted tokens had before: the tokens of the answer are numbered by
-    /// their rows.
-    Given { rows: usize, verdict: &'a Verdict },
-}
-
-impl fmt::Display for Answer<'_> {
-    ghost use Rattle.script_text.specs.AnswerText.{answer_text, said_by};
-
-    ghost output = { λ answer. Some (answer_text (said_by answer)) };
-
-    fn fmt<W: fmt::Write>(&self, f: &mut fmt::Formatter<W>) -> fmt::Result {
-        match self {
-            Answer::Bad(fault) => write!(f, "bad {fault}"),
-            Answer::Given { rows, verdict } => print_verdict(*rows, verdict, f),
-        }
+/// What is printed before the mode of a file or a directory.
+fn words_of(kind: ObjectKind) -> &'static str
+    ensures { result.now ≡ codes "ok " ++ (object_kind_text kind ++ codes " ") }
+{
+    match kind {
+        ObjectKind::File => "ok file ",
+        ObjectKind::Directory => "ok dir ",
     }
 }
 
-fn print_verdict<W: fmt::Write>(
-    rows: usize,
-    verdict: &Verdict,
-    f: &mut fmt::Formatter<W>,
-) -> fmt::Result
-    ensures { DisplaysOnOk W.write_str_gives f.old result (Some (spec.verdict_text rows verdict.now)) f.new }
+/// Adds the mode, and right behind it a `+` where an access list stands behind it.
+fn print_mode(mode: Mode, has_acl: bool, line: &mut String) -> Result<(), AllocError>
+    ensures { OnOk result (string_bytes line.new ≡ string_bytes line.old ++ (mode_text mode ++ acl_mark has_acl)) }
 {
-    match verdict {
-        Verdict::Done(reply) => print_reply(rows, reply, f),
-        Verdict::Denied(denial) => write!(f, "denied {denial}"),
-        Verdict::Refused(refusal) => write!(f, "refused {refusal}"),
+    write!(line, "{mode}")?;
+    if has_acl { line.push('+') } else { Ok(()) }
+}
+
+/// Adds what is reported of a file alone.
+fn print_detail(detail: &Option<FileDetail>, line: &mut String) -> Result<(), AllocError>
+    ensures { OnOk result (string_bytes line.new ≡ string_bytes line.old ++ file_text detail.now) }
+{
+    if let Some(detail) = detail {
+        write!(line, "{detail}")?;
     }
+    Ok(())
 }
 
-fn print_reply<W: fmt::Write>(rows: usize, reply: &Reply, f: &mut fmt::Formatter<W>) -> fmt::Result
-    ensures { DisplaysOnOk W.write_str_gives f.old result (Some (spec.reply_text rows reply.now)) f.new }
+/// Adds what `stat` reports.
+fn print_status(status: &FileStatus, line: &mut String) -> Result<(), AllocError>
+    ensures { OnOk result (string_bytes line.new ≡ string_bytes line.old ++ spec.reply_text 0 (reply.Status status.now)) }
 {
-    match reply {
-        Reply::Empty => f.write_str("ok"),
-        Reply::Status(status) => print_behind("ok ", status.status(), f),
-        Reply::Acl(status) => print_behind("ok ", status.status(), f),
-        Reply::Names(names) => print_behind("ok list", names, f),
-        Reply::Summary(summary) => print_behind("ok summary", summary, f),
-        Reply::Deleted(count) => print_behind("ok deleted ", count, f),
-        Reply::Released => f.write_str("ok released"),
-        Reply::Recovering(block, stamp) => print_recovering(*block, *stamp, f),
-        Reply::Closed(bytes) => print_behind("ok closed ", bytes, f),
-        Reply::Opened(opened) => print_behind("ok open ", &OpenedBehind { rows, opened }, f),
-        Reply::Added(added) => print_behind("ok block ", &AddedBehind { rows, added }, f),
-        Reply::Expired(files) => print_expired(files, f),
-        Reply::Serial(serial) => print_behind("ok serial ", &serial.get(), f),
-        Reply::Commands(_) => f.write_str("ok heartbeat"),
-    }
+    line.push_str(words_of(status.kind))?;
+    print_mode(status.mode, status.has_acl, line)?;
+    line.push(' ')?;
+    line.push_str(status.owner.as_str())?;
+    line.push(' ')?;
+    line.push_str(status.group.as_str())?;
+    print_detail(&status.file, line)
 }
 
-/// Prints a value behind its word.
-fn print_behind<T: fmt::Display, W: fmt::Write>(
-    word: &str,
-    value: &T,
-    f: &mut fmt::Formatter<W>,
-) -> fmt::Result
-    ensures { DisplaysOnOk W.write_str_gives f.old result (option_map (λ text. word.now ++ text) (T.output value.now)) f.new }
+/// Adds an access list, with its object's owner and group.
+fn print_acl(status: &AclStatus, line: &mut String) -> Result<(), AllocError>
+    ensures { OnOk result (string_bytes line.new ≡ string_bytes line.old ++ spec.reply_text 0 (reply.Acl status.now)) }
 {
-    write!(f, "{word}{value}")
+    write!(line, "ok {status}")?;
+    Ok(())
 }
 
-/// Which block is recovered, and under which stamp.
-fn print_recovering<W: fmt::Write>(
-    block: BlockId,
-    stamp: Stamp,
-    f: &mut fmt::Formatter<W>,
-) -> fmt::Result
-    ensures { DisplaysOnOk W.write_str_gives f.old result (Some (spec.reply_text 0 (Recovering block stamp))) f.new }
+/// Adds the names in a directory.
+fn print_names(names: &Names, line: &mut String) -> Result<(), AllocError>
+    ensures { OnOk result (string_bytes line.new ≡ string_bytes line.old ++ spec.reply_text 0 (reply.Names names.now)) }
+{
+    write!(line, "ok list{names}")?;
+    Ok(())
+}
+
+/// Adds what a sub-tree holds.
+fn print_summary(summary: &ContentSummary, line: &mut String) -> Result<(), AllocError>
+    ensures { OnOk result (string_bytes line.new ≡ string_bytes line.old ++ spec.reply_text 0 (reply.Summary summary.now)) }
+{
+    write!(line, "ok summary{summary}")?;
+    Ok(())
+}
+
+/// Adds which block is recovered, and under which stamp.
+fn print_recovering(block: BlockId, stamp: Stamp, line: &mut String) -> Result<(), AllocError>
+    ensures { OnOk result (string_bytes line.new ≡ string_bytes line.old ++ spec.reply_text 0 (reply.Recovering block stamp)) }
 {
     let block = block.get();
     let stamp = stamp.get();
-    write!(f, "ok recovering {block} {stamp}")
+    write!(line, "ok recovering {block} {stamp}")?;
+    Ok(())
 }
 
-/// How many files a tick closed, and of how many the last block is recovered.
-fn print_expired<W: fmt::Write>(files: &Expired, f: &mut fmt::Formatter<W>) -> fmt::Result
-    ensures { DisplaysOnOk W.write_str_gives f.old result (Some (codes "ok " ++ spec.expired_text files.now)) f.new }
+/// Adds how many files a tick closed, and of how many the last block is recovered.
+fn print_expired(files: &Expired, line: &mut String) -> Result<(), AllocError>
+    ensures { OnOk result (string_bytes line.new ≡ string_bytes line.old ++ spec.reply_text 0 (reply.Expired files.now)) }
 {
     let closed = files.closed;
     let recovering = files.recovering;
-    write!(f, "ok closed {closed} recovering {recovering}")
+    write!(line, "ok closed {closed} recovering {recovering}")?;
+    Ok(())
+}
+
+/// Adds what is done, where the ledger had so many rows before.
+fn print_reply(rows: usize, reply: &Reply, line: &mut String) -> Result<(), AllocError>
+    ensures { OnOk result (string_bytes line.new ≡ string_bytes line.old ++ spec.reply_text rows reply.now) }
+{
+    match reply {
+        Reply::Empty => line.push_str("ok"),
+        Reply::Status(status) => print_status(status.status(), line),
+        Reply::Acl(status) => print_acl(status.status(), line),
+        Reply::Names(names) => print_names(names, line),
+        Reply::Summary(summary) => print_summary(summary, line),
+        Reply::Deleted(count) => print_number("ok deleted ", *count, line),
+        Reply::Released => line.push_str("ok released"),
+        Reply::Recovering(block, stamp) => print_recovering(*block, *stamp, line),
+        Reply::Closed(bytes) => print_number("ok closed ", *bytes, line),
+        Reply::Opened(opened) => {
+            line.push_str("ok open ")?;
+            print_opened(rows, opened, line)
+        }
+        Reply::Added(added) => {
+            line.push_str("ok block ")?;
+            print_added(rows, added, line)
+        }
+        Reply::Expired(files) => print_expired(files, line),
+        Reply::Serial(serial) => print_number("ok serial ", u64::from(serial.get()), line),
+        Reply::Commands(_) => line.push_str("ok heartbeat"),
+    }
+}
+
+/// Adds which need failed, of which component, and the entry that decided.
+fn print_denial(denial: &Denial, line: &mut String) -> Result<(), AllocError>
+    ensures { OnOk result (string_bytes line.new ≡ string_bytes line.old ++ (codes "denied " ++ denial_text denial.now)) }
+{
+    write!(line, "denied {denial}")?;
+    Ok(())
+}
+
+/// Adds what was refused.
+fn print_refusal(refusal: &Refusal, line: &mut String) -> Result<(), AllocError>
+    ensures { OnOk result (string_bytes line.new ≡ string_bytes line.old ++ (codes "refused " ++ refusal_text refusal.now)) }
+{
+    write!(line, "refused {refusal}")?;
+    Ok(())
+}
+
+/// Adds what the NameNode answers, where the ledger of granted tokens had so many rows before: the tokens of the answer are numbered by
+/// their rows.
+///
+/// # Errors
+/// Out of memory.
+pub fn print_verdict(rows: usize, verdict: &Verdict, line: &mut String) -> Result<(), AllocError>
+    ensures { OnOk result (string_bytes line.new ≡ string_bytes line.old ++ spec.verdict_text rows verdict.now) }
+{
+    match verdict {
+        Verdict::Done(reply) => print_reply(rows, reply, line),
+        Verdict::Denied(denial) => print_denial(denial, line),
+        Verdict::Refused(refusal) => print_refusal(refusal, line),
+    }
 }

@@ -2,7 +2,8 @@
 #![tactic(auto)]
 
 pub mod answer;
-mod blocks;
+pub mod blocks;
+pub mod numbers;
 pub mod token;
 
 pub use request_lines::line as line;

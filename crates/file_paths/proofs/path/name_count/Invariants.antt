@@ -4,10 +4,10 @@ use Rattle.file_paths.specs.Name.{is_name}
 use Rattle.file_paths.specs.Path.{is_slash}
 use Rattle.file_paths.proofs.path.name_count.Given as goal
 
-abbrev pub invariant-loop-piece : goal.invariant-loop-piece
-invariant-loop-piece l =
+abbrev pub invariant-loop-end : goal.invariant-loop-end
+invariant-loop-end l =
     (list_all is_name (slice_split is_slash l.rest) ≡ list_all is_name (slice_split is_slash l.text))
     × (l.count + length (slice_split is_slash l.rest) ≡ length (slice_split is_slash l.text) + 1) × (l.count + length l.rest ≤ length l.text + 1)
 
-abbrev pub decreases-loop-piece : goal.decreases-loop-piece
-decreases-loop-piece l = length l.rest
+abbrev pub decreases-loop-end : goal.decreases-loop-end
+decreases-loop-end l = length l.rest

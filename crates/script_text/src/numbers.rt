@@ -14,3 +14,14 @@ pub fn push_number(number: u64, line: &mut String) -> Result<(), AllocError>
 {
     line.push_str(Buffer::new().format(number))
 }
+
+/// Adds a number in decimal behind its word.
+///
+/// # Errors
+/// Out of memory.
+pub fn print_number(word: &str, number: u64, line: &mut String) -> Result<(), AllocError>
+    ensures { OnOk result (string_bytes line.new ≡ string_bytes line.old ++ (word.now ++ decimal number)) }
+{
+    line.push_str(word)?;
+    push_number(number, line)
+}
