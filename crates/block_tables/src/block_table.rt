@@ -1,4 +1,4 @@
-ghost use Rattle.std.specs.Prelude.{◌≡◌, ◌<◌, ◌&&◌, ℕ, true, false, [], Some, None, map, filter, length, if◌then◌else◌, option_copied, IsTrue, IfSome, IfOk, OnOk, OnErr};
+ghost use Rattle.std.specs.Prelude.{◌≡◌, ◌<◌, ◌&&◌, ℕ, true, false, nat_le, [], Some, None, map, filter, length, if◌then◌else◌, option_copied, IsTrue, IfSome, IfOk, OnOk, OnErr};
 ghost use Rattle.std.specs.BTreeMap.{insert_entry};
 ghost use Rattle.std.specs.List.{list_any};
 ghost use Rattle.std.specs.List.Sorted.{IsStrictlySortedBy};
@@ -149,6 +149,13 @@ fn up_to(
         .collect(alloc)
 }
 
+// Whether these are no more nodes than are asked for, so that all of them are chosen.
+fn are_no_more_than(nodes: &NodeSet, count: usize) -> bool
+    ensures { result ≡ nat_le (length nodes.now) count }
+{
+    nodes.as_slice().len() <= count
+}
+
 impl BlockTable {
     /// No block is known. Takes no memory.
     pub fn new(alloc: Global) -> BlockTable
@@ -231,7 +238,7 @@ impl BlockTable {
     }
 
     /// So many of these nodes that have the fewest blocks, ties to the lowest id; all of them where there are no more. Costs a sort of
-    /// the nodes, and a look-up for each.
+    /// the nodes, and a look-up for each, or where there are no more a copy of them.
     ///
     /// # Errors
     /// Out of memory.
@@ -244,6 +251,9 @@ impl BlockTable {
         requires { 0 < count }
         ensures { IfOk result (λ chosen. chosen ≡ targets (load self.now) count nodes.now) }
     {
+        if are_no_more_than(nodes, count) {
+            return nodes.clone();
+        }
         self.targets_without(alloc, nodes, &[], count)
     }
 
@@ -276,6 +286,9 @@ impl BlockTable {
         requires { 0 < count }
         ensures { IfOk result (λ chosen. chosen ≡ targets (load (with_record_changed (with_length bytes) block self.now)) count nodes.now) }
     {
+        if are_no_more_than(nodes, count) {
+            return nodes.clone();
+        }
         let leaving = self.leaving(alloc, block, bytes)?;
         self.targets_without(alloc, nodes, &leaving, count)
     }
