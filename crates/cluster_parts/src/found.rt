@@ -1,11 +1,11 @@
 ghost use Rattle.std.specs.Prelude.{◌≡◌, ℕ, ◌<◌, ◌^◌, [], ◌∷◌, length, option_map, slice_get};
 ghost use Rattle.cluster_trace.specs.Trace.{command_messages, entry_messages, message_at};
 ghost use Rattle.cluster_parts.specs.Sent.{messages_at, messages_of, AreLaid};
-ghost use Rattle.cluster_parts.specs.Single.{message_of_single};
+ghost use Rattle.cluster_parts.specs.Single.{message_of_single, update_messages};
 ghost use Rattle.cluster_parts.specs.Carried.{message_of_found, commands_seen, commands_for};
 
 use crate::sent::{Sent, Source, begun_near};
-use crate::single::Single;
+use crate::single::{Single, Update};
 use block_answers::commands::{Commands, CopyOrder, Recover, Removal};
 use block_answers::key_list::KeyList;
 use flat_rows::verdict::Verdict;
@@ -121,6 +121,17 @@ fn only_message<'a>(single: Single, index: usize) -> Option<Found<'a>>
     Some(Found::Single(single))
 }
 
+// The message at an index of the two of an update.
+fn update_message<'a>(update: Update, index: usize) -> Option<Found<'a>>
+    ensures { option_map message_of_found result ≡ slice_get (update_messages update) index }
+{
+    match index {
+        0 => Some(Found::Single(update.to_leader())),
+        1 => Some(Found::Single(update.to_name_node())),
+        _ => None,
+    }
+}
+
 // The message at an index of a list.
 fn own_message(messages: &Messages, index: usize) -> Option<Found<'_>>
     ensures { option_map message_of_found result ≡ slice_get messages.now index }
@@ -153,6 +164,7 @@ pub fn find<'a>(
     match &batch.source {
         Source::Entry(entry) => history_message(history, *entry, index),
         Source::Single(single) => only_message(*single, index),
+        Source::Updated(update) => update_message(*update, index),
         Source::Own(messages) => own_message(messages, index),
     }
 }

@@ -4,7 +4,7 @@ ghost use Rattle.cluster_parts.specs.Sent.{source_messages, messages_of, IsWithi
 ghost use Rattle.cluster_parts.specs.declared.sent.Batch.{Batch};
 ghost use Rattle.cluster_parts.specs.Single.{message_of_single};
 
-use crate::single::Single;
+use crate::single::{Single, Update};
 use node_calls::message::Messages;
 use std::alloc::{AllocError, Global};
 
@@ -14,6 +14,8 @@ pub enum Source {
     Entry(usize),
     /// There is this one.
     Single(Single),
+    /// They are these two.
+    Updated(Update),
     /// They are these.
     Own(Messages),
 }
@@ -23,6 +25,7 @@ impl Drop for Source {
         match self {
             Source::Entry(_) => {}
             Source::Single(_) => {}
+            Source::Updated(_) => {}
             Source::Own(part) => drop(part),
         }
     }
@@ -40,13 +43,16 @@ fn single_of(messages: &Messages) -> Option<Single>
 }
 
 impl Source {
-    /// These messages; one of a few numbers alone is kept without memory. Takes none.
+    /// These messages; those of a few numbers, one alone or the two of an update, are kept without memory. Takes none.
     pub fn of(messages: Messages) -> Source
         ensures messages { (history : List HistoryEntry) → source_messages history result ≡ messages }
         ensures within { (history : List HistoryEntry) → IsWithin history result }
     {
-        match single_of(&messages) {
-            Some(single) => Source::Single(single),
+        if let Some(single) = single_of(&messages) {
+            return Source::Single(single);
+        }
+        match Update::of(messages.as_slice()) {
+            Some(update) => Source::Updated(update),
             None => Source::Own(messages),
         }
     }

@@ -1,6 +1,7 @@
-ghost use Rattle.std.specs.Prelude.{◌≡◌, IfSome};
+ghost use Rattle.std.specs.Prelude.{◌≡◌, Some, None, [], ◌∷◌, IfSome};
+ghost use Rattle.node_calls.specs.declared.call.PlanCall.TheVariants as plan;
 ghost use Rattle.node_calls.specs.declared.message.Message.TheVariants as message;
-ghost use Rattle.cluster_parts.specs.Single.{message_of_single};
+ghost use Rattle.cluster_parts.specs.Single.{message_of_single, update_messages};
 
 use hdfs_types::replica::ReportedReplica;
 use hdfs_values::ids::{BlockId, Stamp};
@@ -53,5 +54,83 @@ impl Single {
             Message::Plan(leader, call) => of_plan(*leader, call),
             _ => None,
         }
+    }
+}
+
+/// What a DataNode sends whose replica of a block has the length that a recovery gave it: it tells the DataNode that leads the recovery, and
+/// then the NameNode.
+#[derive(Clone, Copy)]
+pub struct Update {
+    pub leader: NodeId,
+    pub node: NodeId,
+    pub replica: ReportedReplica,
+}
+
+// The DataNode that leads a recovery, the one that tells it of its replica, the block and the stamp.
+fn told(message: &Message) -> Option<(NodeId, NodeId, BlockId, Stamp)>
+    ensures { IfSome result (λ told. message.now ≡ message.Plan told.0 (plan.Updated told.1 told.2 told.3)) }
+{
+    match message {
+        Message::Plan(leader, PlanCall::Updated(node, block, stamp)) => {
+            Some((*leader, *node, *block, *stamp))
+        }
+        _ => None,
+    }
+}
+
+// The DataNode that reports a replica, and the replica.
+fn reported(message: &Message) -> Option<(NodeId, ReportedReplica)>
+    ensures { IfSome result (λ own. message.now ≡ message.Reported own.0 own.1.block own.1.stamp own.1.length) }
+{
+    match message {
+        Message::Reported(node, block, stamp, length) => Some((
+            *node,
+            ReportedReplica {
+                block: *block,
+                stamp: *stamp,
+                length: *length,
+            },
+        )),
+        _ => None,
+    }
+}
+
+impl Update {
+    /// The same messages, where they are these two. Takes no memory.
+    pub fn of(messages: &[Message]) -> Option<Update>
+        ensures { IfSome result (λ update. messages.now ≡ update_messages update) }
+    {
+        let [first, second] = messages else {
+            return None;
+        };
+        let (leader, node, block, stamp) = told(first)?;
+        let (own, replica) = reported(second)?;
+        if own != node || replica.block != block || replica.stamp != stamp {
+            return None;
+        }
+        Some(Update {
+            leader,
+            node,
+            replica,
+        })
+    }
+
+    /// The first message: to the DataNode that leads the recovery.
+    pub fn to_leader(self) -> Single
+        ensures { message_of_single result ≡ message.Plan self.leader (plan.Updated self.node self.replica.block self.replica.stamp) }
+    {
+        Single::Updated(
+            self.leader,
+            self.node,
+            self.replica.block,
+            self.replica.stamp,
+        )
+    }
+
+    /// The second message: to the NameNode.
+    pub fn to_name_node(self) -> Single
+        ensures { message_of_single result ≡ message.Reported self.node self.replica.block self.replica.stamp self.replica.length }
+    {
+        Single::Report(self.node, self.replica)
     }
 }

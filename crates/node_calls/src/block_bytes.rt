@@ -4,36 +4,31 @@ use bytes::Bytes;
 use std::alloc::AllocError;
 use std::marker::Model;
 
+// Where bytes are: each in memory of its own, which copies share, or one byte so many times.
+#[derive(Drop)]
+enum HeldBytes {
+    Listed(Box<Bytes>),
+    Repeated(u8, u64),
+}
+
 /// Bytes of a block, as a packet of a write pipeline carries them (HDFS Architecture, "Replication Pipelining").
 ///
 /// One byte many times takes no memory, so that a packet can be refused for its length before anything of that length is made. Others are
 /// shared by their copies, so that a packet that is passed on isn't copied.
+#[derive(Drop)]
 pub struct BlockBytes {
-    listed: Bytes,
-    // behind those that are listed
-    byte: u8,
-    times: u64,
-}
-
-impl Drop for BlockBytes {
-    fn drop(self) {
-        let BlockBytes {
-            listed,
-            byte: _,
-            times: _,
-        } = self;
-        drop(listed);
-    }
+    held: HeldBytes,
 }
 
 impl Model for BlockBytes {
-    ghost use Rattle.std.specs.Prelude.{List, ℕ, ◌+◌, ◌<◌, ◌^◌, ◌++◌, length, replicate};
+    ghost use Rattle.std.specs.Prelude.{List, ℕ, ◌<◌, ◌^◌, length};
+    ghost use Rattle.node_calls.specs.Held.{held_bytes};
 
     ghost Value = { List ℕ };
 
-    ghost view = { λ bytes. bytes.listed ++ replicate bytes.times bytes.byte };
+    ghost view = { λ bytes. held_bytes bytes.held };
 
-    ghost invariant = { λ bytes. length bytes.listed + bytes.times < 2 ^ 64 };
+    ghost invariant = { λ bytes. length (held_bytes bytes.held) < 2 ^ 64 };
 }
 
 impl BlockBytes {
@@ -44,13 +39,12 @@ impl BlockBytes {
     pub fn new(bytes: Vec<u8>) -> Result<BlockBytes, AllocError>
         ensures { IfOk result (λ own. own ≡ bytes.items) }
     {
+        let alloc = *bytes.allocator();
         let listed = Bytes::from_vec(bytes)?;
         // its contract bounds the length
         let _length = listed.len();
         Ok(BlockBytes {
-            listed,
-            byte: 0,
-            times: 0,
+            held: HeldBytes::Listed(Box::new(alloc, listed)?),
         })
     }
 
@@ -59,9 +53,7 @@ impl BlockBytes {
         ensures { result ≡ replicate times byte }
     {
         BlockBytes {
-            listed: Bytes::new(),
-            byte,
-            times,
+            held: HeldBytes::Repeated(byte, times),
         }
     }
 
@@ -69,7 +61,10 @@ impl BlockBytes {
     pub fn len(&self) -> u64
         ensures { result ≡ length self.now }
     {
-        self.listed.len() as u64 + self.times
+        match &self.held {
+            HeldBytes::Listed(listed) => listed.len() as u64,
+            HeldBytes::Repeated(_, times) => *times,
+        }
     }
 
     /// Puts these bytes behind others. Costs them.
@@ -80,13 +75,10 @@ impl BlockBytes {
         ensures ok { OnOk result (others.new.items ≡ others.old.items ++ self.now) }
         ensures err { OnErr result (others.new.items ≡ others.old.items) }
     {
-        let before = others.len();
-        others.extend_from_slice(self.listed.as_slice())?;
-        let grown = append_repeated(others, self.byte, self.times);
-        if grown.is_err() {
-            others.truncate(before);
+        match &self.held {
+            HeldBytes::Listed(listed) => others.extend_from_slice(listed.as_slice()),
+            HeldBytes::Repeated(byte, times) => append_repeated(others, *byte, *times),
         }
-        grown
     }
 }
 
@@ -105,10 +97,10 @@ impl Clone for BlockBytes {
     ghost is_clone = { λ bytes copy. copy ≡ bytes };
 
     fn clone(&self) -> Result<BlockBytes, AllocError> {
-        Ok(BlockBytes {
-            listed: self.listed.clone()?,
-            byte: self.byte,
-            times: self.times,
-        })
+        let held = match &self.held {
+            HeldBytes::Listed(listed) => HeldBytes::Listed(listed.clone()?),
+            HeldBytes::Repeated(byte, times) => HeldBytes::Repeated(*byte, *times),
+        };
+        Ok(BlockBytes { held })
     }
 }

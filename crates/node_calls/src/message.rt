@@ -85,6 +85,19 @@ impl Messages {
         Ok(Messages { list })
     }
 
+    /// Two messages.
+    ///
+    /// # Errors
+    /// Out of memory.
+    pub fn two(alloc: Global, first: Message, second: Message) -> Result<Messages, AllocError>
+        ensures { IfOk result (λ messages. messages ≡ first ∷ second ∷ []) }
+    {
+        let mut list = Vec::with_capacity(alloc, 2)?;
+        list.push_reserved(first);
+        list.push_reserved(second);
+        Ok(Messages { list })
+    }
+
     /// Sends a message behind the others. An event sends few, and they are kept for good: where there is no room, it is taken for this one
     /// alone, which costs those that there are.
     ///

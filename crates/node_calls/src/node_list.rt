@@ -1,4 +1,5 @@
 ghost use Rattle.std.specs.Prelude.{◌≡◌, [], IfOk};
+ghost use Rattle.node_calls.specs.Held.{listed_nodes};
 
 use node_ids::node_id::NodeId;
 use std::alloc::{AllocError, Global};
@@ -6,8 +7,10 @@ use std::marker::Model;
 
 /// DataNodes in an order: those of a write pipeline that come next (HDFS Architecture, "Replication Pipelining"). A node may stand in it
 /// twice.
+///
+/// No node takes no memory, and some stand in memory of their own, since most calls pass nothing on.
 pub struct NodeList {
-    nodes: Vec<NodeId>,
+    nodes: Option<Box<Vec<NodeId>>>,
 }
 
 impl Drop for NodeList {
@@ -19,18 +22,42 @@ impl Drop for NodeList {
 
 impl Model for NodeList {
     ghost use Rattle.std.specs.Prelude.{List, ℕ};
+    ghost use Rattle.node_calls.specs.Held.{listed_nodes};
 
     ghost Value = { List ℕ };
 
-    ghost view = { λ list. list.nodes.items };
+    ghost view = { λ list. listed_nodes list.nodes };
+}
+
+// Nodes as a list holds them.
+fn boxed(nodes: Vec<NodeId>) -> Result<Option<Box<Vec<NodeId>>>, AllocError>
+    ensures { IfOk result (λ own. listed_nodes own ≡ nodes.items) }
+{
+    if nodes.is_empty() {
+        return Ok(None);
+    }
+    let alloc = *nodes.allocator();
+    Ok(Some(Box::new(alloc, nodes)?))
 }
 
 impl NodeList {
-    /// These nodes. Takes no memory.
-    pub fn new(nodes: Vec<NodeId>) -> NodeList
-        ensures { result ≡ nodes.items }
+    /// No node. Takes no memory.
+    pub fn nothing() -> NodeList
+        ensures { result ≡ [] }
     {
-        NodeList { nodes }
+        NodeList { nodes: None }
+    }
+
+    /// These nodes.
+    ///
+    /// # Errors
+    /// Out of memory.
+    pub fn new(nodes: Vec<NodeId>) -> Result<NodeList, AllocError>
+        ensures { IfOk result (λ list. list ≡ nodes.items) }
+    {
+        Ok(NodeList {
+            nodes: boxed(nodes)?,
+        })
     }
 
     /// A copy of these nodes. Costs them.
@@ -40,16 +67,17 @@ impl NodeList {
     pub fn copied(alloc: Global, nodes: &[NodeId]) -> Result<NodeList, AllocError>
         ensures { IfOk result (λ list. list ≡ nodes.now) }
     {
-        Ok(NodeList {
-            nodes: Vec::from_slice(alloc, nodes)?,
-        })
+        NodeList::new(Vec::from_slice(alloc, nodes)?)
     }
 
     /// The nodes in their order. Takes no memory.
     pub fn as_slice(&self) -> &[NodeId]
         ensures { result.now ≡ self.now }
     {
-        &self.nodes
+        match &self.nodes {
+            Some(nodes) => nodes.as_slice(),
+            None => &[],
+        }
     }
 }
 

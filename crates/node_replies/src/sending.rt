@@ -175,14 +175,21 @@ fn tell_replica(
     Messages::one(alloc, Message::Plan(primary, told))
 }
 
-fn tell_updated(alloc: Global, node: NodeId, presented: &Presented) -> Result<Messages, AllocError>
-    ensures { IfOk result (λ sent. sent ≡ spec.to_primary (node_of presented.now.caller) (λ primary. message.Plan primary (plan.Updated node presented.now.block presented.now.stamp))) }
+// Tells the node that leads the recovery, and the NameNode, of a replica that has its length.
+fn tell_updated(
+    alloc: Global,
+    node: NodeId,
+    presented: &Presented,
+    count: u64,
+) -> Result<Messages, AllocError>
+    ensures { IfOk result (λ sent. sent ≡ spec.to_primary (node_of presented.now.caller) (λ primary. message.Plan primary (plan.Updated node presented.now.block presented.now.stamp)) ++ spec.report node presented.now count) }
 {
+    let report = Message::Reported(node, presented.block, presented.stamp, count);
     let Some(primary) = node_of(&presented.caller) else {
-        return Ok(Messages::new(alloc));
+        return Messages::one(alloc, report);
     };
     let told = PlanCall::Updated(node, presented.block, presented.stamp);
-    Messages::one(alloc, Message::Plan(primary, told))
+    Messages::two(alloc, Message::Plan(primary, told), report)
 }
 
 fn copy_to(
@@ -222,10 +229,7 @@ pub fn sends(
         }
         TokenCall::Read(_, _) => Ok(Messages::new(alloc)),
         TokenCall::InitRecovery => tell_replica(alloc, node, presented, held),
-        TokenCall::UpdateReplica(count) => {
-            let sent = tell_updated(alloc, node, presented)?;
-            reported(sent, node, presented, *count)
-        }
+        TokenCall::UpdateReplica(count) => tell_updated(alloc, node, presented, *count),
         TokenCall::SendCopy(to) => copy_to(alloc, presented, *to, held),
         TokenCall::TakeCopy(bytes) => {
             reported(Messages::new(alloc), node, presented, bytes.len())

@@ -33,8 +33,8 @@ pub fn node(alloc: Global, id: u32) -> Option<DataNode> {
     DataNode::new(alloc, NodeId::new(id)?, LIMIT).ok()
 }
 
-pub fn nobody(alloc: Global) -> NodeList {
-    NodeList::new(Vec::new(alloc))
+pub fn nobody() -> NodeList {
+    NodeList::nothing()
 }
 
 /// The moment, or the latest.

@@ -14,17 +14,17 @@ fn block() -> BlockId {
     BlockId::new(1)
 }
 
-fn begin(alloc: Global) -> TokenCall {
-    TokenCall::Begin(NodeList::new(Vec::new(alloc)))
+fn begin() -> TokenCall {
+    TokenCall::Begin(NodeList::nothing())
 }
 
-fn packet(alloc: Global, offset: u64, byte: u8, times: u64) -> TokenCall {
+fn packet(offset: u64, byte: u8, times: u64) -> TokenCall {
     let bytes = BlockBytes::repeated(byte, times);
-    TokenCall::Packet(offset, bytes, NodeList::new(Vec::new(alloc)))
+    TokenCall::Packet(offset, bytes, NodeList::nothing())
 }
 
-fn finalize(alloc: Global, length: u64) -> TokenCall {
-    TokenCall::Finalize(length, NodeList::new(Vec::new(alloc)))
+fn finalize(length: u64) -> TokenCall {
+    TokenCall::Finalize(length, NodeList::nothing())
 }
 
 fn copy(byte: u8, times: u64) -> TokenCall {
@@ -62,11 +62,11 @@ fn reads(replicas: &Replicas, offset: u64, count: u64, bytes: &[u8]) -> bool {
 }
 
 // A finalized replica at 1001: three times `a`, then twice `b`.
-fn finalized(alloc: Global, replicas: &mut Replicas) -> bool {
-    done(replicas, 1001, begin(alloc))
-        && done(replicas, 1001, packet(alloc, 0, b'a', 3))
-        && done(replicas, 1001, packet(alloc, 3, b'b', 2))
-        && done(replicas, 1001, finalize(alloc, 5))
+fn finalized(replicas: &mut Replicas) -> bool {
+    done(replicas, 1001, begin())
+        && done(replicas, 1001, packet(0, b'a', 3))
+        && done(replicas, 1001, packet(3, b'b', 2))
+        && done(replicas, 1001, finalize(5))
 }
 
 fn nothing_is_there(alloc: Global) -> bool {
@@ -74,34 +74,34 @@ fn nothing_is_there(alloc: Global) -> bool {
     refused(
         &replicas,
         1001,
-        packet(alloc, 0, b'a', 1),
+        packet(0, b'a', 1),
         ReplicaRefusal::NoReplica,
-    ) && refused(
-        &replicas,
-        1001,
-        finalize(alloc, 0),
-        ReplicaRefusal::NoReplica,
-    ) && refused(
-        &replicas,
-        1001,
-        TokenCall::Read(0, 0),
-        ReplicaRefusal::NoReplica,
-    ) && refused(
-        &replicas,
-        1001,
-        TokenCall::InitRecovery,
-        ReplicaRefusal::NoReplica,
-    ) && refused(
-        &replicas,
-        1001,
-        TokenCall::UpdateReplica(0),
-        ReplicaRefusal::NoReplica,
-    ) && refused(
-        &replicas,
-        0,
-        begin(alloc),
-        ReplicaRefusal::StampDiffers(Stamp::new(0)),
-    ) && replicas.judge_removal(Stamp::new(1001), block()).is_err()
+    ) && refused(&replicas, 1001, finalize(0), ReplicaRefusal::NoReplica)
+        && refused(
+            &replicas,
+            1001,
+            TokenCall::Read(0, 0),
+            ReplicaRefusal::NoReplica,
+        )
+        && refused(
+            &replicas,
+            1001,
+            TokenCall::InitRecovery,
+            ReplicaRefusal::NoReplica,
+        )
+        && refused(
+            &replicas,
+            1001,
+            TokenCall::UpdateReplica(0),
+            ReplicaRefusal::NoReplica,
+        )
+        && refused(
+            &replicas,
+            0,
+            begin(),
+            ReplicaRefusal::StampDiffers(Stamp::new(0)),
+        )
+        && replicas.judge_removal(Stamp::new(1001), block()).is_err()
         && floor_is(&replicas, 0)
 }
 
@@ -113,52 +113,47 @@ fn no_replica(rt: HostRuntime) {
 // The offset is judged before the length of a packet, and an empty packet is taken.
 fn packets_are_judged(alloc: Global) -> bool {
     let mut replicas = Replicas::new(alloc);
-    done(&mut replicas, 5000, begin(alloc))
+    done(&mut replicas, 5000, begin())
         && refused(
             &replicas,
             5000,
-            packet(alloc, 1, b'a', 65_537),
+            packet(1, b'a', 65_537),
             ReplicaRefusal::OffsetGap(0),
         )
         && refused(
             &replicas,
             5000,
-            packet(alloc, 0, b'a', 65_537),
+            packet(0, b'a', 65_537),
             ReplicaRefusal::OutOfRange,
         )
         && refused(
             &replicas,
             5000,
-            packet(alloc, 0, b'a', u64::MAX),
+            packet(0, b'a', u64::MAX),
             ReplicaRefusal::OutOfRange,
         )
-        && done(&mut replicas, 5000, packet(alloc, 0, b'a', 0))
+        && done(&mut replicas, 5000, packet(0, b'a', 0))
         && replicas.length(block()) == 0
         && refused(
             &replicas,
             5001,
-            packet(alloc, 1, b'a', 1),
+            packet(1, b'a', 1),
             ReplicaRefusal::StampDiffers(Stamp::new(5000)),
         )
         && refused(
             &replicas,
             4999,
-            packet(alloc, 1, b'a', 1),
+            packet(1, b'a', 1),
             ReplicaRefusal::StampDiffers(Stamp::new(5000)),
         )
-        && refused(
-            &replicas,
-            5000,
-            finalize(alloc, 1),
-            ReplicaRefusal::OffsetGap(0),
-        )
+        && refused(&replicas, 5000, finalize(1), ReplicaRefusal::OffsetGap(0))
         && refused(
             &replicas,
             5000,
             TokenCall::Read(0, 0),
             ReplicaRefusal::NoReplica,
         )
-        && refused(&replicas, 6000, begin(alloc), ReplicaRefusal::ReplicaExists)
+        && refused(&replicas, 6000, begin(), ReplicaRefusal::ReplicaExists)
         && refused(&replicas, 1, copy(b'a', 1), ReplicaRefusal::ReplicaExists)
 }
 
@@ -169,7 +164,7 @@ fn packets(rt: HostRuntime) {
 
 fn slices_are_read(alloc: Global) -> bool {
     let mut replicas = Replicas::new(alloc);
-    finalized(alloc, &mut replicas)
+    finalized(&mut replicas)
         && reads(&replicas, 0, 5, b"aaabb")
         && reads(&replicas, 2, 2, b"ab")
         && reads(&replicas, 5, 0, b"")
@@ -200,15 +195,10 @@ fn slices_are_read(alloc: Global) -> bool {
         && refused(
             &replicas,
             1001,
-            packet(alloc, 9, b'a', 1),
+            packet(9, b'a', 1),
             ReplicaRefusal::NotWritable,
         )
-        && refused(
-            &replicas,
-            1001,
-            finalize(alloc, 9),
-            ReplicaRefusal::NotWritable,
-        )
+        && refused(&replicas, 1001, finalize(9), ReplicaRefusal::NotWritable)
 }
 
 #[test]
@@ -219,7 +209,7 @@ fn slices(rt: HostRuntime) {
 // What was promised stays over a removal: nothing is begun at it again, but a copy is taken.
 fn promises_stay(alloc: Global) -> bool {
     let mut replicas = Replicas::new(alloc);
-    let removed = finalized(alloc, &mut replicas)
+    let removed = finalized(&mut replicas)
         && replicas.judge_removal(Stamp::new(1000), block()).is_err()
         && replicas.judge_removal(Stamp::new(1001), block()).is_ok();
     replicas.remove(block());
@@ -229,7 +219,7 @@ fn promises_stay(alloc: Global) -> bool {
         && refused(
             &replicas,
             1001,
-            begin(alloc),
+            begin(),
             ReplicaRefusal::StampDiffers(Stamp::new(1001)),
         )
         && refused(
@@ -257,8 +247,8 @@ fn removals(rt: HostRuntime) {
 // Once a recovery begins, the writer at the older stamp is refused, and so is who writes at the new one.
 fn recoveries_fence(alloc: Global) -> bool {
     let mut replicas = Replicas::new(alloc);
-    done(&mut replicas, 1001, begin(alloc))
-        && done(&mut replicas, 1001, packet(alloc, 0, b'a', 5))
+    done(&mut replicas, 1001, begin())
+        && done(&mut replicas, 1001, packet(0, b'a', 5))
         && refused(
             &replicas,
             1001,
@@ -270,13 +260,13 @@ fn recoveries_fence(alloc: Global) -> bool {
         && refused(
             &replicas,
             1001,
-            packet(alloc, 5, b'a', 1),
+            packet(5, b'a', 1),
             ReplicaRefusal::StampDiffers(Stamp::new(1002)),
         )
         && refused(
             &replicas,
             1002,
-            packet(alloc, 5, b'a', 1),
+            packet(5, b'a', 1),
             ReplicaRefusal::NotWritable,
         )
         && refused(

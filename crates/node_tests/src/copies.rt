@@ -54,7 +54,10 @@ fn two(alloc: Global, first: u32, second: u32) -> NodeList {
             let _ = nodes.push(node);
         }
     }
-    NodeList::new(nodes)
+    match NodeList::new(nodes) {
+        Ok(list) => list,
+        Err(_) => NodeList::nothing(),
+    }
 }
 
 // Each of alice's calls of node 1 is passed on to node 2, in her name.
@@ -69,8 +72,8 @@ fn takes(one: &mut DataNode, second: &mut DataNode, alloc: Global, alice: &Prese
     delivered(second, call_of(message(&answer), 2, "alice"))
 }
 
-fn finalizes(one: &mut DataNode, alloc: Global, alice: &Presented) -> bool {
-    is_done(one.finalize(at(0), alice, 2, nobody(alloc)))
+fn finalizes(one: &mut DataNode, alice: &Presented) -> bool {
+    is_done(one.finalize(at(0), alice, 2, nobody()))
 }
 
 // A node sends copies of finalized replicas in its own name, for a token of its own.
@@ -157,7 +160,7 @@ fn copies(nodes: &mut Nodes, alloc: Global, tokens: &Tokens) -> bool {
     begins(&mut nodes.one, &mut nodes.second, alloc, &tokens.alice)
         && takes(&mut nodes.one, &mut nodes.second, alloc, &tokens.alice)
         && is_early(&mut nodes.one, &tokens.own, tokens.to)
-        && finalizes(&mut nodes.one, alloc, &tokens.alice)
+        && finalizes(&mut nodes.one, &tokens.alice)
         && is_anothers(&mut nodes.one, &tokens.strangers, tokens.to)
         && sends_to(&mut nodes.one, &mut nodes.third, &tokens.own, tokens.to)
         && removes(&mut nodes.third, &tokens.bob)

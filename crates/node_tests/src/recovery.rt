@@ -14,10 +14,10 @@ use permission_bits::modes::Modes;
 use std::alloc::Global;
 
 // Alice writes 900 bytes of block 1 at stamp 1001, and would write on.
-fn writes(node: &mut DataNode, alloc: Global, alice: &Presented) -> bool {
+fn writes(node: &mut DataNode, alice: &Presented) -> bool {
     let bytes = BlockBytes::repeated(b'a', 900);
-    is_done(node.begin_write(at(0), alice, nobody(alloc)))
-        && is_done(node.packet(at(0), alice, 0, bytes, nobody(alloc)))
+    is_done(node.begin_write(at(0), alice, nobody()))
+        && is_done(node.packet(at(0), alice, 0, bytes, nobody()))
 }
 
 // Node 1 leads the recovery at stamp 1002, and is told of the replica.
@@ -49,10 +49,10 @@ fn is_updated(node: &mut DataNode, lead: &Presented) -> bool {
 }
 
 // Neither the old writer nor a second recovery at this stamp is let through.
-fn is_late(node: &mut DataNode, alloc: Global, alice: &Presented) -> bool {
+fn is_late(node: &mut DataNode, alice: &Presented) -> bool {
     let bytes = BlockBytes::repeated(b'a', 1);
     is_refused(
-        node.packet(at(60_001), alice, 900, bytes, nobody(alloc)),
+        node.packet(at(60_001), alice, 900, bytes, nobody()),
         ReplicaRefusal::StampDiffers(Stamp::new(1002)),
     )
 }
@@ -67,11 +67,11 @@ fn is_again(node: &mut DataNode, lead: &Presented) -> bool {
     )
 }
 
-fn recovers(node: &mut DataNode, alloc: Global, alice: &Presented, lead: &Presented) -> bool {
-    writes(node, alloc, alice)
+fn recovers(node: &mut DataNode, alice: &Presented, lead: &Presented) -> bool {
+    writes(node, alice)
         && is_asked(node, lead)
         && is_updated(node, lead)
-        && is_late(node, alloc, alice)
+        && is_late(node, alice)
         && is_again(node, lead)
 }
 
@@ -87,7 +87,7 @@ fn run_on(node: &mut DataNode, alloc: Global, ring: &KeyRing) -> bool {
         asks(alloc, ring, "alice", 1001),
         asks(alloc, ring, "dn-1", 1002),
     ) {
-        (Some(alice), Some(lead)) => recovers(node, alloc, &alice, &lead),
+        (Some(alice), Some(lead)) => recovers(node, &alice, &lead),
         _ => false,
     }
 }

@@ -15,17 +15,17 @@ use permission_bits::modes::Modes;
 use std::alloc::Global;
 
 // Alice writes two bytes, `aa`, of block 1 at stamp 1001.
-fn begins(node: &mut DataNode, alloc: Global, alice: &Presented) -> bool {
-    let answer = node.begin_write(at(0), alice, nobody(alloc));
+fn begins(node: &mut DataNode, alice: &Presented) -> bool {
+    let answer = node.begin_write(at(0), alice, nobody());
     match told(&answer) {
         Some(NodeReply::Begun) => true,
         _ => false,
     }
 }
 
-fn takes(node: &mut DataNode, alloc: Global, alice: &Presented) -> bool {
+fn takes(node: &mut DataNode, alice: &Presented) -> bool {
     let bytes = BlockBytes::repeated(b'a', 2);
-    let answer = node.packet(at(0), alice, 0, bytes, nobody(alloc));
+    let answer = node.packet(at(0), alice, 0, bytes, nobody());
     match told(&answer) {
         Some(NodeReply::Taken(length)) => *length == 2,
         _ => false,
@@ -41,8 +41,8 @@ fn is_report(message: Option<&Message>) -> bool {
     }
 }
 
-fn finalizes(node: &mut DataNode, alloc: Global, alice: &Presented) -> bool {
-    let answer = node.finalize(at(0), alice, 2, nobody(alloc));
+fn finalizes(node: &mut DataNode, alice: &Presented) -> bool {
+    let answer = node.finalize(at(0), alice, 2, nobody());
     match told(&answer) {
         Some(NodeReply::Finalized(length)) => *length == 2 && is_report(message(&answer)),
         _ => false,
@@ -54,11 +54,7 @@ pub fn writes(node: &mut DataNode, alloc: Global, ring: &KeyRing) -> bool {
         return false;
     };
     match presents(alloc, "alice", 1, 1001, &token) {
-        Some(alice) => {
-            begins(node, alloc, &alice)
-                && takes(node, alloc, &alice)
-                && finalizes(node, alloc, &alice)
-        }
+        Some(alice) => { begins(node, &alice) && takes(node, &alice) && finalizes(node, &alice) }
         None => false,
     }
 }
@@ -80,23 +76,23 @@ fn who_reads(alloc: Global, ring: &KeyRing) -> Option<Readers> {
 }
 
 // Bob's token is no token to write.
-fn writes_nothing(node: &mut DataNode, alloc: Global, bob: &Presented) -> bool {
+fn writes_nothing(node: &mut DataNode, bob: &Presented) -> bool {
     let bytes = BlockBytes::repeated(b'a', 2);
     is_barred(
-        node.packet(at(101), bob, 2, bytes, nobody(alloc)),
+        node.packet(at(101), bob, 2, bytes, nobody()),
         TokenRefusal::WrongMode,
     )
 }
 
 // The user, the block, the mode and the range are judged in this order.
-fn others(node: &mut DataNode, alloc: Global, readers: &Readers) -> bool {
+fn others(node: &mut DataNode, readers: &Readers) -> bool {
     is_barred(
         node.read(at(101), &readers.carl, 0, 2),
         TokenRefusal::WrongUser,
     ) && is_barred(
         node.read(at(101), &readers.other, 0, 2),
         TokenRefusal::WrongBlock,
-    ) && writes_nothing(node, alloc, &readers.bob)
+    ) && writes_nothing(node, &readers.bob)
         && is_refused(
             node.read(at(101), &readers.bob, 1, 2),
             ReplicaRefusal::OutOfRange,
@@ -160,7 +156,7 @@ fn rolled(ring: &mut KeyRing) -> bool {
 fn serves(node: &mut DataNode, alloc: Global, ring: &mut KeyRing) -> bool {
     match who_reads(alloc, ring) {
         Some(readers) => {
-            others(node, alloc, &readers)
+            others(node, &readers)
                 && rolled(ring)
                 && learns(node, alloc, ring, 200, 2)
                 && over_time(node, &readers.bob)

@@ -60,7 +60,7 @@ fn nodes_in(alloc: Global, pieces: &[&str]) -> Result<NodeList, ParseFault>
         };
         nodes.push(node)?;
     }
-    Ok(NodeList::new(nodes))
+    Ok(NodeList::new(nodes)?)
 }
 
 /// Reads the DataNodes that come next in a pipeline: ids with a comma between each two, or `-` for none. A node may stand twice.
@@ -71,7 +71,7 @@ pub fn next_word(alloc: Global, word: &str) -> Result<NodeList, ParseFault>
     ensures { Forms result (spec.next_word word.now) }
 {
     if is_word(word, "-") {
-        return Ok(NodeList::new(Vec::new(alloc)));
+        return Ok(NodeList::nothing());
     }
     let pieces = pieces_between(alloc, word, ',')?;
     nodes_in(alloc, &pieces)
