@@ -59,10 +59,12 @@ fn note(
     Ok(())
 }
 
-// Writes the paths of the files that a client has open, each with a blank behind it, then that of the file whose block 7 is recovered, and a
+// Writes the paths of the files that a client has open, in their order and each with a blank behind it, then that of the file whose block 7 is recovered, and a
 // stop behind all.
 fn tell(paths: &OpenPaths, client: &Who, text: &mut String) -> Result<(), Fail> {
-    for path in &paths.of_client(client)? {
+    let mut open = paths.of_client(client)?;
+    open.sort_unstable();
+    for path in &open {
         write!(text, "{path} ")?;
     }
     if let Some(path) = paths.of_recovery(BlockId::new(7)) {

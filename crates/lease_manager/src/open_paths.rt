@@ -1,20 +1,21 @@
+use crate::path_set::PathSet;
 use file_paths::name::Name;
 use file_paths::path::Path;
 use hdfs_values::fault::ParseFault;
 use hdfs_values::ids::BlockId;
 use hdfs_values::who::Who;
 use std::alloc::{AllocError, Global};
-use std::collections::{BTreeMap, BTreeSet, HashMap};
+use std::collections::{BTreeMap, HashMap};
 use std::marker::Model;
 
-/// Where the files are that each client has open: their paths, in which what is beneath a directory stands together; and where those are
-/// whose last block is recovered, by this block. A call costs a look-up, if nothing else is said.
+/// Where the files are that each client has open; and where those are whose last block is recovered, by this block. A call costs a look-up, if
+/// nothing else is said.
 ///
 /// These are hints, of which no contract speaks: the tree confirms each before it is used, and where one is missing, which is so
 /// only where there was no memory for it, the tree is gone through instead.
 #[derive(Drop)]
 pub struct OpenPaths {
-    clients: HashMap<Who, BTreeSet<Path>>,
+    clients: HashMap<Who, PathSet>,
     recovering: BTreeMap<BlockId, Path>,
     alloc: Global,
 }
@@ -26,22 +27,6 @@ impl Model for OpenPaths {
     ghost Value = { ⊤ };
 
     ghost view = { λ _. tt };
-}
-
-// Copies of the paths at this one and beneath it.
-fn at_or_under(
-    alloc: Global,
-    paths: &BTreeSet<Path>,
-    front: &Path,
-) -> Result<Vec<Path>, AllocError> {
-    let mut found = Vec::new(alloc);
-    for path in paths.range(front..) {
-        if !path.is_at_or_under(front) {
-            break;
-        }
-        found.push(path.clone()?)?;
-    }
-    Ok(found)
 }
 
 // The path of names with others before them, where it is within the limits.
@@ -85,12 +70,11 @@ fn move_path(alloc: Global, path: &mut Path, from: &Path, to: &Path) -> Result<(
 // Gives each path at one and beneath it another beginning.
 fn move_front(
     alloc: Global,
-    paths: &mut BTreeSet<Path>,
+    paths: &mut PathSet,
     from: &Path,
     to: &Path,
 ) -> Result<(), AllocError> {
-    for path in &at_or_under(alloc, paths, from)? {
-        paths.remove(path);
+    for path in &paths.take_at(from)? {
         if let Some(behind) = path.names().get(from.depth()..)
             && let Ok(moved) = joined(alloc, to, behind)
         {
@@ -110,19 +94,15 @@ impl OpenPaths {
         }
     }
 
-    /// The paths of the files that a client has open. Costs these files.
+    /// The paths of the files that a client has open, in any order. Costs these files.
     ///
     /// # Errors
     /// Out of memory.
     pub fn of_client(&self, client: &Who) -> Result<Vec<Path>, AllocError> {
-        let mut paths = Vec::new(self.alloc);
-        let Some(open) = self.clients.get(client) else {
-            return Ok(paths);
-        };
-        for path in open {
-            paths.push(path.clone()?)?;
+        match self.clients.get(client) {
+            Some(paths) => paths.to_vec(self.alloc),
+            None => Ok(Vec::new(self.alloc)),
         }
-        Ok(paths)
     }
 
     /// Notes that a client has opened a file. Where there is no memory for the path, it is left out.
@@ -146,7 +126,7 @@ impl OpenPaths {
             paths.insert(path)?;
             return Ok(());
         }
-        let mut paths = BTreeSet::new(self.alloc);
+        let mut paths = PathSet::new(self.alloc);
         paths.insert(path)?;
         self.clients.insert(client.clone()?, paths)?;
         Ok(())
@@ -195,7 +175,8 @@ impl OpenPaths {
     }
 
     /// Notes that what has a path is deleted, where these clients had open what has the path, and the files beneath it: one client
-    /// for each file; and with it these blocks. Costs these files and blocks.
+    /// for each file; and with it these blocks. Costs these files and blocks, and the files that these clients have opened since the last such
+    /// call: they are put in order.
     pub fn delete(&mut self, path: &Path, clients: &[Who], blocks: &[BlockId]) {
         if !clients.is_empty() {
             let _noted = self.remove_at(path, clients);
@@ -216,9 +197,7 @@ impl OpenPaths {
             let Some(paths) = self.clients.get_mut(client) else {
                 continue;
             };
-            for closed in &at_or_under(self.alloc, paths, path)? {
-                paths.remove(closed);
-            }
+            paths.remove_at(path)?;
             if paths.is_empty() {
                 self.clients.remove(client);
             }
@@ -237,8 +216,8 @@ impl OpenPaths {
         let _noted = self.put_recovery(to, block);
     }
 
-    /// Notes that a directory is moved. Costs a look-up for each client that has files open, the open files beneath it, and the recoveries
-    /// that run.
+    /// Notes that a directory is moved. Costs a look-up for each client that has files open, the open files beneath it, those that were opened
+    /// since the last such call, and the recoveries that run.
     pub fn move_directory(&mut self, from: &Path, to: &Path) {
         if !self.clients.is_empty() {
             self.move_beneath(from, to);
