@@ -67,10 +67,10 @@ pub struct Update {
 }
 
 // The DataNode that leads a recovery, the one that tells it of its replica, the block and the stamp.
-fn told(message: &Message) -> Option<(NodeId, NodeId, BlockId, Stamp)>
-    ensures { IfSome result (λ told. message.now ≡ message.Plan told.0 (plan.Updated told.1 told.2 told.3)) }
+fn told(sent: &Message) -> Option<(NodeId, NodeId, BlockId, Stamp)>
+    ensures { IfSome result (λ told. sent.now ≡ message.Plan told.0 (plan.Updated told.1 told.2 told.3)) }
 {
-    match message {
+    match sent {
         Message::Plan(leader, PlanCall::Updated(node, block, stamp)) => {
             Some((*leader, *node, *block, *stamp))
         }
@@ -79,10 +79,10 @@ fn told(message: &Message) -> Option<(NodeId, NodeId, BlockId, Stamp)>
 }
 
 // The DataNode that reports a replica, and the replica.
-fn reported(message: &Message) -> Option<(NodeId, ReportedReplica)>
-    ensures { IfSome result (λ own. message.now ≡ message.Reported own.0 own.1.block own.1.stamp own.1.length) }
+fn reported(sent: &Message) -> Option<(NodeId, ReportedReplica)>
+    ensures { IfSome result (λ own. sent.now ≡ message.Reported own.0 own.1.block own.1.stamp own.1.length) }
 {
-    match message {
+    match sent {
         Message::Reported(node, block, stamp, length) => Some((
             *node,
             ReportedReplica {
