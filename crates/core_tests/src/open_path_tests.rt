@@ -59,8 +59,8 @@ fn note(
     Ok(())
 }
 
-// Writes the paths of the files that a client has open, in their order and each with a blank behind it, then that of the file whose block 7 is recovered, and a
-// stop behind all.
+// Writes the paths of the files that a client has open, in their order and each with a blank behind it, then that of the file whose block 7 is
+// recovered, and a stop behind all.
 fn tell(paths: &OpenPaths, client: &Who, text: &mut String) -> Result<(), Fail> {
     let mut open = paths.of_client(client)?;
     open.sort_unstable();
@@ -171,6 +171,30 @@ fn a_recovery_is_forgotten_with_its_block_and_known_anew(rt: HostRuntime) -> Res
     assert_eq!(rt;
         text.as_str(),
         "/a/b ./a/b /c ./c 7 at /a/b ./c 7 at /a/b ./c ./c 7 at /d ./c 7 at /e ./c 7 at /e ./b /c 7 at /e ."
+    );
+    Ok(())
+}
+
+// Paths are put in order by deletions and moves alone; what was put in before and since is known alike.
+const REOPENED: [(Noted, &str); 10] = [
+    (Noted::Opened, "/a/b"),
+    (Noted::Opened, "/a/c"),
+    (Noted::Opened, "/d"),
+    (Noted::Deleted, "/a/c"),
+    (Noted::DirectoryMoved("/x"), "/a"),
+    (Noted::Opened, "/a/b"),
+    (Noted::Deleted, "/d"),
+    (Noted::FileMoved("/e"), "/x/b"),
+    (Noted::Closed, "/a/b"),
+    (Noted::Deleted, "/e"),
+];
+
+#[test]
+fn files_are_known_before_and_behind_a_move(rt: HostRuntime) -> Result<(), Fail> {
+    let text = told(rt.alloc(), &REOPENED)?;
+    assert_eq!(rt;
+        text.as_str(),
+        "/a/b ./a/b /a/c ./a/b /a/c /d ./a/b /d ./d /x/b ./a/b /d /x/b ./a/b /x/b ./a/b /e ./e .."
     );
     Ok(())
 }
