@@ -8,7 +8,7 @@ use Rattle.cluster_parts.specs.Single.{message_of_single, update_messages}
 use Rattle.cluster_trace.specs.Trace.{entry_messages}
 use Rattle.cluster_parts.specs.declared.sent.Batch.{Batch}
 use Rattle.cluster_parts.specs.declared.sent.Source.{Source}
-use Rattle.cluster_parts.specs.declared.sent.Source.TheVariants.{Entry, Single, Updated, Own}
+use Rattle.cluster_parts.specs.declared.sent.Source.TheVariants.{Entry, Single, Update, Own}
 
 abbrev pub messages_at : Option HistoryEntry → List Message
 messages_at None = []
@@ -17,7 +17,7 @@ messages_at (Some entry) = entry_messages entry
 abbrev pub source_messages : List HistoryEntry → Source → List Message
 source_messages history (Entry index) = messages_at (slice_get history index)
 source_messages history (Single own) = message_of_single own ∷ []
-source_messages history (Updated own) = update_messages own
+source_messages history (Update own) = update_messages own
 source_messages history (Own messages) = messages
 
 abbrev pub messages_of : List HistoryEntry → List Batch → List Message
@@ -27,7 +27,7 @@ messages_of history batches = flat_map (λ (batch : Batch). source_messages hist
 abbrev pub IsWithin : List HistoryEntry → Source → Type 0
 IsWithin history (Entry index) = index < length history
 IsWithin history (Single own) = ⊤
-IsWithin history (Updated own) = ⊤
+IsWithin history (Update own) = ⊤
 IsWithin history (Own messages) = ⊤
 
 -- behind so many messages, each batch says the number of its first, and so many there are in the end

@@ -164,7 +164,7 @@ pub fn find<'a>(
     match &batch.source {
         Source::Entry(entry) => history_message(history, *entry, index),
         Source::Single(single) => only_message(*single, index),
-        Source::Updated(update) => update_message(*update, index),
+        Source::Update(update) => update_message(*update, index),
         Source::Own(messages) => own_message(messages, index),
     }
 }

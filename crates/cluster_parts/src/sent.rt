@@ -14,8 +14,8 @@ pub enum Source {
     Entry(usize),
     /// There is this one.
     Single(Single),
-    /// They are these two.
-    Updated(Update),
+    /// They are the two of this update.
+    Update(Update),
     /// They are these.
     Own(Messages),
 }
@@ -25,7 +25,7 @@ impl Drop for Source {
         match self {
             Source::Entry(_) => {}
             Source::Single(_) => {}
-            Source::Updated(_) => {}
+            Source::Update(_) => {}
             Source::Own(part) => drop(part),
         }
     }
@@ -52,7 +52,7 @@ impl Source {
             return Source::Single(single);
         }
         match Update::of(messages.as_slice()) {
-            Some(update) => Source::Updated(update),
+            Some(update) => Source::Update(update),
             None => Source::Own(messages),
         }
     }

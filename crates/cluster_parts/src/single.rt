@@ -67,7 +67,7 @@ pub struct Update {
 }
 
 // The DataNode that leads a recovery, the one that tells it of its replica, the block and the stamp.
-fn told(sent: &Message) -> Option<(NodeId, NodeId, BlockId, Stamp)>
+fn update_told(sent: &Message) -> Option<(NodeId, NodeId, BlockId, Stamp)>
     ensures { IfSome result (λ told. sent.now ≡ message.Plan told.0 (plan.Updated told.1 told.2 told.3)) }
 {
     match sent {
@@ -103,7 +103,7 @@ impl Update {
         let [first, second] = messages else {
             return None;
         };
-        let (leader, node, block, stamp) = told(first)?;
+        let (leader, node, block, stamp) = update_told(first)?;
         let (own, replica) = reported(second)?;
         if own != node || replica.block != block || replica.stamp != stamp {
             return None;

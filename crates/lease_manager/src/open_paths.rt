@@ -78,7 +78,7 @@ fn move_front(
         if let Some(behind) = path.names().get(from.depth()..)
             && let Ok(moved) = joined(alloc, to, behind)
         {
-            paths.insert(moved)?;
+            let _noted = paths.insert(moved);
         }
     }
     Ok(())
@@ -175,11 +175,11 @@ impl OpenPaths {
     }
 
     /// Notes that what has a path is deleted, where these clients had open what has the path, and the files beneath it: one client
-    /// for each file; and with it these blocks. Costs these files and blocks, and the files that these clients have opened since the last such
-    /// call: they are put in order.
+    /// for each file; and with it these blocks. Costs these files and blocks; where it is a directory, also those files of these clients that aren't
+    /// in order yet: what was opened or moved since they were last put in order.
     pub fn delete(&mut self, path: &Path, clients: &[Who], blocks: &[BlockId]) {
         if !clients.is_empty() {
-            let _noted = self.remove_at(path, clients);
+            self.remove_at(path, clients);
         }
         if !self.recovering.is_empty() {
             self.forget_recoveries(blocks);
@@ -192,17 +192,16 @@ impl OpenPaths {
         }
     }
 
-    fn remove_at(&mut self, path: &Path, clients: &[Who]) -> Result<(), AllocError> {
+    fn remove_at(&mut self, path: &Path, clients: &[Who]) {
         for client in clients {
             let Some(paths) = self.clients.get_mut(client) else {
                 continue;
             };
-            paths.remove_at(path)?;
+            let _noted = paths.remove_at(path);
             if paths.is_empty() {
                 self.clients.remove(client);
             }
         }
-        Ok(())
     }
 
     /// Notes that a file that a client has open is moved.
@@ -216,8 +215,8 @@ impl OpenPaths {
         let _noted = self.put_recovery(to, block);
     }
 
-    /// Notes that a directory is moved. Costs a look-up for each client that has files open, the open files beneath it, those that were opened
-    /// since the last such call, and the recoveries that run.
+    /// Notes that a directory is moved. Costs a look-up for each client that has files open, the open files beneath it, those files that aren't in
+    /// order yet (opened or moved since they were last put in order), and the recoveries that run.
     pub fn move_directory(&mut self, from: &Path, to: &Path) {
         if !self.clients.is_empty() {
             self.move_beneath(from, to);

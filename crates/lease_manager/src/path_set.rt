@@ -1,15 +1,16 @@
 use file_paths::path::Path;
 use std::alloc::{AllocError, Global};
-use std::collections::{BTreeSet, HashMap};
+use std::collections::{BTreeMap, BTreeSet};
 use std::hash::{FoldHasher, Hash, Hasher};
 use std::mem;
 
-/// Paths, each once: put in and taken out by hash, which looks at one of them where an order looks at many. What is at a path and beneath it is
-/// found by the order of paths; what was put in since that was last asked for is put in order then, so that each path is put in order once.
+/// Paths: put in and taken out by hash, which looks at one of them where an order of paths looks at many. What is at a path and beneath it is
+/// found by the order of paths; those that aren't in order yet are put in order then, so that a path is put in order once for each time that it is
+/// put in. A path that is put in twice may be there twice.
 #[derive(Drop)]
 pub(crate) struct PathSet {
-    // by their hashes: those that aren't in order yet
-    by_hash: HashMap<u64, Path>,
+    // those that aren't in order yet, by their hashes, in a tree: whoever picks names that collide makes nothing slow
+    by_hash: BTreeMap<u64, Path>,
     // the others, and those whose hash another path has
     in_order: BTreeSet<Path>,
     alloc: Global,
@@ -28,10 +29,15 @@ impl PathSet {
     /// No path. Takes no memory.
     pub(crate) fn new(alloc: Global) -> PathSet {
         PathSet {
-            by_hash: HashMap::new(alloc),
+            by_hash: BTreeMap::new(alloc),
             in_order: BTreeSet::new(alloc),
             alloc,
         }
+    }
+
+    // How many paths there are.
+    fn len(&self) -> usize {
+        self.by_hash.len().saturating_add(self.in_order.len())
     }
 
     /// Whether there is no path. Takes no memory.
@@ -57,7 +63,7 @@ impl PathSet {
     /// # Errors
     /// Out of memory.
     pub(crate) fn to_vec(&self, alloc: Global) -> Result<Vec<Path>, AllocError> {
-        let mut paths = Vec::with_capacity(alloc, self.in_order.len())?;
+        let mut paths = Vec::with_capacity(alloc, self.len())?;
         for path in &self.in_order {
             paths.push(path.clone()?)?;
         }
@@ -73,10 +79,12 @@ impl PathSet {
     /// Out of memory.
     pub(crate) fn insert(&mut self, path: Path) -> Result<(), AllocError> {
         let hash = hash_of(&path);
-        if self.by_hash.contains_key(&hash) {
-            self.in_order.insert(path)?;
-        } else {
+        let Some(other) = self.by_hash.get(&hash) else {
             self.by_hash.insert(hash, path)?;
+            return Ok(());
+        };
+        if *other != path {
+            self.in_order.insert(path)?;
         }
         Ok(())
     }
@@ -91,13 +99,12 @@ impl PathSet {
         }
     }
 
-    // Puts those paths in order that aren't yet.
-    fn put_in_order(&mut self) -> Result<(), AllocError> {
-        let by_hash = mem::replace(&mut self.by_hash, HashMap::new(self.alloc));
+    // Puts those paths in order that aren't yet. One for which there is no memory is left out.
+    fn put_in_order(&mut self) {
+        let by_hash = mem::replace(&mut self.by_hash, BTreeMap::new(self.alloc));
         for (_, path) in by_hash {
-            self.in_order.insert(path)?;
+            let _put = self.in_order.insert(path);
         }
-        Ok(())
     }
 
     // Copies of the paths at this one and beneath it, where all are in order.
@@ -112,12 +119,12 @@ impl PathSet {
         Ok(found)
     }
 
-    /// Takes the paths at one and beneath it out, and tells them. Costs these, and those that were put in since this was last called.
+    /// Takes the paths at one and beneath it out, and tells them. Costs these, and those that aren't in order yet.
     ///
     /// # Errors
-    /// Out of memory: paths may be missing then.
+    /// Out of memory: none is taken out then.
     pub(crate) fn take_at(&mut self, front: &Path) -> Result<Vec<Path>, AllocError> {
-        self.put_in_order()?;
+        self.put_in_order();
         let found = self.at_or_under(front)?;
         for path in &found {
             self.in_order.remove(path);
@@ -125,14 +132,18 @@ impl PathSet {
         Ok(found)
     }
 
-    /// Takes the paths at one and beneath it out. Costs what `take_at` does, or where the one is there a look-up.
+    /// Takes the paths at one and beneath it out: where the one is there, it alone, as nothing is beneath a file. Costs a look-up then, and what
+    /// `take_at` does where it isn't.
     ///
     /// # Errors
-    /// Out of memory: paths may be missing then.
+    /// Out of memory: none is taken out then.
     pub(crate) fn remove_at(&mut self, front: &Path) -> Result<(), AllocError> {
         let hash = hash_of(front);
         if self.is_by_hash(hash, front) {
             self.by_hash.remove(&hash);
+            return Ok(());
+        }
+        if self.in_order.remove(front) {
             return Ok(());
         }
         let _taken = self.take_at(front)?;
