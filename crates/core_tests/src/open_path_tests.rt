@@ -175,7 +175,6 @@ fn a_recovery_is_forgotten_with_its_block_and_known_anew(rt: HostRuntime) -> Res
     Ok(())
 }
 
-// Paths are put in order where a directory is deleted or moved; what was put in before and since is known alike.
 const REOPENED: [(Noted, &str); 10] = [
     (Noted::Opened, "/a/b"),
     (Noted::Opened, "/a/c"),

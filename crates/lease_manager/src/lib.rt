@@ -5,5 +5,4 @@
 pub mod leases;
 pub mod open_files;
 pub mod open_paths;
-mod path_set;
 pub mod writers;

@@ -1,21 +1,20 @@
-use crate::path_set::PathSet;
 use file_paths::name::Name;
 use file_paths::path::Path;
 use hdfs_values::fault::ParseFault;
 use hdfs_values::ids::BlockId;
 use hdfs_values::who::Who;
 use std::alloc::{AllocError, Global};
-use std::collections::{BTreeMap, HashMap};
+use std::collections::{BTreeMap, BTreeSet, HashMap};
 use std::marker::Model;
 
-/// Where the files are that each client has open; and where those are whose last block is recovered, by this block. A call costs a look-up, if
-/// nothing else is said.
+/// Where the files are that each client has open: their paths, in which what is beneath a directory stands together; and where those are
+/// whose last block is recovered, by this block. A call costs a look-up, if nothing else is said.
 ///
 /// These are hints, of which no contract speaks: the tree confirms each before it is used, and where one is missing, which is so
 /// only where there was no memory for it, the tree is gone through instead.
 #[derive(Drop)]
 pub struct OpenPaths {
-    clients: HashMap<Who, PathSet>,
+    clients: HashMap<Who, BTreeSet<Path>>,
     recovering: BTreeMap<BlockId, Path>,
     alloc: Global,
 }
@@ -27,6 +26,22 @@ impl Model for OpenPaths {
     ghost Value = { ⊤ };
 
     ghost view = { λ _. tt };
+}
+
+// Copies of the paths at this one and beneath it.
+fn at_or_under(
+    alloc: Global,
+    paths: &BTreeSet<Path>,
+    front: &Path,
+) -> Result<Vec<Path>, AllocError> {
+    let mut found = Vec::new(alloc);
+    for path in paths.range(front..) {
+        if !path.is_at_or_under(front) {
+            break;
+        }
+        found.push(path.clone()?)?;
+    }
+    Ok(found)
 }
 
 // The path of names with others before them, where it is within the limits.
@@ -70,15 +85,16 @@ fn move_path(alloc: Global, path: &mut Path, from: &Path, to: &Path) -> Result<(
 // Gives each path at one and beneath it another beginning.
 fn move_front(
     alloc: Global,
-    paths: &mut PathSet,
+    paths: &mut BTreeSet<Path>,
     from: &Path,
     to: &Path,
 ) -> Result<(), AllocError> {
-    for path in &paths.take_at(from)? {
+    for path in &at_or_under(alloc, paths, from)? {
+        paths.remove(path);
         if let Some(behind) = path.names().get(from.depth()..)
             && let Ok(moved) = joined(alloc, to, behind)
         {
-            let _noted = paths.insert(moved);
+            paths.insert(moved)?;
         }
     }
     Ok(())
@@ -94,15 +110,19 @@ impl OpenPaths {
         }
     }
 
-    /// The paths of the files that a client has open, in any order. Costs these files.
+    /// The paths of the files that a client has open. Costs these files.
     ///
     /// # Errors
     /// Out of memory.
     pub fn of_client(&self, client: &Who) -> Result<Vec<Path>, AllocError> {
-        match self.clients.get(client) {
-            Some(paths) => paths.to_vec(self.alloc),
-            None => Ok(Vec::new(self.alloc)),
+        let mut paths = Vec::new(self.alloc);
+        let Some(open) = self.clients.get(client) else {
+            return Ok(paths);
+        };
+        for path in open {
+            paths.push(path.clone()?)?;
         }
+        Ok(paths)
     }
 
     /// Notes that a client has opened a file. Where there is no memory for the path, it is left out.
@@ -126,7 +146,7 @@ impl OpenPaths {
             paths.insert(path)?;
             return Ok(());
         }
-        let mut paths = PathSet::new(self.alloc);
+        let mut paths = BTreeSet::new(self.alloc);
         paths.insert(path)?;
         self.clients.insert(client.clone()?, paths)?;
         Ok(())
@@ -175,11 +195,10 @@ impl OpenPaths {
     }
 
     /// Notes that what has a path is deleted, where these clients had open what has the path, and the files beneath it: one client
-    /// for each file; and with it these blocks. Costs these files and blocks; where it is a directory, also those files of these clients that aren't
-    /// in order yet: what was opened or moved since they were last put in order.
+    /// for each file; and with it these blocks. Costs these files and blocks.
     pub fn delete(&mut self, path: &Path, clients: &[Who], blocks: &[BlockId]) {
         if !clients.is_empty() {
-            self.remove_at(path, clients);
+            let _noted = self.remove_at(path, clients);
         }
         if !self.recovering.is_empty() {
             self.forget_recoveries(blocks);
@@ -192,16 +211,19 @@ impl OpenPaths {
         }
     }
 
-    fn remove_at(&mut self, path: &Path, clients: &[Who]) {
+    fn remove_at(&mut self, path: &Path, clients: &[Who]) -> Result<(), AllocError> {
         for client in clients {
             let Some(paths) = self.clients.get_mut(client) else {
                 continue;
             };
-            let _noted = paths.remove_at(path);
+            for closed in &at_or_under(self.alloc, paths, path)? {
+                paths.remove(closed);
+            }
             if paths.is_empty() {
                 self.clients.remove(client);
             }
         }
+        Ok(())
     }
 
     /// Notes that a file that a client has open is moved.
@@ -215,8 +237,8 @@ impl OpenPaths {
         let _noted = self.put_recovery(to, block);
     }
 
-    /// Notes that a directory is moved. Costs a look-up for each client that has files open, the open files beneath it, those files that aren't in
-    /// order yet (opened or moved since they were last put in order), and the recoveries that run.
+    /// Notes that a directory is moved. Costs a look-up for each client that has files open, the open files beneath it, and the recoveries
+    /// that run.
     pub fn move_directory(&mut self, from: &Path, to: &Path) {
         if !self.clients.is_empty() {
             self.move_beneath(from, to);

@@ -4,20 +4,34 @@ use bytes::Bytes;
 use std::alloc::AllocError;
 use std::marker::Model;
 
-// Where bytes are: each in memory of its own, which copies share, or one byte so many times.
-#[derive(Drop)]
+// Bytes that are listed, which copies share, behind a box so that a value is small; or one byte so many times.
 enum HeldBytes {
     Listed(Box<Bytes>),
     Repeated(u8, u64),
 }
 
+impl Drop for HeldBytes {
+    fn drop(self) {
+        match self {
+            HeldBytes::Listed(part) => drop(part),
+            HeldBytes::Repeated(_, _) => {}
+        }
+    }
+}
+
 /// Bytes of a block, as a packet of a write pipeline carries them (HDFS Architecture, "Replication Pipelining").
 ///
 /// One byte many times takes no memory, so that a packet can be refused for its length before anything of that length is made. Others are
-/// shared by their copies, so that a packet that is passed on isn't copied.
-#[derive(Drop)]
+/// shared by their copies, of which each takes a few words of memory, so that a packet that is passed on isn't copied.
 pub struct BlockBytes {
     held: HeldBytes,
+}
+
+impl Drop for BlockBytes {
+    fn drop(self) {
+        let BlockBytes { held } = self;
+        drop(held);
+    }
 }
 
 impl Model for BlockBytes {
@@ -35,7 +49,7 @@ impl BlockBytes {
     /// These bytes, which aren't copied.
     ///
     /// # Errors
-    /// Out of memory: their owners are counted.
+    /// Out of memory: how many share them is counted beside them.
     pub fn new(bytes: Vec<u8>) -> Result<BlockBytes, AllocError>
         ensures { IfOk result (λ own. own ≡ bytes.items) }
     {

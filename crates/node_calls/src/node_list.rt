@@ -8,7 +8,7 @@ use std::marker::Model;
 /// DataNodes in an order: those of a write pipeline that come next (HDFS Architecture, "Replication Pipelining"). A node may stand in it
 /// twice.
 ///
-/// No node takes no memory, and some stand in memory of their own, since most calls pass nothing on.
+/// An empty list takes no memory; another stands in memory of its own, since most calls pass nothing on.
 pub struct NodeList {
     nodes: Option<Box<Vec<NodeId>>>,
 }
