@@ -111,7 +111,8 @@ fn add_held_at(
     add(files, path, sought)
 }
 
-/// Adds the files of a client that are known.
+/// Adds the files of a client that are known, the last path first: a map that is searched from its least key on finds the place of a new least one
+/// at once.
 fn add_held(
     tree: &Tree,
     open_paths: &OpenPaths,
@@ -120,7 +121,8 @@ fn add_held(
 ) -> Result<(), AllocError>
     ensures { (expiry : spec.Expiry) → spec.is_among expiry.past client.now ≡ true → spec.AreSome expiry tree.now files.old → OnOk result (spec.AreSome expiry tree.now files.new) }
 {
-    for path in open_paths.of_client(client)? {
+    let mut paths = open_paths.of_client(client)?;
+    while let Some(path) = paths.pop() {
         add_held_at(tree, path, client, files)?;
     }
     Ok(())

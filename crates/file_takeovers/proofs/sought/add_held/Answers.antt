@@ -1,8 +1,4 @@
 use Rattle.file_takeovers.proofs.sought.add_held.Goals as goal
 
 pub loop-path-preserved : goal.loop-path-preserved
-loop-path-preserved c = record {
-  can_next = tt;
-  is_finite = tt;
-  some = λ expiry among all. c.in_ok-add_held_at.ensures expiry among (c.loop-path.invariant.some expiry among all);
-}
+loop-path-preserved c = λ expiry among all. c.in_ok-add_held_at.ensures expiry among (c.loop-path.invariant expiry among all)
