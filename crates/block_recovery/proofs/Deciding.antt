@@ -21,6 +21,21 @@ use Rattle.block_recovery.proofs.Tables.{itself, has_entry}
 none_some : {X : Type 0} {A : Type 0} (x : X) → None ≡ Some x → A
 none_some x e = cc
 
+-- ---- the lengths that were answered
+
+pub lengths_of : (answers : List (ℕ × Answer)) → map (λ own. own.1.length) answers ≡ map (λ own. own.length) (values_of answers)
+lengths_of [] = refl
+lengths_of (own ∷ answers) = ap (λ lengths. own.1.length ∷ lengths) (lengths_of answers)
+
+pub finalized_lengths_of : (answers : List (ℕ × Answer)) → map (λ own. own.1.length) (filter (λ own. own.1.finalized) answers) ≡ map (λ own. own.length) (finalized_of (values_of answers))
+finalized_lengths_of [] = refl
+finalized_lengths_of (own ∷ answers) = by own.1.finalized (finalized_lengths_of answers)
+  where
+    by : (b : Bool) → map (λ own. own.1.length) (filter (λ own. own.1.finalized) answers) ≡ map (λ own. own.length) (finalized_of (values_of answers))
+        → map (λ own. own.1.length) (cond b (own ∷ filter (λ own. own.1.finalized) answers) (filter (λ own. own.1.finalized) answers)) ≡ map (λ own. own.length) (cond b (own.1 ∷ finalized_of (values_of answers)) (finalized_of (values_of answers)))
+    by true rest = ap (λ lengths. own.1.length ∷ lengths) rest
+    by false rest = rest
+
 -- ---- the least of some numbers
 
 not_below : (bytes a : ℕ) (xs : List ℕ) → bytes ≤ a → AllByRecursion (λ x. bytes ≤ x) xs → bytes ≤ fold min a xs

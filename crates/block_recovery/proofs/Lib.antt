@@ -1,4 +1,5 @@
 pub mod Tables
 pub mod Lookups
+pub mod Newest
 pub mod Deciding
 pub mod Steps

@@ -1,5 +1,6 @@
 ghost use Rattle.std.specs.Prelude.{◌≡◌, [], is_some, IfOk, OnOk, OnErr};
-ghost use Rattle.std.specs.Map.{values_of};
+ghost use Rattle.std.specs.List.Sorted.{IsStrictlySortedBy};
+ghost use Rattle.std.specs.Map.{keys_of, values_of};
 ghost use Rattle.std.specs.BTreeMap.{insert_entry};
 ghost use Rattle.std.specs.Ordering.{nat_cmp};
 ghost use Rattle.block_records.specs.Numbers.{entry_at};
@@ -7,9 +8,9 @@ ghost use Rattle.block_recovery.specs.Decision.{least_of, finalized_of, suits, s
 
 use crate::decision::Decision;
 use block_records::node_set::NodeSet;
+use block_records::places::place_of;
 use node_ids::node_id::NodeId;
 use std::alloc::{AllocError, Global};
-use std::collections::BTreeMap;
 use std::marker::Model;
 
 /// What a node answers of its replica of a block that is to be recovered.
@@ -32,7 +33,8 @@ impl Answer {
 
 /// The nodes that have answered, by their ids, each with its answer.
 pub struct Answers {
-    by_node: BTreeMap<NodeId, Answer>,
+    // by the nodes' ids, ascending
+    by_node: Vec<(NodeId, Answer)>,
 }
 
 impl Drop for Answers {
@@ -44,11 +46,35 @@ impl Drop for Answers {
 
 impl Model for Answers {
     ghost use Rattle.std.specs.Prelude.{List, ℕ};
+    ghost use Rattle.std.specs.List.Sorted.{IsStrictlySortedBy};
+    ghost use Rattle.std.specs.Map.{keys_of};
+    ghost use Rattle.std.specs.Ordering.{nat_cmp};
     ghost use Rattle.block_recovery.specs.declared.answer.Answer.{Answer};
 
     ghost Value = { List (ℕ × Answer) };
 
-    ghost view = { λ answers. answers.by_node.entries };
+    ghost view = { λ answers. answers.by_node.items };
+
+    ghost invariant = { λ answers. IsStrictlySortedBy nat_cmp (keys_of answers.by_node.items) };
+}
+
+// Notes a node's answer among others.
+fn note_among(
+    answers: &mut Vec<(NodeId, Answer)>,
+    node: NodeId,
+    answer: Answer,
+) -> Result<(), AllocError>
+    requires { IsStrictlySortedBy nat_cmp (keys_of answers.old.items) }
+    ensures ok { OnOk result (answers.new.items ≡ insert_entry nat_cmp answers.old.items node answer) }
+    ensures err { OnErr result (answers.new.items ≡ answers.old.items) }
+{
+    match place_of(answers, node) {
+        Ok(at) => {
+            answers[at] = (node, answer);
+            Ok(())
+        }
+        Err(at) => Ok(answers.insert(at, (node, answer))?),
+    }
 }
 
 impl Answers {
@@ -57,7 +83,7 @@ impl Answers {
         ensures { result ≡ [] }
     {
         Answers {
-            by_node: BTreeMap::new(alloc),
+            by_node: Vec::new(alloc),
         }
     }
 
@@ -65,7 +91,7 @@ impl Answers {
     pub(crate) fn contains(&self, node: NodeId) -> bool
         ensures { result ≡ is_some (entry_at node self.now) }
     {
-        self.by_node.contains_key(&node)
+        place_of(&self.by_node, node).is_ok()
     }
 
     // Notes a node's answer.
@@ -73,15 +99,14 @@ impl Answers {
         ensures ok { OnOk result (self.new ≡ insert_entry nat_cmp self.old node answer) }
         ensures err { OnErr result (self.new ≡ self.old) }
     {
-        self.by_node.insert(node, answer)?;
-        Ok(())
+        note_among(&mut self.by_node, node, answer)
     }
 
     // The least length that was answered; `None` where no node has answered.
     fn least(&self) -> Option<u64>
         ensures { result ≡ least_of (values_of self.now) }
     {
-        self.by_node.values().map(|answer| answer.length).min()
+        self.by_node.iter().map(|own| own.1.length).min()
     }
 
     // The least length of a finalized replica; `None` where there is none.
@@ -89,9 +114,9 @@ impl Answers {
         ensures { result ≡ least_of (finalized_of (values_of self.now)) }
     {
         self.by_node
-            .values()
-            .filter(|answer| answer.finalized)
-            .map(|answer| answer.length)
+            .iter()
+            .filter(|own| own.1.finalized)
+            .map(|own| own.1.length)
             .min()
     }
 
@@ -101,8 +126,8 @@ impl Answers {
     {
         self.by_node
             .iter()
-            .filter(|(_, answer)| answer.suits(length))
-            .map(|(node, _)| *node)
+            .filter(|own| own.1.suits(length))
+            .map(|own| own.0)
             .collect(alloc)
     }
 
@@ -110,8 +135,8 @@ impl Answers {
     fn suiting_set(&self, alloc: Global, length: u64) -> Result<NodeSet, AllocError>
         ensures { IfOk result (λ nodes. nodes ≡ suiting_nodes length self.now) }
     {
-        // its contract tells that the keys ascend
-        let _count = self.by_node.len();
+        // a read of the field tells the prover that the nodes ascend
+        let _answers = &self.by_node;
         let nodes = self.suiting(alloc, length)?;
         Ok(NodeSet::of_ascending(nodes))
     }
@@ -120,9 +145,7 @@ impl Answers {
     fn nodes(&self, alloc: Global) -> Result<NodeSet, AllocError>
         ensures { IfOk result (λ nodes. nodes ≡ all_nodes self.now) }
     {
-        // its contract tells that the keys ascend
-        let _count = self.by_node.len();
-        let nodes = self.by_node.keys().copied().collect(alloc)?;
+        let nodes = self.by_node.iter().map(|own| own.0).collect(alloc)?;
         Ok(NodeSet::of_ascending(nodes))
     }
 

@@ -1,4 +1,12 @@
 ghost use Rattle.std.specs.Prelude.{◌≡◌, [], IfOk, IfErr, OnOk, OnErr, Some, None, option_copied, option_and_then};
+ghost use Rattle.std.specs.Borrow.{sem};
+ghost use Rattle.std.specs.BTreeMap.{insert_entry};
+ghost use Rattle.std.specs.List.Sorted.{IsStrictlySortedBy};
+ghost use Rattle.std.specs.Map.{keys_of};
+ghost use Rattle.std.specs.Option.{option_copied_mut};
+ghost use Rattle.std.specs.Ordering.{nat_cmp};
+ghost use Rattle.block_records.specs.Numbers.{entry_at};
+ghost use Rattle.block_recovery.specs.Lending.{LendsPlans};
 ghost use Rattle.block_recovery.specs.Plans as spec;
 ghost use Rattle.block_recovery.specs.Plans.{IsPlanFaultOf, with_plan_changed, plan_at};
 
@@ -12,6 +20,7 @@ use block_records::node_set::NodeSet;
 use hdfs_values::ids::{BlockId, Stamp};
 use node_ids::node_id::NodeId;
 use std::alloc::{AllocError, Global};
+use std::cmp::Reverse;
 use std::collections::BTreeMap;
 use std::marker::Model;
 
@@ -20,7 +29,8 @@ use std::marker::Model;
 /// A plan is begun, hears the answers of the nodes that it asked, is decided once, hears which nodes have cut their replicas, and is
 /// committed, as often as is asked. No call looks at a clock or at a token.
 pub struct Plans {
-    by_block: BTreeMap<BlockId, BlockPlans>,
+    // the newest block first: it is mostly the one that is asked for, and a map is searched from its least key on
+    by_block: BTreeMap<Reverse<BlockId>, BlockPlans>,
     alloc: Global,
 }
 
@@ -34,11 +44,12 @@ impl Drop for Plans {
 
 impl Model for Plans {
     ghost use Rattle.std.specs.Prelude.{List, ℕ};
+    ghost use Rattle.block_recovery.specs.Kept.{in_order};
     ghost use Rattle.block_recovery.specs.declared.plan.Plan.{Plan};
 
     ghost Value = { List (ℕ × List (ℕ × Plan)) };
 
-    ghost view = { λ plans. plans.by_block.entries };
+    ghost view = { λ plans. in_order plans.by_block.entries };
 }
 
 // Where there is no such plan, no plan waits for anything.
@@ -55,18 +66,45 @@ impl Plans {
         }
     }
 
+    // The plans of a block.
+    fn of_block(&self, block: BlockId) -> Option<&BlockPlans>
+        ensures { option_copied result ≡ entry_at block self.now }
+    {
+        // its contract tells that the keys ascend
+        let _count = self.by_block.len();
+        self.by_block.get(&Reverse(block))
+    }
+
+    // The plans of a block, to be changed.
+    fn of_block_mut(&mut self, block: BlockId) -> Option<&mut BlockPlans>
+        ensures* writes_back { sem 𝓛 (LendsPlans block self.entry result) }
+        ensures value { option_copied_mut result ≡ entry_at block self.old }
+        ensures ascending { IsStrictlySortedBy nat_cmp (keys_of self.old) }
+    {
+        self.by_block.get_mut(&Reverse(block))
+    }
+
     /// The plan of a block with a stamp. Costs a look-up, and takes no memory.
     pub fn get(&self, block: BlockId, stamp: Stamp) -> Option<&Plan>
         ensures { option_copied result ≡ plan_at block stamp self.now }
     {
-        self.by_block.get(&block)?.get(stamp)
+        self.of_block(block)?.get(stamp)
     }
 
     // The greatest stamp with which a plan of a block was begun.
     fn newest(&self, block: BlockId) -> Option<Stamp>
         ensures { result ≡ spec.newest (spec.plans_of block self.now) }
     {
-        self.by_block.get(&block)?.newest()
+        self.of_block(block)?.newest()
+    }
+
+    // Puts plans of a block in, in the place of those that it has.
+    fn put(&mut self, block: BlockId, own: BlockPlans) -> Result<(), AllocError>
+        ensures ok { OnOk result (self.new ≡ insert_entry nat_cmp self.old block own) }
+        ensures err { OnErr result (self.new ≡ self.old) }
+    {
+        self.by_block.insert(Reverse(block), own)?;
+        Ok(())
     }
 
     // Puts a plan in.
@@ -74,13 +112,13 @@ impl Plans {
         ensures ok { OnOk result (self.new ≡ spec.with_plan block stamp plan self.old) }
         ensures err { OnErr result (self.new ≡ self.old) }
     {
-        if let Some(own) = self.by_block.get_mut(&block) {
-            return own.insert(self.alloc, stamp, plan);
+        let alloc = self.alloc;
+        if let Some(own) = self.of_block_mut(block) {
+            return own.insert(alloc, stamp, plan);
         }
-        let mut own = BlockPlans::new(self.alloc);
-        own.insert(self.alloc, stamp, plan)?;
-        self.by_block.insert(block, own)?;
-        Ok(())
+        let mut own = BlockPlans::new(alloc);
+        own.insert(alloc, stamp, plan)?;
+        self.put(block, own)
     }
 
     /// Begins a plan, and answers the nodes that are to be asked for their replicas, by their ids. Costs a look-up, and the nodes.
@@ -123,7 +161,7 @@ impl Plans {
         ensures fault { IfErr result (IsPlanFaultOf (spec.refused_reply node (plan_at block stamp self.old))) }
         ensures err { OnErr result (self.new ≡ self.old) }
     {
-        let Some(own) = self.by_block.get_mut(&block) else {
+        let Some(own) = self.of_block_mut(block) else {
             return Err(STRANGER);
         };
         own.reply(stamp, node, answer)
@@ -142,10 +180,11 @@ impl Plans {
         ensures fault { IfErr result (IsPlanFaultOf (spec.refused_decide (plan_at block stamp self.old))) }
         ensures err { OnErr result (self.new ≡ self.old) }
     {
-        let Some(own) = self.by_block.get_mut(&block) else {
+        let alloc = self.alloc;
+        let Some(own) = self.of_block_mut(block) else {
             return Err(STRANGER);
         };
-        own.decide(self.alloc, stamp)
+        own.decide(alloc, stamp)
     }
 
     /// Notes that a node has cut its replica to the length that was decided. Costs a look-up, and the nodes that take part.
@@ -159,7 +198,7 @@ impl Plans {
         ensures fault { IfErr result (IsPlanFaultOf (spec.refused_updated node (plan_at block stamp self.old))) }
         ensures err { OnErr result (self.new ≡ self.old) }
     {
-        let Some(own) = self.by_block.get_mut(&block) else {
+        let Some(own) = self.of_block_mut(block) else {
             return Err(STRANGER);
         };
         own.update(stamp, node)

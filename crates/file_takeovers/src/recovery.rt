@@ -1,4 +1,4 @@
-ghost use Rattle.std.specs.Prelude.{◌≡◌, true, false, IfOk, OnErr};
+ghost use Rattle.std.specs.Prelude.{◌≡◌, Some, true, false, option_copied, IfOk, IfSome, OnErr};
 ghost use Rattle.std.specs.Option.{IsSome};
 ghost use Rattle.block_map.specs.BlockFacts.{recovering_since};
 ghost use Rattle.namespace_rows.specs.Rows.{row_at};
@@ -40,7 +40,18 @@ fn recovers_in(row: &Row, block: BlockId) -> bool
     }
 }
 
-/// The path of such a file, where it isn't known. Costs the whole tree.
+/// Where the file is whose last block is in a recovery, and this one, if that is known. Takes no memory.
+fn known_path<'a>(tree: &Tree, open_paths: &'a OpenPaths, block: BlockId) -> Option<&'a Path>
+    ensures { IfSome result (λ path. spec.IsSearched block tree.now (Some path.now)) }
+{
+    let path = open_paths.of_recovery(block)?;
+    if !recovers_at(tree, path, block) {
+        return None;
+    }
+    Some(path)
+}
+
+/// The path of such a file, if there is one. Costs the whole tree.
 fn search(alloc: Global, tree: &Tree, block: BlockId) -> Result<Option<Path>, AllocError>
     requires { IsNamespace tree.now }
     ensures { IfOk result (λ path. spec.IsSearched block tree.now path) }
@@ -55,50 +66,56 @@ fn search(alloc: Global, tree: &Tree, block: BlockId) -> Result<Option<Path>, Al
     Ok(None)
 }
 
-/// The path of the file whose last block is in a recovery, and this one, if there is one.
-fn path_of(
-    alloc: Global,
-    tree: &Tree,
-    open_paths: &OpenPaths,
-    block: BlockId,
-) -> Result<Option<Path>, AllocError>
-    requires { IsNamespace tree.now }
-    ensures { IfOk result (λ path. spec.IsSearched block tree.now path) }
-{
-    if let Some(path) = open_paths.of_recovery(block)
-        && recovers_at(tree, path, block)
-    {
-        let path = path.clone()?;
-        return Ok(Some(path));
-    }
-    search(alloc, tree, block)
-}
-
 /// The same of a block in a recovery; no path for another block.
-fn path_in_recovery(
+fn search_in_recovery(
     alloc: Global,
     tree: &Tree,
     blocks: &Blocks,
-    open_paths: &OpenPaths,
     block: BlockId,
 ) -> Result<Option<Path>, AllocError>
     requires { IsNamespace tree.now }
     ensures in_recovery { IfOk result (λ path. IsSome (recovering_since blocks.now block) → spec.IsSearched block tree.now path) }
 {
     match blocks.recovering_since(block) {
-        Some(_) => path_of(alloc, tree, open_paths, block),
+        Some(_) => search(alloc, tree, block),
         None => Ok(None),
     }
 }
 
 /// Ends the recovery in the file that was found, if one was. Takes no memory.
-fn end_in(tree: &mut Tree, path: &Option<Path>, block: BlockId, length: u64)
-    requires searched { spec.IsSearched block tree.old path.now }
+fn end_in(tree: &mut Tree, path: Option<&Path>, block: BlockId, length: u64)
+    requires searched { spec.IsSearched block tree.old (option_copied path) }
     requires once { spec.RecoversOnce block tree.old }
     ensures { tree.new ≡ recovery_ended block length tree.old }
 {
     if let Some(path) = path {
         tree.end_recovery(path, block, length);
+    }
+}
+
+/// Ends the recovery of a block whose file was looked for, where it runs under that stamp.
+fn end_at(
+    tree: &mut Tree,
+    blocks: &mut Blocks,
+    path: Option<&Path>,
+    recovered: &RecoveredBlock,
+) -> Result<Verdict, AllocError>
+    requires searched { IsSome (recovering_since blocks.old recovered.now.block) → spec.IsSearched recovered.now.block tree.old (option_copied path) }
+    requires once { spec.RecoversOnce recovered.now.block tree.old }
+    ensures verdict { IfOk result (λ verdict. verdict ≡ spec.verdict_on_end blocks.old recovered.now) }
+    ensures done { IfOk result (λ verdict. is_done verdict ≡ true → spec.IsEnded recovered.now tree.old blocks.old tree.new blocks.new) }
+    ensures refused { IfOk result (λ verdict. is_done verdict ≡ false → (tree.new ≡ tree.old) × (blocks.new ≡ blocks.old)) }
+    ensures err { OnErr result ((tree.new ≡ tree.old) × (blocks.new ≡ blocks.old)) }
+{
+    let block = recovered.block;
+    let nodes = recovered.nodes.clone()?;
+    match blocks.commit_recovery(block, recovered.stamp, recovered.length, nodes) {
+        Ok(()) => {
+            end_in(tree, path, block, recovered.length);
+            Ok(Verdict::Done(Reply::Empty))
+        }
+        Err(BlockFault::Refused(refusal)) => Ok(Verdict::Refused(Refusal::of_blocks(refusal))),
+        Err(BlockFault::OutOfMemory) => Err(AllocError),
     }
 }
 
@@ -122,15 +139,15 @@ pub fn end_recovery(
     ensures err { OnErr result ((tree.new ≡ tree.old) × (blocks.new ≡ blocks.old)) }
 {
     let block = recovered.block;
-    let nodes = recovered.nodes.clone()?;
-    let path = path_in_recovery(alloc, tree, blocks, open_paths, block)?;
-    match blocks.commit_recovery(block, recovered.stamp, recovered.length, nodes) {
-        Ok(()) => {
-            end_in(tree, &path, block, recovered.length);
-            open_paths.end_recovery(block);
-            Ok(Verdict::Done(Reply::Empty))
+    let verdict = match known_path(tree, open_paths, block) {
+        Some(path) => end_at(tree, blocks, Some(path), recovered)?,
+        None => {
+            let path = search_in_recovery(alloc, tree, blocks, block)?;
+            end_at(tree, blocks, path.as_ref(), recovered)?
         }
-        Err(BlockFault::Refused(refusal)) => Ok(Verdict::Refused(Refusal::of_blocks(refusal))),
-        Err(BlockFault::OutOfMemory) => Err(AllocError),
+    };
+    if let Verdict::Done(_) = &verdict {
+        open_paths.end_recovery(block);
     }
+    Ok(verdict)
 }

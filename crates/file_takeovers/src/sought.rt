@@ -137,7 +137,7 @@ fn add_each_held(
 ) -> Result<(), AllocError>
     ensures { (retry now : ℕ) → spec.AreSome (record { past = past.now; retry = retry; now = now }) tree.now files.old → OnOk result (spec.AreSome (record { past = past.now; retry = retry; now = now }) tree.now files.new) }
 {
-    for client in past {
+    for client in past.iter().rev() {
         add_held(tree, open_paths, client, files)?;
     }
     Ok(())

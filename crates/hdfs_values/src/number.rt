@@ -1,12 +1,14 @@
-ghost use Rattle.std.specs.Prelude.{◌≡◌};
-ghost use Rattle.std.specs.List.{list_all};
-ghost use Rattle.std.specs.Char.{is_ascii_digit};
+ghost use Rattle.std.specs.Prelude.{◌≡◌, ◌==◌, slice_index};
 ghost use Rattle.hdfs_values.specs.Number as spec;
 
-fn are_digits(text: &str) -> bool
-    ensures { result ≡ list_all is_ascii_digit text.now }
+/// Whether a text begins with a plus, which `parse` passes over.
+fn has_plus(text: &str) -> bool
+    ensures { result ≡ (slice_index text.now 0 == 43) }
 {
-    text.as_bytes().iter().all(|byte| byte.is_ascii_digit())
+    match text.as_bytes() {
+        [first, ..] => *first == b'+',
+        [] => false,
+    }
 }
 
 /// The number that decimal digits spell, at least one of them; leading zeros are allowed. `None` for any other text, and
@@ -14,7 +16,7 @@ fn are_digits(text: &str) -> bool
 pub fn number_of(text: &str) -> Option<u64>
     ensures { result ≡ spec.number_of text.now }
 {
-    if text.is_empty() || !are_digits(text) {
+    if has_plus(text) {
         return None;
     }
     text.parse::<u64>().ok()

@@ -1,6 +1,9 @@
-use Rattle.std.proofs.Common.{◌∙◌, sym, rules}
-use Rattle.hdfs_values.proofs.Numbers.{number_parsed}
+use Rattle.std.proofs.Common.{◌∙◌, sym}
+use Rattle.hdfs_values.proofs.Numbers.{none_with_plus, number_read}
 use Rattle.hdfs_values.proofs.number.number_of.Goals as goal
 
+pub returns-then-has_plus : goal.returns-then-has_plus
+returns-then-has_plus c = none_with_plus c.args.text.now (sym c.has_plus.ensures ∙ c.if-has_plus.true)
+
 pub returns : goal.returns
-returns c = c.ok.ensures.value ∙ number_parsed c.args.text.now c.parse.result (search rules) (sym c.if-not-are_digits.ensures) c.parse.ensures.value.0
+returns c = c.ok.ensures.value ∙ number_read c.args.text.now c.parse.result (sym c.has_plus.ensures ∙ c.if-has_plus.false) c.parse.ensures.value.0

@@ -6,5 +6,5 @@ use Rattle.block_recovery.proofs.answer.Answers.nodes.Goals as goal
 
 pub of_ascending-requires : goal.of_ascending-requires
 of_ascending-requires c =
-    let kept : c.in_ok-nodes.nodes.items ≡ keys_of c.self.inside.by_node.entries = search rules in
-    subst (λ (xs : List ℕ). IsStrictlyIncreasing xs) (sym kept) (IsStrictlyIncreasing-from_sorted (keys_of c.self.inside.by_node.entries) c.len-count.ensures.ordered)
+    let kept : c.in_ok-nodes.nodes.items ≡ keys_of c.self.inside.by_node.items = search rules in
+    subst (λ (xs : List ℕ). IsStrictlyIncreasing xs) (sym kept) (IsStrictlyIncreasing-from_sorted (keys_of c.self.inside.by_node.items) c.self.invariant)

@@ -1,15 +1,15 @@
-use Rattle.std.proofs.Common.{[], ap, ◌∙◌, subst, IfErr}
+use Rattle.std.proofs.Common.{[], refl, subst, IfErr}
+use Rattle.std.specs.Map.{set_value}
 use Rattle.std.specs.Option.{unwrap_or}
-use Rattle.block_records.specs.Numbers.{entry_at}
+use Rattle.block_records.specs.Numbers.{is_number, entry_at}
 use Rattle.block_recovery.specs.Plans.{IsPlanFaultOf, refused_updated}
 use Rattle.block_recovery.proofs.Tables.{unchanged}
 use Rattle.block_recovery.proofs.plans.Plans.updated.Goals as goal
 
 pub returns-clause-fault : goal.returns-clause-fault
-returns-clause-fault c =
-    subst (λ found. IfErr c.update.result (IsPlanFaultOf (refused_updated c.args.node (entry_at c.args.stamp (unwrap_or found []))))) (c.in-Some.ensures.value ∙ ap (entry_at c.args.block) c.self.view_is) c.update.ensures.fault
+returns-clause-fault c = subst (λ found. IfErr c.update.result (IsPlanFaultOf (refused_updated c.args.node (entry_at c.args.stamp (unwrap_or found []))))) c.in-Some.ensures.value c.update.ensures.fault
 
 pub returns-clause-err : goal.returns-clause-err
 returns-clause-err c =
-    unchanged c.update.result c.args.block c.self.inside.by_block.entries (c.get_mut.follows.lender c.update.new.self).entries c.args.self.now c.in-Some.own.now c.update.new.self
-    (c.get_mut.follows.holds c.update.new.self).0 c.in-Some.ensures.value c.self.view_is c.update.ensures.err
+    let plans = c.args.self.now in
+    unchanged c.update.result c.args.block plans (set_value (is_number c.args.block) plans c.update.new.self) plans c.in-Some.own.now c.update.new.self refl c.in-Some.ensures.value refl c.update.ensures.err
