@@ -1,4 +1,5 @@
-ghost use Rattle.std.specs.Prelude.{◌≡◌, ◌≢◌, ℕ, List, IfOk, length, map};
+ghost use Rattle.std.specs.Prelude.{◌≡◌, ◌≢◌, ℕ, List, IfOk, codes, length, map};
+ghost use Rattle.hdfs_values.specs.Text.{same};
 ghost use Rattle.node_ids.specs.NodeId.{node_of};
 ghost use Rattle.script_words.specs.LineForms.{Forms};
 ghost use Rattle.script_words.specs.Words.{words_of};
@@ -293,11 +294,21 @@ fn node_event(
     asked_by(alloc, ledger, asker, verb, words)
 }
 
+/// Whether a word is a dash, by its only byte: nearly every line is asked, and a comparison of texts is dearer.
+fn is_dash(word: &str) -> bool
+    ensures { result ≡ same word.now (codes "-") }
+{
+    match word.as_bytes() {
+        [only] => *only == b'-',
+        _ => false,
+    }
+}
+
 /// Whether a line is to deliver a message.
 fn is_delivery(caller: &str, verb: &str) -> bool
     ensures { result ≡ spec.is_delivery caller.now verb.now }
 {
-    is_word(caller, "-") && is_word(verb, "deliver")
+    is_dash(caller) && is_word(verb, "deliver")
 }
 
 fn delivery_of(moment: &str, number: &str) -> Result<Event, ParseFault>

@@ -152,15 +152,19 @@ impl OpenPaths {
         Ok(())
     }
 
-    /// Notes that a file is closed that a client had open. Takes no memory.
-    pub fn close(&mut self, path: &Path, client: &Who) {
-        let Some(paths) = self.clients.get_mut(client) else {
-            return;
-        };
-        paths.remove(path);
+    // The path of a file that a client had open, which is taken out.
+    fn take(&mut self, path: &Path, client: &Who) -> Option<Path> {
+        let paths = self.clients.get_mut(client)?;
+        let own = paths.take(path);
         if paths.is_empty() {
             self.clients.remove(client);
         }
+        own
+    }
+
+    /// Notes that a file is closed that a client had open. Takes no memory.
+    pub fn close(&mut self, path: &Path, client: &Who) {
+        let _closed = self.take(path, client);
     }
 
     /// Where the file is whose last block is this one, and recovered, if that is known.
@@ -168,14 +172,21 @@ impl OpenPaths {
         self.recovering.get(&block)
     }
 
-    /// Notes that a file's last block is recovered, which a client had open. Where there is no memory for the path, it is left out.
+    /// Notes that a file's last block is recovered, which a client had open. Where there is no memory for the note, it is left out.
     pub fn recover(&mut self, path: &Path, client: &Who, block: BlockId) {
-        self.close(path, client);
-        let _noted = self.put_recovery(path, block);
+        let _noted = match self.take(path, client) {
+            Some(own) => self.put_recovery(own, block),
+            None => self.note_recovery(path, block),
+        };
     }
 
-    fn put_recovery(&mut self, path: &Path, block: BlockId) -> Result<(), AllocError> {
-        self.recovering.insert(block, path.clone()?)?;
+    fn note_recovery(&mut self, path: &Path, block: BlockId) -> Result<(), AllocError> {
+        let path = path.clone()?;
+        self.put_recovery(path, block)
+    }
+
+    fn put_recovery(&mut self, path: Path, block: BlockId) -> Result<(), AllocError> {
+        self.recovering.insert(block, path)?;
         Ok(())
     }
 
@@ -186,7 +197,7 @@ impl OpenPaths {
         {
             return;
         }
-        let _noted = self.put_recovery(path, block);
+        let _noted = self.note_recovery(path, block);
     }
 
     /// Notes that the recovery of a block has ended. Takes no memory.
@@ -234,7 +245,7 @@ impl OpenPaths {
 
     /// Notes that a file is moved whose last block is recovered.
     pub fn move_recovery(&mut self, to: &Path, block: BlockId) {
-        let _noted = self.put_recovery(to, block);
+        let _noted = self.note_recovery(to, block);
     }
 
     /// Notes that a directory is moved. Costs a look-up for each client that has files open, the open files beneath it, and the recoveries
