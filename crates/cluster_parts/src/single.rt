@@ -66,35 +66,6 @@ pub struct Update {
     pub replica: ReportedReplica,
 }
 
-// The DataNode that leads a recovery, the one that tells it of its replica, the block and the stamp.
-fn update_told(sent: &Message) -> Option<(NodeId, NodeId, BlockId, Stamp)>
-    ensures { IfSome result (λ told. sent.now ≡ message.Plan told.0 (plan.Updated told.1 told.2 told.3)) }
-{
-    match sent {
-        Message::Plan(leader, PlanCall::Updated(node, block, stamp)) => {
-            Some((*leader, *node, *block, *stamp))
-        }
-        _ => None,
-    }
-}
-
-// The DataNode that reports a replica, and the replica.
-fn reported(sent: &Message) -> Option<(NodeId, ReportedReplica)>
-    ensures { IfSome result (λ own. sent.now ≡ message.Reported own.0 own.1.block own.1.stamp own.1.length) }
-{
-    match sent {
-        Message::Reported(node, block, stamp, length) => Some((
-            *node,
-            ReportedReplica {
-                block: *block,
-                stamp: *stamp,
-                length: *length,
-            },
-        )),
-        _ => None,
-    }
-}
-
 impl Update {
     /// The same messages, where they are these two. Takes no memory.
     pub fn of(messages: &[Message]) -> Option<Update>
@@ -103,8 +74,12 @@ impl Update {
         let [first, second] = messages else {
             return None;
         };
-        let (leader, node, block, stamp) = update_told(first)?;
-        let (own, replica) = reported(second)?;
+        let Single::Updated(leader, node, block, stamp) = Single::of(first)? else {
+            return None;
+        };
+        let Single::Report(own, replica) = Single::of(second)? else {
+            return None;
+        };
         if own != node || replica.block != block || replica.stamp != stamp {
             return None;
         }
