@@ -1,6 +1,7 @@
 -- The clients whose leases are past the hard limit, by the list of these clients and by their last renewals.
-use Rattle.std.proofs.Common.{◌≡◌, ℕ, ◌+◌, Bool, true, false, ◌||◌, nat_lt, List, [], ◌∷◌, ◌++◌, take, drop, filter, Some, refl, sym, ap, ◌∙◌, cond}
-use Rattle.std.proofs.lemmas.List.{take-append-drop}
+use Rattle.std.proofs.Common.{◌≡◌, ℕ, ◌+◌, ◌-◌, ◌<◌, Bool, true, false, ◌||◌, nat_lt, List, [], ◌∷◌, ◌++◌, take, drop, filter, reverse, length, get_or, Some, refl, sym, ap, ◌∙◌, cond, arith}
+use Rattle.std.proofs.lemmas.List.{length-reverse, get_or-reverse}
+use Rattle.std.proofs.lemmas.List.Folds.{list_any_at}
 use Rattle.std.specs.List.{AllByRecursion, IsDistinct}
 use Rattle.hdfs_values.specs.Text.{same}
 use Rattle.hdfs_values.proofs.Texts.{same_is, same_symm, same_self}
@@ -50,13 +51,9 @@ module _ (limits : Limits) (now : ℕ) (client : List ℕ) where
 
 -- ---- one of them
 
-among_front : (client : List ℕ) (front rest : List (List ℕ)) → is_among ((front ++ client ∷ []) ++ rest) client ≡ true
-among_front client [] rest = ap (λ b. b || is_among rest client) (same_self client)
-among_front client (other ∷ front) rest = by (same other client) (among_front client front rest)
-  where
-    by : (b : Bool) → is_among ((front ++ client ∷ []) ++ rest) client ≡ true → (b || is_among ((front ++ client ∷ []) ++ rest) client) ≡ true
-    by true h = refl
-    by false h = h
-
-pub among_each : (clients : List (List ℕ)) (i : ℕ) (client : List ℕ) → take (i + 1) clients ≡ take i clients ++ client ∷ [] → is_among clients client ≡ true
-among_each clients i client next = ap (λ some. is_among some client) (sym (take-append-drop (i + 1) clients) ∙ ap (λ some. some ++ drop (i + 1) clients) next) ∙ among_front client (take i clients) (drop (i + 1) clients)
+-- one that is gone to from the last on
+pub among_reversed : (clients : List (List ℕ)) (i : ℕ) (client : List ℕ) → i < length (reverse clients) → client ≡ get_or (reverse clients) i client → is_among clients client ≡ true
+among_reversed clients i client short at =
+    let within : i < length clients = omega (arith, short, length-reverse clients) in
+    list_any_at (λ other. same other client) clients (length clients - 1 - i) client (omega (arith, within))
+    (ap (λ other. same other client) (sym (at ∙ get_or-reverse clients i client within)) ∙ same_self client)

@@ -1,11 +1,12 @@
-use Rattle.std.proofs.Common.{◌≡◌, ◌+◌, ◌++◌, ◌∷◌, [], take, ap, sym, ◌∙◌}
-use Rattle.std.proofs.lemmas.List.{take_more}
-use Rattle.file_takeovers.proofs.Expiring.{among_each}
+use Rattle.std.proofs.Common.{rules}
+use Rattle.std.proofs.lemmas.Iterator.Adapters.{YieldsList-from_rev_slice}
+use Rattle.std.proofs.lemmas.Iterator.Consumers.{YieldsList-turn}
+use Rattle.file_takeovers.proofs.Expiring.{among_reversed}
 use Rattle.file_takeovers.proofs.sought.add_each_held.Goals as goal
 
 pub loop-client-preserved : goal.loop-client-preserved
 loop-client-preserved c = λ retry now all.
-    let xs = c.args.past.now in
-    let i = c.loop-client.client-index in
-    let next : take (i + 1) xs ≡ take i xs ++ c.client-item.result ∷ [] = take_more xs i c.client-item.result c.loop-client-test.true ∙ ap (λ x. take i xs ++ x ∷ []) (sym c.client-item.is) in
-    c.in_ok-add_held.ensures (record { past = xs; retry = retry; now = now }) (among_each xs i c.client-item.result next) (c.loop-client.invariant retry now all)
+    let past = c.args.past.now in
+    let turn = YieldsList-turn (YieldsList-from_rev_slice {s = c.into_iter-client-iterator.result} past (search rules))
+    c.loop-client.yielded c.loop-client.client-iterator c.loop-client.yielded_by c.next.result c.next.new.self c.in-Some.client c.in-Some.is c.next.ensures.steps in
+    c.in_ok-add_held.ensures (record { past = past; retry = retry; now = now }) (among_reversed past _ c.in-Some.client.now turn.0 turn.1) (c.loop-client.invariant retry now all)
