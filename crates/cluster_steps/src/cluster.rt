@@ -202,7 +202,7 @@ impl Cluster {
     {
         match call.as_asked() {
             Asked::Replica(asked) => self.call(node, now, asked),
-            Asked::Plan(asked) => self.lead(node, asked),
+            Asked::Plan(asked) => self.lead(node, &asked),
         }
     }
 

@@ -176,14 +176,14 @@ fn five_of(
 }
 
 /// What is asked of a recovery.
-fn going_on(alloc: Global, verb: &str, block: &str, stamp: &str) -> Result<DataCall, ParseFault>
+fn going_on(verb: &str, block: &str, stamp: &str) -> Result<DataCall, ParseFault>
     ensures { Forms result (spec.going_on verb.now block.now stamp.now) }
 {
     let at = place_of(block, stamp)?;
     if is_word(verb, "decide") {
-        return Ok(DataCall::decide(alloc, at.block, at.stamp)?);
+        return Ok(DataCall::decide(at.block, at.stamp));
     }
-    Ok(DataCall::commit(alloc, at.block, at.stamp)?)
+    Ok(DataCall::commit(at.block, at.stamp))
 }
 
 /// Whether a node asks in its own name.
@@ -197,19 +197,13 @@ fn is_own(asker: &NodeAsker) -> bool
 }
 
 /// What the two words behind one of two verbs ask of a recovery, in the name of the node that leads it.
-fn led_of(
-    alloc: Global,
-    asker: &NodeAsker,
-    verb: &str,
-    block: &str,
-    stamp: &str,
-) -> Result<DataCall, ParseFault>
+fn led_of(asker: &NodeAsker, verb: &str, block: &str, stamp: &str) -> Result<DataCall, ParseFault>
     ensures { Forms result (spec.led_of asker.now verb.now block.now stamp.now) }
 {
     if !is_own(asker) {
         return Err(ParseFault::IllFormed(IllFormed::BadLine));
     }
-    going_on(alloc, verb, block, stamp)
+    going_on(verb, block, stamp)
 }
 
 /// What six words behind the verb ask.
@@ -245,7 +239,7 @@ fn call_of(
 {
     let caller = &asker.caller;
     if words.len() == 2 {
-        return led_of(alloc, asker, verb, words[0], words[1]);
+        return led_of(asker, verb, words[0], words[1]);
     }
     if words.len() == 4 {
         return begin_of(

@@ -1,9 +1,7 @@
--- How a call from outside is seen that is kept as it is asked of a DataNode.
+-- How a call from outside is seen as it is kept, and as it is asked of a DataNode.
 use Rattle.std.specs.Prelude.{ℕ, Bool, true, false, []}
 use Rattle.node_calls.specs.declared.call.NodeCall.{NodeCall}
 use Rattle.node_calls.specs.declared.call.NodeCall.TheVariants.{Presenting, Invalidate, Keys}
-use Rattle.node_calls.specs.declared.call.PlanCall.{PlanCall}
-use Rattle.node_calls.specs.declared.call.PlanCall.TheVariants as plan
 use Rattle.node_calls.specs.declared.call.TokenCall.{TokenCall}
 use Rattle.node_calls.specs.declared.call.TokenCall.TheVariants as call
 use Rattle.node_calls.specs.declared.message.Message.{Message}
@@ -12,6 +10,8 @@ use Rattle.node_calls.specs.declared.presented.Presented.{Presented}
 use Rattle.cluster_trace.specs.DataCall as outside
 use Rattle.cluster_trace.specs.declared.data_call.Asked.{Asked}
 use Rattle.cluster_trace.specs.declared.data_call.Asked.TheVariants.{Replica, Plan}
+use Rattle.cluster_trace.specs.declared.data_call.Kept.{Kept}
+use Rattle.cluster_trace.specs.declared.data_call.Kept.TheVariants as kept
 
 -- a client asks this himself
 abbrev pub is_client_call : TokenCall → Bool
@@ -29,16 +29,10 @@ is_asked_of_replica (Presenting presented asked) = is_client_call asked
 is_asked_of_replica (Invalidate block stamp) = false
 is_asked_of_replica (Keys update) = false
 
-abbrev pub is_asked_of_plan : PlanCall → Bool
-is_asked_of_plan (plan.Recover block stamp nodes token) = false
-is_asked_of_plan (plan.Reply node block stamp state bytes) = false
-is_asked_of_plan (plan.Decide block stamp) = true
-is_asked_of_plan (plan.Updated node block stamp) = false
-is_asked_of_plan (plan.Commit block stamp) = true
-
-abbrev pub is_asked : Asked → Bool
-is_asked (Replica own) = is_asked_of_replica own
-is_asked (Plan own) = is_asked_of_plan own
+abbrev pub is_asked : Kept → Bool
+is_asked (kept.Replica own) = is_asked_of_replica own.value
+is_asked (kept.Decide block stamp) = true
+is_asked (kept.Commit block stamp) = true
 
 -- never seen, since nothing else is kept
 abbrev pub unseen_call : outside.DataCall
@@ -59,18 +53,12 @@ asked_of_replica (Presenting presented asked) = presented_as presented asked
 asked_of_replica (Invalidate block stamp) = unseen_call
 asked_of_replica (Keys update) = unseen_call
 
-abbrev pub asked_of_plan : PlanCall → outside.DataCall
-asked_of_plan (plan.Recover block stamp nodes token) = unseen_call
-asked_of_plan (plan.Reply node block stamp state bytes) = unseen_call
-asked_of_plan (plan.Decide block stamp) = outside.Decide block stamp
-asked_of_plan (plan.Updated node block stamp) = unseen_call
-asked_of_plan (plan.Commit block stamp) = outside.Commit block stamp
-
-abbrev pub asked_in : Asked → outside.DataCall
-asked_in (Replica own) = asked_of_replica own
-asked_in (Plan own) = asked_of_plan own
+abbrev pub asked_in : Kept → outside.DataCall
+asked_in (kept.Replica own) = asked_of_replica own.value
+asked_in (kept.Decide block stamp) = outside.Decide block stamp
+asked_in (kept.Commit block stamp) = outside.Commit block stamp
 
 -- as if a message brought it
 abbrev pub brought_as : ℕ → Asked → Message
-brought_as node (Replica own) = message.Node node own
+brought_as node (Replica own) = message.Node node own.now
 brought_as node (Plan own) = message.Plan node own

@@ -1,7 +1,7 @@
 ghost use Rattle.std.specs.Prelude.{◌≡◌, ℕ, true, IfOk};
 ghost use Rattle.cluster_trace.specs.DataCall as asked;
 ghost use Rattle.cluster_trace.specs.DataCall.{as_message};
-ghost use Rattle.cluster_trace.specs.Kept.{asked_in, brought_as, is_asked};
+ghost use Rattle.cluster_trace.specs.Kept.{asked_of_replica, brought_as, is_asked_of_replica};
 
 use hdfs_values::ids::{BlockId, Stamp};
 use node_calls::block_bytes::BlockBytes;
@@ -13,24 +13,41 @@ use std::marker::Model;
 
 /// A call as a DataNode is asked it.
 #[derive(Drop)]
-pub enum Asked {
+pub enum Asked<'a> {
     /// Of a replica.
-    Replica(NodeCall),
+    Replica(&'a NodeCall),
     /// Of the recoveries that the node leads.
     Plan(PlanCall),
 }
 
+/// A call as it is kept.
+enum Kept {
+    /// Of a replica. It has memory of its own, since it is long, and most events are short.
+    Replica(Box<NodeCall>),
+    Decide(BlockId, Stamp),
+    Commit(BlockId, Stamp),
+}
+
+impl Drop for Kept {
+    fn drop(self) {
+        match self {
+            Kept::Replica(part) => drop(part),
+            Kept::Decide(_, _) => {}
+            Kept::Commit(_, _) => {}
+        }
+    }
+}
+
 /// What is asked of a DataNode from outside: a client asks to write a replica, or to read it, and a node that leads the recovery of a block
-/// is to go on with it. Every other call of a DataNode comes with a message. It has memory of its own, since it is long, and most events are
-/// short.
+/// is to go on with it. Every other call of a DataNode comes with a message.
 pub struct DataCall {
-    asked: Box<Asked>,
+    kept: Kept,
 }
 
 impl Drop for DataCall {
     fn drop(self) {
-        let DataCall { asked } = self;
-        drop(asked);
+        let DataCall { kept } = self;
+        drop(kept);
     }
 }
 
@@ -42,18 +59,18 @@ impl Model for DataCall {
 
     ghost use Rattle.cluster_trace.specs.Kept.{asked_in, is_asked};
 
-    ghost view = { λ own. asked_in own.asked.value };
+    ghost view = { λ own. asked_in own.kept };
 
-    ghost invariant = { λ own. is_asked own.asked.value ≡ true };
+    ghost invariant = { λ own. is_asked own.kept ≡ true };
 }
 
-/// What is asked, in memory of its own.
-fn boxed(alloc: Global, asked: Asked) -> Result<DataCall, AllocError>
-    requires { is_asked asked ≡ true }
-    ensures { IfOk result (λ call. call ≡ asked_in asked) }
+/// What is asked of a replica, in memory of its own.
+fn boxed(alloc: Global, asked: NodeCall) -> Result<DataCall, AllocError>
+    requires { is_asked_of_replica asked ≡ true }
+    ensures { IfOk result (λ call. call ≡ asked_of_replica asked) }
 {
     Ok(DataCall {
-        asked: Box::new(alloc, asked)?,
+        kept: Kept::Replica(Box::new(alloc, asked)?),
     })
 }
 
@@ -70,10 +87,7 @@ impl DataCall {
         ensures { IfOk result (λ call. call ≡ asked.BeginWrite presented next) }
     {
         let begin = TokenCall::Begin(next);
-        boxed(
-            alloc,
-            Asked::Replica(NodeCall::Presenting(presented, begin)),
-        )
+        boxed(alloc, NodeCall::Presenting(presented, begin))
     }
 
     /// Writes these bytes at an offset; these nodes come next in the pipeline.
@@ -90,10 +104,7 @@ impl DataCall {
         ensures { IfOk result (λ call. call ≡ asked.Packet presented offset bytes next) }
     {
         let packet = TokenCall::Packet(offset, bytes, next);
-        boxed(
-            alloc,
-            Asked::Replica(NodeCall::Presenting(presented, packet)),
-        )
+        boxed(alloc, NodeCall::Presenting(presented, packet))
     }
 
     /// Ends the writing at a length; these nodes come next in the pipeline.
@@ -109,10 +120,7 @@ impl DataCall {
         ensures { IfOk result (λ call. call ≡ asked.Finalize presented length next) }
     {
         let finalize = TokenCall::Finalize(length, next);
-        boxed(
-            alloc,
-            Asked::Replica(NodeCall::Presenting(presented, finalize)),
-        )
+        boxed(alloc, NodeCall::Presenting(presented, finalize))
     }
 
     /// Reads from an offset so many bytes.
@@ -128,33 +136,35 @@ impl DataCall {
         ensures { IfOk result (λ call. call ≡ asked.Read presented offset count) }
     {
         let read = TokenCall::Read(offset, count);
-        boxed(alloc, Asked::Replica(NodeCall::Presenting(presented, read)))
+        boxed(alloc, NodeCall::Presenting(presented, read))
     }
 
-    /// The leading node decides on the length of the block whose recovery has this stamp.
-    ///
-    /// # Errors
-    /// Out of memory.
-    pub fn decide(alloc: Global, block: BlockId, stamp: Stamp) -> Result<DataCall, AllocError>
-        ensures { IfOk result (λ call. call ≡ asked.Decide block stamp) }
+    /// The leading node decides on the length of the block whose recovery has this stamp. Takes no memory.
+    pub fn decide(block: BlockId, stamp: Stamp) -> DataCall
+        ensures { result ≡ asked.Decide block stamp }
     {
-        boxed(alloc, Asked::Plan(PlanCall::Decide(block, stamp)))
+        DataCall {
+            kept: Kept::Decide(block, stamp),
+        }
     }
 
-    /// The leading node tells the NameNode of the block whose recovery has this stamp.
-    ///
-    /// # Errors
-    /// Out of memory.
-    pub fn commit(alloc: Global, block: BlockId, stamp: Stamp) -> Result<DataCall, AllocError>
-        ensures { IfOk result (λ call. call ≡ asked.Commit block stamp) }
+    /// The leading node tells the NameNode of the block whose recovery has this stamp. Takes no memory.
+    pub fn commit(block: BlockId, stamp: Stamp) -> DataCall
+        ensures { result ≡ asked.Commit block stamp }
     {
-        boxed(alloc, Asked::Plan(PlanCall::Commit(block, stamp)))
+        DataCall {
+            kept: Kept::Commit(block, stamp),
+        }
     }
 
     /// The call as a DataNode is asked it. Takes no memory.
-    pub fn as_asked(&self) -> &Asked
-        ensures { (node : ℕ) → brought_as node result.now ≡ as_message node self.now }
+    pub fn as_asked(&self) -> Asked<'_>
+        ensures { (node : ℕ) → brought_as node result ≡ as_message node self.now }
     {
-        &self.asked
+        match &self.kept {
+            Kept::Replica(asked) => Asked::Replica(asked),
+            Kept::Decide(block, stamp) => Asked::Plan(PlanCall::Decide(*block, *stamp)),
+            Kept::Commit(block, stamp) => Asked::Plan(PlanCall::Commit(*block, *stamp)),
+        }
     }
 }

@@ -16,7 +16,7 @@ returns-in-Replica-clause-ok c =
 pub returns-in-Replica-clause-outcome : goal.returns-in-Replica-clause-outcome
 returns-in-Replica-clause-outcome c =
     let is : brought_as c.args.node (Replica c.in-Replica.asked) ≡ as_message c.args.node c.args.call.now = ap (brought_as c.args.node) (sym c.in-Replica.is) ∙ c.as_asked.ensures c.args.node in
-    if_ok (λ (own : Outcome). own ≡ outcome_of c.args.self.now (node_called c.args.self.now c.args.node c.args.now c.in-Replica.asked)) (λ (own : Outcome). own ≡ event_outcome c.args.self.now (Data c.args.node c.args.now c.args.call.now))
+    if_ok (λ (own : Outcome). own ≡ outcome_of c.args.self.now (node_called c.args.self.now c.args.node c.args.now c.in-Replica.asked.now)) (λ (own : Outcome). own ≡ event_outcome c.args.self.now (Data c.args.node c.args.now c.args.call.now))
     c.call.result (λ own h. h ∙ data_outcome c.args.self.now c.args.node c.args.now c.args.call.now (Replica c.in-Replica.asked) is) c.call.ensures.outcome
 
 pub returns-in-Replica-clause-bytes : goal.returns-in-Replica-clause-bytes
