@@ -3,3 +3,4 @@ pub mod Lookups
 pub mod Newest
 pub mod Deciding
 pub mod Steps
+pub mod Stamped

@@ -1,5 +1,7 @@
 ghost use Rattle.std.specs.Prelude.{◌≡◌, [], IfOk, IfErr, OnOk, OnErr, option_copied, option_and_then, None};
 ghost use Rattle.std.specs.BTreeMap.{insert_entry};
+ghost use Rattle.std.specs.List.Sorted.{IsStrictlySortedBy};
+ghost use Rattle.std.specs.Map.{keys_of};
 ghost use Rattle.std.specs.Ordering.{nat_cmp};
 ghost use Rattle.block_records.specs.Numbers.{entry_at};
 ghost use Rattle.block_recovery.specs.Plans as spec;
@@ -9,36 +11,72 @@ use crate::answer::Answer;
 use crate::decision::{Commit, Decision};
 use crate::fault::{PlanFault, PlanRefusal};
 use crate::plan::{KeptPlan, Plan};
+use crate::stamps::place_of;
 use hdfs_values::ids::Stamp;
 use node_ids::node_id::NodeId;
 use std::alloc::{AllocError, Global};
-use std::collections::BTreeMap;
 use std::marker::Model;
 
 // The plans of one block by their stamps.
 #[derive(Drop)]
 pub(crate) struct BlockPlans {
-    plans: BTreeMap<Stamp, KeptPlan>,
+    // by ascending stamps; a list, since there is mostly one plan, for which a map takes far more memory
+    plans: Vec<(Stamp, KeptPlan)>,
 }
 
 impl Model for BlockPlans {
     ghost use Rattle.std.specs.Prelude.{List, ℕ};
+    ghost use Rattle.std.specs.List.Sorted.{IsStrictlySortedBy};
+    ghost use Rattle.std.specs.Map.{keys_of};
+    ghost use Rattle.std.specs.Ordering.{nat_cmp};
     ghost use Rattle.block_recovery.specs.declared.plan.Plan.{Plan};
 
     ghost Value = { List (ℕ × Plan) };
 
-    ghost view = { λ own. own.plans.entries };
+    ghost view = { λ own. own.plans.items };
+
+    ghost invariant = { λ own. IsStrictlySortedBy nat_cmp (keys_of own.plans.items) };
 }
 
 // Where there is no such plan, no plan waits for anything.
 const STRANGER: PlanFault = PlanFault::Refused(PlanRefusal::Stranger);
+
+// Makes room for one plan where there is none: mostly no other comes.
+fn make_room(plans: &mut Vec<(Stamp, KeptPlan)>) -> Result<(), AllocError>
+    ensures { plans.new.items ≡ plans.old.items }
+{
+    if plans.is_empty() {
+        return plans.reserve_exact(1);
+    }
+    Ok(())
+}
+
+// Puts a plan among others.
+fn put_among(
+    plans: &mut Vec<(Stamp, KeptPlan)>,
+    stamp: Stamp,
+    kept: KeptPlan,
+) -> Result<(), AllocError>
+    requires { IsStrictlySortedBy nat_cmp (keys_of plans.old.items) }
+    ensures ok { OnOk result (plans.new.items ≡ insert_entry nat_cmp plans.old.items stamp kept) }
+    ensures err { OnErr result (plans.new.items ≡ plans.old.items) }
+{
+    make_room(plans)?;
+    match place_of(plans, stamp) {
+        Ok(at) => {
+            plans[at] = (stamp, kept);
+            Ok(())
+        }
+        Err(at) => Ok(plans.insert(at, (stamp, kept))?),
+    }
+}
 
 impl BlockPlans {
     pub(crate) fn new(alloc: Global) -> BlockPlans
         ensures { result ≡ [] }
     {
         BlockPlans {
-            plans: BTreeMap::new(alloc),
+            plans: Vec::new(alloc),
         }
     }
 
@@ -46,10 +84,8 @@ impl BlockPlans {
     pub(crate) fn newest(&self) -> Option<Stamp>
         ensures { result ≡ spec.newest self.now }
     {
-        // its contract tells that the keys ascend
-        let _count = self.plans.len();
-        match self.plans.last_key_value() {
-            Some((stamp, _)) => Some(*stamp),
+        match self.plans.last() {
+            Some(own) => Some(own.0),
             None => None,
         }
     }
@@ -57,9 +93,9 @@ impl BlockPlans {
     pub(crate) fn get(&self, stamp: Stamp) -> Option<&Plan>
         ensures { option_copied result ≡ entry_at stamp self.now }
     {
-        match self.plans.get(&stamp) {
-            Some(kept) => Some(kept.plan()),
-            None => None,
+        match place_of(&self.plans, stamp) {
+            Ok(at) => Some(self.plans[at].1.plan()),
+            Err(_) => None,
         }
     }
 
@@ -73,8 +109,7 @@ impl BlockPlans {
         ensures err { OnErr result (self.new ≡ self.old) }
     {
         let kept = KeptPlan::new(alloc, plan)?;
-        self.plans.insert(stamp, kept)?;
-        Ok(())
+        put_among(&mut self.plans, stamp, kept)
     }
 
     pub(crate) fn reply(
@@ -88,10 +123,10 @@ impl BlockPlans {
         ensures fault { IfErr result (IsPlanFaultOf (spec.refused_reply node (entry_at stamp self.old))) }
         ensures err { OnErr result (self.new ≡ self.old) }
     {
-        let Some(plan) = self.plans.get_mut(&stamp) else {
+        let Ok(at) = place_of(&self.plans, stamp) else {
             return Err(STRANGER);
         };
-        plan.reply(node, answer)
+        self.plans[at].1.reply(node, answer)
     }
 
     pub(crate) fn decide(&mut self, alloc: Global, stamp: Stamp) -> Result<Decision, PlanFault>
@@ -101,10 +136,10 @@ impl BlockPlans {
         ensures fault { IfErr result (IsPlanFaultOf (spec.refused_decide (entry_at stamp self.old))) }
         ensures err { OnErr result (self.new ≡ self.old) }
     {
-        let Some(plan) = self.plans.get_mut(&stamp) else {
+        let Ok(at) = place_of(&self.plans, stamp) else {
             return Err(STRANGER);
         };
-        plan.decide(alloc)
+        self.plans[at].1.decide(alloc)
     }
 
     pub(crate) fn update(&mut self, stamp: Stamp, node: NodeId) -> Result<(), PlanFault>
@@ -113,9 +148,9 @@ impl BlockPlans {
         ensures fault { IfErr result (IsPlanFaultOf (spec.refused_updated node (entry_at stamp self.old))) }
         ensures err { OnErr result (self.new ≡ self.old) }
     {
-        let Some(plan) = self.plans.get_mut(&stamp) else {
+        let Ok(at) = place_of(&self.plans, stamp) else {
             return Err(STRANGER);
         };
-        plan.update(node)
+        self.plans[at].1.update(node)
     }
 }

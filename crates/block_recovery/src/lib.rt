@@ -9,4 +9,5 @@ pub mod laws;
 pub mod plan;
 pub mod plans;
 pub mod recover;
+mod stamps;
 pub mod updated;

@@ -1,4 +1,4 @@
-use Rattle.std.proofs.Common.{◌≡◌, [], sym, subst, List, ℕ}
+use Rattle.std.proofs.Common.{sym, subst, List, ℕ}
 use Rattle.block_records.proofs.Standing.{IsOrdered, none_ordered}
 use Rattle.block_recovery.specs.declared.answer.Answer.{Answer}
 use Rattle.block_recovery.proofs.answer.Answers.new.Goals as goal
