@@ -22,7 +22,7 @@ abbrev pub newest_first : Reverse ℕ → Reverse ℕ → Ordering
 newest_first x y = nat_cmp y.0 x.0
 
 -- what such a table has at a number
-abbrev pub newest_at : {X : Type 0} → ℕ → List (Reverse ℕ × X) → Option X
+abbrev newest_at : {X : Type 0} → ℕ → List (Reverse ℕ × X) → Option X
 newest_at number entries = lookup (λ key. is_eq (nat_cmp key.0 number)) entries
 
 abbrev turned : {X : Type 0} → List (Reverse ℕ × X) → List (ℕ × X)

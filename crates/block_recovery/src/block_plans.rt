@@ -8,9 +8,9 @@ ghost use Rattle.block_recovery.specs.Plans as spec;
 ghost use Rattle.block_recovery.specs.Plans.{IsPlanFaultOf, with_entry_changed};
 
 use crate::answer::Answer;
-use crate::decision::{Commit, Decision};
+use crate::decision::Decision;
 use crate::fault::{PlanFault, PlanRefusal};
-use crate::plan::{KeptPlan, Plan};
+use crate::plan::Plan;
 use crate::stamps::place_of;
 use hdfs_values::ids::Stamp;
 use node_ids::node_id::NodeId;
@@ -21,7 +21,7 @@ use std::marker::Model;
 #[derive(Drop)]
 pub(crate) struct BlockPlans {
     // by ascending stamps; a list, since there is mostly one plan, for which a map takes far more memory
-    plans: Vec<(Stamp, KeptPlan)>,
+    plans: Vec<(Stamp, Plan)>,
 }
 
 impl Model for BlockPlans {
@@ -42,7 +42,7 @@ impl Model for BlockPlans {
 const STRANGER: PlanFault = PlanFault::Refused(PlanRefusal::Stranger);
 
 // Makes room for one plan where there is none: mostly no other comes.
-fn make_room(plans: &mut Vec<(Stamp, KeptPlan)>) -> Result<(), AllocError>
+fn make_room(plans: &mut Vec<(Stamp, Plan)>) -> Result<(), AllocError>
     ensures { plans.new.items ≡ plans.old.items }
 {
     if plans.is_empty() {
@@ -52,22 +52,18 @@ fn make_room(plans: &mut Vec<(Stamp, KeptPlan)>) -> Result<(), AllocError>
 }
 
 // Puts a plan among others.
-fn put_among(
-    plans: &mut Vec<(Stamp, KeptPlan)>,
-    stamp: Stamp,
-    kept: KeptPlan,
-) -> Result<(), AllocError>
+fn put_among(plans: &mut Vec<(Stamp, Plan)>, stamp: Stamp, plan: Plan) -> Result<(), AllocError>
     requires { IsStrictlySortedBy nat_cmp (keys_of plans.old.items) }
-    ensures ok { OnOk result (plans.new.items ≡ insert_entry nat_cmp plans.old.items stamp kept) }
+    ensures ok { OnOk result (plans.new.items ≡ insert_entry nat_cmp plans.old.items stamp plan) }
     ensures err { OnErr result (plans.new.items ≡ plans.old.items) }
 {
     make_room(plans)?;
     match place_of(plans, stamp) {
         Ok(at) => {
-            plans[at] = (stamp, kept);
+            plans[at] = (stamp, plan);
             Ok(())
         }
-        Err(at) => Ok(plans.insert(at, (stamp, kept))?),
+        Err(at) => Ok(plans.insert(at, (stamp, plan))?),
     }
 }
 
@@ -94,22 +90,16 @@ impl BlockPlans {
         ensures { option_copied result ≡ entry_at stamp self.now }
     {
         match place_of(&self.plans, stamp) {
-            Ok(at) => Some(self.plans[at].1.plan()),
+            Ok(at) => Some(&self.plans[at].1),
             Err(_) => None,
         }
     }
 
-    pub(crate) fn insert(
-        &mut self,
-        alloc: Global,
-        stamp: Stamp,
-        plan: Plan,
-    ) -> Result<(), AllocError>
+    pub(crate) fn insert(&mut self, stamp: Stamp, plan: Plan) -> Result<(), AllocError>
         ensures ok { OnOk result (self.new ≡ insert_entry nat_cmp self.old stamp plan) }
         ensures err { OnErr result (self.new ≡ self.old) }
     {
-        let kept = KeptPlan::new(alloc, plan)?;
-        put_among(&mut self.plans, stamp, kept)
+        put_among(&mut self.plans, stamp, plan)
     }
 
     pub(crate) fn reply(

@@ -70,7 +70,7 @@ impl Plans {
     fn of_block(&self, block: BlockId) -> Option<&BlockPlans>
         ensures { option_copied result ≡ entry_at block self.now }
     {
-        // its contract tells that the keys ascend
+        // its contract tells that the newest stands first
         let _count = self.by_block.len();
         self.by_block.get(&Reverse(block))
     }
@@ -114,10 +114,10 @@ impl Plans {
     {
         let alloc = self.alloc;
         if let Some(own) = self.of_block_mut(block) {
-            return own.insert(alloc, stamp, plan);
+            return own.insert(stamp, plan);
         }
         let mut own = BlockPlans::new(alloc);
-        own.insert(alloc, stamp, plan)?;
+        own.insert(stamp, plan)?;
         self.put(block, own)
     }
 

@@ -288,8 +288,8 @@ fn node_event(
     asked_by(alloc, ledger, asker, verb, words)
 }
 
-/// Whether a word is a dash. Most lines are deliveries, so both of their words are compared with a text of that length, byte by byte: that
-/// costs a fifth of a comparison of texts of any length.
+/// Whether a word is a dash. In a script of a cluster most lines may be deliveries, so both of their words are compared with a text of that
+/// length, byte by byte, which costs a fifth of a comparison of texts of any length.
 fn is_dash(word: &str) -> bool
     ensures { result ≡ same word.now (codes "-") }
 {

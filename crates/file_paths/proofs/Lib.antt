@@ -4,3 +4,4 @@ pub mod Spelling
 pub mod Beneath
 pub mod Slashes
 pub mod FirstNames
+pub mod Common

@@ -128,7 +128,8 @@ fn add_held(
     Ok(())
 }
 
-/// Adds the files of these clients that are known.
+/// Adds the files of these clients that are known, the last client first: clients who have opened files by turns have theirs before those that are
+/// there then.
 fn add_each_held(
     tree: &Tree,
     open_paths: &OpenPaths,

@@ -1,14 +1,15 @@
 -- The order of texts that stand before zeros is that of all the bytes, and then that of the lengths; and the order of lists of bytes
 -- is that of the words of eight of their bytes, the first byte highest.
-use Rattle.std.proofs.Common.{◌≡◌, ◌≢◌, ℕ, zero, suc, ◌+◌, ◌-◌, ◌*◌, ◌<◌, ◌≤◌, List, [], ◌∷◌, ◌++◌, length, take, drop, replicate, refl, sym, ap, subst, ◌∙◌, arith, Fits, w8}
+use Rattle.std.proofs.Common.{◌≡◌, ◌≢◌, ◌&&◌, nat_eq, ap₂, ℕ, zero, suc, ◌+◌, ◌-◌, ◌*◌, ◌<◌, ◌≤◌, List, [], ◌∷◌, ◌++◌, length, take, drop, replicate, refl, sym, ap, subst, ◌∙◌, arith, Fits, w8}
 use Rattle.std.proofs.Math.ListN.{get_or, drop_of_length-le}
 use Rattle.std.proofs.lemmas.List.{length-append, length-replicate, length-take-le, take-append-drop, length-drop, get_or-drop, drop-drop}
-use Rattle.std.specs.Cmp.{ranks, nat_cmp_is}
-use Rattle.std.specs.Cmp.Lexicographic.{slice_cmp}
-use Rattle.std.specs.Ordering.{nat_cmp, ordering_then, ordering_index, MatchOrdering}
+use Rattle.std.specs.Cmp.{ranks, nat_cmp_is, unsigned_ties}
+use Rattle.std.specs.Cmp.Lexicographic.{slice_cmp, pointwise, texts_ties}
+use Rattle.std.specs.Ordering.{is_eq, nat_cmp, ordering_then, ordering_index, MatchOrdering}
 use Rattle.std.specs.Slice.Scan.{big_endian}
 use Rattle.std.specs.declared.cmp.Ordering.{Ordering}
 use Rattle.std.specs.declared.cmp.Ordering.TheVariants.{Less, Equal, Greater}
+use Rattle.hdfs_values.specs.Text.{same}
 
 -- ---- `ordering_then`
 assoc : (a b c : Ordering) → ordering_then a (ordering_then b c) ≡ ordering_then (ordering_then a b) c
@@ -192,3 +193,17 @@ held_order n m xs ys p q k l f g =
     let us : a ++ replicate (14 - n) 0 ≡ xs = ap (λ z. a ++ z) (sym f) ∙ take-append-drop n xs in
     let vs : b ++ replicate (14 - m) 0 ≡ ys = ap (λ z. b ++ z) (sym g) ∙ take-append-drop m ys in
     (λ t. ordering_then (slice_cmp nat_cmp (sym us t) (sym vs t)) (nat_cmp (sym i t) (sym j t))) ∙ filled a b (14 - n) (14 - m) (omega arith)
+
+-- ---- whether two of them are one
+
+then_level : (a b : Ordering) → is_eq (ordering_then a b) ≡ (is_eq a && is_eq b)
+then_level Less b = refl
+then_level Equal b = refl
+then_level Greater b = refl
+
+-- two texts before zeros are one where all their bytes and their lengths are
+pub held_alike : (n m : ℕ) (bytes others : List ℕ) → length bytes ≡ 14 → length others ≡ 14 → n ≤ 14 → m ≤ 14 → drop n bytes ≡ replicate (14 - n) 0 → drop m others ≡ replicate (14 - m) 0
+    → same (take n bytes) (take m others) ≡ (pointwise nat_eq bytes others && nat_eq n m)
+held_alike n m bytes others long too within inside zeros behind =
+    sym (ap is_eq (held_order n m bytes others long too within inside zeros behind))
+    ∙ (then_level (slice_cmp nat_cmp bytes others) (nat_cmp n m) ∙ ap₂ (λ b d. b && d) (sym (texts_ties bytes others)) (sym (unsigned_ties n m)))

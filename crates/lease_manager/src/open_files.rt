@@ -70,12 +70,15 @@ impl OpenFiles {
         }
     }
 
-    /// Counts one open file of a client less. Takes no memory.
-    pub fn take(&mut self, client: &Who)
-        ensures { (other : List ℕ) → count_of self.new other ≡ (if same client.now other then count_of self.old client.now - 1 else count_of self.old other) }
+    /// Counts one open file of a client less, and tells how many are left. Takes no memory.
+    pub fn take(&mut self, client: &Who) -> u64
+        ensures left { result ≡ count_of self.new client.now }
+        ensures counts { (other : List ℕ) → count_of self.new other ≡ (if same client.now other then count_of self.old client.now - 1 else count_of self.old other) }
     {
-        if let Some(count) = self.counts.get_mut(client) {
-            *count = count.saturating_sub(1);
-        }
+        let Some(count) = self.counts.get_mut(client) else {
+            return 0;
+        };
+        *count = count.saturating_sub(1);
+        *count
     }
 }

@@ -72,8 +72,7 @@ impl Writers {
         ensures limits { self.new.leases.limits ≡ self.old.leases.limits }
         ensures latest { lease.latest_moment self.new.leases.renewals ≤ lease.latest_moment self.old.leases.renewals }
     {
-        self.files.take(client);
-        if self.files.count(client) > 0 {
+        if self.files.take(client) > 0 {
             return;
         }
         self.leases.release(client);

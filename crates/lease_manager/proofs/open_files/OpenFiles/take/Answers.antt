@@ -1,13 +1,31 @@
-use Rattle.std.proofs.Common.{ap, ◌∙◌}
+use Rattle.std.proofs.Common.{◌≡◌, ◌∙◌, ◌-◌, ℕ, List, cond, sym, ap}
+use Rattle.std.specs.Option.{unwrap_or}
+use Rattle.hdfs_values.specs.Text.{same}
+use Rattle.hdfs_values.proofs.Texts.{same_self}
+use Rattle.lease_manager.specs.Writers.{count_of}
 use Rattle.lease_manager.proofs.Counts.{set_less, count_found, absent_less}
-use Rattle.lease_manager.proofs.open_files.OpenFiles.take.Goals.{in-Some, in_default}
 use Rattle.lease_manager.proofs.open_files.OpenFiles.take.Goals as goal
 
-pub returns : goal.returns
-returns c = λ other. elim c.match-get_mut.branch [
-  | in-Some w ↦ set_less c.args.self.now c.self.inside.counts.entries _ c.args.client.now other w.in-Some.count.now w.saturating_sub.result c.self.view_is
-      (count_found c.args.self.now c.self.inside.counts.entries c.args.client.now w.in-Some.count.now c.self.view_is w.in-Some.ensures.value) w.saturating_sub.ensures
-      (ap (λ inside. inside.counts.entries) w.self-inside-is ∙ (c.get_mut.follows.holds w.saturating_sub.result).0)
-  | in_default w ↦ absent_less c.args.self.now c.self.inside.counts.entries _ c.args.client.now other c.self.view_is w.in_default.ensures.value
-      (ap (λ inside. inside.counts.entries) w.self-inside-is ∙ ap (λ counts. counts.entries) c.get_mut.follows.holds-at-none)
-]
+pub returns-in_default-clause-left : goal.returns-in_default-clause-left
+returns-in_default-clause-left c =
+    ap (λ found. unwrap_or found 0) c.in_default.ensures.value
+    ∙ sym (ap (λ (counts : List (List ℕ × ℕ)). count_of counts c.args.client.now) (ap (λ counts. counts.entries) c.get_mut.follows.holds-at-none))
+
+pub returns-in_default-clause-counts : goal.returns-in_default-clause-counts
+returns-in_default-clause-counts c = λ other.
+    absent_less c.args.self.now c.self.inside.counts.entries _ c.args.client.now other c.self.view_is c.in_default.ensures.value (ap (λ counts. counts.entries) c.get_mut.follows.holds-at-none)
+
+pub returns-clause-left : goal.returns-clause-left
+returns-clause-left c =
+    let client = c.args.client.now in
+    let old = c.args.self.now in
+    let kept = c.self.inside.counts.entries in
+    let is : c.in-Some.count.now ≡ count_of old client = count_found old kept client c.in-Some.count.now c.self.view_is c.in-Some.ensures.value in
+    let left : count_of (c.get_mut.follows.lender c.saturating_sub.result).entries client ≡ cond (same client client) (count_of old client - 1) (count_of old client) =
+    set_less old kept _ client client c.in-Some.count.now c.saturating_sub.result c.self.view_is is c.saturating_sub.ensures (c.get_mut.follows.holds c.saturating_sub.result).0 in
+    c.saturating_sub.ensures ∙ (ap (λ n. n - 1) is ∙ sym (left ∙ ap (λ b. cond b (count_of old client - 1) (count_of old client)) (same_self client)))
+
+pub returns-clause-counts : goal.returns-clause-counts
+returns-clause-counts c = λ other.
+    set_less c.args.self.now c.self.inside.counts.entries _ c.args.client.now other c.in-Some.count.now c.saturating_sub.result c.self.view_is
+    (count_found c.args.self.now c.self.inside.counts.entries c.args.client.now c.in-Some.count.now c.self.view_is c.in-Some.ensures.value) c.saturating_sub.ensures (c.get_mut.follows.holds c.saturating_sub.result).0

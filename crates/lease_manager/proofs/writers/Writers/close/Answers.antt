@@ -4,12 +4,12 @@ use Rattle.lease_manager.specs.Leases.{Leases}
 use Rattle.lease_manager.proofs.Leasing.{leased_kept, leased_ended, some_left, nothing_left}
 use Rattle.lease_manager.proofs.writers.Writers.close.Goals as goal
 
-pub returns-then-count-gt0-clause-leased : goal.returns-then-count-gt0-clause-leased
-returns-then-count-gt0-clause-leased c = λ last leased.
-    leased_kept c.args.self.now (record { leases = c.args.self.now.leases; files = c.take.new.self }) c.args.client.now last refl c.take.ensures
-    (some_left _ _ _ _ _ (same_self c.args.client.now) (c.take.ensures c.args.client.now) c.count.ensures c.if-count-gt0.true) leased
+pub returns-then-take-gt0-clause-leased : goal.returns-then-take-gt0-clause-leased
+returns-then-take-gt0-clause-leased c = λ last leased.
+    leased_kept c.args.self.now (record { leases = c.args.self.now.leases; files = c.take.new.self }) c.args.client.now last refl c.take.ensures.counts
+    (some_left _ _ _ _ _ (same_self c.args.client.now) (c.take.ensures.counts c.args.client.now) c.take.ensures.left c.if-take-gt0.true) leased
 
 pub returns-clause-leased : goal.returns-clause-leased
 returns-clause-leased c = λ last leased.
-    leased_ended c.args.self.now (record { leases = c.release.new.self; files = c.take.new.self }) c.args.client.now last (ap (λ (l : Leases). l.renewals) c.release.ensures.released) c.take.ensures
-    (nothing_left _ _ _ _ _ (same_self c.args.client.now) (c.take.ensures c.args.client.now) c.count.ensures c.if-count-gt0.false) leased
+    leased_ended c.args.self.now (record { leases = c.release.new.self; files = c.take.new.self }) c.args.client.now last (ap (λ (l : Leases). l.renewals) c.release.ensures.released) c.take.ensures.counts
+    (nothing_left _ _ _ _ _ (same_self c.args.client.now) (c.take.ensures.counts c.args.client.now) c.take.ensures.left c.if-take-gt0.false) leased
