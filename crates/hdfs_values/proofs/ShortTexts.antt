@@ -1,15 +1,14 @@
 -- The order of texts that stand before zeros is that of all the bytes, and then that of the lengths; and the order of lists of bytes
 -- is that of the words of eight of their bytes, the first byte highest.
-use Rattle.std.proofs.Common.{◌≡◌, ◌≢◌, ◌&&◌, nat_eq, ap₂, ℕ, zero, suc, ◌+◌, ◌-◌, ◌*◌, ◌<◌, ◌≤◌, List, [], ◌∷◌, ◌++◌, length, take, drop, replicate, refl, sym, ap, subst, ◌∙◌, arith, Fits, w8}
+use Rattle.std.proofs.Common.{◌≡◌, ◌≢◌, false, ℕ, zero, suc, ◌+◌, ◌-◌, ◌*◌, ◌<◌, ◌≤◌, List, [], ◌∷◌, ◌++◌, length, take, drop, replicate, refl, sym, ap, subst, ◌∙◌, arith, Fits, w8}
 use Rattle.std.proofs.Math.ListN.{get_or, drop_of_length-le}
 use Rattle.std.proofs.lemmas.List.{length-append, length-replicate, length-take-le, take-append-drop, length-drop, get_or-drop, drop-drop}
-use Rattle.std.specs.Cmp.{ranks, nat_cmp_is, unsigned_ties}
-use Rattle.std.specs.Cmp.Lexicographic.{slice_cmp, pointwise, texts_ties}
+use Rattle.std.specs.Cmp.{ranks, nat_cmp_is}
+use Rattle.std.specs.Cmp.Lexicographic.{slice_cmp}
 use Rattle.std.specs.Ordering.{is_eq, nat_cmp, ordering_then, ordering_index, MatchOrdering}
 use Rattle.std.specs.Slice.Scan.{big_endian}
 use Rattle.std.specs.declared.cmp.Ordering.{Ordering}
 use Rattle.std.specs.declared.cmp.Ordering.TheVariants.{Less, Equal, Greater}
-use Rattle.hdfs_values.specs.Text.{same}
 
 -- ---- `ordering_then`
 assoc : (a b c : Ordering) → ordering_then a (ordering_then b c) ≡ ordering_then (ordering_then a b) c
@@ -27,6 +26,15 @@ pub apart_then : (x y : ℕ) (o : Ordering) → (x ≢ y) → ordering_then (nat
 apart_then x y o apart = by (nat_cmp x y) (ranks x y)
   where
     by : (r : Ordering) → MatchOrdering r (x < y) (x ≡ y) (y < x) → ordering_then r o ≡ r
+    by Less l = refl
+    by Equal l = absurd (apart l)
+    by Greater l = refl
+
+-- and then they aren't one
+pub unlike : (x y : ℕ) → (x ≢ y) → is_eq (nat_cmp x y) ≡ false
+unlike x y apart = by (nat_cmp x y) (ranks x y)
+  where
+    by : (r : Ordering) → MatchOrdering r (x < y) (x ≡ y) (y < x) → is_eq r ≡ false
     by Less l = refl
     by Equal l = absurd (apart l)
     by Greater l = refl
@@ -193,17 +201,3 @@ held_order n m xs ys p q k l f g =
     let us : a ++ replicate (14 - n) 0 ≡ xs = ap (λ z. a ++ z) (sym f) ∙ take-append-drop n xs in
     let vs : b ++ replicate (14 - m) 0 ≡ ys = ap (λ z. b ++ z) (sym g) ∙ take-append-drop m ys in
     (λ t. ordering_then (slice_cmp nat_cmp (sym us t) (sym vs t)) (nat_cmp (sym i t) (sym j t))) ∙ filled a b (14 - n) (14 - m) (omega arith)
-
--- ---- whether two of them are one
-
-then_level : (a b : Ordering) → is_eq (ordering_then a b) ≡ (is_eq a && is_eq b)
-then_level Less b = refl
-then_level Equal b = refl
-then_level Greater b = refl
-
--- two texts before zeros are one where all their bytes and their lengths are
-pub held_alike : (n m : ℕ) (bytes others : List ℕ) → length bytes ≡ 14 → length others ≡ 14 → n ≤ 14 → m ≤ 14 → drop n bytes ≡ replicate (14 - n) 0 → drop m others ≡ replicate (14 - m) 0
-    → same (take n bytes) (take m others) ≡ (pointwise nat_eq bytes others && nat_eq n m)
-held_alike n m bytes others long too within inside zeros behind =
-    sym (ap is_eq (held_order n m bytes others long too within inside zeros behind))
-    ∙ (then_level (slice_cmp nat_cmp bytes others) (nat_cmp n m) ∙ ap₂ (λ b d. b && d) (sym (texts_ties bytes others)) (sym (unsigned_ties n m)))

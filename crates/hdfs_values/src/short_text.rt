@@ -2,7 +2,7 @@ ghost use Rattle.std.specs.Prelude.{◌≡◌, ◌≢◌, ◌+◌, ◌≤◌, le
 ghost use Rattle.std.proofs.Common.{rules};
 ghost use Rattle.std.specs.Cmp.{partial_order_from_own_ties};
 ghost use Rattle.std.specs.Cmp.Rules.{comparing};
-ghost use Rattle.std.specs.Ordering.{as_partial_cmp, nat_cmp, ordering_then};
+ghost use Rattle.std.specs.Ordering.{as_partial_cmp, is_eq, nat_cmp, ordering_then};
 ghost use Rattle.std.specs.Simd.Lanes.{chunk};
 ghost use Rattle.std.specs.Slice.Scan.{big_endian};
 ghost use Rattle.hdfs_values.specs.Text.{same, text_cmp};
@@ -103,6 +103,28 @@ fn order(own: &[u8], own_length: u8, others: &[u8], others_length: u8) -> Orderi
     own_length.cmp(&others_length)
 }
 
+/// Whether two texts that stand within their values are one, by the same words.
+#[inline(always)]
+fn are_alike(own: &[u8], own_length: u8, others: &[u8], others_length: u8) -> bool
+    requires own { length own.now ≡ 14 }
+    requires others { length others.now ≡ 14 }
+    ensures { result ≡ is_eq (ordering_then (text_cmp own.now others.now) (nat_cmp own_length others_length)) }
+{
+    let (first, others_first) = (first_eight(own), first_eight(others));
+    if first != others_first {
+        return false;
+    }
+    let (next, others_next) = (next_four(own), next_four(others));
+    if next != others_next {
+        return false;
+    }
+    let (last, others_last) = (last_two(own), last_two(others));
+    if last != others_last {
+        return false;
+    }
+    own_length == others_length
+}
+
 /// A text of at most 14 bytes.
 fn inline(text: &str) -> ShortText
     requires { length text.now ≤ 14 }
@@ -173,9 +195,7 @@ impl PartialEq for ShortText {
     fn eq(&self, other: &ShortText) -> bool {
         match (&self.held, &other.held) {
             (Held::Inline(length, bytes), Held::Inline(others_length, others_bytes)) => {
-                // as slices the prover is told how long both are
-                let (_own, _others): (&[u8], &[u8]) = (bytes, others_bytes);
-                length == others_length && bytes == others_bytes
+                are_alike(bytes, *length, others_bytes, *others_length)
             }
             _ => self.as_str() == other.as_str(),
         }
