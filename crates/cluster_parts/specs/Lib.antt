@@ -1,7 +1,6 @@
 pub mod Nodes
 pub mod Leaders
 pub mod Sent
-pub mod Single
 pub mod Carried
 pub mod Kept
 pub mod Noted

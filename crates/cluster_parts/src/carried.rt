@@ -8,13 +8,12 @@ ghost use Rattle.cluster_trace.specs.Provenance.{call_brought};
 ghost use Rattle.cluster_parts.specs.Carried.{message_of_found, found_message, carried_out, nodes_carried, plans_carried};
 ghost use Rattle.cluster_parts.specs.Leaders.{plans_led, answer_led};
 ghost use Rattle.cluster_parts.specs.Nodes.{nodes_after, answer_at};
-ghost use Rattle.cluster_parts.specs.Single.{message_of_single};
+ghost use Rattle.node_calls.specs.Single.{message_of_single};
 
 use crate::found::Found;
 use crate::leaders::Leaders;
 use crate::nodes::Nodes;
 use crate::ranges::read_call;
-use crate::single::Single;
 use block_answers::commands::{CopyOrder, Recover, Removal};
 use block_answers::key_list::KeyList;
 use block_records::node_set::NodeSet;
@@ -27,6 +26,7 @@ use node_calls::call::{NodeCall, PlanCall, TokenCall};
 use node_calls::message::Message;
 use node_calls::presented::{Presented, PresentedToken};
 use node_calls::principal::principal_of;
+use node_calls::single::Single;
 use node_ids::node_id::NodeId;
 use plan_steps::answered::PlanAnswered;
 use std::alloc::{AllocError, Global};
@@ -65,10 +65,17 @@ fn carry_report(
     alloc: Global,
     node: NodeId,
     now: Moment,
-    replica: ReportedReplica,
+    block: BlockId,
+    stamp: Stamp,
+    length: u64,
 ) -> Result<Carried, AllocError>
-    ensures { IfOk result (λ carried. carried ≡ Carried.Told (report_request node now replica.block replica.stamp replica.length)) }
+    ensures { IfOk result (λ carried. carried ≡ Carried.Told (report_request node now block stamp length)) }
 {
+    let replica = ReportedReplica {
+        block,
+        stamp,
+        length,
+    };
     let request = report(alloc, node, now, replica)?;
     Ok(Carried::Told(request))
 }
@@ -152,7 +159,9 @@ fn carry_single(
     ensures err { OnErr result (leaders.new ≡ leaders.old) }
 {
     match single {
-        Single::Report(node, replica) => carry_report(alloc, node, now, replica),
+        Single::Report(node, block, stamp, length) => {
+            carry_report(alloc, node, now, block, stamp, length)
+        }
         Single::Reply(state, leader, node, block, stamp, length) => carry_plan(
             leaders,
             leader,
@@ -182,12 +191,7 @@ fn carry_message(
         Message::Node(node, asked) => call(nodes, *node, now, asked),
         Message::Plan(node, asked) => carry_plan(leaders, *node, asked),
         Message::Reported(node, block, stamp, length) => {
-            let replica = ReportedReplica {
-                block: *block,
-                stamp: *stamp,
-                length: *length,
-            };
-            carry_report(alloc, *node, now, replica)
+            carry_report(alloc, *node, now, *block, *stamp, *length)
         }
         Message::CommitRecovery(node, block, stamp, length, held_by) => {
             let request = commit(alloc, *node, now, *block, *stamp, *length, held_by)?;

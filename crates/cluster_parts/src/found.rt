@@ -1,17 +1,16 @@
-ghost use Rattle.std.specs.Prelude.{◌≡◌, ℕ, ◌<◌, ◌^◌, [], ◌∷◌, length, option_map, slice_get};
+ghost use Rattle.std.specs.Prelude.{◌≡◌, ℕ, ◌<◌, ◌^◌, length, option_map, slice_get};
 ghost use Rattle.cluster_trace.specs.Trace.{command_messages, entry_messages, message_at};
 ghost use Rattle.cluster_parts.specs.Sent.{messages_at, messages_of, AreLaid};
-ghost use Rattle.cluster_parts.specs.Single.{message_of_single, update_messages};
 ghost use Rattle.cluster_parts.specs.Carried.{message_of_found, commands_seen, commands_for};
 
 use crate::sent::{Sent, Source, begun_near};
-use crate::single::{Single, Update};
 use block_answers::commands::{Commands, CopyOrder, Recover, Removal};
 use block_answers::key_list::KeyList;
 use flat_rows::verdict::Verdict;
 use hdfs_types::reply::Reply;
 use history::entry::HistoryEntry;
-use node_calls::message::{Message, Messages};
+use node_calls::message::{Message, MessageSeen, Messages};
+use node_calls::single::Single;
 use node_ids::node_id::{NodeId, node_of};
 
 /// A message as it is kept: on its own, or as a command in an entry of the NameNode's history, which is for a DataNode.
@@ -111,33 +110,13 @@ fn history_message(history: &[HistoryEntry], entry: usize, index: usize) -> Opti
     }
 }
 
-// The message at an index, where there is this one alone.
-fn only_message<'a>(single: Single, index: usize) -> Option<Found<'a>>
-    ensures { option_map message_of_found result ≡ slice_get (message_of_single single ∷ []) index }
-{
-    if index != 0 {
-        return None;
-    }
-    Some(Found::Single(single))
-}
-
-// The message at an index of the two of an update.
-fn update_message<'a>(update: Update, index: usize) -> Option<Found<'a>>
-    ensures { option_map message_of_found result ≡ slice_get (update_messages update) index }
-{
-    match index {
-        0 => Some(Found::Single(update.to_leader())),
-        1 => Some(Found::Single(update.to_name_node())),
-        _ => None,
-    }
-}
-
-// The message at an index of a list.
+// The message at an index of those that an event sent.
 fn own_message(messages: &Messages, index: usize) -> Option<Found<'_>>
     ensures { option_map message_of_found result ≡ slice_get messages.now index }
 {
-    match messages.as_slice().get(index) {
-        Some(message) => Some(Found::Kept(message)),
+    match messages.get(index) {
+        Some(MessageSeen::Listed(message)) => Some(Found::Kept(message)),
+        Some(MessageSeen::Single(single)) => Some(Found::Single(single)),
         None => None,
     }
 }
@@ -163,8 +142,6 @@ pub fn find<'a>(
     let index = (number - batch.first) as usize;
     match &batch.source {
         Source::Entry(entry) => history_message(history, *entry, index),
-        Source::Single(single) => only_message(*single, index),
-        Source::Update(update) => update_message(*update, index),
         Source::Own(messages) => own_message(messages, index),
     }
 }

@@ -10,4 +10,3 @@ pub mod nodes;
 pub mod noted;
 pub mod ranges;
 pub mod sent;
-pub mod single;

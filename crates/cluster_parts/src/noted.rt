@@ -39,10 +39,10 @@ pub fn note_answer(sent: &mut Sent, answered: Option<Answered>) -> Outcome
     let Some(answered) = answered else {
         return note_stranger(sent);
     };
-    let count = answered.messages.as_slice().len() as u64;
+    let count = answered.messages.len() as u64;
     Outcome {
         answer: EventAnswer::Called(answered.result),
-        first: sent.add(Source::of(answered.messages), count),
+        first: sent.add(Source::Own(answered.messages), count),
         count,
     }
 }
@@ -58,7 +58,7 @@ pub fn note_led(sent: &mut Sent, answered: Option<PlanAnswered>) -> Outcome
     let Some(answered) = answered else {
         return note_stranger(sent);
     };
-    let count = answered.messages.as_slice().len() as u64;
+    let count = answered.messages.len() as u64;
     Outcome {
         answer: EventAnswer::Led(answered.result),
         first: sent.add(Source::Own(answered.messages), count),

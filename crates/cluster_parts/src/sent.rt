@@ -2,9 +2,7 @@ ghost use Rattle.std.specs.Prelude.{◌≡◌, ℕ, ◌+◌, ◌<◌, ◌≤◌,
 ghost use Rattle.history.specs.declared.entry.HistoryEntry.{HistoryEntry};
 ghost use Rattle.cluster_parts.specs.Sent.{source_messages, messages_of, IsWithin, AreLaid};
 ghost use Rattle.cluster_parts.specs.declared.sent.Batch.{Batch};
-ghost use Rattle.cluster_parts.specs.Single.{message_of_single};
 
-use crate::single::{Single, Update};
 use node_calls::message::Messages;
 use std::alloc::{AllocError, Global};
 
@@ -12,10 +10,6 @@ use std::alloc::{AllocError, Global};
 pub enum Source {
     /// They are the commands in the entry with this index of the NameNode's history.
     Entry(usize),
-    /// There is this one.
-    Single(Single),
-    /// They are the two of this update.
-    Update(Update),
     /// They are these.
     Own(Messages),
 }
@@ -24,36 +18,7 @@ impl Drop for Source {
     fn drop(self) {
         match self {
             Source::Entry(_) => {}
-            Source::Single(_) => {}
-            Source::Update(_) => {}
             Source::Own(part) => drop(part),
-        }
-    }
-}
-
-// The message that a list holds, where it holds one, of a few numbers.
-fn single_of(messages: &Messages) -> Option<Single>
-    ensures { IfSome result (λ single. messages.now ≡ message_of_single single ∷ []) }
-{
-    let messages = messages.as_slice();
-    if messages.len() != 1 {
-        return None;
-    }
-    Single::of(&messages[0])
-}
-
-impl Source {
-    /// These messages; those of a few numbers, one alone or the two of an update, are kept without memory. Takes none.
-    pub fn of(messages: Messages) -> Source
-        ensures messages { (history : List HistoryEntry) → source_messages history result ≡ messages }
-        ensures within { (history : List HistoryEntry) → IsWithin history result }
-    {
-        if let Some(single) = single_of(&messages) {
-            return Source::Single(single);
-        }
-        match Update::of(messages.as_slice()) {
-            Some(update) => Source::Update(update),
-            None => Source::Own(messages),
         }
     }
 }

@@ -1,2 +1,3 @@
 pub mod Refusals
 pub mod Held
+pub mod Single

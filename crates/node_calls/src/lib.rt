@@ -11,3 +11,4 @@ pub mod presented;
 pub mod principal;
 pub mod refusal;
 pub mod reply;
+pub mod single;

@@ -1,6 +1,10 @@
-ghost use Rattle.std.specs.Prelude.{◌≡◌, ◌++◌, [], ◌∷◌, OnOk, OnErr, IfOk};
+ghost use Rattle.std.specs.Prelude.{◌≡◌, [], ◌∷◌, IfOk, length, option_map, slice_get};
+ghost use Rattle.node_calls.specs.declared.call.PlanCall.TheVariants as plan;
+ghost use Rattle.node_calls.specs.declared.message.Message.TheVariants as message;
+ghost use Rattle.node_calls.specs.Single.{message_of_single, message_seen, update_messages};
 
-use crate::call::{NodeCall, PlanCall};
+use crate::call::{NodeCall, PlanCall, ReplicaState};
+use crate::single::{Single, Update};
 use block_records::node_set::NodeSet;
 use hdfs_values::ids::{BlockId, Stamp};
 use node_ids::node_id::NodeId;
@@ -30,25 +34,87 @@ impl Drop for Message {
     }
 }
 
+/// A message as it is kept.
+#[derive(Clone, Copy)]
+pub enum MessageSeen<'a> {
+    /// In a list.
+    Listed(&'a Message),
+    /// As a few numbers.
+    Single(Single),
+}
+
+// How messages are kept. Most calls send one or two of a few numbers, which then take no memory of their own.
+enum Kept {
+    // A report to the NameNode.
+    Report(NodeId, BlockId, Stamp, u64),
+    // How far a replica is, told to the DataNode that leads a recovery.
+    Reply(ReplicaState, NodeId, NodeId, BlockId, Stamp, u64),
+    Update(Update),
+    List(Vec<Message>),
+}
+
+impl Drop for Kept {
+    fn drop(self) {
+        match self {
+            Kept::Report(_, _, _, _) => {}
+            Kept::Reply(_, _, _, _, _, _) => {}
+            Kept::Update(_) => {}
+            Kept::List(messages) => drop(messages),
+        }
+    }
+}
+
 /// Messages in the order in which they are sent.
 pub struct Messages {
-    list: Vec<Message>,
+    kept: Kept,
 }
 
 impl Drop for Messages {
     fn drop(self) {
-        let Messages { list } = self;
-        drop(list);
+        let Messages { kept } = self;
+        drop(kept);
     }
 }
 
 impl Model for Messages {
     ghost use Rattle.std.specs.Prelude.{List};
+    ghost use Rattle.node_calls.specs.Single.{kept_messages};
     ghost use Rattle.node_calls.specs.declared.message.Message.{Message};
 
     ghost Value = { List Message };
 
-    ghost view = { λ messages. messages.list.items };
+    ghost view = { λ messages. kept_messages messages.kept };
+}
+
+// The message at an index, where there is this one alone.
+fn only<'a>(single: Single, index: usize) -> Option<MessageSeen<'a>>
+    ensures { option_map message_seen result ≡ slice_get (message_of_single single ∷ []) index }
+{
+    if index != 0 {
+        return None;
+    }
+    Some(MessageSeen::Single(single))
+}
+
+// The message at an index of the two of an update.
+fn of_update<'a>(update: Update, index: usize) -> Option<MessageSeen<'a>>
+    ensures { option_map message_seen result ≡ slice_get (update_messages update) index }
+{
+    match index {
+        0 => Some(MessageSeen::Single(update.to_leader())),
+        1 => Some(MessageSeen::Single(update.to_name_node())),
+        _ => None,
+    }
+}
+
+// The message at an index of a list.
+fn of_list(messages: &[Message], index: usize) -> Option<MessageSeen<'_>>
+    ensures { option_map message_seen result ≡ slice_get messages.now index }
+{
+    match messages.get(index) {
+        Some(message) => Some(MessageSeen::Listed(message)),
+        None => None,
+    }
 }
 
 impl Messages {
@@ -56,21 +122,16 @@ impl Messages {
     pub fn new(alloc: Global) -> Messages
         ensures { result ≡ [] }
     {
-        Messages {
-            list: Vec::new(alloc),
-        }
+        Messages::of(Vec::new(alloc))
     }
 
-    /// No message, and room for so many.
-    ///
-    /// # Errors
-    /// Out of memory.
-    pub fn with_room(alloc: Global, count: usize) -> Result<Messages, AllocError>
-        ensures { IfOk result (λ messages. messages ≡ []) }
+    /// These messages. Takes no memory.
+    pub fn of(messages: Vec<Message>) -> Messages
+        ensures { result ≡ messages.items }
     {
-        Ok(Messages {
-            list: Vec::with_capacity(alloc, count)?,
-        })
+        Messages {
+            kept: Kept::List(messages),
+        }
     }
 
     /// One message.
@@ -82,7 +143,7 @@ impl Messages {
     {
         let mut list = Vec::with_capacity(alloc, 1)?;
         list.push_reserved(message);
-        Ok(Messages { list })
+        Ok(Messages::of(list))
     }
 
     /// Two messages.
@@ -95,35 +156,70 @@ impl Messages {
         let mut list = Vec::with_capacity(alloc, 2)?;
         list.push_reserved(first);
         list.push_reserved(second);
-        Ok(Messages { list })
+        Ok(Messages::of(list))
     }
 
-    /// Sends a message behind the others. An event sends few, and they are kept for good: where there is no room, it is taken for this one
-    /// alone, which costs those that there are.
-    ///
-    /// # Errors
-    /// Out of memory. Nothing has changed then.
-    pub fn push(&mut self, message: Message) -> Result<(), AllocError>
-        ensures ok { OnOk result (self.new ≡ self.old ++ message ∷ []) }
-        ensures err { OnErr result (self.new ≡ self.old) }
+    /// A node tells the NameNode that it holds a finalized replica of a block, with its stamp and its length in bytes. Takes no memory.
+    pub fn report(node: NodeId, block: BlockId, stamp: Stamp, length: u64) -> Messages
+        ensures { result ≡ message.Reported node block stamp length ∷ [] }
     {
-        self.list.reserve_exact(1)?;
-        self.list.push_reserved(message);
-        Ok(())
+        Messages {
+            kept: Kept::Report(node, block, stamp, length),
+        }
     }
 
-    /// The messages in their order. Takes no memory.
-    pub fn as_slice(&self) -> &[Message]
-        ensures { result.now ≡ self.now }
+    /// A node tells another, which leads the recovery of a block with this stamp, how far its replica is and how many bytes it has. Takes no
+    /// memory.
+    pub fn reply(
+        leader: NodeId,
+        node: NodeId,
+        block: BlockId,
+        stamp: Stamp,
+        state: ReplicaState,
+        length: u64,
+    ) -> Messages
+        ensures { result ≡ message.Plan leader (plan.Reply node block stamp state length) ∷ [] }
     {
-        &self.list
+        Messages {
+            kept: Kept::Reply(state, leader, node, block, stamp, length),
+        }
     }
 
-    /// The messages in their order. Takes no memory.
-    pub fn into_vec(self) -> Vec<Message>
-        ensures { result.items ≡ self }
+    /// A node tells of an update. Takes no memory.
+    pub fn update(update: Update) -> Messages
+        ensures { result ≡ update_messages update }
     {
-        let Messages { list } = self;
-        list
+        Messages {
+            kept: Kept::Update(update),
+        }
+    }
+
+    /// How many messages there are. Takes no memory.
+    pub fn len(&self) -> usize
+        ensures { result ≡ length self.now }
+    {
+        match &self.kept {
+            Kept::Report(_, _, _, _) => 1,
+            Kept::Reply(_, _, _, _, _, _) => 1,
+            Kept::Update(_) => 2,
+            Kept::List(messages) => messages.len(),
+        }
+    }
+
+    /// The message at an index; `None` where there are no more than that. Takes no memory.
+    pub fn get(&self, index: usize) -> Option<MessageSeen<'_>>
+        ensures { option_map message_seen result ≡ slice_get self.now index }
+    {
+        match &self.kept {
+            Kept::Report(node, block, stamp, length) => {
+                only(Single::Report(*node, *block, *stamp, *length), index)
+            }
+            Kept::Reply(state, leader, node, block, stamp, length) => only(
+                Single::Reply(*state, *leader, *node, *block, *stamp, *length),
+                index,
+            ),
+            Kept::Update(update) => of_update(*update, index),
+            Kept::List(messages) => of_list(messages, index),
+        }
     }
 }

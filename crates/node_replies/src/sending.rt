@@ -10,11 +10,12 @@ ghost use Rattle.node_replies.specs.Sending as spec;
 
 use hdfs_values::ids::Stamp;
 use node_calls::block_bytes::BlockBytes;
-use node_calls::call::{NodeCall, PlanCall, ReplicaState, TokenCall};
+use node_calls::call::{NodeCall, ReplicaState, TokenCall};
 use node_calls::message::{Message, Messages};
 use node_calls::node_list::NodeList;
 use node_calls::presented::Presented;
 use node_calls::reply::NodeReply;
+use node_calls::single::Update;
 use node_ids::node_id::{NodeId, node_of};
 use replicas::held::Held;
 use std::alloc::{AllocError, Global};
@@ -77,7 +78,15 @@ pub fn reply_to(alloc: Global, call: &TokenCall, held: &Held) -> Result<NodeRepl
 
 // ---- messages
 
-// One call of a node, by who asks.
+// A call of a node, by who asks.
+fn passed_on(presented: &Presented, to: NodeId, call: TokenCall) -> Result<Message, AllocError>
+    ensures { IfOk result (λ passed. passed ≡ message.Node to (Presenting presented.now call)) }
+{
+    let presented = presented.clone()?;
+    Ok(Message::Node(to, NodeCall::Presenting(presented, call)))
+}
+
+// The same alone.
 fn pass_on(
     alloc: Global,
     presented: &Presented,
@@ -86,11 +95,7 @@ fn pass_on(
 ) -> Result<Messages, AllocError>
     ensures { IfOk result (λ sent. sent ≡ message.Node to (Presenting presented.now call) ∷ []) }
 {
-    let presented = presented.clone()?;
-    Messages::one(
-        alloc,
-        Message::Node(to, NodeCall::Presenting(presented, call)),
-    )
+    Messages::one(alloc, passed_on(presented, to, call)?)
 }
 
 fn forward_begin(
@@ -128,68 +133,60 @@ fn forward_packet(
     }
 }
 
-fn forward_finalize(
+// Passes on that a replica is finalized, and tells the NameNode.
+fn tell_finalized(
     alloc: Global,
+    node: NodeId,
     presented: &Presented,
     count: u64,
     next: &NodeList,
 ) -> Result<Messages, AllocError>
-    ensures { IfOk result (λ sent. sent ≡ spec.forward presented.now (made.Finalize count) next.now) }
+    ensures { IfOk result (λ sent. sent ≡ spec.forward presented.now (made.Finalize count) next.now ++ spec.report node presented.now count) }
 {
+    let (block, stamp) = (presented.block, presented.stamp);
     match next.as_slice() {
-        [] => Ok(Messages::new(alloc)),
+        [] => Ok(Messages::report(node, block, stamp, count)),
         [first, rest @ ..] => {
             let call = TokenCall::Finalize(count, NodeList::copied(alloc, rest)?);
-            pass_on(alloc, presented, *first, call)
+            let passed = passed_on(presented, *first, call)?;
+            Messages::two(alloc, passed, Message::Reported(node, block, stamp, count))
         }
     }
 }
 
-// Tells the NameNode, behind other messages, of a replica that is finalized.
-fn reported(
-    mut sent: Messages,
-    node: NodeId,
-    presented: &Presented,
-    count: u64,
-) -> Result<Messages, AllocError>
-    ensures { IfOk result (λ all. all ≡ sent ++ spec.report node presented.now count) }
+// Tells the NameNode of a replica that is finalized.
+fn tell_stored(node: NodeId, presented: &Presented, count: u64) -> Messages
+    ensures { result ≡ spec.report node presented.now count }
 {
-    sent.push(Message::Reported(node, presented.block, presented.stamp, count))?;
-    Ok(sent)
+    Messages::report(node, presented.block, presented.stamp, count)
 }
 
-fn tell_replica(
-    alloc: Global,
-    node: NodeId,
-    presented: &Presented,
-    held: &Held,
-) -> Result<Messages, AllocError>
-    ensures { IfOk result (λ sent. sent ≡ spec.call_sends node presented.now made.InitRecovery held.now) }
+fn tell_replica(alloc: Global, node: NodeId, presented: &Presented, held: &Held) -> Messages
+    ensures { result ≡ spec.call_sends node presented.now made.InitRecovery held.now }
 {
     let Some(primary) = node_of(&presented.caller) else {
-        return Ok(Messages::new(alloc));
+        return Messages::new(alloc);
     };
     let (block, stamp) = (presented.block, presented.stamp);
     let (_, count, state) = facts(held);
-    let told = PlanCall::Reply(node, block, stamp, state, count);
-    Messages::one(alloc, Message::Plan(primary, told))
+    Messages::reply(primary, node, block, stamp, state, count)
 }
 
 // Tells the node that leads the recovery, and the NameNode, of a replica that has its length.
-fn tell_updated(
-    alloc: Global,
-    node: NodeId,
-    presented: &Presented,
-    count: u64,
-) -> Result<Messages, AllocError>
-    ensures { IfOk result (λ sent. sent ≡ spec.to_primary (node_of presented.now.caller) (λ primary. message.Plan primary (plan.Updated node presented.now.block presented.now.stamp)) ++ spec.report node presented.now count) }
+fn tell_updated(node: NodeId, presented: &Presented, length: u64) -> Messages
+    ensures { result ≡ spec.to_primary (node_of presented.now.caller) (λ primary. message.Plan primary (plan.Updated node presented.now.block presented.now.stamp)) ++ spec.report node presented.now length }
 {
-    let report = Message::Reported(node, presented.block, presented.stamp, count);
-    let Some(primary) = node_of(&presented.caller) else {
-        return Messages::one(alloc, report);
+    let (block, stamp) = (presented.block, presented.stamp);
+    let Some(leader) = node_of(&presented.caller) else {
+        return Messages::report(node, block, stamp, length);
     };
-    let told = PlanCall::Updated(node, presented.block, presented.stamp);
-    Messages::two(alloc, Message::Plan(primary, told), report)
+    Messages::update(Update {
+        leader,
+        node,
+        block,
+        stamp,
+        length,
+    })
 }
 
 fn copy_to(
@@ -223,16 +220,11 @@ pub fn sends(
         TokenCall::Packet(offset, bytes, next) => {
             forward_packet(alloc, presented, *offset, bytes, next)
         }
-        TokenCall::Finalize(count, next) => {
-            let sent = forward_finalize(alloc, presented, *count, next)?;
-            reported(sent, node, presented, *count)
-        }
+        TokenCall::Finalize(count, next) => { tell_finalized(alloc, node, presented, *count, next) }
         TokenCall::Read(_, _) => Ok(Messages::new(alloc)),
-        TokenCall::InitRecovery => tell_replica(alloc, node, presented, held),
-        TokenCall::UpdateReplica(count) => tell_updated(alloc, node, presented, *count),
+        TokenCall::InitRecovery => Ok(tell_replica(alloc, node, presented, held)),
+        TokenCall::UpdateReplica(count) => Ok(tell_updated(node, presented, *count)),
         TokenCall::SendCopy(to) => copy_to(alloc, presented, *to, held),
-        TokenCall::TakeCopy(bytes) => {
-            reported(Messages::new(alloc), node, presented, bytes.len())
-        }
+        TokenCall::TakeCopy(bytes) => Ok(tell_stored(node, presented, bytes.len())),
     }
 }

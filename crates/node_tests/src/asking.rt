@@ -9,11 +9,12 @@ use datanode::datanode::DataNode;
 use hdfs_values::ids::{BlockId, Serial, Stamp};
 use hdfs_values::moment::Moment;
 use hdfs_values::who::Who;
-use node_calls::message::Message;
+use node_calls::message::{Message, MessageSeen};
 use node_calls::node_list::NodeList;
 use node_calls::presented::{Presented, PresentedToken};
 use node_calls::refusal::{NodeRefusal, ReplicaRefusal};
 use node_calls::reply::NodeReply;
+use node_calls::single::Single;
 use node_ids::node_id::NodeId;
 use permission_bits::modes::Modes;
 use std::alloc::{AllocError, Global};
@@ -138,19 +139,32 @@ pub fn told(answer: &Result<Answered, AllocError>) -> Option<&NodeReply> {
 /// How many messages a call sent.
 pub fn sent(answer: &Result<Answered, AllocError>) -> usize {
     match answer {
-        Ok(answered) => answered.messages.as_slice().len(),
+        Ok(answered) => answered.messages.len(),
         Err(_) => 0,
     }
 }
 
-/// The only message that a call sent.
-pub fn message(answer: &Result<Answered, AllocError>) -> Option<&Message> {
+/// The only message that a call sent, in a list or as a few numbers.
+fn only(answer: &Result<Answered, AllocError>) -> Option<MessageSeen<'_>> {
     match answer {
-        Ok(answered) => match answered.messages.as_slice() {
-            [message] => Some(message),
-            _ => None,
-        },
-        Err(_) => None,
+        Ok(answered) if answered.messages.len() == 1 => answered.messages.get(0),
+        _ => None,
+    }
+}
+
+/// The only message that a call sent, where it stands in a list.
+pub fn message(answer: &Result<Answered, AllocError>) -> Option<&Message> {
+    match only(answer) {
+        Some(MessageSeen::Listed(message)) => Some(message),
+        _ => None,
+    }
+}
+
+/// The only message that a call sent, where it is one of a few numbers.
+pub fn single(answer: &Result<Answered, AllocError>) -> Option<Single> {
+    match only(answer) {
+        Some(MessageSeen::Single(single)) => Some(single),
+        _ => None,
     }
 }
 

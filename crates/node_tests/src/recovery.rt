@@ -1,15 +1,15 @@
 use crate::asking::{
-    at, is_done, is_refused, learns, message, nobody, node, presents, ring, sent, token, told,
+    at, is_done, is_refused, learns, nobody, node, presents, ring, sent, single, token, told,
 };
 use block_tokens::ring::KeyRing;
 use datanode::datanode::DataNode;
 use hdfs_values::ids::Stamp;
 use node_calls::block_bytes::BlockBytes;
-use node_calls::call::{PlanCall, ReplicaState};
-use node_calls::message::Message;
+use node_calls::call::ReplicaState;
 use node_calls::presented::Presented;
 use node_calls::refusal::ReplicaRefusal;
 use node_calls::reply::NodeReply;
+use node_calls::single::Single;
 use permission_bits::modes::Modes;
 use std::alloc::Global;
 
@@ -21,15 +21,15 @@ fn writes(node: &mut DataNode, alice: &Presented) -> bool {
 }
 
 // Node 1 leads the recovery at stamp 1002, and is told of the replica.
-fn is_told(message: Option<&Message>) -> bool {
+fn is_told(message: Option<Single>) -> bool {
     match message {
-        Some(Message::Plan(to, PlanCall::Reply(own, block, stamp, state, length))) => {
+        Some(Single::Reply(state, to, own, block, stamp, length)) => {
             to.get() == 1
                 && own.get() == 2
                 && block.get() == 1
                 && stamp.get() == 1002
-                && *state == ReplicaState::Writing
-                && *length == 900
+                && state == ReplicaState::Writing
+                && length == 900
         }
         _ => false,
     }
@@ -37,7 +37,7 @@ fn is_told(message: Option<&Message>) -> bool {
 
 fn is_asked(node: &mut DataNode, lead: &Presented) -> bool {
     let answer = node.init_recovery(at(60_001), lead);
-    is_told(message(&answer))
+    is_told(single(&answer))
 }
 
 fn is_updated(node: &mut DataNode, lead: &Presented) -> bool {

@@ -4,7 +4,7 @@ use block_records::node_set::NodeSet;
 use block_recovery::plans::Plans;
 use hdfs_values::ids::{BlockId, Stamp};
 use node_calls::call::{NodeCall, PlanCall, ReplicaState, TokenCall};
-use node_calls::message::{Message, Messages};
+use node_calls::message::{Message, MessageSeen, Messages};
 use node_calls::presented::{Presented, PresentedToken};
 use node_ids::node_id::NodeId;
 use plan_steps::answered::{PlanAnswered, PlanReply};
@@ -129,8 +129,13 @@ fn tell_message(message: &Message, text: &mut String) -> Result<(), AllocError> 
 }
 
 fn tell_messages(messages: &Messages, text: &mut String) -> Result<(), AllocError> {
-    for message in messages.as_slice() {
-        tell_message(message, text)?;
+    let mut at = 0;
+    while let Some(message) = messages.get(at) {
+        match message {
+            MessageSeen::Listed(message) => tell_message(message, text)?,
+            MessageSeen::Single(_) => text.push_str("; another message")?,
+        }
+        at += 1;
     }
     Ok(())
 }

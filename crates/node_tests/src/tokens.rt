@@ -1,5 +1,5 @@
 use crate::asking::{
-    at, is_barred, is_read, is_refused, learns, message, nobody, node, presents, ring, token, told,
+    at, is_barred, is_read, is_refused, learns, nobody, node, presents, ring, single, token, told,
 };
 use block_tokens::key::Key;
 use block_tokens::refusal::TokenRefusal;
@@ -7,10 +7,10 @@ use block_tokens::ring::KeyRing;
 use datanode::datanode::DataNode;
 use node_calls::access_log::{AccessLog, AccessRecord};
 use node_calls::block_bytes::BlockBytes;
-use node_calls::message::Message;
 use node_calls::presented::Presented;
 use node_calls::refusal::ReplicaRefusal;
 use node_calls::reply::NodeReply;
+use node_calls::single::Single;
 use permission_bits::modes::Modes;
 use std::alloc::Global;
 
@@ -32,10 +32,10 @@ fn takes(node: &mut DataNode, alice: &Presented) -> bool {
     }
 }
 
-fn is_report(message: Option<&Message>) -> bool {
+fn is_report(message: Option<Single>) -> bool {
     match message {
-        Some(Message::Reported(own, block, stamp, length)) => {
-            own.get() == 1 && block.get() == 1 && stamp.get() == 1001 && *length == 2
+        Some(Single::Report(own, block, stamp, length)) => {
+            own.get() == 1 && block.get() == 1 && stamp.get() == 1001 && length == 2
         }
         _ => false,
     }
@@ -44,7 +44,7 @@ fn is_report(message: Option<&Message>) -> bool {
 fn finalizes(node: &mut DataNode, alice: &Presented) -> bool {
     let answer = node.finalize(at(0), alice, 2, nobody());
     match told(&answer) {
-        Some(NodeReply::Finalized(length)) => *length == 2 && is_report(message(&answer)),
+        Some(NodeReply::Finalized(length)) => *length == 2 && is_report(single(&answer)),
         _ => false,
     }
 }

@@ -37,12 +37,12 @@ pub(crate) fn inits(
 ) -> Result<Messages, AllocError>
     ensures { IfOk result (λ sent. sent ≡ spec.to_each presented.now made.InitRecovery nodes.now) }
 {
-    let mut sent = Messages::with_room(alloc, nodes.len())?;
+    let mut sent = Vec::with_capacity(alloc, nodes.len())?;
     for node in nodes {
         let call = NodeCall::Presenting(presented.clone()?, TokenCall::InitRecovery);
         sent.push(Message::Node(*node, call))?;
     }
-    Ok(sent)
+    Ok(Messages::of(sent))
 }
 
 // Has each node's replica cut to a length.
@@ -54,10 +54,10 @@ pub(crate) fn updates(
 ) -> Result<Messages, AllocError>
     ensures { IfOk result (λ sent. sent ≡ spec.to_each presented.now (made.UpdateReplica length) nodes.now) }
 {
-    let mut sent = Messages::with_room(alloc, nodes.len())?;
+    let mut sent = Vec::with_capacity(alloc, nodes.len())?;
     for node in nodes {
         let call = NodeCall::Presenting(presented.clone()?, TokenCall::UpdateReplica(length));
         sent.push(Message::Node(*node, call))?;
     }
-    Ok(sent)
+    Ok(Messages::of(sent))
 }
