@@ -5,4 +5,4 @@ use Rattle.plan_steps.proofs.orders.updates.Given as goal
 
 abbrev pub invariant-loop-node : goal.invariant-loop-node
 invariant-loop-node l =
-    l.sent ++ to_each l.presented (UpdateReplica l.length) (drop l.node-index l.nodes) ≡ to_each l.presented (UpdateReplica l.length) l.nodes
+    l.sent.items ++ to_each l.presented (UpdateReplica l.length) (drop l.node-index l.nodes) ≡ to_each l.presented (UpdateReplica l.length) l.nodes
