@@ -7,21 +7,17 @@ use Rattle.cluster_trace.specs.Trace.{entry_messages}
 use Rattle.cluster_parts.specs.Sent.{messages_at, source_messages, messages_of, IsWithin, AreLaid}
 use Rattle.cluster_parts.specs.declared.sent.Batch.{Batch}
 use Rattle.cluster_parts.specs.declared.sent.Source.{Source}
-use Rattle.cluster_parts.specs.declared.sent.Source.TheVariants.{Entry, Single, Update, Own}
+use Rattle.cluster_parts.specs.declared.sent.Source.TheVariants.{Entry, Own}
 use Rattle.cluster_parts.proofs.Gets.{get_left, get_last}
 
 -- ---- a history that grows
 
 same_source : (history more : List HistoryEntry) (source : Source) → IsWithin history source → source_messages (history ++ more) source ≡ source_messages history source
 same_source history more (Entry index) within = ap messages_at (get_left history more index within)
-same_source history more (Single own) within = refl
-same_source history more (Update own) within = refl
 same_source history more (Own messages) within = refl
 
 within_more : (history more : List HistoryEntry) (source : Source) → IsWithin history source → IsWithin (history ++ more) source
 within_more history more (Entry index) within = omega (arith, length-append history more, within)
-within_more history more (Single own) within = tt
-within_more history more (Update own) within = tt
 within_more history more (Own messages) within = tt
 
 pub laid_more : (history more : List HistoryEntry) (before : ℕ) (batches : List Batch) (count : ℕ) → AreLaid history before batches count → AreLaid (history ++ more) before batches count

@@ -1,4 +1,4 @@
-ghost use Rattle.std.specs.Prelude.{◌≡◌, [], ◌∷◌, IfOk, length, option_map, slice_get};
+ghost use Rattle.std.specs.Prelude.{◌≡◌, ◌<◌, ◌^◌, [], ◌∷◌, IfOk, length, option_map, slice_get};
 ghost use Rattle.node_calls.specs.declared.call.PlanCall.TheVariants as plan;
 ghost use Rattle.node_calls.specs.declared.message.Message.TheVariants as message;
 ghost use Rattle.node_calls.specs.Single.{message_of_single, message_seen, update_messages};
@@ -196,7 +196,8 @@ impl Messages {
 
     /// How many messages there are. Takes no memory.
     pub fn len(&self) -> usize
-        ensures { result ≡ length self.now }
+        ensures count { result ≡ length self.now }
+        ensures small { result < 2 ^ 63 }
     {
         match &self.kept {
             Kept::Report(_, _, _, _) => 1,

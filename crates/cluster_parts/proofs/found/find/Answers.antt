@@ -46,18 +46,6 @@ returns-in-Entry c =
     ∙ message_found c.args.sent.now.batches.items c.deref.result.now c.begun_near-begun.result c.args.number c.index-batch.result.now c.deref.ensures.value c.if-begun-eq0.false
     c.begun_near-begun.ensures.within c.index-batch.ensures c.args.history.now c.args.sent.now.count _ c.requires c.begun_near-begun.ensures.below c.begun_near-begun.ensures.above c.in-Entry.is
 
-pub returns-in-Single : goal.returns-in-Single
-returns-in-Single c =
-    c.only_message.ensures
-    ∙ message_found c.args.sent.now.batches.items c.deref.result.now c.begun_near-begun.result c.args.number c.index-batch.result.now c.deref.ensures.value c.if-begun-eq0.false
-    c.begun_near-begun.ensures.within c.index-batch.ensures c.args.history.now c.args.sent.now.count _ c.requires c.begun_near-begun.ensures.below c.begun_near-begun.ensures.above c.in-Single.is
-
-pub returns-in-Update : goal.returns-in-Update
-returns-in-Update c =
-    c.update_message.ensures
-    ∙ message_found c.args.sent.now.batches.items c.deref.result.now c.begun_near-begun.result c.args.number c.index-batch.result.now c.deref.ensures.value c.if-begun-eq0.false
-    c.begun_near-begun.ensures.within c.index-batch.ensures c.args.history.now c.args.sent.now.count _ c.requires c.begun_near-begun.ensures.below c.begun_near-begun.ensures.above c.in-Update.is
-
 pub returns-in-Own : goal.returns-in-Own
 returns-in-Own c =
     c.own_message.ensures
