@@ -11,17 +11,16 @@ use Rattle.cluster_text.specs.ToldText.{answer_line}
 use Rattle.cluster_runs.specs.Output.{State, Numbered, no_lines, line_answered, event_in, after_answer, after_line, answers_of_first, text_of, output_of}
 use Rattle.cluster_runs.specs.declared.session.Session.{Session}
 use Rattle.cluster_runs.specs.Ended.{IsAnswersOfFirst, AppendsAnswersOfFirst}
-use Rattle.cluster_runs.specs.Shown.{Shows}
+use Rattle.cluster_runs.specs.Shown.{ShowsFirst}
 
 has_lines : (script : List ℕ) → 0 < length (lines_of script)
 has_lines script = omega (arith, length-slice_split (λ b. eqb b 10) script)
 
-served_at : (script : List ℕ) (number count : ℕ) (text : List ℕ) → number ≡ count → count < length (lines_of script) → text ≡ text_of (answers_of_first count script) → IsAnswersOfFirst number script text
-served_at script number count text n within is =
-    record { within = subst (λ k. k < length (lines_of script)) (sym n) within; is = is ∙ ap (λ k. text_of (answers_of_first k script)) (sym n) }
-
-pub none_served : (script : List ℕ) (session : Session) → Shows no_lines session → IsAnswersOfFirst session.number script (string_bytes session.out)
-none_served script session shows = served_at script session.number 0 (string_bytes session.out) shows.number (has_lines script) shows.text
+-- memory ran out in a line of a script that was run from its beginning
+pub first_served : (script : List ℕ) (session : Session) → ShowsFirst no_lines (lines_of script) session → IsAnswersOfFirst session.number script (string_bytes session.out)
+first_served script session first =
+    let is : session.number ≡ first.count = omega (arith, first.number) in
+    record { within = subst (λ k. k < length (lines_of script)) (sym is) first.within; is = first.text ∙ ap (λ k. text_of (answers_of_first k script)) (sym is) }
 
 nothing_written : (known old : Option (List ℕ)) → IfSome known (λ script. AppendsAnswersOfFirst 0 old old script)
 nothing_written None old = tt

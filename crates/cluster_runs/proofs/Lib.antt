@@ -1,3 +1,4 @@
 pub mod Endings
 pub mod Runs
+pub mod Served
 pub mod Told

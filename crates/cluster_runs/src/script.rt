@@ -14,7 +14,6 @@ use crate::session::Session;
 use script_runs::channel::write_text;
 use script_runs::script::read_script;
 pub use script_runs::script::{ScriptFault, Status};
-use script_words::words::pieces_between;
 use std::alloc::{AllocError, Global};
 use std::io::{Read, Write};
 
@@ -36,28 +35,23 @@ pub fn run_lines(session: &mut Session, lines: &[&str]) -> Result<(), AllocError
 ///
 /// # Errors
 /// Out of memory, or more lines than numbers of 64 bits.
-pub fn run_more(alloc: Global, session: &mut Session, text: &str) -> Result<(), AllocError>
+pub fn run_more(session: &mut Session, text: &str) -> Result<(), AllocError>
     ensures ok { (state : spec.State) → Shows state session.old → OnOk result (Shows (spec.behind_lines state (words.lines_of text.now)) session.new) }
     ensures err { (state : spec.State) → Shows state session.old → OnErr result (ShowsFirst state (words.lines_of text.now) session.new) }
 {
-    let lines = pieces_between(alloc, text, '\n')?;
-    if lines.len() > usize::MAX - session.number() {
-        return Err(AllocError);
-    }
-    session.serve_all(&lines)
+    session.serve_text(text)
 }
 
 /// Runs a script on a cluster in which nothing has happened. Where memory runs out, the session has counted the lines before, and holds
 /// what they print.
-fn run_text(alloc: Global, session: &mut Session, script: &str) -> Result<Status, AllocError>
+fn run_text(session: &mut Session, script: &str) -> Result<Status, AllocError>
     requires { Shows spec.no_lines session.old }
     ensures ok { OnOk result (string_bytes session.new.out ≡ spec.output_of script.now) }
     ensures status { IfOk result (λ status. status ≡ spec.script_status (spec.answers_of script.now)) }
     ensures right { OnOk result (IsAnsweredRightly script.now) }
     ensures err { OnErr result (IsAnswersOfFirst session.new.number script.now (string_bytes session.new.out)) }
 {
-    let lines = pieces_between(alloc, script, '\n')?;
-    run_lines(session, &lines)?;
+    session.serve_text(script)?;
     session.is_right();
     scripts_are_runs();
     Ok(Status::by(session.has_bad()))
@@ -80,7 +74,7 @@ fn run_alone(alloc: Global, script: &str) -> Result<ScriptRun, AllocError>
     ensures err { IfOk result (λ ran. OnErr ran.ended (IsAnswersOfFirst ran.served script.now (string_bytes ran.text))) }
 {
     let mut session = Session::open(alloc)?;
-    let ended = run_text(alloc, &mut session, script);
+    let ended = run_text(&mut session, script);
     Ok(ScriptRun {
         served: session.number(),
         text: session.into_output(),

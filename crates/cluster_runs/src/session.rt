@@ -6,6 +6,7 @@ ghost use Rattle.cluster_trace.specs.Provenance.{AllRight};
 ghost use Rattle.cluster_trace.specs.Typed.{AreTyped};
 ghost use Rattle.script_runs.specs.Status.{status_by};
 ghost use Rattle.script_words.specs.LineForms.{Forms};
+ghost use Rattle.script_words.specs.Words as words;
 ghost use Rattle.cluster_text.specs.ToldText.{answer_line};
 ghost use Rattle.cluster_runs.specs.Output as spec;
 ghost use Rattle.cluster_runs.specs.Shown.{Shows, KeepsLines, ShowsFirst};
@@ -18,6 +19,7 @@ use cluster_trace::outcome::Outcome;
 use flat_rows::verdict::Verdict;
 use hdfs_types::key::Key;
 use hdfs_values::fault::{IllFormed, ParseFault};
+use hdfs_values::pieces::cut_at;
 use history::config::Config;
 use node_ids::node_id::NodeId;
 use script_words::words::{is_skipped, without_return};
@@ -213,13 +215,15 @@ impl Session {
     }
 
     /// Runs a line, and adds its answer to the output where it has one. The list is for the words of the line. Where memory runs out
-    /// the line isn't counted, and the output stays as it was.
+    /// the line isn't counted, and the output stays as it was; so it is where the line's number needs more than 64 bits.
     fn serve<'a>(&mut self, words: &mut Vec<&'a str>, line: &'a str) -> Result<(), AllocError>
-        requires { self.old.number + 1 < 2 ^ 64 }
         ensures number { OnOk result (self.new.number ≡ self.old.number + 1) }
         ensures ok { (state : spec.State) → Shows state self.old → OnOk result (Shows (spec.after_line state line.now) self.new) }
         ensures err { OnErr result (KeepsLines self.old self.new) }
     {
+        if self.number == usize::MAX {
+            return Err(AllocError);
+        }
         let line = without_return(line);
         if is_skipped(line) {
             self.number += 1;
@@ -246,5 +250,23 @@ impl Session {
             self.serve(&mut words, line)?;
         }
         Ok(())
+    }
+
+    /// Runs the lines of a text behind those that were run, each as it is cut from the text. Where memory runs out, the session has
+    /// counted those before, and holds what they print.
+    ///
+    /// # Errors
+    /// Out of memory, or more lines than numbers of 64 bits.
+    pub fn serve_text<'a>(&mut self, text: &'a str) -> Result<(), AllocError>
+        ensures ok { (state : spec.State) → Shows state self.old → OnOk result (Shows (spec.behind_lines state (words.lines_of text.now)) self.new) }
+        ensures err { (state : spec.State) → Shows state self.old → OnErr result (ShowsFirst state (words.lines_of text.now) self.new) }
+    {
+        let mut words = Vec::new(self.alloc);
+        let mut rest = text;
+        while let Some((line, behind)) = cut_at(rest, b'\n') {
+            self.serve(&mut words, line)?;
+            rest = behind;
+        }
+        self.serve(&mut words, rest)
     }
 }

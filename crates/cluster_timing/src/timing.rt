@@ -43,7 +43,7 @@ fn time_more<R: Clock + AllocGlobal>(
     let Ok(start) = Instant::now(rt) else {
         return Err(TimingFault::NoClock);
     };
-    run_more(rt.alloc(), session, text)?;
+    run_more(session, text)?;
     start.elapsed(rt).map_err(|_| TimingFault::NoClock)
 }
 
@@ -56,7 +56,7 @@ fn time_behind<R: Clock + AllocGlobal>(
 ) -> Result<Duration, TimingFault>
     ensures { (state : spec.State) → Shows state session.old → OnOk result (Shows (spec.behind_lines (spec.behind_lines state (words.lines_of before.now)) (words.lines_of timed.now)) session.new) }
 {
-    run_more(rt.alloc(), session, before)?;
+    run_more(session, before)?;
     time_more(rt, session, timed)
 }
 

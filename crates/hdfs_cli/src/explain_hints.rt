@@ -146,7 +146,7 @@ fn add_hints_on_line(
     let added = add_rename_hints(alloc, line, session, &request, out);
     drop(request);
     added?;
-    run_more(alloc, session, line.text)?;
+    run_more(session, line.text)?;
     Ok(true)
 }
 
