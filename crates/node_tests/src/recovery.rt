@@ -21,15 +21,15 @@ fn writes(node: &mut DataNode, alice: &Presented) -> bool {
 }
 
 // Node 1 leads the recovery at stamp 1002, and is told of the replica.
-fn is_told(message: Option<Single>) -> bool {
+fn is_told(message: Option<&Single>) -> bool {
     match message {
         Some(Single::Reply(state, to, own, block, stamp, length)) => {
             to.get() == 1
                 && own.get() == 2
                 && block.get() == 1
                 && stamp.get() == 1002
-                && state == ReplicaState::Writing
-                && length == 900
+                && *state == ReplicaState::Writing
+                && *length == 900
         }
         _ => false,
     }
@@ -37,7 +37,7 @@ fn is_told(message: Option<Single>) -> bool {
 
 fn is_asked(node: &mut DataNode, lead: &Presented) -> bool {
     let answer = node.init_recovery(at(60_001), lead);
-    is_told(single(&answer))
+    is_told(single(&answer).as_ref())
 }
 
 fn is_updated(node: &mut DataNode, lead: &Presented) -> bool {

@@ -129,13 +129,11 @@ fn tell_message(message: &Message, text: &mut String) -> Result<(), AllocError> 
 }
 
 fn tell_messages(messages: &Messages, text: &mut String) -> Result<(), AllocError> {
-    let mut at = 0;
-    while let Some(message) = messages.get(at) {
-        match message {
-            MessageSeen::Listed(message) => tell_message(message, text)?,
-            MessageSeen::Single(_) => text.push_str("; another message")?,
+    for at in 0..messages.len() {
+        match messages.get(at) {
+            Some(MessageSeen::Listed(message)) => tell_message(message, text)?,
+            _ => text.push_str("; another message")?,
         }
-        at += 1;
     }
     Ok(())
 }

@@ -32,10 +32,10 @@ fn takes(node: &mut DataNode, alice: &Presented) -> bool {
     }
 }
 
-fn is_report(message: Option<Single>) -> bool {
+fn is_report(message: Option<&Single>) -> bool {
     match message {
         Some(Single::Report(own, block, stamp, length)) => {
-            own.get() == 1 && block.get() == 1 && stamp.get() == 1001 && length == 2
+            own.get() == 1 && block.get() == 1 && stamp.get() == 1001 && *length == 2
         }
         _ => false,
     }
@@ -44,7 +44,7 @@ fn is_report(message: Option<Single>) -> bool {
 fn finalizes(node: &mut DataNode, alice: &Presented) -> bool {
     let answer = node.finalize(at(0), alice, 2, nobody());
     match told(&answer) {
-        Some(NodeReply::Finalized(length)) => *length == 2 && is_report(single(&answer)),
+        Some(NodeReply::Finalized(length)) => *length == 2 && is_report(single(&answer).as_ref()),
         _ => false,
     }
 }
