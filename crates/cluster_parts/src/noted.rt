@@ -4,7 +4,7 @@ ghost use Rattle.cluster_parts.specs.Noted.{answer_outcome, answer_messages, led
 ghost use Rattle.cluster_parts.specs.Sent.{messages_of, AreLaid};
 
 use crate::sent::{Sent, Source};
-use cluster_trace::outcome::{ClusterRefusal, EventAnswer, Outcome};
+use cluster_trace::outcome::{ClusterRefusal, EventAnswer, Lost, Outcome};
 use datanode::answered::Answered;
 use plan_steps::answered::PlanAnswered;
 
@@ -14,7 +14,7 @@ pub fn note_nothing(sent: &Sent, refusal: ClusterRefusal) -> Outcome
     ensures { result ≡ record { answer = EventAnswer.Lost refusal; first = sent.now.count + 1; count = 0 } }
 {
     Outcome {
-        answer: EventAnswer::Lost(refusal),
+        answer: EventAnswer::Lost(Lost::of(refusal)),
         first: sent.next(),
         count: 0,
     }
