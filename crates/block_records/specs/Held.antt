@@ -1,5 +1,6 @@
 -- The reports of a block, and a set of nodes, as their values hold them.
-use Rattle.std.specs.Prelude.{ℕ, List, [], ◌∷◌}
+use Rattle.std.specs.Prelude.{◌≤◌, ℕ, List, [], ◌∷◌, take}
+use Rattle.std.specs.Bool.{⊤}
 use Rattle.block_records.specs.declared.reports.Held.{Held}
 use Rattle.block_records.specs.declared.reports.Held.TheVariants.{Nothing, One, Several}
 use Rattle.block_records.specs.declared.node_set.Listed.{Listed}
@@ -13,7 +14,10 @@ held_reports (Several reports) = reports.items
 
 -- the nodes that a value holds, by their ids
 abbrev pub listed_nodes : Listed → List ℕ
-listed_nodes (listed.One nodes) = nodes
-listed_nodes (listed.Two nodes) = nodes
-listed_nodes (listed.Three nodes) = nodes
+listed_nodes (listed.Few count nodes) = take count nodes
 listed_nodes (listed.Several nodes) = nodes.items
+
+-- how many of them stand in the value is no more than have room there
+abbrev pub IsListed : Listed → Type 0
+IsListed (listed.Few count nodes) = count ≤ 3
+IsListed (listed.Several nodes) = ⊤

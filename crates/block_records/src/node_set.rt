@@ -1,19 +1,17 @@
 ghost use Rattle.std.specs.Prelude.{◌≡◌, ◌+◌, ◌<◌, ℕ, [], IsTrue, not, filter, ◌↔◌, length, slice_index, IfOk, IfSome, IsSome, if◌then◌else◌};
 ghost use Rattle.std.specs.List.Sorted.{IsStrictlyIncreasing};
-ghost use Rattle.block_records.specs.Held.{listed_nodes};
+ghost use Rattle.block_records.specs.Held.{listed_nodes, IsListed};
 ghost use Rattle.block_records.specs.Numbers.{has_number};
 
 use node_ids::node_id::NodeId;
 use std::alloc::{AllocError, Global};
 use std::marker::Model;
 
-// The nodes of a set. Up to three of them, as many as files have replicas unless they ask for more, stand in the value: they take no
-// memory, and who has the value at hand looks nowhere else.
+// The nodes of a set. Up to three of them, as many as files have replicas unless they ask for more, stand in the value, with how many
+// they are: they take no memory, who has the value at hand looks nowhere else, and a copy is one of whole words, whatever their number.
 #[derive(Drop)]
 enum Listed {
-    One([NodeId; 1]),
-    Two([NodeId; 2]),
-    Three([NodeId; 3]),
+    Few(usize, [NodeId; 3]),
     Several(Vec<NodeId>),
 }
 
@@ -26,23 +24,24 @@ pub struct NodeSet {
 impl Model for NodeSet {
     ghost use Rattle.std.specs.Prelude.{List, ℕ};
     ghost use Rattle.std.specs.List.Sorted.{IsStrictlyIncreasing};
-    ghost use Rattle.block_records.specs.Held.{listed_nodes};
+    ghost use Rattle.block_records.specs.Held.{listed_nodes, IsListed};
 
     ghost Value = { List ℕ };
 
     ghost view = { λ set. listed_nodes set.listed };
 
-    ghost invariant = { λ set. IsStrictlyIncreasing (listed_nodes set.listed) };
+    ghost invariant = { λ set. IsListed set.listed × IsStrictlyIncreasing (listed_nodes set.listed) };
 }
 
 // These nodes as a set holds them.
 fn with_listed(nodes: Vec<NodeId>) -> Listed
-    ensures { listed_nodes result ≡ nodes.items }
+    ensures these { listed_nodes result ≡ nodes.items }
+    ensures listed { IsListed result }
 {
     match nodes.len() {
-        1 => Listed::One([nodes[0]]),
-        2 => Listed::Two([nodes[0], nodes[1]]),
-        3 => Listed::Three([nodes[0], nodes[1], nodes[2]]),
+        1 => Listed::Few(1, [nodes[0], nodes[0], nodes[0]]),
+        2 => Listed::Few(2, [nodes[0], nodes[1], nodes[1]]),
+        3 => Listed::Few(3, [nodes[0], nodes[1], nodes[2]]),
         _ => Listed::Several(nodes),
     }
 }
@@ -98,9 +97,7 @@ impl NodeSet {
         ensures ascending { IsStrictlyIncreasing self.now }
     {
         match &self.listed {
-            Listed::One(nodes) => nodes,
-            Listed::Two(nodes) => nodes,
-            Listed::Three(nodes) => nodes,
+            Listed::Few(count, nodes) => &nodes[..*count],
             Listed::Several(nodes) => nodes,
         }
     }
@@ -132,9 +129,7 @@ impl Clone for NodeSet {
 
     fn clone(&self) -> Result<NodeSet, AllocError> {
         let listed = match &self.listed {
-            Listed::One(nodes) => Listed::One(*nodes),
-            Listed::Two(nodes) => Listed::Two(*nodes),
-            Listed::Three(nodes) => Listed::Three(*nodes),
+            Listed::Few(count, nodes) => Listed::Few(*count, *nodes),
             Listed::Several(nodes) => Listed::Several(nodes.clone()?),
         };
         Ok(NodeSet { listed })

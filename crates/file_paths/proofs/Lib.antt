@@ -4,4 +4,3 @@ pub mod Spelling
 pub mod Beneath
 pub mod Slashes
 pub mod FirstNames
-pub mod Common

@@ -324,19 +324,6 @@ impl Eq for Path {
     ghost laws = { Prim.search (comparing, rules, paths_total) };
 }
 
-/// How many names two paths have in common, from the root on.
-fn common_names(own: &[Name], others: &[Name]) -> usize
-    ensures own { result ≤ length own.now }
-    ensures others { result ≤ length others.now }
-    ensures common { take result own.now ≡ take result others.now }
-{
-    let mut count = 0;
-    while count < own.len() && count < others.len() && own[count] == others[count] {
-        count += 1;
-    }
-    count
-}
-
 impl Ord for Path {
     ghost cmp = { path_cmp };
 
@@ -346,10 +333,8 @@ impl Ord for Path {
 
     ghost matches_eq = { Prim.search (comparing, rules) };
 
-    // paths that are compared have mostly all names but the last in common, and whether two names are one is told sooner than their order
     fn cmp(&self, other: &Path) -> Ordering {
-        let common = common_names(&self.names, &other.names);
-        self.names[common..].cmp(&other.names[common..])
+        self.names.cmp(&other.names)
     }
 }
 
