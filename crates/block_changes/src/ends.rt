@@ -6,6 +6,7 @@ ghost use Rattle.block_changes.specs.Behind.{IsFaultOf};
 ghost use Rattle.block_changes.specs.Ends as spec;
 
 use crate::behind;
+use block_records::block_record::BlockRecord;
 use block_records::fault::{BlockFault, BlockRefusal};
 use block_records::mark::{Mark, Marks};
 use block_records::node_set::NodeSet;
@@ -13,9 +14,14 @@ use hdfs_values::ids::{BlockId, Stamp};
 use known_blocks::known_blocks::KnownBlocks;
 use std::alloc::{AllocError, Global};
 
-// Whether a recovery of a block runs under this stamp.
-fn check(known: &KnownBlocks, block: BlockId, stamp: Stamp) -> Result<(), BlockRefusal>
+// What is known of a block whose recovery runs under this stamp.
+fn recovering(
+    known: &KnownBlocks,
+    block: BlockId,
+    stamp: Stamp,
+) -> Result<&BlockRecord, BlockRefusal>
     ensures ok { OnOk result (spec.refused_recovered_by (block_of known.now block) stamp ≡ None) }
+    ensures there { IfOk result (λ own. block_of known.now block ≡ Some own.now) }
     ensures err { IfErr result (λ refusal. spec.refused_recovered_by (block_of known.now block) stamp ≡ Some refusal) }
 {
     let Some(own) = known.get(block) else {
@@ -27,26 +33,42 @@ fn check(known: &KnownBlocks, block: BlockId, stamp: Stamp) -> Result<(), BlockR
     if own.recovering.is_none() {
         return Err(BlockRefusal::NotOpen);
     }
-    Ok(())
+    Ok(own)
 }
 
 // The marks of the nodes that reported another length of a block, but of these.
 fn marks_but(
     alloc: Global,
-    known: &KnownBlocks,
+    own: &BlockRecord,
     block: BlockId,
     length: u64,
     nodes: &NodeSet,
 ) -> Result<Vec<Mark>, AllocError>
-    ensures { IfOk result (λ marks. marks.items ≡ spec.marks_but_of nodes.now block length (block_of known.now block)) }
+    ensures { IfOk result (λ marks. marks.items ≡ spec.marks_but_of nodes.now block length (Some own.now)) }
 {
-    let Some(own) = known.get(block) else {
-        return Ok(Vec::new(alloc));
-    };
     let others = own.reports.others(alloc, length)?;
     let unnamed = nodes.leave_out(alloc, &others)?;
     let marks = behind::marks_of(alloc, &unnamed, block, own.stamp)?;
     Ok(marks)
+}
+
+// The marks that come with the end of a recovery, where one runs under this stamp.
+fn marks_on_end(
+    alloc: Global,
+    known: &KnownBlocks,
+    block: BlockId,
+    stamp: Stamp,
+    length: u64,
+    nodes: &NodeSet,
+) -> Result<Vec<Mark>, BlockFault>
+    ensures allowed { OnOk result (spec.refused_recovered_by (block_of known.now block) stamp ≡ None) }
+    ensures marks { IfOk result (λ marks. marks.items ≡ spec.marks_but_of nodes.now block length (block_of known.now block)) }
+    ensures fault { IfErr result (IsFaultOf (spec.refused_recovered_by (block_of known.now block) stamp)) }
+{
+    match recovering(known, block, stamp) {
+        Ok(own) => Ok(marks_but(alloc, own, block, length, nodes)?),
+        Err(refusal) => Err(BlockFault::Refused(refusal)),
+    }
 }
 
 /// Ends the recovery of a block that runs under its newest stamp: the length is committed, these nodes are to hold the block and report
@@ -71,10 +93,7 @@ pub fn end(
     ensures fault { IfErr result (IsFaultOf (spec.refused_recovered_by (block_of known.old block) stamp)) }
     ensures err { OnErr result ((known.new ≡ known.old) × (marks.new ≡ marks.old)) }
 {
-    if let Err(refusal) = check(known, block, stamp) {
-        return Err(BlockFault::Refused(refusal));
-    }
-    let more = marks_but(alloc, known, block, length, &nodes)?;
+    let more = marks_on_end(alloc, known, block, stamp, length, &nodes)?;
     known.end_recovery(block, length, nodes, marks, more)?;
     Ok(())
 }

@@ -119,17 +119,15 @@ impl BlockPlans {
         self.plans[at].1.reply(node, answer)
     }
 
-    pub(crate) fn decide(&mut self, alloc: Global, stamp: Stamp) -> Result<Decision, PlanFault>
-        ensures allowed { OnOk result (spec.refused_decide (entry_at stamp self.old) ≡ None) }
-        ensures told { IfOk result (λ decision. option_and_then spec.decision_for (entry_at stamp self.old) ≡ Some decision) }
-        ensures ok { OnOk result (self.new ≡ with_entry_changed spec.with_decision stamp self.old) }
-        ensures fault { IfErr result (IsPlanFaultOf (spec.refused_decide (entry_at stamp self.old))) }
-        ensures err { OnErr result (self.new ≡ self.old) }
+    // Keeps what the answers of a plan decide.
+    pub(crate) fn decide(&mut self, stamp: Stamp, decision: Decision)
+        requires { option_and_then spec.decision_for (entry_at stamp self.old) ≡ Some decision }
+        ensures { self.new ≡ with_entry_changed spec.with_decision stamp self.old }
     {
         let Ok(at) = place_of(&self.plans, stamp) else {
-            return Err(STRANGER);
+            unreachable!();
         };
-        self.plans[at].1.decide(alloc)
+        self.plans[at].1.decide(decision);
     }
 
     pub(crate) fn update(&mut self, stamp: Stamp, node: NodeId) -> Result<(), PlanFault>

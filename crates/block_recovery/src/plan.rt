@@ -76,23 +76,31 @@ impl Plan {
         Ok(())
     }
 
-    // Decides by the answers, once.
-    pub(crate) fn decide(&mut self, alloc: Global) -> Result<Decision, PlanFault>
-        ensures allowed { OnOk result (spec.refused_decide (Some self.old) ≡ None) }
-        ensures told { IfOk result (λ decision. decision_of self.old.answers ≡ Some decision) }
-        ensures ok { OnOk result (self.new ≡ spec.with_decision self.old) }
-        ensures fault { IfErr result (IsPlanFaultOf (spec.refused_decide (Some self.old))) }
-        ensures err { OnErr result (self.new ≡ self.old) }
+    /// What the answers decide that have come, while the plan isn't decided: to which length the replicas are cut, and which nodes take
+    /// part, by their ids. Costs the answers.
+    ///
+    /// # Errors
+    /// `Stranger` where the plan is decided, then `NoReplicaAnswered` where no node has answered; or out of memory.
+    pub fn decision(&self, alloc: Global) -> Result<Decision, PlanFault>
+        ensures allowed { OnOk result (spec.refused_decide (Some self.now) ≡ None) }
+        ensures told { IfOk result (λ decision. decision_of self.now.answers ≡ Some decision) }
+        ensures fault { IfErr result (IsPlanFaultOf (spec.refused_decide (Some self.now))) }
     {
         if self.decision.is_some() {
             return Err(PlanFault::Refused(PlanRefusal::Stranger));
         }
-        let Some(decision) = self.answers.decision(alloc)? else {
-            return Err(PlanFault::Refused(PlanRefusal::NoReplicaAnswered));
-        };
-        let told = decision.clone()?;
+        match self.answers.decision(alloc)? {
+            Some(decision) => Ok(decision),
+            None => Err(PlanFault::Refused(PlanRefusal::NoReplicaAnswered)),
+        }
+    }
+
+    // Keeps what the answers decide.
+    pub(crate) fn decide(&mut self, decision: Decision)
+        requires { decision_of self.old.answers ≡ Some decision }
+        ensures { self.new ≡ spec.with_decision self.old }
+    {
         self.decision = Some(decision);
-        Ok(told)
     }
 
     // Whether the plan is decided and a node takes part.

@@ -167,6 +167,29 @@ impl Plans {
         own.reply(stamp, node, answer)
     }
 
+    // What the answers of a plan decide, while it isn't decided.
+    fn decision(&self, block: BlockId, stamp: Stamp) -> Result<Decision, PlanFault>
+        ensures allowed { OnOk result (spec.refused_decide (plan_at block stamp self.now) ≡ None) }
+        ensures told { IfOk result (λ decision. option_and_then spec.decision_for (plan_at block stamp self.now) ≡ Some decision) }
+        ensures fault { IfErr result (IsPlanFaultOf (spec.refused_decide (plan_at block stamp self.now))) }
+    {
+        match self.get(block, stamp) {
+            Some(plan) => plan.decision(self.alloc),
+            None => Err(STRANGER),
+        }
+    }
+
+    /// Decides a plan by its answers, where what they decide was asked for at the plan itself. Costs a look-up, and takes no memory.
+    pub fn decide_as(&mut self, block: BlockId, stamp: Stamp, decision: Decision)
+        requires { option_and_then spec.decision_for (plan_at block stamp self.old) ≡ Some decision }
+        ensures { self.new ≡ with_plan_changed spec.with_decision block stamp self.old }
+    {
+        let Some(own) = self.of_block_mut(block) else {
+            unreachable!();
+        };
+        own.decide(stamp, decision);
+    }
+
     /// Decides by the answers that have come to which length the replicas are cut, and which nodes take part, by their ids. Costs a
     /// look-up, and the answers.
     ///
@@ -180,11 +203,10 @@ impl Plans {
         ensures fault { IfErr result (IsPlanFaultOf (spec.refused_decide (plan_at block stamp self.old))) }
         ensures err { OnErr result (self.new ≡ self.old) }
     {
-        let alloc = self.alloc;
-        let Some(own) = self.of_block_mut(block) else {
-            return Err(STRANGER);
-        };
-        own.decide(alloc, stamp)
+        let decision = self.decision(block, stamp)?;
+        let told = decision.clone()?;
+        self.decide_as(block, stamp, decision);
+        Ok(told)
     }
 
     /// Notes that a node has cut its replica to the length that was decided. Costs a look-up, and the nodes that take part.

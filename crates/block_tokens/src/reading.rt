@@ -53,10 +53,8 @@ fn user_name(bytes: &[u8]) -> Option<&str>
     if !is_who(bytes) {
         return None;
     }
-    match str::from_utf8(bytes) {
-        Ok(name) => Some(name),
-        Err(_) => unreachable!(),
-    }
+    // the bytes of a name are ASCII
+    Some(unsafe { str::from_utf8_unchecked(bytes) })
 }
 
 #[tactic(auto, unfolding(crate::specs::Reading::user_at))]

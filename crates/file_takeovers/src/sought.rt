@@ -128,8 +128,8 @@ fn add_held(
     Ok(())
 }
 
-/// Adds the files of these clients that are known, the last client first: clients who have opened files by turns have theirs before those that are
-/// there then.
+/// Adds the files of these clients that are known, the last client first: where clients opened files by turns, the paths of an earlier one come
+/// before those that are in the map by then.
 fn add_each_held(
     tree: &Tree,
     open_paths: &OpenPaths,

@@ -43,7 +43,8 @@ pub enum MessageSeen<'a> {
     Single(Single),
 }
 
-// How messages are kept. Most calls send one or two of a few numbers, which then take no memory of their own.
+// How messages are kept. What most calls send, if anything, is one or two of a few numbers, which then take no memory of their own. Reports and
+// replies stand here as variants, and not as one of `Single`, so that there is one tag and not two: a batch is eight bytes smaller.
 enum Kept {
     // A report to the NameNode.
     Report(NodeId, BlockId, Stamp, u64),

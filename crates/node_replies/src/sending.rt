@@ -79,7 +79,7 @@ pub fn reply_to(alloc: Global, call: &TokenCall, held: &Held) -> Result<NodeRepl
 // ---- messages
 
 // A call of a node, by who asks.
-fn passed_on(presented: &Presented, to: NodeId, call: TokenCall) -> Result<Message, AllocError>
+fn call_message(presented: &Presented, to: NodeId, call: TokenCall) -> Result<Message, AllocError>
     ensures { IfOk result (λ passed. passed ≡ message.Node to (Presenting presented.now call)) }
 {
     let presented = presented.clone()?;
@@ -95,7 +95,7 @@ fn pass_on(
 ) -> Result<Messages, AllocError>
     ensures { IfOk result (λ sent. sent ≡ message.Node to (Presenting presented.now call) ∷ []) }
 {
-    Messages::one(alloc, passed_on(presented, to, call)?)
+    Messages::one(alloc, call_message(presented, to, call)?)
 }
 
 fn forward_begin(
@@ -148,7 +148,7 @@ fn tell_finalized(
         [] => Ok(Messages::report(node, block, stamp, count)),
         [first, rest @ ..] => {
             let call = TokenCall::Finalize(count, NodeList::copied(alloc, rest)?);
-            let passed = passed_on(presented, *first, call)?;
+            let passed = call_message(presented, *first, call)?;
             Messages::two(alloc, passed, Message::Reported(node, block, stamp, count))
         }
     }

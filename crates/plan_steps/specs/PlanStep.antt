@@ -97,12 +97,15 @@ presented_by_leader leader block stamp token = record { caller = node_principal 
 abbrev pub to_each : Presented → TokenCall → List ℕ → List Message
 to_each presented asked nodes = map (λ node. message.Node node (Presenting presented asked)) nodes
 
+-- the nodes that take part are to bring their replicas to the length
+abbrev pub sent_on_decision : ℕ → ℕ → ℕ → Plan → List Message
+sent_on_decision leader block stamp own =
+    to_each (presented_by_leader leader block stamp own.token) (call.UpdateReplica (decision_there own).length) (decision_there own).nodes
+
 abbrev pub plan_sends : ℕ → PlanCall → PlanTable → List Message
 plan_sends leader (plan.Recover block stamp nodes token) plans = to_each (presented_by_leader leader block stamp token) call.InitRecovery nodes
 plan_sends leader (plan.Reply node block stamp state bytes) plans = []
-plan_sends leader (plan.Decide block stamp) plans =
-    let own = plan_there block stamp plans in
-    to_each (presented_by_leader leader block stamp own.token) (call.UpdateReplica (decision_there own).length) (decision_there own).nodes
+plan_sends leader (plan.Decide block stamp) plans = sent_on_decision leader block stamp (plan_there block stamp plans)
 plan_sends leader (plan.Updated node block stamp) plans = []
 plan_sends leader (plan.Commit block stamp) plans =
     let own = commit_there (plan_there block stamp plans) in

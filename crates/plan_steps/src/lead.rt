@@ -1,4 +1,5 @@
-ghost use Rattle.std.specs.Prelude.{◌≡◌, [], IfOk, OnOk, OnErr, Ok, Err};
+ghost use Rattle.std.specs.Prelude.{◌≡◌, [], IfOk, IfErr, OnOk, OnErr, Ok, Err, Some, None, option_and_then};
+ghost use Rattle.block_recovery.specs.Plans.{IsPlanFaultOf, plan_at, refused_decide, decision_for};
 ghost use Rattle.node_calls.specs.declared.call.PlanCall.TheVariants as asked;
 ghost use Rattle.plan_steps.specs.PlanStep as spec;
 ghost use Rattle.plan_steps.specs.PlanStep.{plans_after, plan_answer};
@@ -7,7 +8,9 @@ use crate::answered::{PlanAnswered, PlanReply};
 use crate::orders::{inits, presenting, updates};
 use block_records::node_set::NodeSet;
 use block_recovery::answer::Answer;
+use block_recovery::decision::Decision;
 use block_recovery::fault::{PlanFault, PlanRefusal};
+use block_recovery::plan::Plan;
 use block_recovery::plans::Plans;
 use block_recovery::recover::Recover;
 use hdfs_values::ids::{BlockId, Stamp};
@@ -110,29 +113,47 @@ fn reply(
     }
 }
 
-// What the nodes that take part are sent once the plan is decided by the answers that it has.
+// What the answers of a plan decide that isn't decided, and what the nodes that take part are sent then.
+fn decision_with_updates(
+    alloc: Global,
+    plan: &Plan,
+    leader: NodeId,
+    block: BlockId,
+    stamp: Stamp,
+) -> Result<(Decision, Messages), PlanFault>
+    ensures allowed { OnOk result (refused_decide (Some plan.now) ≡ None) }
+    ensures told { IfOk result (λ decided. decision_for plan.now ≡ Some decided.0) }
+    ensures sent { IfOk result (λ decided. decided.1 ≡ spec.sent_on_decision leader block stamp plan.now) }
+    ensures fault { IfErr result (IsPlanFaultOf (refused_decide (Some plan.now))) }
+{
+    let decision = plan.decision(alloc)?;
+    let presented = presenting(alloc, leader, block, stamp, &plan.token)?;
+    let sent = updates(
+        alloc,
+        &presented,
+        decision.length,
+        decision.nodes.as_slice(),
+    )?;
+    Ok((decision, sent))
+}
+
+// The same of the plan of a block with a stamp.
 fn decided_updates(
     alloc: Global,
     plans: &Plans,
     leader: NodeId,
     block: BlockId,
     stamp: Stamp,
-) -> Result<Messages, AllocError>
-    ensures { IfOk result (λ sent. sent ≡ spec.plan_sends leader (asked.Decide block stamp) plans.now) }
+) -> Result<(Decision, Messages), PlanFault>
+    ensures allowed { OnOk result (refused_decide (plan_at block stamp plans.now) ≡ None) }
+    ensures told { IfOk result (λ decided. option_and_then decision_for (plan_at block stamp plans.now) ≡ Some decided.0) }
+    ensures sent { IfOk result (λ decided. decided.1 ≡ spec.plan_sends leader (asked.Decide block stamp) plans.now) }
+    ensures fault { IfErr result (IsPlanFaultOf (refused_decide (plan_at block stamp plans.now))) }
 {
-    let Some(plan) = plans.get(block, stamp) else {
-        return Ok(Messages::new(alloc));
-    };
-    let Some(decision) = plan.answers.decision(alloc)? else {
-        return Ok(Messages::new(alloc));
-    };
-    let presented = presenting(alloc, leader, block, stamp, &plan.token)?;
-    updates(
-        alloc,
-        &presented,
-        decision.length,
-        decision.nodes.as_slice(),
-    )
+    match plans.get(block, stamp) {
+        Some(plan) => decision_with_updates(alloc, plan, leader, block, stamp),
+        None => Err(PlanFault::Refused(PlanRefusal::Stranger)),
+    }
 }
 
 fn decide(
@@ -146,15 +167,17 @@ fn decide(
     ensures answer { IfOk result (λ answered. answered ≡ plan_answer leader (asked.Decide block stamp) plans.old) }
     ensures err { OnErr result (plans.new ≡ plans.old) }
 {
-    let messages = decided_updates(alloc, plans, leader, block, stamp)?;
-    match plans.decide(block, stamp) {
-        Ok(decision) => Ok(PlanAnswered {
-            result: Ok(PlanReply::Decided(decision)),
-            messages,
-        }),
-        Err(PlanFault::Refused(refusal)) => Ok(refuse(alloc, refusal)),
-        Err(PlanFault::OutOfMemory) => Err(AllocError),
-    }
+    let (decision, messages) = match decided_updates(alloc, plans, leader, block, stamp) {
+        Ok(decided) => decided,
+        Err(PlanFault::Refused(refusal)) => return Ok(refuse(alloc, refusal)),
+        Err(PlanFault::OutOfMemory) => return Err(AllocError),
+    };
+    let told = decision.clone()?;
+    plans.decide_as(block, stamp, decision);
+    Ok(PlanAnswered {
+        result: Ok(PlanReply::Decided(told)),
+        messages,
+    })
 }
 
 fn note_updated(
