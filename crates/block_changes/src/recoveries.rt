@@ -14,16 +14,11 @@ use recovery_queue::queue::RecoveryQueue;
 use std::alloc::{AllocError, Global};
 
 // The node that is to lead a recovery of a block.
-fn leader(
-    known: &KnownBlocks,
-    nodes: &Heartbeats,
-    block: BlockId,
-    now: Moment,
-) -> Result<Option<NodeId>, AllocError>
-    ensures { IfOk result (λ node. node ≡ spec.leader_of known.now nodes.now block now) }
+fn leader(known: &KnownBlocks, nodes: &Heartbeats, block: BlockId, now: Moment) -> Option<NodeId>
+    ensures { result ≡ spec.leader_of known.now nodes.now block now }
 {
     let Some(own) = known.get(block) else {
-        return Ok(None);
+        return None;
     };
     nodes.primary_of(own.expected.as_slice(), now)
 }
@@ -41,7 +36,7 @@ fn check(known: &KnownBlocks, block: BlockId) -> Result<(), BlockRefusal>
 
 /// Begins a recovery of a block under the next stamp, which is answered and which nobody has reported: of the expected nodes the live one
 /// that was heard of last is to lead it, and waits in the queue to be told so; a recovery of the block that waits for another node is
-/// forgotten. Costs a look-up for each two of the expected nodes, and one for each node that reported the block.
+/// forgotten. Costs a look-up for each of the expected nodes, and one for each node that reported the block.
 ///
 /// # Errors
 /// `NotFound` where the block isn't known, `Spent` of stamps, `TooFewNodes` where no expected node is live, or out of memory. Nothing
@@ -63,7 +58,7 @@ pub fn begin(
     if let Err(refusal) = check(known, block) {
         return Err(BlockFault::Refused(refusal));
     }
-    let Some(primary) = leader(known, nodes, block, now)? else {
+    let Some(primary) = leader(known, nodes, block, now) else {
         return Err(BlockFault::Refused(BlockRefusal::TooFewNodes));
     };
     Ok(known.begin_recovery(block, now, queue, primary)?)
@@ -81,7 +76,7 @@ fn led(
 {
     let mut led = Vec::new(alloc);
     for block in blocks {
-        if let Some(node) = leader(known, nodes, *block, now)? {
+        if let Some(node) = leader(known, nodes, *block, now) {
             led.push((*block, node))?;
         }
     }
@@ -89,7 +84,7 @@ fn led(
 }
 
 /// The recoveries that can begin of these blocks now, in this order, and nothing changes: of those that a live node can lead, as long as
-/// stamps are left; the others are passed over. Costs a look-up for each two of the expected nodes of each block.
+/// stamps are left; the others are passed over. Costs a look-up for each of the expected nodes of each block.
 ///
 /// # Errors
 /// Out of memory.

@@ -295,7 +295,7 @@ impl Blocks {
 
     /// Begins a recovery of a block under the next stamp, which is answered and which nobody has reported: of the expected nodes the
     /// live one that was heard of last is to lead it, and is told so with its next heartbeat. A recovery of the block that waits for
-    /// another node is forgotten. Costs a look-up for each two of the expected nodes, and one for each node that reported the block.
+    /// another node is forgotten. Costs a look-up for each of the expected nodes, and one for each node that reported the block.
     ///
     /// # Errors
     /// `NotFound` where the block isn't known, `Spent` of stamps, `TooFewNodes` where no expected node is live, or out of memory. Nothing

@@ -1,6 +1,6 @@
 ghost use Rattle.std.specs.Prelude.{◌≡◌, ◌==◌, ◌||◌, [], Some, filter, IfOk, OnOk, OnErr, IsSome};
-ghost use Rattle.std.specs.List.{find};
 ghost use Rattle.std.specs.Map.{keys_of};
+ghost use Rattle.std.specs.Option.{option_map};
 ghost use Rattle.block_records.specs.Numbers.{entry_at};
 ghost use Rattle.heartbeats.specs.Live as spec;
 
@@ -159,63 +159,61 @@ impl Heartbeats {
         }
     }
 
-    // The moment of a node's last heartbeat; 0 where it sent none.
-    fn last_of(&self, node: NodeId) -> u64
-        ensures { result ≡ spec.last_heard self.now node }
+    // Of the best so far of some nodes and another node, each with the moment of its last heartbeat, the one that is ahead; a node that
+    // isn't live is passed over.
+    fn better(
+        &self,
+        best: Option<(NodeId, Moment)>,
+        node: NodeId,
+        now: Moment,
+    ) -> Option<(NodeId, Moment)>
+        ensures { result ≡ spec.better self.now now best node }
     {
-        match place_of(&self.last, node) {
-            Ok(at) => self.last[at].1.milliseconds(),
-            Err(_) => 0,
+        let Ok(at) = place_of(&self.last, node) else {
+            return best;
+        };
+        let last = self.last[at].1;
+        if !self.is_recent(last, now) {
+            return best;
         }
+        Some(ahead(node, last, best))
     }
 
-    // Whether a node was heard of later than another, or as late and has the lower id.
-    fn is_ahead(&self, node: NodeId, other: NodeId) -> bool
-        ensures { result ≡ spec.is_heard_later self.now node other }
+    /// Of these nodes the live one that was heard of last, ties to the lowest id; `None` where none is live. Costs a look-up for each of
+    /// them, and takes no memory.
+    pub fn primary_of(&self, nodes: &[NodeId], now: Moment) -> Option<NodeId>
+        ensures { result ≡ spec.primary_of self.now now nodes.now }
     {
-        let (own, others) = (self.last_of(node), self.last_of(other));
-        others < own || others == own && node < other
-    }
-
-    // Whether none of these nodes is ahead of one.
-    fn leads(&self, node: NodeId, nodes: &[NodeId]) -> bool
-        ensures { result ≡ spec.is_heard_last self.now nodes.now node }
-    {
-        for other in nodes {
-            if self.is_ahead(*other, node) {
-                return false;
-            }
+        let mut best = None;
+        for node in nodes {
+            best = self.better(best, *node, now);
         }
-        true
-    }
-
-    // Those of these nodes that are live.
-    fn live_among(&self, nodes: &[NodeId], now: Moment) -> Result<Vec<NodeId>, AllocError>
-        ensures { IfOk result (λ live. live.items ≡ filter (spec.is_live self.now now) nodes.now) }
-    {
-        nodes
-            .iter()
-            .copied()
-            .filter(|node| self.is_live(*node, now))
-            .collect(self.alloc)
-    }
-
-    /// Of these nodes the live one that was heard of last, ties to the lowest id; `None` where none is live. Costs a look-up for each two
-    /// of them.
-    ///
-    /// # Errors
-    /// Out of memory.
-    pub fn primary_of(&self, nodes: &[NodeId], now: Moment) -> Result<Option<NodeId>, AllocError>
-        ensures { IfOk result (λ primary. primary ≡ spec.primary_of self.now now nodes.now) }
-    {
-        let live = self.live_among(nodes, now)?;
-        Ok(first_that_leads(self, &live))
+        node_of(best)
     }
 }
 
-// The first of these nodes that no other of them is ahead of.
-fn first_that_leads(beats: &Heartbeats, nodes: &[NodeId]) -> Option<NodeId>
-    ensures { result ≡ find (spec.is_heard_last beats.now nodes.now) nodes.now }
+// The node without its moment.
+fn node_of(best: Option<(NodeId, Moment)>) -> Option<NodeId>
+    ensures { result ≡ option_map (λ own. own.0) best }
 {
-    nodes.iter().copied().find(|node| beats.leads(*node, nodes))
+    match best {
+        Some((node, _)) => Some(node),
+        None => None,
+    }
+}
+
+// A live node, with the moment of its last heartbeat, or the best so far where that was heard of later, or as late and has the lower id.
+fn ahead(node: NodeId, last: Moment, best: Option<(NodeId, Moment)>) -> (NodeId, Moment)
+    ensures { Some result ≡ spec.ahead (node, last) best }
+{
+    match best {
+        Some((other, others)) => {
+            if others < last || others == last && node < other {
+                (node, last)
+            } else {
+                (other, others)
+            }
+        }
+        None => (node, last),
+    }
 }
