@@ -5,7 +5,8 @@ use Rattle.std.proofs.lemmas.List.{drop_all}
 use Rattle.std.specs.List.{list_any, find, fold}
 use Rattle.std.specs.Option.{option_map}
 use Rattle.block_records.specs.Numbers.{entry_at}
-use Rattle.heartbeats.specs.Live.{Heartbeats, is_recent, is_live, last_heard, is_heard_later, is_heard_last, primary_of, ahead, better}
+use Rattle.heartbeats.specs.Live.{Heartbeats, is_recent, is_live, last_heard, is_heard_later, is_heard_last, primary_of}
+use Rattle.heartbeats.specs.Best.{ahead, better}
 
 -- ---- one node more
 

@@ -1,7 +1,7 @@
 -- The DataNodes by their heartbeats: which are live, and which of some was heard of last.
 -- (HDFS Architecture, "Data Disk Failure, Heartbeats and Re-Replication"; that the recovery of a block is led by the node that was
 -- heard of last is HDFS-265.)
-use Rattle.std.specs.Prelude.{ℕ, ◌==◌, ◌-◌, Bool, false, ◌&&◌, ◌||◌, if◌then◌else◌, not, nat_le, nat_lt, List, filter, Option, Some, None, unwrap_or}
+use Rattle.std.specs.Prelude.{ℕ, ◌==◌, ◌-◌, Bool, false, ◌&&◌, ◌||◌, not, nat_le, nat_lt, List, filter, Option, Some, None, unwrap_or}
 use Rattle.std.specs.BTreeMap.{insert_entry}
 use Rattle.std.specs.List.{list_any, find}
 use Rattle.std.specs.Map.{keys_of}
@@ -46,14 +46,3 @@ is_heard_last nodes some node = not (list_any (λ other. is_heard_later nodes ot
 -- of some nodes the live one that no other live one is ahead of
 abbrev pub primary_of : Heartbeats → ℕ → List ℕ → Option ℕ
 primary_of nodes now some = find (is_heard_last nodes (filter (is_live nodes now) some)) (filter (is_live nodes now) some)
-
--- ---- the same node as one pass over some nodes finds it
-
--- a live node, with the moment of its last heartbeat, or the best so far, by which of them is ahead
-abbrev pub ahead : ℕ × ℕ → Option (ℕ × ℕ) → Option (ℕ × ℕ)
-ahead own None = Some own
-ahead own (Some best) = if nat_lt best.1 own.1 || ((best.1 == own.1) && nat_lt own.0 best.0) then Some own else Some best
-
--- the best so far and behind another node, which counts where it is live
-abbrev pub better : Heartbeats → ℕ → Option (ℕ × ℕ) → ℕ → Option (ℕ × ℕ)
-better nodes now best node = if is_live nodes now node then ahead (node, last_heard nodes node) best else best

@@ -2,6 +2,7 @@ ghost use Rattle.std.specs.Prelude.{◌≡◌, ◌==◌, ◌||◌, [], Some, fil
 ghost use Rattle.std.specs.Map.{keys_of};
 ghost use Rattle.std.specs.Option.{option_map};
 ghost use Rattle.block_records.specs.Numbers.{entry_at};
+ghost use Rattle.heartbeats.specs.Best as best_spec;
 ghost use Rattle.heartbeats.specs.Live as spec;
 
 use block_records::node_set::NodeSet;
@@ -167,7 +168,7 @@ impl Heartbeats {
         node: NodeId,
         now: Moment,
     ) -> Option<(NodeId, Moment)>
-        ensures { result ≡ spec.better self.now now best node }
+        ensures { result ≡ best_spec.better self.now now best node }
     {
         let Ok(at) = place_of(&self.last, node) else {
             return best;
@@ -204,7 +205,7 @@ fn node_of(best: Option<(NodeId, Moment)>) -> Option<NodeId>
 
 // A live node, with the moment of its last heartbeat, or the best so far where that was heard of later, or as late and has the lower id.
 fn ahead(node: NodeId, last: Moment, best: Option<(NodeId, Moment)>) -> (NodeId, Moment)
-    ensures { Some result ≡ spec.ahead (node, last) best }
+    ensures { Some result ≡ best_spec.ahead (node, last) best }
 {
     match best {
         Some((other, others)) => {

@@ -1,6 +1,6 @@
 use Rattle.std.proofs.Common.{◌≡◌, None, drop}
 use Rattle.std.specs.List.{fold}
-use Rattle.heartbeats.specs.Live.{better}
+use Rattle.heartbeats.specs.Best.{better}
 use Rattle.heartbeats.proofs.heartbeats.Heartbeats.primary_of.Given as goal
 
 abbrev pub invariant-loop-node : goal.invariant-loop-node
