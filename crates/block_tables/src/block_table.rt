@@ -49,21 +49,11 @@ impl Model for BlockTable {
     ghost invariant = { λ table. IsIndexed table.records.entries table.held };
 }
 
-// Gives a block what a recovery leaves of it; nothing changes where it isn't known.
-fn set_recovered(
-    records: &mut BTreeMap<BlockId, BlockRecord>,
-    block: BlockId,
-    bytes: u64,
-    nodes: NodeSet,
-    reports: Reports,
-)
-    requires { IfSome (entry_at block records.old.entries) (λ own. reports ≡ with_reports_of nodes bytes (agreeing_reports bytes own.reports)) }
-    ensures changed { records.new.entries ≡ with_record_changed (with_recovered bytes nodes) block records.old.entries }
-    ensures others { IfSome (entry_at block records.old.entries) (λ own. (q : ℕ) → entry_at q records.new.entries ≡ (if is_number block q then Some (with_recovered bytes nodes own) else entry_at q records.old.entries)) }
+// Gives a block what a recovery leaves of it.
+fn set_recovered(own: &mut BlockRecord, bytes: u64, nodes: NodeSet, reports: Reports)
+    requires { reports ≡ with_reports_of nodes bytes (agreeing_reports bytes own.old.reports) }
+    ensures { own.new ≡ with_recovered bytes nodes own.old }
 {
-    let Some(own) = records.get_mut(&block) else {
-        return;
-    };
     own.committed = Some(bytes);
     own.recovering = None;
     own.expected = nodes;
@@ -442,12 +432,12 @@ impl BlockTable {
         ensures marked { OnOk result (marks.new ≡ with_marks marks.old more.items) }
         ensures err { OnErr result ((self.new ≡ self.old) × (marks.new ≡ marks.old)) }
     {
-        let Some(own) = self.records.get(&block) else {
+        let Some(own) = self.records.get_mut(&block) else {
             return marks.add_all(more);
         };
         let left = recovered(alloc, own, bytes, nodes.as_slice())?;
         reassign(&mut self.held, block, &left.fresh, &left.gone, marks, more)?;
-        set_recovered(&mut self.records, block, bytes, nodes, left.reports);
+        set_recovered(own, bytes, nodes, left.reports);
         Ok(())
     }
 
