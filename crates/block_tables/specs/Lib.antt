@@ -1,3 +1,4 @@
+pub mod Ample
 pub mod Changes
 pub mod Kept
 pub mod Recovered

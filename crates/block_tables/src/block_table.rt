@@ -8,6 +8,7 @@ ghost use Rattle.block_records.specs.Verdicts.{verdict_by};
 ghost use Rattle.block_records.specs.Numbers.{is_number, has_number, entry_at};
 ghost use Rattle.block_placement.specs.Placement.{beside, is_chosen, targets};
 ghost use Rattle.block_placement.specs.declared.candidate.Candidate.{Candidate};
+ghost use Rattle.block_tables.specs.Ample.{is_ample};
 ghost use Rattle.block_tables.specs.Kept.{holds, load, load_without, blocks_on};
 ghost use Rattle.block_index.specs.Relation.{relates};
 ghost use Rattle.block_tables.specs.Recovered.{AreRecovered, AreFresh, AreGone};
@@ -47,6 +48,16 @@ impl Model for BlockTable {
     ghost view = { λ table. table.records.entries };
 
     ghost invariant = { λ table. IsIndexed table.records.entries table.held };
+}
+
+// Whether a block isn't committed, or as many nodes reported it as there are to be replicas.
+fn is_ample(own: &BlockRecord) -> bool
+    ensures told { result ≡ is_ample (Some own.now) }
+    ensures ascending { IsStrictlySortedBy nat_cmp (keys_of own.now.reports) }
+{
+    // its contract tells that the ids ascend, also where the block isn't committed
+    let count = own.reports.len();
+    own.committed.is_none() || usize::from(own.replication.get()) <= count
 }
 
 // Gives a block what a recovery leaves of it.
@@ -399,23 +410,27 @@ impl BlockTable {
         self.held.remove_unexpected(others, &own.expected, block);
     }
 
-    /// Gives a block a newer stamp, which nobody has reported, and notes that a recovery of it begins. Costs a look-up for each node that
-    /// reported it, and takes no memory.
-    pub fn begin_recovery(&mut self, block: BlockId, stamp: Stamp, now: Moment)
-        ensures { self.new ≡ with_record_changed (with_recovery stamp now) block self.old }
+    /// Gives a block a newer stamp, which nobody has reported, and notes that a recovery of it begins. Whether it has enough reports still,
+    /// as where it isn't committed or isn't known, is told, since its record is at hand. Costs a look-up for each node that reported it,
+    /// and takes no memory.
+    pub fn begin_recovery(&mut self, block: BlockId, stamp: Stamp, now: Moment) -> bool
+        ensures begun { self.new ≡ with_record_changed (with_recovery stamp now) block self.old }
+        ensures ample { result ≡ is_ample (entry_at block self.new) }
+        ensures ascending { IfSome (entry_at block self.new) (λ own. IsStrictlySortedBy nat_cmp (keys_of own.reports)) }
     {
         let Some(own) = self.records.get_mut(&block) else {
-            return;
+            return true;
         };
         own.stamp = stamp;
         own.recovering = Some(now);
         self.held
             .end_reports(&mut own.reports, &own.expected, block);
+        is_ample(own)
     }
 
     /// Ends the recovery of a block with this length, in which these nodes took part: they are to hold it, and report it, as do those
-    /// that reported that length. Marks that come with it are added, or nothing changes. Costs a look-up for each node that holds the
-    /// block, before or behind it.
+    /// that reported that length. Whether the block has enough reports then, as where it isn't known, is told, since its record is at hand.
+    /// Marks that come with it are added, or nothing changes. Costs a look-up for each node that holds the block, before or behind it.
     ///
     /// # Errors
     /// Out of memory. Nothing has changed then.
@@ -427,18 +442,21 @@ impl BlockTable {
         nodes: NodeSet,
         marks: &mut Marks,
         more: Vec<Mark>,
-    ) -> Result<(), AllocError>
+    ) -> Result<bool, AllocError>
         ensures ok { OnOk result (self.new ≡ with_record_changed (with_recovered bytes nodes) block self.old) }
+        ensures ample { IfOk result (λ ample. ample ≡ is_ample (entry_at block self.new)) }
+        ensures ascending { OnOk result (IfSome (entry_at block self.new) (λ own. IsStrictlySortedBy nat_cmp (keys_of own.reports))) }
         ensures marked { OnOk result (marks.new ≡ with_marks marks.old more.items) }
         ensures err { OnErr result ((self.new ≡ self.old) × (marks.new ≡ marks.old)) }
     {
         let Some(own) = self.records.get_mut(&block) else {
-            return marks.add_all(more);
+            marks.add_all(more)?;
+            return Ok(true);
         };
         let left = recovered(alloc, own, bytes, nodes.as_slice())?;
         reassign(&mut self.held, block, &left.fresh, &left.gone, marks, more)?;
         set_recovered(own, bytes, nodes, left.reports);
-        Ok(())
+        Ok(is_ample(own))
     }
 
     /// Notes that nodes are told now to copy these blocks; of those that aren't known nothing is noted. Costs a look-up for each, and takes

@@ -1,8 +1,11 @@
 -- The blocks that too few nodes report are listed, behind a change of one block.
-use Rattle.std.proofs.Common.{◌≡◌, ◌≤◌, ◌∙◌, ℕ, Bool, true, false, List, [], ◌∷◌, length, Option, Some, None, refl, sym, ap, subst, cond, true≢false, arith}
+use Rattle.std.proofs.Common.{◌≡◌, ◌≤◌, ◌∙◌, ◌||◌, ℕ, Bool, true, false, nat_le, List, [], ◌∷◌, length, Option, Some, None, IfSome, refl, sym, ap, subst, cond, true≢false, arith}
+use Rattle.std.proofs.lemmas.Bool.{leb-true}
 use Rattle.std.specs.BTreeMap.{insert_entry}
 use Rattle.std.specs.List.{list_any}
-use Rattle.std.specs.Option.{is_some}
+use Rattle.std.specs.List.Sorted.{IsStrictlySortedBy}
+use Rattle.std.specs.Map.{keys_of}
+use Rattle.std.specs.Option.{is_some, is_none}
 use Rattle.std.specs.Ordering.{nat_cmp, match_ordering}
 use Rattle.std.specs.declared.cmp.Ordering.{Ordering}
 use Rattle.std.specs.declared.cmp.Ordering.TheVariants.{Less, Equal, Greater}
@@ -13,6 +16,7 @@ use Rattle.block_records.specs.declared.report.ReportVerdict.{ReportVerdict}
 use Rattle.block_records.specs.declared.report.ReportVerdict.TheVariants.{Superseded, Invalid, Valid}
 use Rattle.block_records.proofs.Numbers.{number_is}
 use Rattle.block_records.proofs.Standing.{inserted_ordered}
+use Rattle.block_tables.specs.Ample.{is_ample}
 use Rattle.block_tables.specs.Changes.{with_record_changed, changed_by, with_report, with_valid_report, valid_by, with_hand_out, with_hand_outs}
 use Rattle.scarce_blocks.specs.Scarce.{IsAmple, AreAmple, AreOthersAmple}
 use Rattle.scarce_blocks.proofs.Stays.{put_at, others_stay}
@@ -52,6 +56,15 @@ ample_more block table scarce more put law q unlisted = by (is_number block q) r
 
 pub uncommitted : (own : BlockRecord) → is_some own.committed ≡ false → IsAmple (Some own)
 uncommitted own none some = absurd (true≢false (sym some ∙ none))
+
+-- what the table tells of it
+pub told_ample : (found : Option BlockRecord) → IfSome found (λ own. IsStrictlySortedBy nat_cmp (keys_of own.reports)) → is_ample found ≡ true → IsAmple found
+told_ample None up told = tt
+told_ample (Some own) up told = λ some. (enough own.committed some told, up)
+  where
+    enough : (committed : Option ℕ) → is_some committed ≡ true → (is_none committed || nat_le own.replication (length own.reports)) ≡ true → own.replication ≤ length own.reports
+    enough None some many = absurd (true≢false (sym some))
+    enough (Some bytes) some many = leb-true own.replication (length own.reports) many
 
 -- ---- a report more
 

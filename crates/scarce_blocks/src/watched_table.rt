@@ -1,4 +1,4 @@
-ghost use Rattle.std.specs.Prelude.{◌≡◌, ◌<◌, ℕ, true, false, [], Some, None, length, if◌then◌else◌, option_copied, IsTrue, IfSome, IfOk, OnOk, OnErr};
+ghost use Rattle.std.specs.Prelude.{◌≡◌, ◌<◌, ℕ, List, true, false, [], Some, None, length, if◌then◌else◌, option_copied, IsTrue, IfSome, IfOk, OnOk, OnErr};
 ghost use Rattle.std.specs.BTreeMap.{insert_entry};
 ghost use Rattle.std.specs.List.{list_any};
 ghost use Rattle.std.specs.List.Sorted.{IsStrictlySortedBy};
@@ -7,6 +7,7 @@ ghost use Rattle.std.specs.Ordering.{nat_cmp};
 ghost use Rattle.block_records.specs.Marks.{with_marks};
 ghost use Rattle.block_records.specs.Numbers.{is_number, entry_at};
 ghost use Rattle.block_records.specs.Reports.{others_of};
+ghost use Rattle.block_records.specs.declared.block_record.BlockRecord.{BlockRecord};
 ghost use Rattle.block_records.specs.Verdicts.{verdict_by};
 ghost use Rattle.block_placement.specs.Placement.{targets};
 ghost use Rattle.block_tables.specs.Changes.{with_record_changed, with_valid_report, without_report, with_replication, with_length, with_recovery, with_recovered, with_hand_outs};
@@ -58,16 +59,23 @@ fn is_ample(table: &BlockTable, block: BlockId) -> bool
     own.committed.is_none() || usize::from(own.replication.get()) <= own.reports.len()
 }
 
+// Lists a block no more where it is told to be ample, and else lists it.
+fn watch_as(ample: bool, scarce: &mut BlockSet, complete: &mut bool, block: BlockId)
+    ensures { (table : List (ℕ × BlockRecord)) → (IsTrue ample → IsAmple (entry_at block table)) → (complete.old ≡ true → AreOthersAmple block table scarce.old) → complete.new ≡ true → AreAmple table scarce.new }
+{
+    if ample {
+        scarce.remove(block);
+    } else if scarce.insert(block).is_err() {
+        *complete = false;
+    }
+}
+
 // Lists a block that changed where too few nodes report it, and else lists it no more.
 fn watch(table: &BlockTable, scarce: &mut BlockSet, complete: &mut bool, block: BlockId)
     requires { complete.old ≡ true → AreOthersAmple block table.now scarce.old }
     ensures { complete.new ≡ true → AreAmple table.now scarce.new }
 {
-    if is_ample(table, block) {
-        scarce.remove(block);
-    } else if scarce.insert(block).is_err() {
-        *complete = false;
-    }
+    watch_as(is_ample(table, block), scarce, complete, block);
 }
 
 impl WatchedTable {
@@ -243,8 +251,8 @@ impl WatchedTable {
     pub fn begin_recovery(&mut self, block: BlockId, stamp: Stamp, now: Moment)
         ensures { self.new ≡ with_record_changed (with_recovery stamp now) block self.old }
     {
-        self.table.begin_recovery(block, stamp, now);
-        watch(&self.table, &mut self.scarce, &mut self.complete, block);
+        let ample = self.table.begin_recovery(block, stamp, now);
+        watch_as(ample, &mut self.scarce, &mut self.complete, block);
     }
 
     /// Ends the recovery of a block with this length, in which these nodes took part: they are to hold it, and report it, as do those
@@ -266,9 +274,10 @@ impl WatchedTable {
         ensures marked { OnOk result (marks.new ≡ with_marks marks.old more.items) }
         ensures err { OnErr result ((self.new ≡ self.old) × (marks.new ≡ marks.old)) }
     {
-        self.table
+        let ample = self
+            .table
             .end_recovery(alloc, block, bytes, nodes, marks, more)?;
-        watch(&self.table, &mut self.scarce, &mut self.complete, block);
+        watch_as(ample, &mut self.scarce, &mut self.complete, block);
         Ok(())
     }
 
