@@ -1,12 +1,14 @@
 -- Cutting a line at spaces, and each piece at tabs, is cutting it at both at once.
-use Rattle.std.proofs.Common.{◌≡◌, ◌<◌, ◌+◌, ◌-◌, ℕ, List, [], ◌∷◌, ◌++◌, Bool, true, false, cond, length, get_or, take, drop, refl, sym, ap, ◌∙◌, subst, arith}
+use Rattle.std.proofs.Common.{◌≡◌, ◌<◌, ◌≤◌, ◌+◌, ◌-◌, ℕ, List, [], ◌∷◌, ◌++◌, Bool, true, false, cond, length, get_or, take, drop, refl, sym, ap, ◌∙◌, subst, arith}
 use Rattle.std.specs.Prelude.{◌==◌, ◌||◌, filter, slice_range}
 use Rattle.std.specs.List.{flat_map, onto_first, position_or_len, slice_split}
 use Rattle.std.specs.Str.{IsUtf8, IsCharBoundary}
 use Rattle.std.proofs.lemmas.Bool.Decides.{nat_tests}
 use Rattle.std.proofs.lemmas.List.Splits.{length-slice_split, slice_split_first, slice_split_none}
-use Rattle.std.proofs.lemmas.List.Sums.{fails_before_first, passes_at_first}
+use Rattle.std.proofs.lemmas.List.{get_or-drop}
+use Rattle.std.proofs.lemmas.List.Sums.{fails_before_first, passes_at_first, position_or_len_is}
 use Rattle.std.proofs.lemmas.Str.{IsCharBoundary-before_ascii, IsCharBoundary-after_ascii}
+use Rattle.script_words.specs.Blanks.{IsNextBlank}
 use Rattle.script_words.specs.Words.{pieces_at, blank_pieces, is_blank, is_filled, words_of}
 
 onto_more : (b : ℕ) (xs ys : List (List ℕ)) → 0 < length xs → onto_first b xs ++ ys ≡ onto_first b (xs ++ ys)
@@ -39,6 +41,21 @@ pub words_are : (line : List ℕ) → words_of line ≡ filter is_filled (blank_
 words_are line = ap (filter is_filled) (cut_at_once line)
 
 -- ---- the first blank
+
+-- the next blank of a line from where its end begins is the first blank of this end
+pub first_of_end : (line rest : List ℕ) (at : ℕ) → length rest ≤ length line → rest ≡ drop (length line - length rest) line → IsNextBlank line (length line - length rest) at
+    → at - (length line - length rest) ≡ position_or_len is_blank rest
+first_of_end line rest at fits is next =
+    sym (position_or_len_is is_blank rest (at - from) 0 (omega (arith, next.low, next.high, fits))
+    (λ k lt. ap is_blank (byte k) ∙ next.passed (from + k) (omega arith) (omega (arith, next.low, lt)))
+    (λ lt. let there : from + (at - from) ≡ at = omega (arith, next.low) in
+    ap is_blank (byte (at - from) ∙ ap (λ n. get_or line n 0) there) ∙ next.there (omega (arith, next.low, fits, lt))))
+  where
+    from : ℕ
+    from = length line - length rest
+
+    byte : (k : ℕ) → get_or rest k 0 ≡ get_or line (from + k) 0
+    byte k = ap (λ text. get_or text k 0) is ∙ get_or-drop from line k 0
 
 is_low : (byte : ℕ) → is_blank byte ≡ true → byte < 128
 is_low byte h = grind (arith, nat_tests, h)

@@ -3,5 +3,6 @@
 
 pub mod acl_words;
 pub mod groups_word;
+mod next_blank;
 pub mod values;
 pub mod words;

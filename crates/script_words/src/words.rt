@@ -1,8 +1,8 @@
 ghost use Rattle.std.specs.Prelude.{◌≡◌, ◌≢◌, ◌<◌, ◌≤◌, ℕ, List, [], ◌∷◌, ◌++◌, IfOk, IfSome, OnOk, MatchOption, length, map, filter};
-ghost use Rattle.std.specs.List.{position_or_len};
 ghost use Rattle.hdfs_values.specs.Text.{same};
 ghost use Rattle.script_words.specs.Words as spec;
 
+use crate::next_blank::cut_at_blank;
 use hdfs_values::pieces::cut_at;
 use std::alloc::{AllocError, Global};
 
@@ -23,41 +23,6 @@ pub fn pieces_between(alloc: Global, text: &str, separator: char) -> Result<Vec<
     }
     pieces.push(rest)?;
     Ok(pieces)
-}
-
-/// Whether a byte stands between words: a space or a tab.
-fn is_blank(byte: u8) -> bool
-    ensures { result ≡ spec.is_blank byte }
-{
-    byte == b' ' || byte == b'\t'
-}
-
-/// Where the first blank stands; the length where there is none.
-fn blank_at(text: &[u8]) -> usize
-    ensures place { result ≡ position_or_len spec.is_blank text.now }
-    ensures bound { result ≤ length text.now }
-{
-    let mut at = 0;
-    while at < text.len() {
-        if is_blank(text[at]) {
-            return at;
-        }
-        at += 1;
-    }
-    at
-}
-
-/// What stands before the first blank, and what stands behind it.
-fn cut_at_blank(text: &str) -> Option<(&str, &str)>
-    ensures pieces { MatchOption result (spec.blank_pieces text.now ≡ text.now ∷ [])
-        (λ cut. spec.blank_pieces text.now ≡ cut.0.now ∷ spec.blank_pieces cut.1.now) }
-    ensures shorter { IfSome result (λ cut. length cut.1.now < length text.now) }
-{
-    let at = blank_at(text.as_bytes());
-    if at == text.len() {
-        return None;
-    }
-    Some((&text[..at], &text[at + 1..]))
 }
 
 fn push_filled<'a>(words: &mut Vec<&'a str>, piece: &'a str) -> Result<(), AllocError>
@@ -82,7 +47,7 @@ pub fn put_words<'a>(words: &mut Vec<&'a str>, line: &'a str) -> Result<(), Allo
 {
     words.clear();
     let mut rest = line;
-    while let Some((piece, behind)) = cut_at_blank(rest) {
+    while let Some((piece, behind)) = cut_at_blank(line, rest) {
         push_filled(words, piece)?;
         rest = behind;
     }
