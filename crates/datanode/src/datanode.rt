@@ -24,7 +24,7 @@ use node_calls::message::Messages;
 use node_calls::node_list::NodeList;
 use node_calls::presented::{Presented, PresentedToken};
 use node_calls::principal::principal_of;
-use node_calls::refusal::NodeRefusal;
+use node_calls::refusal::{Barred, NodeRefusal};
 use node_calls::reply::NodeReply;
 use node_ids::node_id::NodeId;
 use node_replies::{asking, sending};
@@ -354,7 +354,7 @@ impl DataNode {
         ensures err { OnErr result (self.new ≡ self.old) }
     {
         if let Err(refusal) = self.judge(clock, presented, call) {
-            return Ok(self.refuse(clock, NodeRefusal::Token(refusal)));
+            return Ok(self.refuse(clock, NodeRefusal::Token(Barred::by(refusal))));
         }
         let answered = self.serve_taken(clock, presented, call)?;
         self.move_on(clock);

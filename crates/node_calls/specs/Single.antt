@@ -2,6 +2,7 @@
 use Rattle.std.specs.Prelude.{List, [], ◌∷◌}
 use denote.Ref.{Bor}
 use Rattle.node_calls.specs.declared.call.PlanCall.TheVariants as plan
+use Rattle.node_calls.specs.declared.call.ReplicaState.TheVariants.{Writing, Finalized}
 use Rattle.node_calls.specs.declared.message.Kept.{Kept}
 use Rattle.node_calls.specs.declared.message.Kept.TheVariants as kept
 use Rattle.node_calls.specs.declared.message.Message.{Message}
@@ -26,8 +27,9 @@ update_messages own =
 
 -- the messages that are kept
 abbrev pub kept_messages : Kept → List Message
-kept_messages (kept.Report node block stamp bytes) = message.Reported node block stamp bytes ∷ []
-kept_messages (kept.Reply state leader node block stamp bytes) = message.Plan leader (plan.Reply node block stamp state bytes) ∷ []
+kept_messages (kept.Report block stamp bytes node) = message.Reported node block stamp bytes ∷ []
+kept_messages (kept.Written block stamp bytes leader node) = message.Plan leader (plan.Reply node block stamp Writing bytes) ∷ []
+kept_messages (kept.Finalized block stamp bytes leader node) = message.Plan leader (plan.Reply node block stamp Finalized bytes) ∷ []
 kept_messages (kept.Update own) = update_messages own
 kept_messages (kept.List messages) = messages.items
 

@@ -44,12 +44,16 @@ pub enum MessageSeen<'a> {
 }
 
 // How messages are kept. What most calls send, if anything, is one or two of a few numbers, which then take no memory of their own. Reports and
-// replies stand here as variants, and not as one of `Single`, so that there is one tag and not two: a batch is eight bytes smaller.
+// replies stand here as variants, and not as one of `Single`, so that there is one tag and not two: a batch is eight bytes smaller. In each
+// variant a number of eight bytes comes first, and the state of a replica is told by the variant: they are moved several times, and where
+// something stands right behind the tag, they are moved in pieces that aren't whole words, for which later loads wait.
 enum Kept {
-    // A report to the NameNode.
-    Report(NodeId, BlockId, Stamp, u64),
-    // How far a replica is, told to the DataNode that leads a recovery.
-    Reply(ReplicaState, NodeId, NodeId, BlockId, Stamp, u64),
+    // A report to the NameNode: the block, its stamp, the length, and the node that holds it.
+    Report(BlockId, Stamp, u64, NodeId),
+    // How far a replica is that is written: the block, its stamp, the length, the DataNode that leads the recovery, and the one that tells it.
+    Written(BlockId, Stamp, u64, NodeId, NodeId),
+    // The same of a finalized replica.
+    Finalized(BlockId, Stamp, u64, NodeId, NodeId),
     Update(Update),
     List(Vec<Message>),
 }
@@ -58,7 +62,8 @@ impl Drop for Kept {
     fn drop(self) {
         match self {
             Kept::Report(_, _, _, _) => {}
-            Kept::Reply(_, _, _, _, _, _) => {}
+            Kept::Written(_, _, _, _, _) => {}
+            Kept::Finalized(_, _, _, _, _) => {}
             Kept::Update(_) => {}
             Kept::List(messages) => drop(messages),
         }
@@ -165,7 +170,7 @@ impl Messages {
         ensures { result ≡ message.Reported node block stamp length ∷ [] }
     {
         Messages {
-            kept: Kept::Report(node, block, stamp, length),
+            kept: Kept::Report(block, stamp, length, node),
         }
     }
 
@@ -181,9 +186,11 @@ impl Messages {
     ) -> Messages
         ensures { result ≡ message.Plan leader (plan.Reply node block stamp state length) ∷ [] }
     {
-        Messages {
-            kept: Kept::Reply(state, leader, node, block, stamp, length),
-        }
+        let kept = match state {
+            ReplicaState::Writing => Kept::Written(block, stamp, length, leader, node),
+            ReplicaState::Finalized => Kept::Finalized(block, stamp, length, leader, node),
+        };
+        Messages { kept }
     }
 
     /// A node tells of an update. Takes no memory.
@@ -202,7 +209,8 @@ impl Messages {
     {
         match &self.kept {
             Kept::Report(_, _, _, _) => 1,
-            Kept::Reply(_, _, _, _, _, _) => 1,
+            Kept::Written(_, _, _, _, _) => 1,
+            Kept::Finalized(_, _, _, _, _) => 1,
             Kept::Update(_) => 2,
             Kept::List(messages) => messages.len(),
         }
@@ -213,11 +221,29 @@ impl Messages {
         ensures { option_map message_seen result ≡ slice_get self.now index }
     {
         match &self.kept {
-            Kept::Report(node, block, stamp, length) => {
+            Kept::Report(block, stamp, length, node) => {
                 only(Single::Report(*node, *block, *stamp, *length), index)
             }
-            Kept::Reply(state, leader, node, block, stamp, length) => only(
-                Single::Reply(*state, *leader, *node, *block, *stamp, *length),
+            Kept::Written(block, stamp, length, leader, node) => only(
+                Single::Reply(
+                    ReplicaState::Writing,
+                    *leader,
+                    *node,
+                    *block,
+                    *stamp,
+                    *length,
+                ),
+                index,
+            ),
+            Kept::Finalized(block, stamp, length, leader, node) => only(
+                Single::Reply(
+                    ReplicaState::Finalized,
+                    *leader,
+                    *node,
+                    *block,
+                    *stamp,
+                    *length,
+                ),
                 index,
             ),
             Kept::Update(update) => of_update(*update, index),

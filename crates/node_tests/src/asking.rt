@@ -12,7 +12,7 @@ use hdfs_values::who::Who;
 use node_calls::message::{Message, MessageSeen};
 use node_calls::node_list::NodeList;
 use node_calls::presented::{Presented, PresentedToken};
-use node_calls::refusal::{NodeRefusal, ReplicaRefusal};
+use node_calls::refusal::{Barred, NodeRefusal, ReplicaRefusal};
 use node_calls::reply::NodeReply;
 use node_calls::single::Single;
 use node_ids::node_id::NodeId;
@@ -184,7 +184,7 @@ fn refusal(answer: &Result<Answered, AllocError>) -> Option<NodeRefusal> {
 
 /// Whether a call was refused for its token, and sent nothing.
 pub fn is_barred(answer: Result<Answered, AllocError>, own: TokenRefusal) -> bool {
-    sent(&answer) == 0 && refusal(&answer) == Some(NodeRefusal::Token(own))
+    sent(&answer) == 0 && refusal(&answer) == Some(NodeRefusal::Token(Barred::by(own)))
 }
 
 /// Whether a call was refused for the replica, and sent nothing.
