@@ -312,7 +312,7 @@ impl Blocks {
 
     /// The recoveries that can begin of these blocks now, in this order: of each block of which an expected node is live, as long as
     /// stamps are left, with the stamp that it gets and the node that is to lead it; the others are passed over. Nothing changes:
-    /// `begin_recoveries` begins them. Costs a look-up for each two of the expected nodes of each block.
+    /// `begin_recoveries` begins them. Costs a look-up for each of the expected nodes of each block.
     ///
     /// # Errors
     /// Out of memory.

@@ -17,7 +17,7 @@ abbrev pub listed_nodes : Listed → List ℕ
 listed_nodes (listed.Few count nodes) = take count nodes
 listed_nodes (listed.Several nodes) = nodes.items
 
--- how many of them stand in the value is no more than have room there
+-- at most three stand in the value
 abbrev pub IsListed : Listed → Type 0
 IsListed (listed.Few count nodes) = count ≤ 3
 IsListed (listed.Several nodes) = ⊤

@@ -179,7 +179,8 @@ impl Plans {
         }
     }
 
-    /// Decides a plan by its answers, where what they decide was asked for at the plan itself. Costs a look-up, and takes no memory.
+    /// Has a plan keep what its answers decide, which is handed in: who has the plan asks `Plan::decision` for it. Costs a look-up, and takes
+    /// no memory.
     pub fn decide_as(&mut self, block: BlockId, stamp: Stamp, decision: Decision)
         requires { option_and_then spec.decision_for (plan_at block stamp self.old) ≡ Some decision }
         ensures { self.new ≡ with_plan_changed spec.with_decision block stamp self.old }

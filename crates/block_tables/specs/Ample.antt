@@ -1,4 +1,4 @@
--- Which blocks needn't be copied (HDFS Architecture, "Data Disk Failure, Heartbeats and Re-Replication").
+-- Which blocks have enough reports, of live nodes or not (HDFS Architecture, "Data Disk Failure, Heartbeats and Re-Replication").
 use Rattle.std.specs.Prelude.{◌||◌, Bool, true, nat_le, length, Option, Some, None}
 use Rattle.std.specs.Option.{is_none}
 use Rattle.block_records.specs.declared.block_record.BlockRecord.{BlockRecord}

@@ -410,9 +410,8 @@ impl BlockTable {
         self.held.remove_unexpected(others, &own.expected, block);
     }
 
-    /// Gives a block a newer stamp, which nobody has reported, and notes that a recovery of it begins. Whether it has enough reports still,
-    /// as where it isn't committed or isn't known, is told, since its record is at hand. Costs a look-up for each node that reported it,
-    /// and takes no memory.
+    /// Gives a block a newer stamp, which nobody has reported, and notes that a recovery of it begins. Answers whether the block has enough
+    /// reports then; `true` where it isn't committed or isn't known. Costs a look-up for each node that reported it, and takes no memory.
     pub fn begin_recovery(&mut self, block: BlockId, stamp: Stamp, now: Moment) -> bool
         ensures begun { self.new ≡ with_record_changed (with_recovery stamp now) block self.old }
         ensures ample { result ≡ is_ample (entry_at block self.new) }
@@ -429,8 +428,8 @@ impl BlockTable {
     }
 
     /// Ends the recovery of a block with this length, in which these nodes took part: they are to hold it, and report it, as do those
-    /// that reported that length. Whether the block has enough reports then, as where it isn't known, is told, since its record is at hand.
-    /// Marks that come with it are added, or nothing changes. Costs a look-up for each node that holds the block, before or behind it.
+    /// that reported that length. Marks that come with it are added, or nothing changes. Answers whether the block has enough reports then;
+    /// `true` where it isn't known. Costs a look-up for each node that holds the block, before or behind it.
     ///
     /// # Errors
     /// Out of memory. Nothing has changed then.

@@ -1,4 +1,5 @@
 -- Of some DataNodes the one that was heard of last, as one pass over them keeps the best so far.
+-- (That the recovery of a block is led by the node that was heard of last is HDFS-265.)
 use Rattle.std.specs.Prelude.{ℕ, ◌==◌, ◌&&◌, ◌||◌, nat_lt, Option, Some, None, if◌then◌else◌}
 use Rattle.heartbeats.specs.Live.{Heartbeats, is_live, last_heard}
 

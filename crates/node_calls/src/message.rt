@@ -44,9 +44,9 @@ pub enum MessageSeen<'a> {
 }
 
 // How messages are kept. What most calls send, if anything, is one or two of a few numbers, which then take no memory of their own. Reports and
-// replies stand here as variants, and not as one of `Single`, so that there is one tag and not two: a batch is eight bytes smaller. In each
-// variant a number of eight bytes comes first, and the state of a replica is told by the variant: they are moved several times, and where
-// something stands right behind the tag, they are moved in pieces that aren't whole words, for which later loads wait.
+// replies stand here as variants, and not as one of `Single`, so that there is one tag and not two: a batch is eight bytes smaller. What follows
+// the tag begins at a whole word: in reports and replies ids of nodes come last, and the variant tells the state of a replica. Messages are moved several times, and
+// where something stands right behind the tag, in pieces that aren't whole words, for which later loads wait.
 enum Kept {
     // A report to the NameNode: the block, its stamp, the length, and the node that holds it.
     Report(BlockId, Stamp, u64, NodeId),

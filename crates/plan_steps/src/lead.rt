@@ -137,7 +137,7 @@ fn decision_with_updates(
     Ok((decision, sent))
 }
 
-// The same of the plan of a block with a stamp.
+// What the answers of the plan of a block with a stamp decide, and what is sent then; refused where there is no such plan.
 fn decided_updates(
     alloc: Global,
     plans: &Plans,

@@ -7,7 +7,7 @@ use Rattle.std.proofs.lemmas.Bool.Decides.{nat_tests}
 use Rattle.std.proofs.lemmas.List.Splits.{length-slice_split, slice_split_first, slice_split_none}
 use Rattle.std.proofs.lemmas.List.{get_or-drop}
 use Rattle.std.proofs.lemmas.List.Sums.{fails_before_first, passes_at_first, position_or_len_is}
-use Rattle.std.proofs.lemmas.Str.{IsCharBoundary-before_ascii, IsCharBoundary-after_ascii}
+use Rattle.std.proofs.lemmas.Str.{IsCharBoundary-after_ascii}
 use Rattle.script_words.specs.Blanks.{IsNextBlank}
 use Rattle.script_words.specs.Words.{pieces_at, blank_pieces, is_blank, is_filled, words_of}
 
@@ -62,9 +62,6 @@ is_low byte h = grind (arith, nat_tests, h)
 
 low_at : (text : List ℕ) (at : ℕ) → at ≡ position_or_len is_blank text → at < length text → get_or text at 0 < 128
 low_at text at is lt = is_low (get_or text at 0) (subst (λ i. is_blank (get_or text i 0) ≡ true) (sym is) (passes_at_first is_blank text 0 (subst (λ i. i < length text) is lt)))
-
-pub can_cut_before : (text : List ℕ) (at : ℕ) → at ≡ position_or_len is_blank text → at < length text → IsCharBoundary text at
-can_cut_before text at is lt = IsCharBoundary-before_ascii text at lt (low_at text at is lt)
 
 pub can_cut_behind : (text : List ℕ) (at : ℕ) → IsUtf8 text → at ≡ position_or_len is_blank text → at < length text → IsCharBoundary text (at + 1)
 can_cut_behind text at utf8 is lt = IsCharBoundary-after_ascii text at utf8 lt (low_at text at is lt)

@@ -68,7 +68,7 @@ fn last_blanks<const N: usize>(line: &[u8], at: usize) -> u64
     from_bit(blanks_at::<N>(line, last), at - last)
 }
 
-/// The next blank of a line, so many bytes of which are looked at at once.
+/// The first blank of a line from a place on, where so many bytes are looked at at once.
 #[inline(always)]
 fn next_by<const N: usize>(line: &[u8], from: usize) -> usize
     requires some { 0 < N }
@@ -93,7 +93,7 @@ fn next_by<const N: usize>(line: &[u8], from: usize) -> usize
     at + lowest(blanks)
 }
 
-/// The next blank of a line, whose bytes are looked at one by one.
+/// The first blank of a line from a place on, where bytes are looked at one by one.
 fn next_by_one(line: &[u8], from: usize) -> usize
     requires { from ≤ length line.now }
     ensures { IsNextBlank line.now from result }
@@ -122,8 +122,8 @@ fn next_blank(line: &[u8], from: usize) -> usize
     next_by_one(line, from)
 }
 
-/// Of the end of a line what stands before its first blank, and what stands behind that. The bytes of the line before its end may be looked
-/// at once more, so that always sixteen are.
+/// Of the end of a line what stands before its first blank, and what stands behind that. It takes the whole line, since bytes before the end may
+/// be looked at once more.
 pub(crate) fn cut_at_blank<'a>(line: &str, rest: &'a str) -> Option<(&'a str, &'a str)>
     requires fits { length rest.now ≤ length line.now }
     requires end { rest.now ≡ drop (length line.now - length rest.now) line.now }

@@ -1,20 +1,7 @@
 import re,sys,collections,subprocess
+from costs import costs
 f,binp,per=sys.argv[1],sys.argv[2],int(sys.argv[3])
-cost=collections.Counter();addr=0;skip=False;ob=None;obs={}
-for l in open(f):
-    l=l.rstrip()
-    if l.startswith('ob='):
-        m=re.match(r'ob=\((\d+)\)(?: (.*))?',l)
-        if m.group(2): obs[m.group(1)]=m.group(2)
-        ob=obs.get(m.group(1))
-    elif l.startswith('calls='): skip=True
-    elif re.match(r'^(0x|\+|-|\*)',l):
-        p=l.split();a=p[0]
-        if a.startswith('0x'): addr=int(a,16)
-        elif a.startswith('+'): addr+=int(a[1:])
-        elif a.startswith('-'): addr-=int(a[1:])
-        if skip: skip=False; continue
-        cost[addr]+=int(p[2])
+cost=costs(f)
 dis=subprocess.run(['objdump','-d','--no-show-raw-insn',binp],capture_output=True,text=True).stdout
 kinds=collections.Counter()
 for l in dis.split('\n'):

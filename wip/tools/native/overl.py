@@ -1,40 +1,33 @@
-import re,sys,collections,subprocess
-f,binp=sys.argv[1],sys.argv[2]
-cost=collections.Counter();addr=0;skip=False;ob=None;obs={}
-for l in open(f):
-    l=l.rstrip()
-    if l.startswith('ob='):
-        m=re.match(r'ob=\((\d+)\)(?: (.*))?',l)
-        if m.group(2): obs[m.group(1)]=m.group(2)
-        ob=obs.get(m.group(1))
-    elif l.startswith('calls='): skip=True
-    elif re.match(r'^(0x|\+|-|\*)',l):
-        p=l.split();a=p[0]
-        if a.startswith('0x'): addr=int(a,16)
-        elif a.startswith('+'): addr+=int(a[1:])
-        elif a.startswith('-'): addr-=int(a[1:])
-        if skip: skip=False; continue
-        cost[addr]+=int(p[2])
-dis=subprocess.run(['objdump','-d','--no-show-raw-insn',binp],capture_output=True,text=True).stdout
-fn=None;out=collections.Counter();ex=collections.defaultdict(list)
-for l in dis.split('\n'):
-    m=re.match(r'^[0-9a-f]+ <(.*)>:',l)
-    if m: fn=m.group(1).split('::<')[0]; continue
-    m=re.match(r'\s*([0-9a-f]+):\s*(.*)',l)
-    if not m: continue
-    c=cost.get(int(m.group(1),16))
-    if not c: continue
-    t=m.group(2)
-    mm=re.match(r'mov\s+(-?0x[0-9a-f]+)?\(%(r\w+)\),%(\w+)$',t)
-    st=re.match(r'mov\s+%(\w+),(-?0x[0-9a-f]+)?\(%(r\w+)\)$',t)
-    d=None
-    if mm: d=int(mm.group(1) or '0',16); reg=mm.group(3)
-    elif st: d=int(st.group(2) or '0',16); reg=st.group(1)
-    else:
-        x=re.match(r'mov[aud]\w+\s+(-?0x[0-9a-f]+)?\(%(r\w+)\),%xmm',t) or None
-        continue
-    size=8 if re.match(r'r(ax|bx|cx|dx|si|di|bp|sp|\d+)$',reg) else 4 if re.match(r'e|r\d+d$',reg) else 2 if re.match(r'(ax|bx|cx|dx|si|di|bp|r\d+w)$',reg) else 1
-    if size>1 and d%size: out[fn]+=c; ex[fn].append((c,t))
-for k,v in out.most_common(12):
-    print(v,k)
-    for c,t in sorted(ex[k],reverse=True)[:8]: print('      ',c,t)
+"""overl.py FILE BIN: loads and stores of two to eight bytes at places that are no multiple of their size, by the functions that run them most. FILE is a profile by
+`DUMP=--dump-instr=yes prof.sh`. Such a place mostly means that a value is moved from right behind its tag on."""
+import collections, re, subprocess, sys
+from costs import costs
+
+file, binary = sys.argv[1:3]
+cost = costs(file)
+
+
+def size_of(register):
+    if re.match(r'r(ax|bx|cx|dx|si|di|bp|sp|\d+)$', register): return 8
+    if re.match(r'(e..|r\d+d)$', register): return 4
+    if re.match(r'(ax|bx|cx|dx|si|di|bp|r\d+w)$', register): return 2
+    return 1
+
+
+function = None; found = collections.Counter(); moves = collections.defaultdict(list)
+for line in subprocess.run(['objdump', '-d', '--no-show-raw-insn', binary], capture_output=True, text=True).stdout.split('\n'):
+    head = re.match(r'^[0-9a-f]+ <(.*)>:', line)
+    if head: function = head.group(1).split('::<')[0]; continue
+    instruction = re.match(r'\s*([0-9a-f]+):\s*(.*)', line)
+    count = cost.get(int(instruction.group(1), 16)) if instruction else None
+    if not count: continue
+    text = instruction.group(2)
+    load = re.match(r'mov\s+(-?0x[0-9a-f]+)?\(%r\w+\),%(\w+)$', text)
+    store = re.match(r'mov\s+%(\w+),(-?0x[0-9a-f]+)?\(%r\w+\)$', text)
+    if load: place, register = load.group(1), load.group(2)
+    elif store: place, register = store.group(2), store.group(1)
+    else: continue
+    if int(place or '0', 16) % size_of(register): found[function] += count; moves[function].append((count, text))
+for function, count in found.most_common(12):
+    print(count, function)
+    for each, text in sorted(moves[function], reverse=True)[:8]: print('      ', each, text)

@@ -1,21 +1,27 @@
-import sys,subprocess,statistics
-own,plain=sys.argv[1],sys.argv[2]
-small=[('recovery',40),('report',20),('heartbeat_idle',12),('addblock',20),('addblock_complete',20),('open_granted',20),('stat',20),('acl_stat',20),('mkdirs',20),('create_complete',20),('append_takeover',20),('setfacl',20),('packet_512',12),('tick_expired',8),('rename_dir',6),('delete_recursive',10),('ls',10),('open',20),('script',12),('step_stat',12)]
-big={'recovery':5,'report':5,'addblock':5,'addblock_complete':5,'stat':5,'mkdirs':5,'create_complete':5,'append_takeover':5}
-def run(b,w,n):
-    o=subprocess.run([b,w,str(n)],capture_output=True,text=True).stdout.split()
-    return int(o[2].replace(',',''))
-def both(w,n,turns):
-    a=[];p=[]
-    for t in range(turns):
-        for x in ((own,a),(plain,p)) if t%2==0 else ((plain,p),(own,a)):
-            x[1].append(run(x[0],w,n))
-    return a,p
-only=sys.argv[3].split(',') if len(sys.argv)>3 else None
-for w,t in small:
-    if only and w not in only: continue
-    a,p=both(w,1000,t)
-    row=f'| `{w}` | {max(a):,} | {max(p):,} | {max(a)/max(p):.2f} (med {statistics.median(a)/statistics.median(p):.2f}) |'
-    if w in big:
-        a,p=both(w,30000,big[w]); row+=f' {max(a):,} | {max(p):,} | {max(a)/max(p):.2f} |'
-    print(row,flush=True)
+"""table.py OWN PLAIN [W,W..]: rows as docs/SPEED.md has them: the best of two programs in turn at 1,000 and, for some workloads, at 30,000, with the ratio of medians."""
+import statistics, subprocess, sys
+
+# how many turns each workload gets at 1,000, and at 30,000
+TURNS = {'recovery': (40, 5), 'report': (25, 5), 'heartbeat_idle': (15, 0), 'addblock': (25, 5), 'addblock_complete': (25, 5), 'open_granted': (25, 0),
+    'stat': (25, 5), 'acl_stat': (25, 0), 'mkdirs': (25, 5), 'create_complete': (25, 5), 'append_takeover': (25, 5), 'setfacl': (25, 0), 'packet_512': (25, 0),
+    'tick_expired': (8, 0), 'rename_dir': (6, 0), 'delete_recursive': (10, 0), 'ls': (10, 0), 'open': (25, 0), 'script': (25, 0), 'step_stat': (25, 0)}
+programs = sys.argv[1:3]
+chosen = sys.argv[3].split(',') if len(sys.argv) > 3 else TURNS
+
+
+def rates(workload, size, turns):
+    found = {program: [] for program in programs}
+    for turn in range(turns):
+        for program in programs if turn % 2 == 0 else programs[::-1]:
+            found[program].append(int(subprocess.run([program, workload, str(size)], capture_output=True, text=True).stdout.split()[2]))
+    return [found[program] for program in programs]
+
+
+for workload in chosen:
+    few, many = TURNS[workload]
+    own, plain = rates(workload, 1000, few)
+    row = f'| `{workload}` | {max(own):,} | {max(plain):,} | {max(own) / max(plain):.2f} (medians {statistics.median(own) / statistics.median(plain):.2f}) |'
+    if many:
+        own, plain = rates(workload, 30000, many)
+        row += f' {max(own):,} | {max(plain):,} | {max(own) / max(plain):.2f} |'
+    print(row, flush=True)
