@@ -4,8 +4,9 @@ ghost use Rattle.cluster_parts.specs.Noted.{answer_outcome, answer_messages, led
 ghost use Rattle.cluster_parts.specs.Sent.{messages_of, AreLaid};
 
 use crate::sent::{Sent, Source};
-use cluster_trace::outcome::{ClusterRefusal, EventAnswer, Lost, Outcome};
+use cluster_trace::outcome::{ClusterRefusal, EventAnswer, Outcome};
 use datanode::answered::Answered;
+use hdfs_values::at_word::AtWord;
 use plan_steps::answered::PlanAnswered;
 
 /// What comes of an event that does nothing. Takes no memory.
@@ -14,7 +15,7 @@ pub fn note_nothing(sent: &Sent, refusal: ClusterRefusal) -> Outcome
     ensures { result ≡ record { answer = EventAnswer.Lost refusal; first = sent.now.count + 1; count = 0 } }
 {
     Outcome {
-        answer: EventAnswer::Lost(Lost::of(refusal)),
+        answer: EventAnswer::Lost(AtWord::of(refusal)),
         first: sent.next(),
         count: 0,
     }

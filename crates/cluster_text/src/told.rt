@@ -42,7 +42,7 @@ fn print_event_answer(
         EventAnswer::Named(_) => print_ruled(rows, newest, line),
         EventAnswer::Called(called) => print_called(called, line),
         EventAnswer::Led(led) => print_led(led, line),
-        EventAnswer::Lost(lost) => print_lost(lost.refusal(), line),
+        EventAnswer::Lost(lost) => print_lost(lost.get(), line),
     }
 }
 

@@ -1,11 +1,11 @@
-ghost use Rattle.std.specs.Prelude.{◌≡◌, Some};
+ghost use Rattle.std.specs.Prelude.{Some};
 
 use block_recovery::fault::PlanRefusal;
+use hdfs_values::at_word::AtWord;
 use node_calls::refusal::NodeRefusal;
 use node_calls::reply::NodeReply;
 use plan_steps::answered::PlanReply;
 use std::fmt;
-use std::marker::Model;
 
 /// Why an event does nothing. It stays in the list of events all the same, and no clock moves on.
 #[derive(Clone, Copy, PartialEq, Eq)]
@@ -33,41 +33,6 @@ impl fmt::Display for ClusterRefusal {
     }
 }
 
-/// That an event does nothing, and why.
-///
-/// It stands where the numbers of other answers do, at a multiple of eight bytes: an answer is moved several times on its way, and where a
-/// single byte may stand beside its tag, it is moved in pieces that overlap, each of which waits for the one before.
-#[derive(Drop)]
-pub struct Lost {
-    refusal: ClusterRefusal,
-    // no number, but placed as one
-    place: [u64; 0],
-}
-
-impl Model for Lost {
-    ghost use Rattle.cluster_trace.specs.declared.outcome.ClusterRefusal.{ClusterRefusal};
-
-    ghost Value = { ClusterRefusal };
-
-    ghost view = { λ lost. lost.refusal };
-}
-
-impl Lost {
-    /// For this reason.
-    pub fn of(refusal: ClusterRefusal) -> Lost
-        ensures { result ≡ refusal }
-    {
-        Lost { refusal, place: [] }
-    }
-
-    /// The reason.
-    pub fn refusal(&self) -> ClusterRefusal
-        ensures { result ≡ self.now }
-    {
-        self.refusal
-    }
-}
-
 /// What is answered to an event.
 pub enum EventAnswer {
     /// The NameNode answered a request, from outside or by a message: its entry has this place in the history, counted from 1, and holds
@@ -78,7 +43,7 @@ pub enum EventAnswer {
     /// A DataNode answered a call about the recoveries that it leads, or refused it.
     Led(Result<PlanReply, PlanRefusal>),
     /// The event does nothing, for this reason. No message is lost by it.
-    Lost(Lost),
+    Lost(AtWord<ClusterRefusal>),
 }
 
 impl Drop for EventAnswer {

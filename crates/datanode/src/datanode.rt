@@ -14,6 +14,7 @@ use crate::answered::Answered;
 use block_tokens::cache::KeyCache;
 use block_tokens::key::KeyList;
 use block_tokens::refusal::TokenRefusal;
+use hdfs_values::at_word::AtWord;
 use hdfs_values::ids::{BlockId, Stamp};
 use hdfs_values::moment::Moment;
 use hdfs_values::who::Who;
@@ -24,7 +25,7 @@ use node_calls::message::Messages;
 use node_calls::node_list::NodeList;
 use node_calls::presented::{Presented, PresentedToken};
 use node_calls::principal::principal_of;
-use node_calls::refusal::{Barred, NodeRefusal};
+use node_calls::refusal::NodeRefusal;
 use node_calls::reply::NodeReply;
 use node_ids::node_id::NodeId;
 use node_replies::{asking, sending};
@@ -354,7 +355,7 @@ impl DataNode {
         ensures err { OnErr result (self.new ≡ self.old) }
     {
         if let Err(refusal) = self.judge(clock, presented, call) {
-            return Ok(self.refuse(clock, NodeRefusal::Token(Barred::by(refusal))));
+            return Ok(self.refuse(clock, NodeRefusal::Token(AtWord::of(refusal))));
         }
         let answered = self.serve_taken(clock, presented, call)?;
         self.move_on(clock);

@@ -12,6 +12,7 @@ ghost use Rattle.default_acl.specs.Forms.{change_of};
 use acl_entries::acl::Acl;
 use acl_entries::entry_list::{Bases, EntryList};
 use hdfs_types::reply::{ObjectKind, Refusal};
+use hdfs_values::at_word::AtWord;
 use hdfs_values::fault::AclFault;
 use partial_acl::completed::{completed, copy_of, kept};
 use partial_acl::fault::AclChangeFault;
@@ -213,7 +214,7 @@ fn change_by(
 {
     let entries = spec.as_slice();
     if let Some(fault) = fault_of(form, entries, kind, acl) {
-        return Err(AclChangeFault::Refused(Refusal::BadAcl(fault)));
+        return Err(AclChangeFault::Refused(Refusal::BadAcl(AtWord::of(fault))));
     }
     let access = access_after(alloc, form, entries, acl.access())?;
     let default = default_after(alloc, form, entries, &access, acl.default_list())?;

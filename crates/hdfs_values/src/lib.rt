@@ -2,6 +2,7 @@
 //! moments, replications, and the numbers of blocks, stamps and keys.
 #![tactic(auto)]
 
+pub mod at_word;
 pub mod fault;
 pub mod groups;
 pub mod ids;

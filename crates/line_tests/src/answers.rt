@@ -3,6 +3,7 @@ use block_answers::token_bytes::TokenBytes;
 use block_records::node_set::NodeSet;
 use flat_rows::verdict::Verdict;
 use hdfs_types::reply::{Counter, Refusal, Reply};
+use hdfs_values::at_word::AtWord;
 use hdfs_values::fault::IllFormed;
 use hdfs_values::ids::{BlockId, Stamp};
 use node_ids::node_id::NodeId;
@@ -157,12 +158,12 @@ fn refusals_of_blocks_are_told(rt: HostRuntime) -> Result<(), Fail> {
     )?;
     refuses(
         alloc,
-        Refusal::Spent(Counter::BlockId),
+        Refusal::Spent(AtWord::of(Counter::BlockId)),
         "refused 18 Spent BlockId",
     )?;
     refuses(
         alloc,
-        Refusal::Spent(Counter::Stamp),
+        Refusal::Spent(AtWord::of(Counter::Stamp)),
         "refused 18 Spent Stamp",
     )
 }

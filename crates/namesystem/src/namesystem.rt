@@ -38,6 +38,7 @@ use hdfs_types::op::Request;
 use hdfs_types::replica::{RecoveredBlock, ReportedReplica};
 use hdfs_types::reply::{Counter, ObjectKind, Refusal, Reply};
 use hdfs_types::verb::{Grant, Read, Update, Verb, Write};
+use hdfs_values::at_word::AtWord;
 use hdfs_values::moment::Moment;
 use hdfs_values::replication::Repl;
 use hdfs_values::who::Who;
@@ -392,7 +393,9 @@ fn perform_roll(
     }
     match system.ring.roll(key, now) {
         Ok(serial) => Ok(Verdict::Done(Reply::Serial(serial))),
-        Err(RollFault::SpentSerial) => Ok(Verdict::Refused(Refusal::Spent(Counter::Serial))),
+        Err(RollFault::SpentSerial) => Ok(Verdict::Refused(Refusal::Spent(AtWord::of(
+            Counter::Serial,
+        )))),
         Err(RollFault::OutOfMemory) => Err(AllocError),
     }
 }

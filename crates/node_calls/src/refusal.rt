@@ -1,9 +1,9 @@
-ghost use Rattle.std.specs.Prelude.{◌≡◌, Some};
+ghost use Rattle.std.specs.Prelude.{Some};
 
 use block_tokens::refusal::TokenRefusal;
+use hdfs_values::at_word::AtWord;
 use hdfs_values::ids::Stamp;
 use std::fmt;
-use std::marker::Model;
 
 /// Why a DataNode refuses what is asked of a replica: the first of these that applies.
 #[derive(Clone, Copy, PartialEq, Eq)]
@@ -40,51 +40,11 @@ impl fmt::Display for ReplicaRefusal {
     }
 }
 
-/// Why a token doesn't allow what is asked with it.
-///
-/// It stands where the numbers of other answers do, at a multiple of eight bytes: an answer is moved several times on its way, and where a
-/// single byte may stand beside its tag, it is moved in pieces that overlap, each of which waits for the one before.
-#[derive(Clone, Copy, PartialEq, Eq)]
-pub struct Barred {
-    refusal: TokenRefusal,
-    // no number, but placed as one
-    place: [u64; 0],
-}
-
-impl Model for Barred {
-    ghost use Rattle.block_tokens.specs.declared.refusal.TokenRefusal.{TokenRefusal};
-    ghost use Rattle.std.specs.Prelude.{◌≡◌, []};
-
-    ghost Value = { TokenRefusal };
-
-    ghost view = { λ barred. barred.refusal };
-
-    ghost invariant = { λ barred. barred.place ≡ [] };
-
-    ghost inverse = { λ refusal. record { refusal = refusal; place = [] } };
-}
-
-impl Barred {
-    /// For this reason.
-    pub fn by(refusal: TokenRefusal) -> Barred
-        ensures { result ≡ refusal }
-    {
-        Barred { refusal, place: [] }
-    }
-
-    /// The reason.
-    pub fn refusal(self) -> TokenRefusal
-        ensures { result ≡ self }
-    {
-        self.refusal
-    }
-}
-
 /// Why a DataNode refuses a call.
 #[derive(Clone, Copy, PartialEq, Eq)]
 pub enum NodeRefusal {
     /// The token doesn't allow it.
-    Token(Barred),
+    Token(AtWord<TokenRefusal>),
     /// What the DataNode has of the block forbids it.
     Replica(ReplicaRefusal),
 }
@@ -97,7 +57,7 @@ impl fmt::Display for NodeRefusal {
 
     fn fmt<W: fmt::Write>(&self, f: &mut fmt::Formatter<W>) -> fmt::Result {
         match self {
-            NodeRefusal::Token(barred) => write!(f, "{}", barred.refusal()),
+            NodeRefusal::Token(refusal) => write!(f, "{}", refusal.get()),
             NodeRefusal::Replica(refusal) => write!(f, "{refusal}"),
         }
     }

@@ -6,13 +6,14 @@ use block_tokens::refusal::TokenRefusal;
 use block_tokens::ring::KeyRing;
 use datanode::answered::Answered;
 use datanode::datanode::DataNode;
+use hdfs_values::at_word::AtWord;
 use hdfs_values::ids::{BlockId, Serial, Stamp};
 use hdfs_values::moment::Moment;
 use hdfs_values::who::Who;
 use node_calls::message::{Message, MessageSeen};
 use node_calls::node_list::NodeList;
 use node_calls::presented::{Presented, PresentedToken};
-use node_calls::refusal::{Barred, NodeRefusal, ReplicaRefusal};
+use node_calls::refusal::{NodeRefusal, ReplicaRefusal};
 use node_calls::reply::NodeReply;
 use node_calls::single::Single;
 use node_ids::node_id::NodeId;
@@ -184,7 +185,7 @@ fn refusal(answer: &Result<Answered, AllocError>) -> Option<NodeRefusal> {
 
 /// Whether a call was refused for its token, and sent nothing.
 pub fn is_barred(answer: Result<Answered, AllocError>, own: TokenRefusal) -> bool {
-    sent(&answer) == 0 && refusal(&answer) == Some(NodeRefusal::Token(Barred::by(own)))
+    sent(&answer) == 0 && refusal(&answer) == Some(NodeRefusal::Token(AtWord::of(own)))
 }
 
 /// Whether a call was refused for the replica, and sent nothing.

@@ -3,6 +3,7 @@ ghost use Rattle.refusals.specs.BlockRefusals as block;
 
 use block_records::fault::{self as block_fault, BlockRefusal};
 use file_paths::path::Path;
+use hdfs_values::at_word::AtWord;
 use hdfs_values::fault::AclFault;
 use hdfs_values::ids::Stamp;
 use hdfs_values::who::Who;
@@ -54,7 +55,7 @@ pub enum Refusal {
     /// A directory can't be moved to a path beneath itself: code 8.
     UnderItself,
     /// The access control list can't be changed so: code 9.
-    BadAcl(AclFault),
+    BadAcl(AtWord<AclFault>),
     /// More entries would stand in a scope of an access control list than may: code 10.
     TooManyEntries,
     /// This client has the file open: code 11.
@@ -72,7 +73,7 @@ pub enum Refusal {
     /// The block has this newer stamp: code 17.
     StaleStamp(Stamp),
     /// All numbers of that kind are given away: code 18.
-    Spent(Counter),
+    Spent(AtWord<Counter>),
     /// That name is a DataNode's: code 19.
     BadName,
 }
@@ -206,10 +207,10 @@ impl fmt::Display for Refusal {
         let title = self.title();
         match self {
             Refusal::NotDirectory(file) => write!(f, "{title} {file}"),
-            Refusal::BadAcl(fault) => write!(f, "{title} {fault}"),
+            Refusal::BadAcl(fault) => write!(f, "{title} {}", fault.get()),
             Refusal::LeaseHeld(client) => write!(f, "{title} {client}"),
             Refusal::StaleStamp(newest) => write!(f, "{title} {}", newest.get()),
-            Refusal::Spent(counter) => write!(f, "{title} {counter}"),
+            Refusal::Spent(counter) => write!(f, "{title} {}", counter.get()),
             _ => f.write_str(title),
         }
     }
@@ -236,7 +237,7 @@ impl Refusal {
             BlockRefusal::NotYetReplicated => Refusal::NotYetReplicated,
             BlockRefusal::TooFewNodes => Refusal::TooFewNodes,
             BlockRefusal::StaleStamp(newest) => Refusal::StaleStamp(newest),
-            BlockRefusal::Spent(counter) => Refusal::Spent(counter_of(counter)),
+            BlockRefusal::Spent(counter) => Refusal::Spent(AtWord::of(counter_of(counter))),
         }
     }
 }

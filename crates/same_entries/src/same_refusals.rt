@@ -22,7 +22,7 @@ fn is_bad_acl(fault: AclFault, other: &Refusal) -> bool
     ensures { Decides result (made.BadAcl fault ≡ other.now) }
 {
     match other {
-        Refusal::BadAcl(same) => fault == *same,
+        Refusal::BadAcl(same) => fault == same.get(),
         _ => false,
     }
 }
@@ -49,7 +49,7 @@ fn is_spent(counter: Counter, other: &Refusal) -> bool
     ensures { Decides result (made.Spent counter ≡ other.now) }
 {
     match other {
-        Refusal::Spent(same) => counter == *same,
+        Refusal::Spent(same) => counter == same.get(),
         _ => false,
     }
 }
@@ -67,7 +67,7 @@ pub fn is_same_refusal(refusal: &Refusal, other: &Refusal) -> bool
         Refusal::NotEmpty => matches!(other, Refusal::NotEmpty),
         Refusal::IsRoot => matches!(other, Refusal::IsRoot),
         Refusal::UnderItself => matches!(other, Refusal::UnderItself),
-        Refusal::BadAcl(fault) => is_bad_acl(*fault, other),
+        Refusal::BadAcl(fault) => is_bad_acl(fault.get(), other),
         Refusal::TooManyEntries => matches!(other, Refusal::TooManyEntries),
         Refusal::LeaseHeld(client) => is_lease_held(client, other),
         Refusal::RecoveryRunning => matches!(other, Refusal::RecoveryRunning),
@@ -76,7 +76,7 @@ pub fn is_same_refusal(refusal: &Refusal, other: &Refusal) -> bool
         Refusal::NotYetReplicated => matches!(other, Refusal::NotYetReplicated),
         Refusal::TooFewNodes => matches!(other, Refusal::TooFewNodes),
         Refusal::StaleStamp(newest) => is_stale_stamp(*newest, other),
-        Refusal::Spent(counter) => is_spent(*counter, other),
+        Refusal::Spent(counter) => is_spent(counter.get(), other),
         Refusal::BadName => matches!(other, Refusal::BadName),
     }
 }
