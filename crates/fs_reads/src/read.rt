@@ -17,7 +17,8 @@ use flat_rows::verdict::Verdict;
 use hdfs_types::file::FileDetail;
 use hdfs_types::op::Op;
 use hdfs_types::reply::{
-    AclStatus, BoxedAcl, BoxedStatus, ContentSummary, FileStatus, Names, ObjectKind, Reply,
+    AclStatus, BoxedAcl, BoxedDetail, BoxedStatus, ContentSummary, FileStatus, Names, ObjectKind,
+    Reply,
 };
 use hdfs_types::verb::Read;
 use hdfs_values::who::Who;
@@ -32,17 +33,18 @@ use required_rights::demand::Needs;
 use std::alloc::{AllocError, Global};
 
 /// What is reported of a file alone.
-fn detail_of(file: Option<&FileRow>) -> Result<Option<FileDetail>, AllocError>
+fn detail_of(alloc: Global, file: Option<&FileRow>) -> Result<Option<BoxedDetail>, AllocError>
     ensures { IfOk result (λ detail. detail ≡ detail_of_row (option_copied file.entry)) }
 {
     let Some(file) = file else {
         return Ok(None);
     };
-    Ok(Some(FileDetail {
+    let detail = FileDetail {
         replication: file.replication,
         length: length_told(file)?,
         state: file.state.clone()?,
-    }))
+    };
+    Ok(Some(BoxedDetail::new(alloc, detail)?))
 }
 
 fn status_of(alloc: Global, component: &Component) -> Result<Reply, AllocError>
@@ -55,7 +57,7 @@ fn status_of(alloc: Global, component: &Component) -> Result<Reply, AllocError>
         has_acl: inode.acl().has_acl(),
         owner: inode.owner().clone()?,
         group: inode.group().clone()?,
-        file: detail_of(inode.file())?,
+        file: detail_of(alloc, inode.file())?,
     };
     Ok(Reply::Status(BoxedStatus::new(alloc, status)?))
 }

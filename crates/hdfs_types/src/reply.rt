@@ -22,6 +22,56 @@ pub enum ObjectKind {
     Directory,
 }
 
+/// What is reported of a file alone, in a box: most looks are at directories, and a history keeps what each reported.
+pub struct BoxedDetail {
+    detail: Box<FileDetail>,
+}
+
+impl Drop for BoxedDetail {
+    fn drop(self) {
+        let BoxedDetail { detail } = self;
+        drop(detail);
+    }
+}
+
+impl Model for BoxedDetail {
+    ghost use Rattle.hdfs_types.specs.declared.file.FileDetail.{FileDetail};
+
+    ghost Value = { FileDetail };
+
+    ghost view = { λ boxed. boxed.detail.value };
+}
+
+impl Clone for BoxedDetail {
+    ghost is_clone = { λ boxed copy. copy ≡ boxed };
+
+    fn clone(&self) -> Result<BoxedDetail, AllocError> {
+        let detail = self.detail().clone()?;
+        BoxedDetail::new(*Box::allocator(&self.detail), detail)
+    }
+}
+
+impl BoxedDetail {
+    /// This, in a box.
+    ///
+    /// # Errors
+    /// Out of memory.
+    pub fn new(alloc: Global, detail: FileDetail) -> Result<BoxedDetail, AllocError>
+        ensures { IfOk result (λ boxed. boxed ≡ detail) }
+    {
+        Ok(BoxedDetail {
+            detail: Box::new(alloc, detail)?,
+        })
+    }
+
+    /// What is in the box.
+    pub fn detail(&self) -> &FileDetail
+        ensures { result.now ≡ self.now }
+    {
+        &self.detail
+    }
+}
+
 /// What `stat` reports of a file or a directory.
 pub struct FileStatus {
     pub kind: ObjectKind,
@@ -31,7 +81,7 @@ pub struct FileStatus {
     pub owner: Who,
     pub group: Who,
     /// What is reported of a file alone; `None` for a directory.
-    pub file: Option<FileDetail>,
+    pub file: Option<BoxedDetail>,
 }
 
 impl Drop for FileStatus {
@@ -51,7 +101,7 @@ impl Drop for FileStatus {
 }
 
 /// A copy of what is reported of a file; nothing of a directory.
-fn copied(detail: &Option<FileDetail>) -> Result<Option<FileDetail>, AllocError>
+fn copied(detail: &Option<BoxedDetail>) -> Result<Option<BoxedDetail>, AllocError>
     ensures { IfOk result (λ copy. copy ≡ detail.now) }
 {
     match detail {
@@ -92,7 +142,10 @@ impl fmt::Display for FileStatus {
             ObjectKind::Directory => "dir",
         };
         match &self.file {
-            Some(detail) => write!(f, "{kind} {mode}{mark} {owner} {group}{detail}"),
+            Some(detail) => {
+                let detail = detail.detail();
+                write!(f, "{kind} {mode}{mark} {owner} {group}{detail}")
+            }
             None => write!(f, "{kind} {mode}{mark} {owner} {group}"),
         }
     }

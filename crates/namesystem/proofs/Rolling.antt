@@ -1,6 +1,7 @@
 -- What making a key the current one leaves.
 use Rattle.std.proofs.Common.{◌≡◌, ℕ, List, Option, Some, None, refl, sym, ap, ◌∙◌}
 use Rattle.hdfs_types.specs.declared.op.Op.TheVariants as op
+use Rattle.refusals.specs.declared.refusal.Counter.{Counter}
 use Rattle.refusals.specs.declared.refusal.Counter.TheVariants.{Serial}
 use Rattle.refusals.specs.declared.refusal.Refusal.TheVariants.{Spent}
 use Rattle.hdfs_types.specs.declared.reply.Reply.TheVariants as reply
@@ -51,11 +52,11 @@ module _ (last : List ℕ → Option ℕ) (now : ℕ) (caller key : List ℕ) (o
         unchanged = changing old (with_ring old ring) (Done (reply.Serial serial)) (Done (reply.Serial serial)) refl refl;
       }
 
-  pub spent_roll : (ring : KeyRing) → decision old.tree old.users caller (op.RollKey key) ≡ None → next_serial old.ring.serial ≡ None → ring ≡ old.ring
-      → IsPerformed last now caller (op.RollKey key) old (Refused (Spent Serial)) (with_ring old ring)
-  spent_roll ring granted none is =
+  pub spent_roll : (ring : KeyRing) (counter : Counter) → counter ≡ Serial → decision old.tree old.users caller (op.RollKey key) ≡ None → next_serial old.ring.serial ≡ None → ring ≡ old.ring
+      → IsPerformed last now caller (op.RollKey key) old (Refused (Spent counter)) (with_ring old ring)
+  spent_roll ring counter serial granted none is =
       record {
-        stepped = stepped_is None (sym none) granted;
+        stepped = ap (λ spent. record { verdict = Refused (Spent spent); rows = old.tree; users = old.users }) serial ∙ stepped_is None (sym none) granted;
         ring = is;
         blocks = refl;
         exact = exact;

@@ -7,7 +7,8 @@ use block_answers::commands::Commands;
 use block_answers::located::{AddedBlock, OpenedFile};
 use hdfs_types::file::FileDetail;
 use hdfs_types::reply::{
-    AclStatus, BoxedAcl, BoxedStatus, ContentSummary, Expired, FileStatus, Names, Reply,
+    AclStatus, BoxedAcl, BoxedDetail, BoxedStatus, ContentSummary, Expired, FileStatus, Names,
+    Reply,
 };
 use hdfs_values::ids::{BlockId, Serial, Stamp};
 use same_values::commands::are_same_commands;
@@ -22,11 +23,11 @@ fn is_same_detail(detail: &FileDetail, other: &FileDetail) -> bool
         && is_same_state(&detail.state, &other.state)
 }
 
-fn is_same_optional_detail(detail: &Option<FileDetail>, other: &Option<FileDetail>) -> bool
+fn is_same_optional_detail(detail: &Option<BoxedDetail>, other: &Option<BoxedDetail>) -> bool
     ensures { Decides result (detail.now ≡ other.now) }
 {
     match (detail, other) {
-        (Some(detail), Some(other)) => is_same_detail(detail, other),
+        (Some(detail), Some(other)) => is_same_detail(detail.detail(), other.detail()),
         (None, None) => true,
         _ => false,
     }

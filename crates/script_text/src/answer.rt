@@ -11,9 +11,8 @@ use crate::blocks::{print_added, print_opened};
 use crate::numbers::print_number;
 use flat_rows::denial::Denial;
 use flat_rows::verdict::Verdict;
-use hdfs_types::file::FileDetail;
 use hdfs_types::reply::{
-    AclStatus, ContentSummary, Expired, FileStatus, Names, ObjectKind, Refusal, Reply,
+    AclStatus, BoxedDetail, ContentSummary, Expired, FileStatus, Names, ObjectKind, Refusal, Reply,
 };
 use hdfs_values::ids::{BlockId, Stamp};
 use permission_bits::mode::Mode;
@@ -38,11 +37,11 @@ fn print_mode(mode: Mode, has_acl: bool, line: &mut String) -> Result<(), AllocE
 }
 
 /// Adds what is reported of a file alone.
-fn print_detail(detail: &Option<FileDetail>, line: &mut String) -> Result<(), AllocError>
+fn print_detail(detail: &Option<BoxedDetail>, line: &mut String) -> Result<(), AllocError>
     ensures { OnOk result (string_bytes line.new ≡ string_bytes line.old ++ file_text detail.now) }
 {
     if let Some(detail) = detail {
-        write!(line, "{detail}")?;
+        write!(line, "{}", detail.detail())?;
     }
     Ok(())
 }

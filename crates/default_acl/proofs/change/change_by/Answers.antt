@@ -15,7 +15,8 @@ returns-in-Some c =
     let entries = c.as_slice-entries.result.now in
     let change = change_of c.args.form entries in (
       subst (λ (spec : List Entry). acl_change (change_of c.args.form spec) c.args.kind c.args.acl.now ≡ Err (BadAcl c.in-Some.fault)) c.as_slice-entries.ensures.entries
-          (faulted change c.args.kind c.args.acl.now c.in-Some.fault (sym c.in-Some.is ∙ c.fault_of.ensures)),
+          (faulted change c.args.kind c.args.acl.now c.in-Some.fault (sym c.in-Some.is ∙ c.fault_of.ensures))
+        ∙ ap (λ fault. Err (BadAcl fault)) (sym c.of.ensures),
       refl,
     )
 

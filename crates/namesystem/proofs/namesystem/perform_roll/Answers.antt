@@ -13,4 +13,4 @@ returns-in-Ok-clause-ok c = λ last exact.
 
 pub returns-in-Err-SpentSerial-clause-ok : goal.returns-in-Err-SpentSerial-clause-ok
 returns-in-Err-SpentSerial-clause-ok c = λ last exact.
-    spent_roll last c.args.now c.args.caller.now c.args.key c.args.system.now exact c.roll.new.self (sym (c.in_ok-denial.ensures (op.RollKey c.args.key) refl c.requires) ∙ c.in_default.is) (c.in-Err-SpentSerial.ensures.spent.0 (ap (λ fault. Err fault) c.in-Err-SpentSerial.field-0-is)) c.in-Err-SpentSerial.ensures.err
+    spent_roll last c.args.now c.args.caller.now c.args.key c.args.system.now exact c.roll.new.self c.of.result c.of.ensures (sym (c.in_ok-denial.ensures (op.RollKey c.args.key) refl c.requires) ∙ c.in_default.is) (c.in-Err-SpentSerial.ensures.spent.0 (ap (λ fault. Err fault) c.in-Err-SpentSerial.field-0-is)) c.in-Err-SpentSerial.ensures.err
