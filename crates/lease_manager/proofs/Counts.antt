@@ -1,5 +1,5 @@
 -- How many files a client has open, behind a change of the map that counts them.
-use Rattle.std.proofs.Common.{◌≡◌, ℕ, ◌+◌, ◌-◌, Bool, true, false, List, [], ◌∷◌, Option, Some, None, unwrap_or, arith, refl, sym, ap, ◌∙◌, cond}
+use Rattle.std.proofs.Common.{◌≡◌, ℕ, ◌+◌, ◌-◌, Bool, true, false, List, [], ◌∷◌, Option, Some, None, unwrap_or, Result, Ok, Err, OnErr, arith, refl, sym, ap, ◌∙◌, cond}
 use Rattle.std.specs.Cmp.{IsEquivalence}
 use Rattle.std.specs.Map.{lookup, set_value}
 use Rattle.std.specs.Option.{IsSome, is_some}
@@ -92,3 +92,36 @@ absent_more {X} old inside client seen none room = by (lookup (same client) old)
     by : (found : Option ℕ) → None ≡ found → IsSome found → X
     by None at known = cc
     by (Some n) at known = cc
+
+-- ---- one more that isn't counted in the end
+
+-- a number that is written again
+kept_known : (old inside new : List (List ℕ × ℕ)) (client other : List ℕ) (n : ℕ) → inside ≡ old → Some n ≡ lookup (same client) inside → new ≡ set_value (same client) inside n
+    → count_of new other ≡ count_of old other
+kept_known old inside new client other n seen found made =
+    ap (λ es. count_of es other) made
+    ∙ counted_set inside client other n (ap is_some (sym found))
+    ∙ by (same client other) refl
+    ∙ ap (λ es. count_of es other) seen
+  where
+    by : (b : Bool) → same client other ≡ b → cond b n (count_of inside other) ≡ count_of inside other
+    by true at = ap (λ o. unwrap_or o 0) found ∙ ap (count_of inside) (same_is client other at)
+    by false at = refl
+
+pub refused_known : {T E : Type 0} (result : Result T E) (old inside new : List (List ℕ × ℕ)) (client : List ℕ) (n : ℕ) → inside ≡ old → Some n ≡ lookup (same client) inside
+    → new ≡ set_value (same client) inside n → OnErr result ((other : List ℕ) → count_of new other ≡ count_of old other)
+refused_known (Ok value) old inside new client n seen found made = tt
+refused_known (Err fault) old inside new client n seen found made = λ other. kept_known old inside new client other n seen found made
+
+-- one more and then one less
+pub taken_back : (old more new : List (List ℕ × ℕ)) (client : List ℕ) → ((other : List ℕ) → count_of more other ≡ cond (same client other) (count_of old client + 1) (count_of old other))
+    → ((other : List ℕ) → count_of new other ≡ cond (same client other) (count_of more client - 1) (count_of more other)) → (other : List ℕ) → count_of new other ≡ count_of old other
+taken_back old more new client added less other = by (same client other) refl (added other) (less other)
+  where
+    by : (b : Bool) → same client other ≡ b → count_of more other ≡ cond b (count_of old client + 1) (count_of old other) → count_of new other ≡ cond b (count_of more client - 1) (count_of more other)
+        → count_of new other ≡ count_of old other
+    by true at one left =
+        let own : count_of more client ≡ count_of old client + 1 = added client ∙ ap (λ b. cond b (count_of old client + 1) (count_of old client)) (same_self client) in
+        let whose : count_of old client ≡ count_of old other = ap (count_of old) (same_is client other at) in
+        omega (arith, own, left, whose)
+    by false at one left = left ∙ one

@@ -31,8 +31,7 @@ pub struct Leases {
     // in milliseconds
     soft: u32,
     hard: u32,
-    // Without a limit. The oldest stands where the cache has what was used last, and who renews goes to its other end: so the entries
-    // are in the order of the renewals.
+    // Without a limit. A renewal is a use, so the latest is first and the oldest last.
     renewals: LruCache<Who, Moment>,
 }
 
@@ -68,7 +67,7 @@ fn age(last: Moment, now: Moment) -> u64
     now.milliseconds().saturating_sub(last.milliseconds())
 }
 
-// Puts a client's renewal last, with a new moment; answers whether the client is there.
+// Makes a client's renewal the latest, with a new moment; answers whether the client is there.
 fn renew_present(renewals: &mut LruCache<Who, Moment>, client: &Who, now: Moment) -> bool
     ensures there { result ≡ is_some (spec.renewal_of client.now (renewals_of renewals.old.entries)) }
     ensures renewed { MatchBool result (renewals_of renewals.new.entries ≡ spec.renewals_with client.now now (renewals_of renewals.old.entries) × IsDistinct same (keys_of renewals.new.entries)) (renewals.new ≡ renewals.old) }
@@ -76,11 +75,10 @@ fn renew_present(renewals: &mut LruCache<Who, Moment>, client: &Who, now: Moment
 {
     // its contract tells that no client is there twice, before and behind
     let _before = renewals.len();
-    let Some(last) = renewals.peek_mut(client) else {
+    let Some(last) = renewals.get_mut(client) else {
         return false;
     };
     *last = now;
-    renewals.demote(client);
     let _behind = renewals.len();
     true
 }
@@ -118,7 +116,6 @@ impl Leases {
         // its contract tells that there is room for one more, and then that no client is there twice
         let _before = self.renewals.len();
         self.renewals.put(client.clone()?, now)?;
-        self.renewals.demote(client);
         let _behind = self.renewals.len();
         Ok(())
     }
@@ -188,7 +185,7 @@ impl Leases {
         ensures renewals { spec.AreRenewals self.now.renewals }
     {
         let mut past = Vec::new(alloc);
-        for (client, last) in self.renewals.iter() {
+        for (client, last) in self.renewals.iter().rev() {
             if !self.is_past_hard(*last, now) {
                 break;
             }

@@ -1,4 +1,4 @@
-ghost use Rattle.std.specs.Prelude.{◌≡◌, ◌+◌, ◌-◌, ℕ, [], List, if◌then◌else◌, OnOk};
+ghost use Rattle.std.specs.Prelude.{◌≡◌, ◌+◌, ◌-◌, ℕ, [], List, if◌then◌else◌, OnOk, OnErr};
 ghost use Rattle.std.specs.Map.{set_value};
 ghost use Rattle.hdfs_values.specs.Text.{same};
 ghost use Rattle.lease_manager.specs.Writers.{count_of, CanCountOneMore};
@@ -68,6 +68,22 @@ impl OpenFiles {
         if let Some(count) = self.counts.get_mut(client) {
             *count += 1;
         }
+    }
+
+    /// Counts one more open file of a client, whether there is room for it or not yet.
+    ///
+    /// # Errors
+    /// Out of memory, and where the number can't grow. No number has changed then.
+    pub fn add_making_room(&mut self, client: &Who) -> Result<(), AllocError>
+        ensures ok { OnOk result ((other : List ℕ) → count_of self.new other ≡ (if same client.now other then count_of self.old client.now + 1 else count_of self.old other)) }
+        ensures err { OnErr result ((other : List ℕ) → count_of self.new other ≡ count_of self.old other) }
+    {
+        if let Some(count) = self.counts.get_mut(client) {
+            *count = count.checked_add(1).ok_or(AllocError)?;
+            return Ok(());
+        }
+        self.counts.insert(client.clone()?, 1)?;
+        Ok(())
     }
 
     /// Counts one open file of a client less, and tells how many are left. Takes no memory.

@@ -43,9 +43,11 @@ impl Writers {
         ensures latest { OnOk result (lease.latest_moment self.new.leases.renewals ≡ now) }
         ensures err { OnErr result (IsAlike self.old self.new) }
     {
-        self.files.make_room(client)?;
-        self.leases.take(client, now)?;
-        self.files.add(client);
+        self.files.add_making_room(client)?;
+        let Ok(()) = self.leases.take(client, now) else {
+            self.files.take(client);
+            return Err(AllocError);
+        };
         Ok(())
     }
 

@@ -10,6 +10,6 @@ returns-clause-there c = ap is_some c.in-Some.ensures.value ∙ sym (is_there c.
 
 pub returns-clause-renewed : goal.returns-clause-renewed
 returns-clause-renewed c = (
-  renewed c.args.client.now c.args.now c.args.renewals.now.entries _ c.demote.new.self.entries c.len-before.ensures.valid.0 (sym (ap is_some c.in-Some.ensures.value)) refl (ap (λ cache. cache.entries) c.demote.ensures.entries),
+  renewed c.args.client.now c.args.now c.args.renewals.now.entries _ c.len-before.ensures.valid.0 (sym (ap is_some c.in-Some.ensures.value)) refl,
   c.len-behind.ensures.valid.0,
 )

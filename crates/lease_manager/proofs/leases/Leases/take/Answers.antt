@@ -15,22 +15,22 @@ invariant_of-self c = (
   c.if-renew_present.ensures.cap ∙ c.self.invariant.1,
 )
 
-made : (c : goal.After-len-behind) → renewals_of c.demote.new.self.entries ≡ renewals_with c.args.client.now c.args.now (renewals_of c.self.inside.renewals.entries)
+made : (c : goal.After-len-behind) → renewals_of c.put.new.self.entries ≡ renewals_with c.args.client.now c.args.now (renewals_of c.self.inside.renewals.entries)
 made c =
     let es = c.self.inside.renewals.entries in
     let unchanged : c.renew_present.new.renewals ≡ c.self.inside.renewals = c.if-renew_present.ensures.renewed in
     let room : length es ≤ c.self.inside.renewals.cap - 1 =
     omega (arith, c.len-before.ensures.len, c.len-before.ensures.fits, ap (λ cache. length cache.entries) unchanged, c.self.invariant.1) in
-    added c.args.client.now c.in_ok-clone.field-0 c.args.now c.self.inside.renewals.cap es c.put.new.self.entries c.demote.new.self.entries room c.in_ok-clone.ensures.cases
+    added c.args.client.now c.in_ok-clone.field-0 c.args.now c.self.inside.renewals.cap es c.put.new.self.entries room c.in_ok-clone.ensures.cases
     (ap (λ cache. cache.entries) c.in_ok-put.ensures.entries ∙ ap (λ cache. put_entries same cache c.in_ok-clone.field-0 c.args.now) unchanged)
-    (ap (λ cache. cache.entries) c.demote.ensures.entries) (sym c.if-renew_present.ensures.there)
+    (sym c.if-renew_present.ensures.there)
 
 pub invariant_of-self-2 : goal.invariant_of-self-2
 invariant_of-self-2 c = (
-  renewals_kept c.args.client.now c.args.now c.self.inside.renewals.entries c.demote.new.self.entries c.self.invariant.0
+  renewals_kept c.args.client.now c.args.now c.self.inside.renewals.entries c.put.new.self.entries c.self.invariant.0
       (subst (λ (leases : Leases). latest_moment leases.renewals ≤ c.args.now) (sym c.self.view_is) c.requires)
       (made c) c.len-behind.ensures.valid.0,
-  ap (λ cache. cache.cap) c.demote.ensures.entries ∙ ap (λ cache. cache.cap) c.in_ok-put.ensures.entries ∙ c.if-renew_present.ensures.cap ∙ c.self.invariant.1,
+  ap (λ cache. cache.cap) c.in_ok-put.ensures.entries ∙ c.if-renew_present.ensures.cap ∙ c.self.invariant.1,
 )
 
 pub returns-clause-ok : goal.returns-clause-ok
