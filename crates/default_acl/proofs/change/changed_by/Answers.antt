@@ -1,7 +1,6 @@
 use Rattle.std.proofs.Common.{◌≡◌, Bool, List, Option, Ok, Err, sym, ap, subst, ◌∙◌}
 use Rattle.std.proofs.lemmas.Result.{err_from_is_err_and}
 use Rattle.permission_specs.specs.declared.entry.Entry.{Entry}
-use Rattle.permission_specs.specs.declared.acl_change.AclChange.{AclChange}
 use Rattle.refusals.specs.declared.refusal.Refusal.TheVariants.{BadAcl}
 use Rattle.acl_entries.specs.Acl.{EntryList, IsAcl}
 use Rattle.partial_acl.specs.AclChange.{access_after, acl_change, default_after}
