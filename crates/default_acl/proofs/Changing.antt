@@ -1,5 +1,5 @@
 -- A change as a whole: its faults, and that its lists make an access control list again.
-use Rattle.std.proofs.Common.{◌≡◌, ◌<◌, Bool, true, false, ◌&&◌, cond, Option, Some, None, Ok, Err, refl, sym, ap, subst, ◌∙◌}
+use Rattle.std.proofs.Common.{◌≡◌, ◌<◌, Bool, true, false, ◌&&◌, cond, Option, Some, None, Result, Ok, Err, refl, sym, ap, subst, ◌∙◌}
 use Rattle.std.specs.Option.{option_map_or, is_some, is_none}
 use Rattle.permission_specs.specs.declared.entry.Scope.TheVariants.{Access, Default}
 use Rattle.permission_specs.specs.declared.entry.EntryKind.TheVariants.{Mask}
@@ -8,10 +8,12 @@ use Rattle.permission_specs.specs.declared.acl_change.AclChange.{AclChange}
 use Rattle.permission_specs.specs.declared.acl_change.AclChange.TheVariants.{Set, Modify, Remove, RemoveDefault, Clear}
 use Rattle.hdfs_values.specs.declared.fault.AclFault.{AclFault}
 use Rattle.hdfs_types.specs.declared.reply.ObjectKind.{ObjectKind}
+use Rattle.refusals.specs.declared.refusal.Refusal.{Refusal}
 use Rattle.refusals.specs.declared.refusal.Refusal.TheVariants.{BadAcl, TooManyEntries}
 use Rattle.acl_entries.specs.Acl.{Acl, EntryList, IsEntryList, IsAcl, base_entries, intersection, has_named, fits_in_scope, is_access_list}
 use Rattle.partial_acl.specs.AclChange.{PartialList, completed_list, as_kept, touches, base_rights, all_of, no_entries, has_no_entry, after_addition, after_removal, access_where, access_after, default_where, default_after, acl_after, first_acl_fault, unless_fault, acl_change}
 use Rattle.partial_acl.specs.Answers.{Changes, IfChangeRefused, Makes, MakesAny, named_count}
+use Rattle.default_acl.specs.Forms.{MakesChanged}
 use Rattle.partial_acl.specs.declared.fault.AclChangeFault.{AclChangeFault}
 use Rattle.partial_acl.specs.declared.fault.AclChangeFault.TheVariants.{Refused, OutOfMemory}
 use Rattle.partial_acl.proofs.Tests.{both, and, and_false}
@@ -80,6 +82,11 @@ acl_good change acl h =
 
 -- ---- what is answered
 
+-- a list that isn't changed stays
+pub unchanged : (fault : AclChangeFault) (due : Result Acl Refusal) (acl : Acl) → MakesChanged (Err fault) due → Changes {T = Unit} (Err fault) due acl acl
+unchanged (Refused refusal) due acl h = (h, refl)
+unchanged OutOfMemory due acl h = refl
+
 module _ (change : AclChange) (kind : ObjectKind) (acl : Acl) where
   pub faulted : (fault : AclFault) → Some fault ≡ first_acl_fault change kind acl → acl_change change kind acl ≡ Err (BadAcl fault)
   faulted fault h = ap (λ found. unless_fault found (acl_after change acl)) (sym h)
@@ -96,20 +103,18 @@ module _ (change : AclChange) (kind : ObjectKind) (acl : Acl) where
       ∙ ap (λ c. cond (c && option_map_or fits_in_scope due_default true) (Ok (acl_after change acl)) (Err TooManyEntries)) h
       ∙ ap (λ c. cond (a && c) (Ok (acl_after change acl)) (Err TooManyEntries)) k
 
-  pub refused_by_access : (fault : AclChangeFault) → None ≡ first_acl_fault change kind acl → Makes (Err fault) due_access → Changes {T = Unit} (Err fault) (acl_change change kind acl) acl acl
-  refused_by_access (Refused refusal) none h = (answered none false (option_map_or fits_in_scope due_default true) h.1 refl ∙ ap (λ r. Err r) (sym h.0), refl)
-  refused_by_access OutOfMemory none h = refl
+  pub refused_by_access : (fault : AclChangeFault) → None ≡ first_acl_fault change kind acl → Makes (Err fault) due_access → MakesChanged (Err fault) (acl_change change kind acl)
+  refused_by_access (Refused refusal) none h = answered none false (option_map_or fits_in_scope due_default true) h.1 refl ∙ ap (λ r. Err r) (sym h.0)
+  refused_by_access OutOfMemory none h = tt
 
   module _ (access : EntryList) (is : access ≡ due_access) where
     pub refused_by_default : (fault : AclChangeFault) → None ≡ first_acl_fault change kind acl → MakesAny (Err fault) (default_after change access acl.default)
-        → Changes {T = Unit} (Err fault) (acl_change change kind acl) acl acl
+        → MakesChanged (Err fault) (acl_change change kind acl)
     refused_by_default (Refused refusal) none h =
-        let overfull_default : option_map_or fits_in_scope due_default true ≡ false = ap (λ list. option_map_or fits_in_scope (default_after change list acl.default) true) (sym is) ∙ h.1 in (
-          answered none (fits_in_scope due_access) false refl overfull_default
-              ∙ ap (λ c. cond c (Ok (acl_after change acl)) (Err TooManyEntries)) (and_false (fits_in_scope due_access) false refl) ∙ ap (λ r. Err r) (sym h.0),
-          refl,
-        )
-    refused_by_default OutOfMemory none h = refl
+        let overfull_default : option_map_or fits_in_scope due_default true ≡ false = ap (λ list. option_map_or fits_in_scope (default_after change list acl.default) true) (sym is) ∙ h.1 in
+        answered none (fits_in_scope due_access) false refl overfull_default
+        ∙ ap (λ c. cond c (Ok (acl_after change acl)) (Err TooManyEntries)) (and_false (fits_in_scope due_access) false refl) ∙ ap (λ r. Err r) (sym h.0)
+    refused_by_default OutOfMemory none h = tt
 
     module _ (default : Option EntryList) (is_too : default ≡ default_after change access acl.default) where
       abbrev made : Acl

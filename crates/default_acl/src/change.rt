@@ -1,13 +1,13 @@
-ghost use Rattle.std.specs.Prelude.{◌≡◌, ◌&&◌, true, false, Some, OnOk, OnErr, IfOk, IsOk, Ok};
+ghost use Rattle.std.specs.Prelude.{◌≡◌, ◌&&◌, true, false, Some, IfOk, IsOk, Ok};
 ghost use Rattle.std.specs.Option.{option_copied, option_map_or};
 ghost use Rattle.hdfs_types.specs.declared.reply.ObjectKind.{ObjectKind};
 ghost use Rattle.permission_specs.specs.declared.acl_change.AclChange.TheVariants.{Set, Modify, Remove, RemoveDefault, Clear};
 ghost use Rattle.permission_specs.specs.declared.entry.Scope.TheVariants.{Access, Default};
 ghost use Rattle.permission_specs.specs.declared.entry.EntryKind.TheVariants.{User, Group, Mask, Other};
-ghost use Rattle.acl_entries.specs.Acl.{Acl, IsAcl};
+ghost use Rattle.acl_entries.specs.Acl.{Acl};
 ghost use Rattle.partial_acl.specs.Answers.{Changes, Makes, MakesAny, IsPartialList};
 ghost use Rattle.partial_acl.specs.AclChange as definition;
-ghost use Rattle.default_acl.specs.Forms.{change_of};
+ghost use Rattle.default_acl.specs.Forms.{MakesChanged, change_of};
 
 use acl_entries::acl::Acl;
 use acl_entries::entry_list::{Bases, EntryList};
@@ -184,25 +184,28 @@ fn default_after(
     }
 }
 
-/// Puts other lists in place of those that stand; the sticky bit stays.
-fn replace(
-    alloc: Global,
-    acl: &mut Acl,
-    access: EntryList,
-    default: Option<EntryList>,
-) -> Result<(), AllocError>
-    requires { IsAcl (record { sticky = acl.old.sticky; access = access; default = default }) }
-    ensures ok { OnOk result (acl.new ≡ record { sticky = acl.old.sticky; access = access; default = default }) }
-    ensures err { OnErr result (acl.new ≡ acl.old) }
-{
-    let sticky = acl.is_sticky();
-    *acl = Acl::new(alloc, sticky, access, default)?;
-    Ok(())
-}
-
 // ---- the changes
 
-/// Changes a list by a form with a spec: what refuses it first, then both lists aside, and then one assignment.
+/// A list as a form with a spec changes it: what refuses it first, then both lists, those that stay copied; the sticky bit stays.
+fn changed_by(
+    alloc: Global,
+    acl: &Acl,
+    kind: ObjectKind,
+    form: Form,
+    spec: &Spec,
+) -> Result<Acl, AclChangeFault>
+    ensures { MakesChanged result (definition.acl_change (change_of form spec.now) kind acl.now) }
+{
+    let entries = spec.as_slice();
+    if let Some(fault) = fault_of(form, entries, kind, acl) {
+        return Err(AclChangeFault::Refused(Refusal::BadAcl(AtWord::of(fault))));
+    }
+    let access = access_after(alloc, form, entries, acl.access())?;
+    let default = default_after(alloc, form, entries, &access, acl.default_list())?;
+    Ok(Acl::new(alloc, acl.is_sticky(), access, default)?)
+}
+
+/// Changes a list by a form with a spec: makes the new one aside, and puts it in place of the old one.
 fn change_by(
     alloc: Global,
     acl: &mut Acl,
@@ -212,13 +215,7 @@ fn change_by(
 ) -> Result<(), AclChangeFault>
     ensures { Changes result (definition.acl_change (change_of form spec.now) kind acl.old) acl.old acl.new }
 {
-    let entries = spec.as_slice();
-    if let Some(fault) = fault_of(form, entries, kind, acl) {
-        return Err(AclChangeFault::Refused(Refusal::BadAcl(AtWord::of(fault))));
-    }
-    let access = access_after(alloc, form, entries, acl.access())?;
-    let default = default_after(alloc, form, entries, &access, acl.default_list())?;
-    replace(alloc, acl, access, default)?;
+    *acl = changed_by(alloc, acl, kind, form, spec)?;
     Ok(())
 }
 
@@ -329,6 +326,36 @@ pub fn change(
         AclChange::Clear => {
             clear(acl);
             Ok(())
+        }
+    }
+}
+
+/// A list as `change` leaves it, beside the old one: what changes isn't copied first. Costs what `change` does and a copy of the
+/// entries that stay; a form without a spec costs a copy.
+///
+/// # Errors
+/// Those of `change`, and out of memory also without a spec.
+pub fn changed(
+    alloc: Global,
+    acl: &Acl,
+    kind: ObjectKind,
+    change: &AclChange,
+) -> Result<Acl, AclChangeFault>
+    ensures { MakesChanged result (definition.acl_change change.now kind acl.now) }
+{
+    match change {
+        AclChange::Set(spec) => changed_by(alloc, acl, kind, Form::Set, spec),
+        AclChange::Modify(spec) => changed_by(alloc, acl, kind, Form::Modify, spec),
+        AclChange::Remove(spec) => changed_by(alloc, acl, kind, Form::Remove, spec),
+        AclChange::RemoveDefault => {
+            let mut copy = acl.clone()?;
+            remove_default(&mut copy);
+            Ok(copy)
+        }
+        AclChange::Clear => {
+            let mut copy = acl.clone()?;
+            clear(&mut copy);
+            Ok(copy)
         }
     }
 }

@@ -10,7 +10,7 @@ ghost use Rattle.perm_walk.specs.Walked.{AreOn};
 ghost use Rattle.perm_walk.specs.JudgedStep.{judged_step};
 
 use acl_entries::acl::Acl;
-use default_acl::change::change as change_list;
+use default_acl::change::changed as changed_list;
 use default_acl::chmod::chmod;
 use file_paths::path::Path;
 use flat_rows::verdict::Verdict;
@@ -96,9 +96,8 @@ fn changed(
 ) -> Result<Result<Acl, Refusal>, AllocError>
     ensures { IfOk result (λ due. due ≡ acl_change change.now kind acl.now) }
 {
-    let mut copy = acl.clone()?;
-    match change_list(alloc, &mut copy, kind, change) {
-        Ok(()) => Ok(Ok(copy)),
+    match changed_list(alloc, acl, kind, change) {
+        Ok(acl) => Ok(Ok(acl)),
         Err(AclChangeFault::Refused(refusal)) => Ok(Err(refusal)),
         Err(AclChangeFault::OutOfMemory) => Err(AllocError),
     }

@@ -1,3 +1,4 @@
 pub mod SpecKeys
 pub mod SpecTexts
 pub mod SpecSpellings
+pub mod SpecFields

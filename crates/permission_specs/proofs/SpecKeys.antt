@@ -1,5 +1,5 @@
 -- The keys of a spec's entries, and how the code orders them.
-use Rattle.std.proofs.Common.{◌≡◌, ℕ, ◌+◌, ◌<◌, Bool, true, false, not, List, [], ◌∷◌, ◌++◌, ◌&&◌, ◌||◌, length, take, drop, get_or, Option, Some, None, Bor, cond, refl, sym, ap, subst, ◌∙◌}
+use Rattle.std.proofs.Common.{◌≡◌, ℕ, ◌+◌, ◌<◌, Bool, true, false, not, List, [], ◌∷◌, ◌++◌, ◌&&◌, ◌||◌, length, take, drop, get_or, Option, Some, None, Bor, cond, refl, sym, ap, subst, ◌∙◌, arith}
 use Rattle.std.proofs.lemmas.List.{take_more, take-append-drop}
 use Rattle.std.proofs.lemmas.List.Folds.{list_any-append}
 use Rattle.std.specs.BTreeMap.{is_at}
@@ -171,3 +171,8 @@ module _ (es : List Entry) (i : ℕ) (e : Entry) (key : Key) (lt : i < length es
   pub repeated : (seen : Bool) → seen ≡ list_any (same_key (with_key key)) (take i es) → false ≡ not seen → true ≡ has_duplicate es
   repeated false before h = cc
   repeated true before h = sym (subst (λ xs. has_duplicate xs ≡ true) (take-append-drop (i + 1) es) (duplicate_stays (take (i + 1) es) (drop (i + 1) es) (found true before)))
+
+pub one_alone : (entries : List Entry) → length entries < 2 → false ≡ has_duplicate entries
+one_alone [] few = refl
+one_alone (entry ∷ []) few = refl
+one_alone (entry ∷ other ∷ entries) few = absurd (omega arith)

@@ -1,4 +1,4 @@
-ghost use Rattle.std.specs.Prelude.{◌≡◌, ◌==◌, ◌<◌, ℕ, true, List, [], ◌∷◌, IfOk, IsTrue, Ok, map};
+ghost use Rattle.std.specs.Prelude.{◌≡◌, ◌==◌, ℕ, true, List, [], ◌∷◌, IsTrue, Ok, map};
 ghost use Rattle.std.specs.List.{list_all, slice_split};
 ghost use Rattle.hdfs_values.specs.Parsed.{ParsesInParts, ParsesInPartsBy};
 ghost use Rattle.permission_bits.specs.Rights.{rights};
@@ -11,18 +11,12 @@ ghost use Rattle.permission_specs.specs.SpecText as grammar;
 use crate::entry::{Entry, EntryKind, Scope};
 use crate::spec::Spec;
 use hdfs_values::fault::{AclFault, IllFormed, ParseFault};
+use hdfs_values::pieces::cut_at;
 use hdfs_values::who::Who;
 use permission_bits::rights::{Rights, rights_have_one_spelling};
-use std::alloc::{AllocError, Global};
+use std::alloc::Global;
 
 const NO_SPEC: ParseFault = ParseFault::IllFormed(IllFormed::BadAcl(AclFault::Form));
-
-fn pieces_between(alloc: Global, text: &str, separator: char) -> Result<Vec<&str>, AllocError>
-    requires { separator < 128 }
-    ensures { IfOk result (λ found. map (λ piece. piece.now) found.items ≡ slice_split (λ byte. byte == separator) text.now) }
-{
-    text.split(separator).collect(alloc)
-}
 
 fn is_word(word: &str, text: &str) -> bool
     ensures { result ≡ same word.now text.now }
@@ -161,17 +155,32 @@ fn entry_of_fields(alloc: Global, with_rights: bool, fields: &[&str]) -> Result<
 fn entry_of(alloc: Global, with_rights: bool, text: &str) -> Result<Entry, ParseFault>
     ensures { ParsesInParts (IllFormed.BadAcl AclFault.Form) result (grammar.entry_of_text with_rights text.now) }
 {
-    let fields = pieces_between(alloc, text, ':')?;
-    entry_of_fields(alloc, with_rights, &fields)
+    let Some((first, rest)) = cut_at(text, b':') else {
+        return entry_of_fields(alloc, with_rights, &[text]);
+    };
+    let Some((second, rest)) = cut_at(rest, b':') else {
+        return entry_of_fields(alloc, with_rights, &[first, rest]);
+    };
+    let Some((third, rest)) = cut_at(rest, b':') else {
+        return entry_of_fields(alloc, with_rights, &[first, second, rest]);
+    };
+    // no entry has more than four fields
+    match cut_at(rest, b':') {
+        None => entry_of_fields(alloc, with_rights, &[first, second, third, rest]),
+        Some(_) => Err(NO_SPEC),
+    }
 }
 
-fn entries_of(alloc: Global, with_rights: bool, texts: &[&str]) -> Result<Vec<Entry>, ParseFault>
-    ensures { ParsesInPartsBy (λ entries. entries.items) (IllFormed.BadAcl AclFault.Form) result (grammar.entries_of_texts with_rights (map (λ text. text.now) texts.now)) }
+fn entries_of(alloc: Global, with_rights: bool, text: &str) -> Result<Vec<Entry>, ParseFault>
+    ensures { ParsesInPartsBy (λ entries. entries.items) (IllFormed.BadAcl AclFault.Form) result (grammar.entries_of_texts with_rights (slice_split (λ byte. byte == 44) text.now)) }
 {
-    let mut entries = Vec::with_capacity(alloc, texts.len())?;
-    for text in texts {
-        entries.push(entry_of(alloc, with_rights, text)?)?;
+    let mut entries = Vec::new(alloc);
+    let mut rest = text;
+    while let Some((entry, behind)) = cut_at(rest, b',') {
+        entries.push(entry_of(alloc, with_rights, entry)?)?;
+        rest = behind;
     }
+    entries.push(entry_of(alloc, with_rights, rest)?)?;
     Ok(entries)
 }
 
@@ -185,8 +194,7 @@ fn entries_of(alloc: Global, with_rights: bool, texts: &[&str]) -> Result<Vec<En
 pub fn parse_spec(alloc: Global, text: &str, with_rights: bool) -> Result<Spec, ParseFault>
     ensures { MakesSpec result (spec_of with_rights text.now) }
 {
-    let pieces = pieces_between(alloc, text, ',')?;
-    let entries = entries_of(alloc, with_rights, &pieces)?;
+    let entries = entries_of(alloc, with_rights, text)?;
     Spec::from_entries(alloc, entries)
 }
 
