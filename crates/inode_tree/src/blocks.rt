@@ -92,7 +92,13 @@ fn push_files<'a>(
             push_ids(file.blocks.as_slice(), blocks)?;
             push_holder(node, clients)
         }
-        Held::Directory(nodes) => push_files_in(nodes, clients, blocks),
+        Held::Directory(nodes) => {
+            // Most directories hold nothing, and are told at once.
+            if nodes.is_empty() {
+                return Ok(());
+            }
+            push_files_in(nodes, clients, blocks)
+        }
     }
 }
 

@@ -1,10 +1,10 @@
 -- A visit of a directory, entry by entry.
-use Rattle.std.proofs.Common.{◌≡◌, ℕ, ◌+◌, ◌≤◌, ◌<◌, ◌^◌, nat_lt, Bool, true, false, not, List, [], ◌∷◌, ◌++◌, map, length, length-append, append_assoc, Option, Some, None, refl, sym, ap, ◌∙◌, arith}
+use Rattle.std.proofs.Common.{◌≡◌, ℕ, ◌+◌, ◌≤◌, ◌<◌, ◌^◌, nat_lt, Bool, true, false, not, ◌||◌, cond, List, [], ◌∷◌, ◌++◌, map, length, length-append, append_assoc, Option, Some, None, refl, sym, ap, ◌∙◌, arith}
 use Rattle.std.proofs.lemmas.Bool.{le-ltb, ltb-false}
 use Rattle.std.proofs.lemmas.List.{length-map, map-append}
 use Rattle.std.proofs.lemmas.List.Elements.{filter-append}
 use Rattle.std.proofs.lemmas.List.Folds.{list_all-append}
-use Rattle.std.specs.List.{filter}
+use Rattle.std.specs.List.{filter, list_any}
 use Rattle.std.specs.Option.{option_map, option_to_list}
 use Rattle.file_paths.specs.Path.{is_path}
 use Rattle.namespace_rows.specs.declared.row.Row.{Row}
@@ -59,6 +59,38 @@ module _ (p : Row → Bool) (same : (n : List ℕ) (row : Row) → p (under n ro
 
   pub first_next : (it new : Entries) (n : List ℕ) (b : Node) → it ≡ (n, b) ∷ new → first (filter p (rows b)) ≡ None → first (filter p (flatten new)) ≡ first (filter p (flatten it))
   first_next it new n b is none = sym (ap first (filter_entry it new n b is) ∙ first_none n (filter p (rows b)) (filter p (flatten new)) none)
+
+-- whether any row passes such a test
+
+any_append : (p : Row → Bool) (xs ys : List Row) → list_any p (xs ++ ys) ≡ (list_any p xs || list_any p ys)
+any_append p [] ys = refl
+any_append p (x ∷ xs) ys = by (p x)
+  where
+    by : (b : Bool) → (b || list_any p (xs ++ ys)) ≡ ((b || list_any p xs) || list_any p ys)
+    by true = refl
+    by false = any_append p xs ys
+
+pub none_passes : (p : Row → Bool) (rs : List Row) → list_any p rs ≡ false → first (filter p rs) ≡ None
+none_passes p [] h = refl
+none_passes p (r ∷ rs) h = by (p r) h
+  where
+    by : (b : Bool) → (b || list_any p rs) ≡ false → first (cond b (r ∷ filter p rs) (filter p rs)) ≡ None
+    by true e = cc
+    by false e = none_passes p rs e
+
+module _ (p : Row → Bool) (same : (n : List ℕ) (row : Row) → p (under n row) ≡ p row) where
+  any_under : (n : List ℕ) (rs : List Row) → list_any p (map (under n) rs) ≡ list_any p rs
+  any_under n [] = refl
+  any_under n (r ∷ rs) = ap (λ b. b || list_any p (map (under n) rs)) (same n r) ∙ ap (λ b. p r || b) (any_under n rs)
+
+  any_entry : (it new : Entries) (n : List ℕ) (b : Node) → it ≡ (n, b) ∷ new → list_any p (flatten it) ≡ (list_any p (rows b) || list_any p (flatten new))
+  any_entry it new n b is = ap (λ (x : Entries). list_any p (flatten x)) is ∙ any_append p (map (under n) (rows b)) (flatten new) ∙ ap (λ c. c || list_any p (flatten new)) (any_under n (rows b))
+
+  pub any_here : (it new : Entries) (n : List ℕ) (b : Node) → it ≡ (n, b) ∷ new → list_any p (rows b) ≡ true → list_any p (flatten it) ≡ true
+  any_here it new n b is h = any_entry it new n b is ∙ ap (λ c. c || list_any p (flatten new)) h
+
+  pub any_next : (it new : Entries) (n : List ℕ) (b : Node) → it ≡ (n, b) ∷ new → list_any p (rows b) ≡ false → list_any p (flatten new) ≡ list_any p (flatten it)
+  any_next it new n b is h = sym (any_entry it new n b is ∙ ap (λ c. c || list_any p (flatten new)) h)
 
 told_sum : (before here left : ℕ) → told_number (told_number (before + told_number here) + left) ≡ told_number (before + (here + left))
 told_sum before here left = omega arith

@@ -1,4 +1,5 @@
 ghost use Rattle.std.specs.Prelude.{◌≡◌, ◌++◌, ◌∷◌, [], map, filter, reverse, true, IsTrue, IfOk, OnOk};
+ghost use Rattle.std.specs.List.{list_any};
 ghost use Rattle.std.specs.Option.{option_map, option_to_list};
 ghost use Rattle.std.specs.Map.{keys_of};
 ghost use Rattle.file_paths.specs.Path.{IsPath};
@@ -43,6 +44,14 @@ pub fn count(node: &Node) -> Counts
             bytes: file.blocks.length(),
         },
         Held::Directory(map) => {
+            // Most directories hold nothing, and are told at once.
+            if map.is_empty() {
+                return Counts {
+                    directories: 1,
+                    files: 0,
+                    bytes: Some(0),
+                };
+            }
             let beneath = count_in(map);
             Counts {
                 directories: beneath.directories.saturating_add(1),
@@ -90,12 +99,59 @@ pub struct Found {
     acl: Acl,
 }
 
-/// The first directory, of the node and all beneath it, that doesn't grant the caller what is needed.
+/// The first directory, of the node and all beneath it, that doesn't grant the caller what is needed. Where there is one, the
+/// directories before it are looked at twice.
 ///
 /// # Errors
 /// Out of memory.
-#[cycle(closed)]
 pub fn first_closed(
+    alloc: Global,
+    node: &Node,
+    caller: &Who,
+    groups: &[Who],
+    need: Rights,
+) -> Result<Option<Found>, AllocError>
+    ensures { IfOk result (λ found. option_map row_found found ≡ first (filter (is_closed caller.now groups.now need) (rows node.now))) }
+{
+    // Mostly there is none, and no answer with names and an owner is moved up from each directory.
+    if !has_closed(node, caller, groups, need) {
+        return Ok(None);
+    }
+    find_closed(alloc, node, caller, groups, need)
+}
+
+/// Whether a directory, of the node and all beneath it, doesn't grant the caller what is needed.
+#[cycle(open)]
+fn has_closed(node: &Node, caller: &Who, groups: &[Who], need: Rights) -> bool
+    ensures { result ≡ list_any (is_closed caller.now groups.now need) (rows node.now) }
+{
+    match &node.held {
+        Held::File(_) => false,
+        Held::Directory(map) => {
+            if !node.grants(caller, groups, need) {
+                return true;
+            }
+            // Most directories hold nothing, and are told at once.
+            !map.is_empty() && has_closed_in(map, caller, groups, need)
+        }
+    }
+}
+
+#[cycle(open)]
+fn has_closed_in(map: &BTreeMap<Name, Node>, caller: &Who, groups: &[Who], need: Rights) -> bool
+    ensures { result ≡ list_any (is_closed caller.now groups.now need) (flatten map.now.entries) }
+{
+    for (_name, child) in map {
+        if has_closed(child, caller, groups, need) {
+            return true;
+        }
+    }
+    false
+}
+
+/// The first directory, of the node and all beneath it, that doesn't grant the caller what is needed.
+#[cycle(closed)]
+fn find_closed(
     alloc: Global,
     node: &Node,
     caller: &Who,
@@ -108,7 +164,7 @@ pub fn first_closed(
         Held::File(_) => Ok(None),
         Held::Directory(map) => {
             if node.grants(caller, groups, need) {
-                return first_closed_in(alloc, map, caller, groups, need);
+                return find_closed_in(alloc, map, caller, groups, need);
             }
             Ok(Some(Found {
                 names: Vec::new(alloc),
@@ -121,7 +177,7 @@ pub fn first_closed(
 }
 
 #[cycle(closed)]
-fn first_closed_in(
+fn find_closed_in(
     alloc: Global,
     map: &BTreeMap<Name, Node>,
     caller: &Who,
@@ -131,7 +187,7 @@ fn first_closed_in(
     ensures { IfOk result (λ found. option_map row_found found ≡ first (filter (is_closed caller.now groups.now need) (flatten map.now.entries))) }
 {
     for (name, child) in map {
-        if let Some(found) = first_closed(alloc, child, caller, groups, need)? {
+        if let Some(found) = find_closed(alloc, child, caller, groups, need)? {
             return Ok(Some(beneath(name, found)?));
         }
     }
