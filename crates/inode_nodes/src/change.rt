@@ -27,6 +27,7 @@ use namespace_rows::row::Change;
 use permission_bits::mode::Mode;
 use std::alloc::{AllocError, Global};
 use std::collections::BTreeMap;
+use std::mem::replace;
 
 impl Node {
     /// Puts a node by its name into the directory at the path.
@@ -131,12 +132,19 @@ impl Node {
     }
 
     /// Gives what stands at the path what the change says.
-    #[cycle(rewrite)]
-    pub fn rewrite(&mut self, path: &[Name], change: Change)
+    pub fn rewrite(&mut self, path: &[Name], mut change: Change)
         ensures { rows self.new ≡ row_rewritten path.now change (rows self.old) }
     {
+        self.rewrite_by(path, &mut change);
+    }
+
+    /// Gives what stands at the path what the change says. A change is large, so it is lent on the way down, and taken where it is made.
+    #[cycle(rewrite)]
+    fn rewrite_by(&mut self, path: &[Name], change: &mut Change)
+        ensures { rows self.new ≡ row_rewritten path.now change.old (rows self.old) }
+    {
         match path.split_first() {
-            None => self.give(change),
+            None => self.give(replace(change, Change::LastTaken)),
             Some((first, rest)) => match &mut self.held {
                 Held::Directory(map) => rewrite_in(map, first, rest, change),
                 Held::File(_) => (),
@@ -450,13 +458,13 @@ fn take_in(map: &mut BTreeMap<Name, Node>, first: &Name, rest: &[Name]) -> Optio
 }
 
 #[cycle(rewrite)]
-fn rewrite_in(map: &mut BTreeMap<Name, Node>, first: &Name, rest: &[Name], change: Change)
+fn rewrite_in(map: &mut BTreeMap<Name, Node>, first: &Name, rest: &[Name], change: &mut Change)
     requires { IsStrictlySortedBy text_cmp (keys_of map.old.entries) }
     ensures sorted { IsStrictlySortedBy text_cmp (keys_of map.new.entries) }
-    ensures rows { flatten map.new.entries ≡ row_rewritten (first.now ∷ rest.now) change (flatten map.old.entries) }
+    ensures rows { flatten map.new.entries ≡ row_rewritten (first.now ∷ rest.now) change.old (flatten map.old.entries) }
 {
     match map.get_mut(first) {
-        Some(child) => child.rewrite(rest, change),
+        Some(child) => child.rewrite_by(rest, change),
         None => (),
     }
 }

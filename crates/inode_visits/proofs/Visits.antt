@@ -1,5 +1,5 @@
 -- A visit of a directory, entry by entry.
-use Rattle.std.proofs.Common.{◌≡◌, ℕ, ◌+◌, ◌≤◌, ◌<◌, ◌^◌, nat_lt, Bool, true, false, not, ◌||◌, cond, List, [], ◌∷◌, ◌++◌, map, length, length-append, append_assoc, Option, Some, None, refl, sym, ap, ◌∙◌, arith}
+use Rattle.std.proofs.Common.{◌≡◌, ℕ, ◌+◌, ◌≤◌, ◌<◌, ◌^◌, nat_lt, Bool, true, false, not, ◌||◌, cond, List, [], ◌∷◌, ◌++◌, map, length, length-append, append_assoc, Option, Some, None, refl, sym, ap, ◌∙◌, true≢false, arith}
 use Rattle.std.proofs.lemmas.Bool.{le-ltb, ltb-false}
 use Rattle.std.proofs.lemmas.List.{length-map, map-append}
 use Rattle.std.proofs.lemmas.List.Elements.{filter-append}
@@ -64,19 +64,19 @@ module _ (p : Row → Bool) (same : (n : List ℕ) (row : Row) → p (under n ro
 
 any_append : (p : Row → Bool) (xs ys : List Row) → list_any p (xs ++ ys) ≡ (list_any p xs || list_any p ys)
 any_append p [] ys = refl
-any_append p (x ∷ xs) ys = by (p x)
+any_append p (x ∷ xs) ys = by (p x) (any_append p xs ys)
   where
-    by : (b : Bool) → (b || list_any p (xs ++ ys)) ≡ ((b || list_any p xs) || list_any p ys)
-    by true = refl
-    by false = any_append p xs ys
+    by : (b : Bool) → list_any p (xs ++ ys) ≡ (list_any p xs || list_any p ys) → (b || list_any p (xs ++ ys)) ≡ ((b || list_any p xs) || list_any p ys)
+    by true rest = refl
+    by false rest = rest
 
 pub none_passes : (p : Row → Bool) (rs : List Row) → list_any p rs ≡ false → first (filter p rs) ≡ None
 none_passes p [] h = refl
-none_passes p (r ∷ rs) h = by (p r) h
+none_passes p (r ∷ rs) h = by (p r) h (none_passes p rs)
   where
-    by : (b : Bool) → (b || list_any p rs) ≡ false → first (cond b (r ∷ filter p rs) (filter p rs)) ≡ None
-    by true e = cc
-    by false e = none_passes p rs e
+    by : (b : Bool) → (b || list_any p rs) ≡ false → (list_any p rs ≡ false → first (filter p rs) ≡ None) → first (cond b (r ∷ filter p rs) (filter p rs)) ≡ None
+    by true e rest = absurd (true≢false e)
+    by false e rest = rest e
 
 module _ (p : Row → Bool) (same : (n : List ℕ) (row : Row) → p (under n row) ≡ p row) where
   any_under : (n : List ℕ) (rs : List Row) → list_any p (map (under n) rs) ≡ list_any p rs

@@ -113,11 +113,11 @@ pub fn first_closed(
 ) -> Result<Option<Found>, AllocError>
     ensures { IfOk result (λ found. option_map row_found found ≡ first (filter (is_closed caller.now groups.now need) (rows node.now))) }
 {
-    // Mostly there is none, and no answer with names and an owner is moved up from each directory.
-    if !has_closed(node, caller, groups, need) {
-        return Ok(None);
+    // Mostly there is none, and then no answer with names and an owner is moved up from each directory.
+    if has_closed(node, caller, groups, need) {
+        return find_closed(alloc, node, caller, groups, need);
     }
-    find_closed(alloc, node, caller, groups, need)
+    Ok(None)
 }
 
 /// Whether a directory, of the node and all beneath it, doesn't grant the caller what is needed.

@@ -1,22 +1,25 @@
 use Rattle.std.proofs.Common.{arith, ap, ◌∙◌, BTreeMap, List, ℕ}
-use Rattle.inode_nodes.specs.Node.{flatten, Node}
+use Rattle.inode_nodes.specs.Node.{flatten, rows, Node}
 use Rattle.inode_nodes.proofs.Through.{found_mut, missed_mut, no_names, held_sorted, rewrite_top, rewrite_through, rewrite_none}
-use Rattle.flat_rows.specs.Changes.{with_change}
+use Rattle.flat_rows.specs.Changes.{row_rewritten, with_change}
 use Rattle.inode_nodes.proofs.Levels.{changed_pathless}
 use Rattle.inode_nodes.proofs.+rewrite.Goals as goal
 
-pub node::Node::rewrite-rewrite_in-requires : goal.node::Node::rewrite-rewrite_in-requires
-node::Node::rewrite-rewrite_in-requires t c = (omega (arith, c.decreases, c.in-Some.ensures.cases.1), held_sorted c.self.inside.held c.in-Directory.map c.in-Directory.is c.self.invariant)
+pub node::Node::rewrite_by-rewrite_in-requires : goal.node::Node::rewrite_by-rewrite_in-requires
+node::Node::rewrite_by-rewrite_in-requires t c = (omega (arith, c.decreases, c.in-Some.ensures.cases.1), held_sorted c.self.inside.held c.in-Directory.map c.in-Directory.is c.self.invariant)
 
-pub node::Node::rewrite-returns-in-None : goal.node::Node::rewrite-returns-in-None
-node::Node::rewrite-returns-in-None t c = rewrite_top (with_change c.args.change) (changed_pathless c.args.change) c.args.path.now c.args.self.now c.give.new.self (no_names _ c.in-None.ensures.cases) c.give.ensures.beneath c.give.ensures.given
+pub node::Node::rewrite_by-returns-in-None : goal.node::Node::rewrite_by-returns-in-None
+node::Node::rewrite_by-returns-in-None t c =
+    let change = c.replace.result in
+    rewrite_top (with_change change) (changed_pathless change) c.args.path.now c.args.self.now c.give.new.self (no_names _ c.in-None.ensures.cases) c.give.ensures.beneath c.give.ensures.given
+    ∙ ap (λ change. row_rewritten c.args.path.now change (rows c.args.self.now)) c.replace.ensures.value
 
 pub change::rewrite_in-returns-in-Some-clause-rows : goal.change::rewrite_in-returns-in-Some-clause-rows
 change::rewrite_in-returns-in-Some-clause-rows t c =
     let found = found_mut c.get_mut.result c.in-Some.child _ c.in-Some.is c.get_mut.ensures.value in
-    rewrite_through (with_change c.args.change) (changed_pathless c.args.change) c.args.first.now c.args.rest.now _ c.rewrite.new.self c.args.map.now.entries _ c.requires found c.rewrite.ensures (c.get_mut.follows.holds c.rewrite.new.self).0
+    rewrite_through (with_change c.args.change.now) (changed_pathless c.args.change.now) c.args.first.now c.args.rest.now _ c.rewrite_by.new.self c.args.map.now.entries _ c.requires found c.rewrite_by.ensures (c.get_mut.follows.holds c.rewrite_by.new.self).0
 
 pub change::rewrite_in-returns-in-None-clause-rows : goal.change::rewrite_in-returns-in-None-clause-rows
 change::rewrite_in-returns-in-None-clause-rows t c =
     let missed = missed_mut c.get_mut.result _ c.in-None.is c.get_mut.ensures.value in
-    ap (λ (m : BTreeMap (List ℕ) Node). flatten m.entries) c.get_mut.follows.holds-at-none ∙ rewrite_none (with_change c.args.change) (changed_pathless c.args.change) c.args.first.now c.args.rest.now c.args.map.now.entries c.requires missed
+    ap (λ (m : BTreeMap (List ℕ) Node). flatten m.entries) c.get_mut.follows.holds-at-none ∙ rewrite_none (with_change c.args.change.now) (changed_pathless c.args.change.now) c.args.first.now c.args.rest.now c.args.map.now.entries c.requires missed
