@@ -330,8 +330,7 @@ pub fn change(
     }
 }
 
-/// A list as `change` leaves it, beside the old one: what changes isn't copied first. Costs what `change` does and a copy of the
-/// entries that stay; a form without a spec costs a copy.
+/// A list as `change` leaves it, beside the old one. Costs what `change` costs; a form without a spec costs a copy of the list besides.
 ///
 /// # Errors
 /// Those of `change`, and out of memory also without a spec.

@@ -138,7 +138,8 @@ impl Node {
         self.rewrite_by(path, &mut change);
     }
 
-    /// Gives what stands at the path what the change says. A change is large, so it is lent on the way down, and taken where it is made.
+    /// Gives what stands at the path what the change says. A change is large, so it is lent on the way down, and taken where it is made: what
+    /// is left in its place is looked at no more, and holds nothing.
     #[cycle(rewrite)]
     fn rewrite_by(&mut self, path: &[Name], change: &mut Change)
         ensures { rows self.new ≡ row_rewritten path.now change.old (rows self.old) }

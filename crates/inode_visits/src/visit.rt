@@ -99,8 +99,8 @@ pub struct Found {
     acl: Acl,
 }
 
-/// The first directory, of the node and all beneath it, that doesn't grant the caller what is needed. Where there is one, the
-/// directories before it are looked at twice.
+/// The first directory, of the node and all beneath it, that doesn't grant the caller what is needed. Where there is one, what
+/// stands up to it is looked at twice.
 ///
 /// # Errors
 /// Out of memory.
@@ -149,7 +149,7 @@ fn has_closed_in(map: &BTreeMap<Name, Node>, caller: &Who, groups: &[Who], need:
     false
 }
 
-/// The first directory, of the node and all beneath it, that doesn't grant the caller what is needed.
+/// As `first_closed`, in one pass.
 #[cycle(closed)]
 fn find_closed(
     alloc: Global,

@@ -99,7 +99,7 @@ impl Leases {
     }
 
     /// Gives a client a lease, or renews the one that it has: it comes last in the list of renewals. `now` must not be before
-    /// the last renewal. Costs look-ups by hash, and takes memory only for a client that has none.
+    /// the last renewal. Costs a look-up by hash, and for a client that has none two more and memory.
     ///
     /// # Errors
     /// Out of memory. Nothing has changed then.
@@ -120,7 +120,7 @@ impl Leases {
         Ok(())
     }
 
-    /// Renews a client's lease: it comes last in the list of renewals. `now` must not be before the last renewal. Costs look-ups by
+    /// Renews a client's lease: it comes last in the list of renewals. `now` must not be before the last renewal. Costs a look-up by
     /// hash, and takes no memory.
     ///
     /// # Errors
