@@ -2,6 +2,7 @@
 //! where they are.
 #![tactic(auto)]
 
+mod client_paths;
 pub mod leases;
 pub mod open_files;
 pub mod open_paths;

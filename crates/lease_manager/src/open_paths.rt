@@ -1,10 +1,9 @@
-use file_paths::name::Name;
+use crate::client_paths::{ClientPaths, moved_under};
 use file_paths::path::Path;
-use hdfs_values::fault::ParseFault;
 use hdfs_values::ids::BlockId;
 use hdfs_values::who::Who;
 use std::alloc::{AllocError, Global};
-use std::collections::{BTreeMap, BTreeSet, HashMap};
+use std::collections::{BTreeMap, HashMap};
 use std::marker::Model;
 
 /// Where the files are that each client has open: their paths, in which what is beneath a directory stands together; and where those are
@@ -14,7 +13,7 @@ use std::marker::Model;
 /// only where there was no memory for it, the tree is gone through instead.
 #[derive(Drop)]
 pub struct OpenPaths {
-    clients: HashMap<Who, BTreeSet<Path>>,
+    clients: HashMap<Who, ClientPaths>,
     recovering: BTreeMap<BlockId, Path>,
     alloc: Global,
 }
@@ -28,74 +27,10 @@ impl Model for OpenPaths {
     ghost view = { λ _. tt };
 }
 
-// Copies of the paths at this one and beneath it.
-fn at_or_under(
-    alloc: Global,
-    paths: &BTreeSet<Path>,
-    front: &Path,
-) -> Result<Vec<Path>, AllocError> {
-    let mut found = Vec::new(alloc);
-    for path in paths.range(front..) {
-        if !path.is_at_or_under(front) {
-            break;
-        }
-        found.push(path.clone()?)?;
-    }
-    Ok(found)
-}
-
-// The path of names with others before them, where it is within the limits.
-fn joined(alloc: Global, front: &Path, behind: &[Name]) -> Result<Path, ParseFault> {
-    let mut text = String::new(alloc);
-    for name in front.names().iter().chain(behind) {
-        text.push('/')?;
-        text.push_str(name.as_str())?;
-    }
-    Path::parse(alloc, text.as_str())
-}
-
-// What a path at one or beneath it becomes where that moves; nothing for another path, and for one beyond the limits.
-fn moved_under(
-    alloc: Global,
-    path: &Path,
-    from: &Path,
-    to: &Path,
-) -> Result<Option<Path>, AllocError> {
-    if !path.is_at_or_under(from) {
-        return Ok(None);
-    }
-    let Some(behind) = path.names().get(from.depth()..) else {
-        return Ok(None);
-    };
-    match joined(alloc, to, behind) {
-        Ok(moved) => Ok(Some(moved)),
-        Err(ParseFault::OutOfMemory) => Err(AllocError),
-        Err(_) => Ok(None),
-    }
-}
-
 // Moves a path at one or beneath it; another path stays, and so does one that would be beyond the limits.
 fn move_path(alloc: Global, path: &mut Path, from: &Path, to: &Path) -> Result<(), AllocError> {
     if let Some(moved) = moved_under(alloc, path, from, to)? {
         *path = moved;
-    }
-    Ok(())
-}
-
-// Gives each path at one and beneath it another beginning.
-fn move_front(
-    alloc: Global,
-    paths: &mut BTreeSet<Path>,
-    from: &Path,
-    to: &Path,
-) -> Result<(), AllocError> {
-    for path in &at_or_under(alloc, paths, from)? {
-        paths.remove(path);
-        if let Some(behind) = path.names().get(from.depth()..)
-            && let Ok(moved) = joined(alloc, to, behind)
-        {
-            paths.insert(moved)?;
-        }
     }
     Ok(())
 }
@@ -115,14 +50,10 @@ impl OpenPaths {
     /// # Errors
     /// Out of memory.
     pub fn of_client(&self, client: &Who) -> Result<Vec<Path>, AllocError> {
-        let mut paths = Vec::new(self.alloc);
-        let Some(open) = self.clients.get(client) else {
-            return Ok(paths);
-        };
-        for path in open {
-            paths.push(path.clone()?)?;
+        match self.clients.get(client) {
+            Some(paths) => paths.copies(self.alloc),
+            None => Ok(Vec::new(self.alloc)),
         }
-        Ok(paths)
     }
 
     /// Notes that a client has opened a file. Where there is no memory for the path, it is left out.
@@ -132,8 +63,8 @@ impl OpenPaths {
 
     /// Notes that a client has a file open, where that isn't known any more. Where there is no memory for the path, it is left out.
     pub fn keep_open(&mut self, path: &Path, client: &Who) {
-        if let Some(paths) = self.clients.get(client)
-            && paths.contains(path)
+        if let Some(paths) = self.clients.get_mut(client)
+            && let Ok(true) = paths.has(path)
         {
             return;
         }
@@ -146,7 +77,7 @@ impl OpenPaths {
             paths.insert(path)?;
             return Ok(());
         }
-        let mut paths = BTreeSet::new(self.alloc);
+        let mut paths = ClientPaths::new(self.alloc);
         paths.insert(path)?;
         self.clients.insert(client.clone()?, paths)?;
         Ok(())
@@ -227,9 +158,7 @@ impl OpenPaths {
             let Some(paths) = self.clients.get_mut(client) else {
                 continue;
             };
-            for closed in &at_or_under(self.alloc, paths, path)? {
-                paths.remove(closed);
-            }
+            paths.remove_at(self.alloc, path)?;
             if paths.is_empty() {
                 self.clients.remove(client);
             }
@@ -268,7 +197,7 @@ impl OpenPaths {
 
     fn move_beneath(&mut self, from: &Path, to: &Path) {
         for paths in self.clients.values_mut() {
-            let _noted = move_front(self.alloc, paths, from, to);
+            let _noted = paths.move_front(self.alloc, from, to);
         }
     }
 

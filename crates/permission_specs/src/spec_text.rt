@@ -174,7 +174,7 @@ fn entry_of(alloc: Global, with_rights: bool, text: &str) -> Result<Entry, Parse
 fn entries_of(alloc: Global, with_rights: bool, text: &str) -> Result<Vec<Entry>, ParseFault>
     ensures { ParsesInPartsBy (λ entries. entries.items) (IllFormed.BadAcl AclFault.Form) result (grammar.entries_of_texts with_rights (slice_split (λ byte. byte == 44) text.now)) }
 {
-    let mut entries = Vec::new(alloc);
+    let mut entries = Vec::with_capacity(alloc, 1)?;
     let mut rest = text;
     while let Some((entry, behind)) = cut_at(rest, b',') {
         entries.push(entry_of(alloc, with_rights, entry)?)?;
