@@ -1,6 +1,6 @@
 ghost use Rattle.std.specs.Prelude.{◌≡◌, true, None, IfOk};
 ghost use Rattle.std.specs.Option.{is_some, option_copied};
-ghost use Rattle.acl_entries.specs.Acl.{IsEntryList, is_access_list, IsAcl, acl_of_mode, shown_mode, has_named, has_acl, base_entries};
+ghost use Rattle.acl_entries.specs.Acl.{IsEntryList, is_access_list, IsAcl, acl_of_mode, shown_mode, has_named, has_acl};
 ghost use Rattle.acl_entries.specs.Kept.{AreBases, bases_of_mode, list_of_parts};
 
 use crate::entry_list::{Bases, EntryList};

@@ -1,7 +1,6 @@
 ghost use Rattle.std.specs.Prelude.{◌≡◌, ℕ, Err, IfOk, OnOk};
 ghost use Rattle.receipt_checks.specs.Agreement.{Agrees, Finds};
-ghost use Rattle.receipt_checks.specs.Looking.{Replayed};
-ghost use Rattle.audit_check.specs.Checking.{claims_of, history_opening, Standing};
+ghost use Rattle.audit_check.specs.Checking.{claims_of, Standing};
 ghost use Rattle.audit_check.specs.declared.check.CheckFault.TheVariants.{Disagreement, OutOfMemory};
 
 use hdfs_types::key::Key;

@@ -1,4 +1,4 @@
-ghost use Rattle.std.specs.Prelude.{◌≡◌, not, filter, length, Some, IfOk};
+ghost use Rattle.std.specs.Prelude.{◌≡◌, filter, length, Some, IfOk};
 ghost use Rattle.std.specs.List.{find, filter_map};
 ghost use Rattle.block_tables.specs.Kept.{load};
 ghost use Rattle.block_records.specs.Numbers.{entry_at};

@@ -1,18 +1,15 @@
 -- What is known behind a report, by its verdict.
 use Rattle.std.proofs.Common.{◌≡◌, ◌∙◌, ℕ, List, Result, Ok, Err, refl, sym, ap}
 use Rattle.std.specs.Result.{OnOk, OnErr}
-use Rattle.block_records.specs.Numbers.{entry_at}
 use Rattle.block_records.specs.Verdicts.{verdict_by}
 use Rattle.block_records.specs.declared.block_record.BlockRecord.{BlockRecord}
-use Rattle.block_records.specs.declared.mark.Mark.{Mark}
 use Rattle.block_records.specs.declared.report.ReportVerdict.{ReportVerdict}
 use Rattle.block_records.specs.declared.report.ReportVerdict.TheVariants.{Superseded, Invalid, Valid}
 use Rattle.block_tables.specs.Changes.{with_valid_report}
 use Rattle.block_tables.proofs.Reported.{is_not_reported}
-use Rattle.heartbeats.specs.Live.{Heartbeats}
 use Rattle.known_blocks.specs.Known.{KnownBlocks, block_of, with_block_changed}
-use Rattle.block_map.specs.BlockFacts.{Blocks, known_block}
-use Rattle.block_map.specs.BlockEffects.{reported_by, with_replica_reported, with_replica_invalid}
+use Rattle.block_map.specs.BlockFacts.{Blocks}
+use Rattle.block_map.specs.BlockEffects.{reported_by, with_replica_reported}
 
 pub superseded_valid : {A : Type 0} → Superseded ≡ Valid → A
 superseded_valid e = cc

@@ -1,17 +1,11 @@
 -- What can happen to what is known of blocks: each call of the map of blocks has one of these effects.
-use Rattle.std.specs.Prelude.{ℕ, ◌==◌, not, List, [], ◌++◌, map, filter, fold, if◌then◌else◌, Option, Some, None}
-use Rattle.std.specs.List.{flat_map}
-use Rattle.std.specs.Map.{keys_of}
+use Rattle.std.specs.Prelude.{ℕ, ◌==◌, List, [], map, fold, if◌then◌else◌, Option, Some, None}
 use Rattle.std.specs.Option.{option_or}
-use Rattle.block_records.specs.Numbers.{has_number}
-use Rattle.block_records.specs.Reports.{others_of}
 use Rattle.block_records.specs.Marks.{with_mark, with_marks, marks_for, marks_but}
 use Rattle.block_records.specs.Verdicts.{verdict_by}
-use Rattle.block_records.specs.declared.block_record.BlockRecord.{BlockRecord}
 use Rattle.block_records.specs.declared.fault.BlockRefusal.{BlockRefusal}
 use Rattle.block_records.specs.declared.report.ReportVerdict.{ReportVerdict}
 use Rattle.block_records.specs.declared.report.ReportVerdict.TheVariants.{Superseded, Invalid, Valid}
-use Rattle.block_records.specs.declared.mark.Mark.{Mark}
 use Rattle.block_changes.specs.declared.transfer.Transfer.{Transfer}
 use Rattle.block_tables.specs.Changes.{with_report, without_report, with_replication, with_length, with_recovered}
 use Rattle.recovery_queue.specs.Queue as queue

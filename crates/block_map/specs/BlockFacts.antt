@@ -1,7 +1,7 @@
 -- What is known of blocks and of the DataNodes that hold them, and the questions that are asked of it.
 -- (HDFS Architecture, "Data Replication" and "Data Disk Failure, Heartbeats and Re-Replication"; HDFS-265 for recoveries.)
-use Rattle.std.specs.Prelude.{ℕ, ◌==◌, not, List, if◌then◌else◌, Option, Some, None}
-use Rattle.std.specs.Option.{is_some, option_map, option_and_then}
+use Rattle.std.specs.Prelude.{ℕ, ◌==◌, List, Option, Some}
+use Rattle.std.specs.Option.{option_map, option_and_then}
 use Rattle.block_records.specs.declared.block_record.BlockRecord.{BlockRecord}
 use Rattle.block_records.specs.declared.fault.BlockRefusal.{BlockRefusal}
 use Rattle.block_records.specs.declared.mark.Mark.{Mark}

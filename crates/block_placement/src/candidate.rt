@@ -1,4 +1,4 @@
-ghost use Rattle.std.specs.Prelude.{◌≡◌, ◌<◌, ◌==◌, nat_lt, IfOk};
+ghost use Rattle.std.specs.Prelude.{◌≡◌, ◌<◌, ◌==◌, nat_lt};
 ghost use Rattle.std.specs.List.{count_by};
 ghost use Rattle.block_placement.specs.Placement.{comes_before, is_chosen};
 ghost use Rattle.block_placement.specs.declared.candidate.Candidate.{Candidate};

@@ -1,4 +1,4 @@
-ghost use Rattle.std.specs.Prelude.{◌≡◌, ◌+◌, ◌<◌, ℕ, [], IsTrue, not, filter, ◌↔◌, length, slice_index, IfOk, IfSome, IsSome, if◌then◌else◌};
+ghost use Rattle.std.specs.Prelude.{◌≡◌, ◌<◌, ℕ, [], IsTrue, not, filter, ◌↔◌, length, IfOk, IfSome, IsSome};
 ghost use Rattle.std.specs.List.Sorted.{IsStrictlyIncreasing};
 ghost use Rattle.block_records.specs.Held.{listed_nodes, IsListed};
 ghost use Rattle.block_records.specs.Numbers.{has_number};

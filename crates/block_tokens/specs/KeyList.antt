@@ -1,6 +1,6 @@
 -- Keys by their serials, as a NameNode sends them and a DataNode holds them. (HADOOP-4359: keys roll, and DataNodes learn
 -- them with heartbeats.)
-use Rattle.std.specs.Prelude.{ℕ, Bool, true, List, Option, Some, None, filter, fold, nat_lt, if◌then◌else◌}
+use Rattle.std.specs.Prelude.{ℕ, List, Option, Some, None, filter, fold, if◌then◌else◌}
 use Rattle.std.specs.BTreeMap.{insert_entry, is_at}
 use Rattle.std.specs.List.Sorted.{IsStrictlySortedBy}
 use Rattle.std.specs.Map.{keys_of, lookup}

@@ -1,5 +1,5 @@
 -- One event more.
-use Rattle.std.proofs.Common.{◌≡◌, ℕ, Bool, true, false, cond, List, [], ◌∷◌, ◌++◌, length, map, reverse, refl, sym, ap, ◌∙◌, subst, Option, Some, None}
+use Rattle.std.proofs.Common.{◌≡◌, ℕ, Bool, true, false, cond, List, [], ◌∷◌, ◌++◌, map, reverse, refl, sym, ap, ◌∙◌, subst, Option, Some, None}
 use Rattle.std.specs.List.{AllByRecursion}
 use Rattle.std.proofs.lemmas.List.{reverse-append}
 use Rattle.block_records.specs.Numbers.{entry_at}
@@ -12,7 +12,7 @@ use Rattle.hdfs_types.specs.declared.op.Request.{Request}
 use Rattle.node_calls.specs.declared.call.PlanCall.{PlanCall}
 use Rattle.block_recovery.specs.Plans.{PlanTable}
 use Rattle.cluster_trace.specs.DataCall.{DataCall, as_message, BeginWrite, Packet, Finalize, Read, Decide, Commit}
-use Rattle.cluster_trace.specs.Trace.{Cluster, event_lost, entry_of, request_named, report_request, commit_request, node_called, called_at, leader_called, led_at, message_at, message_delivered, is_from_outside, left_by, happens, event_outcome}
+use Rattle.cluster_trace.specs.Trace.{Cluster, event_lost, entry_of, request_named, report_request, commit_request, called_at, led_at, message_at, message_delivered, is_from_outside, left_by, happens, event_outcome}
 use Rattle.cluster_trace.specs.Provenance.{AllRight, call_of}
 use Rattle.cluster_trace.specs.Typed.{GrantsFit, CallFits, AreTyped}
 use Rattle.cluster_trace.specs.declared.event.Event.{Event}

@@ -1,4 +1,4 @@
-ghost use Rattle.std.specs.Prelude.{◌≡◌, ℕ, ◌+◌, ◌<◌, ◌≤◌, ◌^◌, ◌++◌, List, [], ◌∷◌, length, slice_get, IfSome, OnOk, vec_len, vec_capacity, IsTrue, Some};
+ghost use Rattle.std.specs.Prelude.{◌≡◌, ℕ, ◌+◌, ◌<◌, ◌≤◌, ◌^◌, ◌++◌, List, [], length, slice_get, OnOk, vec_len, vec_capacity, IsTrue, Some};
 ghost use Rattle.history.specs.declared.entry.HistoryEntry.{HistoryEntry};
 ghost use Rattle.cluster_parts.specs.Sent.{source_messages, messages_of, IsWithin, AreLaid};
 ghost use Rattle.cluster_parts.specs.declared.sent.Batch.{Batch};

@@ -1,10 +1,9 @@
 -- What holds of each plan of a DataNode, and what calls leave of it.
 use Rattle.std.proofs.Common.{◌≡◌, ℕ, List, [], refl, Option, Some, None}
 use Rattle.std.specs.Prelude.{unwrap_or}
-use Rattle.std.specs.Map.{set_value}
 use Rattle.std.specs.BTreeMap.{insert_entry}
 use Rattle.std.specs.Ordering.{nat_cmp}
-use Rattle.block_records.specs.Numbers.{is_number, entry_at}
+use Rattle.block_records.specs.Numbers.{entry_at}
 use Rattle.block_recovery.specs.Plans.{PlanTable, plans_of, plan_at, with_plan, altered_by, with_entry_changed, with_plan_changed}
 use Rattle.block_recovery.specs.declared.plan.Plan.{Plan}
 use Rattle.cluster_trace.proofs.Each.{AllValues, values_at, values_set, values_inserted}

@@ -1,5 +1,5 @@
 -- How a call from outside is seen as it is kept, and as it is asked of a DataNode.
-use Rattle.std.specs.Prelude.{ℕ, Bool, true, false, []}
+use Rattle.std.specs.Prelude.{ℕ, Bool, true, false}
 use Rattle.node_calls.specs.declared.call.NodeCall.{NodeCall}
 use Rattle.node_calls.specs.declared.call.NodeCall.TheVariants.{Presenting, Invalidate, Keys}
 use Rattle.node_calls.specs.declared.call.TokenCall.{TokenCall}

@@ -197,3 +197,28 @@ fn files_are_known_before_and_behind_a_move(rt: HostRuntime) -> Result<(), Fail>
     );
     Ok(())
 }
+
+// A file that is neither the oldest nor the newest one is closed; then others of both kinds are.
+const CLOSED_BETWEEN: [(Noted, &str); 11] = [
+    (Noted::Opened, "/a/b"),
+    (Noted::Opened, "/c"),
+    (Noted::Opened, "/a/d"),
+    (Noted::Opened, "/e"),
+    (Noted::Closed, "/c"),
+    (Noted::Opened, "/c"),
+    (Noted::Closed, "/a/b"),
+    (Noted::Closed, "/c"),
+    (Noted::StaysOpen, "/e"),
+    (Noted::Opened, "/a/f"),
+    (Noted::Deleted, "/a"),
+];
+
+#[test]
+fn files_are_closed_in_any_order(rt: HostRuntime) -> Result<(), Fail> {
+    let text = told(rt.alloc(), &CLOSED_BETWEEN)?;
+    assert_eq!(rt;
+        text.as_str(),
+        "/a/b ./a/b /c ./a/b /a/d /c ./a/b /a/d /c /e ./a/b /a/d /e ./a/b /a/d /c /e ./a/d /c /e ./a/d /e ./a/d /e ./a/d /a/f /e ./e ."
+    );
+    Ok(())
+}

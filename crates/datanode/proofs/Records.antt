@@ -1,11 +1,9 @@
 -- What is refused, and what is noted down.
-use Rattle.std.proofs.Common.{◌≡◌, ℕ, ◌<◌, ◌==◌, Bool, true, false, ◌||◌, not, nat_lt, List, [], ◌∷◌, ◌++◌, length, Option, Some, None, Ok, Err, refl, cond, slice_index, ◌+◌}
+use Rattle.std.proofs.Common.{◌≡◌, ℕ, ◌<◌, ◌==◌, Bool, true, false, ◌||◌, not, nat_lt, List, [], length, Option, Some, None, Ok, Err, refl, cond, slice_index, ◌+◌}
 use Rattle.std.proofs.lemmas.Bool.{eqb-true}
 use Rattle.block_tokens.specs.KeyList.{usable_keys, merged_keys}
 use Rattle.block_tokens.specs.TokenTest.{token_test}
 use Rattle.block_tokens.specs.declared.refusal.TokenRefusal.{TokenRefusal}
-use Rattle.block_tokens.proofs.Taking.{test_tells}
-use Rattle.node_calls.specs.declared.access_log.AccessRecord.{AccessRecord}
 use Rattle.node_calls.specs.declared.call.NodeCall.{NodeCall}
 use Rattle.node_calls.specs.declared.call.NodeCall.TheVariants.{Presenting, Invalidate, Keys}
 use Rattle.node_calls.specs.declared.call.TokenCall.{TokenCall}
@@ -17,13 +15,13 @@ use Rattle.node_calls.specs.declared.refusal.ReplicaRefusal.TheVariants.{NoRepli
 use Rattle.node_calls.specs.declared.reply.NodeReply.{NodeReply}
 use Rattle.node_calls.specs.declared.reply.NodeReply.TheVariants as reply
 use Rattle.node_ids.specs.NodeId.{node_principal}
-use Rattle.node_replies.specs.Asking.{asked_by, sends_copy, record_of}
+use Rattle.node_replies.specs.Asking.{asked_by, sends_copy}
 use Rattle.node_replies.specs.Sending.{call_reply}
 use Rattle.replicas.specs.ReplicaState.{is_writing}
 use Rattle.replicas.specs.ReplicaStep.{held_at, refused_or_later, replica_refusal, removal_refusal, packet_limit}
 use Rattle.replicas.specs.declared.replica.Replica.{Replica}
-use Rattle.datanode.specs.NodeStep.{DataNode, node_after, node_answer, presented_after, presented_answer, presented_by, told_by, removed_by, removal_told, clock_with, call_refusal, token_or_replica, access_of}
-use Rattle.datanode.specs.Kept.{HasFittingToken, AreCovered}
+use Rattle.datanode.specs.NodeStep.{DataNode, node_after, node_answer, presented_after, presented_answer, presented_by, told_by, removed_by, removal_told, clock_with, call_refusal, access_of}
+use Rattle.datanode.specs.Kept.{AreCovered}
 use Rattle.datanode.specs.Laws.{IsPresented}
 use Rattle.datanode.proofs.Steps.{passed, not_so, never}
 use Rattle.datanode.proofs.Nodes.{replica_passes}

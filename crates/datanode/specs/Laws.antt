@@ -1,6 +1,6 @@
 -- What stays at a DataNode whatever it is asked: promised stamps, and the bytes of replicas; and what its log tells.
 -- (HDFS-265: generation stamps fence old writers, and a recovery cuts replicas to one length. HADOOP-4359: tokens.)
-use Rattle.std.specs.Prelude.{◌≡◌, ℕ, ◌≤◌, ◌<◌, ◌⊎◌, true, List, [], ◌++◌, take, Option, Some, None, Ok, Err, slice_index}
+use Rattle.std.specs.Prelude.{◌≡◌, ℕ, ◌≤◌, ◌<◌, ◌⊎◌, List, [], ◌++◌, take, Option, Some, None, Ok, Err, slice_index}
 use Rattle.std.specs.Bool.{⊤}
 use Rattle.node_calls.specs.declared.call.NodeCall.{NodeCall}
 use Rattle.node_calls.specs.declared.call.NodeCall.TheVariants.{Presenting, Invalidate, Keys}

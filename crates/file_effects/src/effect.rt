@@ -1,4 +1,4 @@
-ghost use Rattle.std.specs.Prelude.{◌≡◌, ◌≤◌, ℕ, List, Option, None, Some, Bool, true, false, [], if◌then◌else◌, map, not, IfOk, OnOk, OnErr};
+ghost use Rattle.std.specs.Prelude.{◌≡◌, ◌≤◌, ℕ, List, Option, None, Some, Bool, true, false, [], map, not, IfOk, OnOk, OnErr};
 ghost use Rattle.flat_rows.specs.FileOutcome.{holder_at, directory_there};
 ghost use Rattle.namespace_rows.specs.Files.{holder_of, holders, blocks_in};
 ghost use Rattle.flat_rows.specs.Changes.{rows_under, row_rewritten};

@@ -1,4 +1,4 @@
-ghost use Rattle.std.specs.Prelude.{◌≡◌, ℕ, List, ◌≤◌, ◌<◌, true, false, get_or, IfOk, IfSome, length, take, [], ◌∷◌, ◌++◌, Some, None, if◌then◌else◌, MatchOption};
+ghost use Rattle.std.specs.Prelude.{◌≡◌, ℕ, List, ◌≤◌, ◌<◌, true, false, get_or, IfOk, IfSome, length, take, [], ◌∷◌, Some, None, if◌then◌else◌, MatchOption};
 ghost use Rattle.std.specs.List.{list_all, position_or_len, slice_split};
 ghost use Rattle.hdfs_values.specs.Parsed.{Parses};
 ghost use Rattle.file_paths.specs.Name.{is_name, is_name_byte};

@@ -1,4 +1,4 @@
-ghost use Rattle.std.specs.Prelude.{◌≡◌, ◌+◌, ◌-◌, ◌==◌, ◌++◌, ◌∷◌, [], ℕ, nat_lt, List, Option, Some, None, true, IfOk, IfSome, OnOk, Bool};
+ghost use Rattle.std.specs.Prelude.{◌≡◌, ◌+◌, ◌-◌, ◌==◌, ◌++◌, ◌∷◌, [], ℕ, nat_lt, List, Option, Some, None, true, IfOk, IfSome, OnOk};
 ghost use Rattle.namespace_rows.specs.declared.row.Row.{Row};
 ghost use Rattle.namespace_rows.specs.Namespace.{IsNamespace, is_ascending};
 ghost use Rattle.namespace_rows.specs.Rows.{row_at};

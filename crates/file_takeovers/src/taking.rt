@@ -1,6 +1,5 @@
 ghost use Rattle.std.specs.Prelude.{◌≡◌, ◌≤◌, ℕ, List, Option, None, Some, true, false, IfOk, OnOk, OnErr};
 ghost use Rattle.flat_rows.specs.FileOutcome.{holder_at};
-ghost use Rattle.flat_rows.specs.Takeover.{refused_taking, taken_state, taken_reply};
 ghost use Rattle.flat_rows.specs.Changes.{row_rewritten};
 ghost use Rattle.flat_rows.specs.Verdicts.{is_done};
 ghost use Rattle.namespace_rows.specs.declared.row.Change.TheVariants as change;
@@ -10,7 +9,7 @@ ghost use Rattle.hdfs_types.specs.declared.file.FileState.TheVariants as state;
 ghost use Rattle.lease_manager.specs.Leases as lease;
 ghost use Rattle.lease_manager.specs.Writers.{IsAlike};
 ghost use Rattle.file_effects.specs.Effected.{IsExact, renewed_where};
-ghost use Rattle.file_takeovers.specs.Taken.{IsClosedFile, refused_or_taken, recovered_for, IsTaken};
+ghost use Rattle.file_takeovers.specs.Taken.{IsClosedFile, refused_or_taken, IsTaken};
 
 use block_map::blocks::Blocks;
 use block_records::fault::BlockFault;

@@ -1,5 +1,5 @@
 -- Facts for questions that don't ask them.
-use Rattle.std.proofs.Common.{List, [], None, false}
+use Rattle.std.proofs.Common.{[], None, false}
 use Rattle.flat_rows.specs.FileOutcome.{LeaseFacts}
 use Rattle.flat_rows.specs.Facts.{Facts}
 

@@ -1,14 +1,13 @@
 -- How many files a client has open, through each change of the rows.
-use Rattle.std.proofs.Common.{◌≡◌, ℕ, zero, suc, ◌+◌, Bool, true, false, ◌&&◌, ◌||◌, List, [], ◌∷◌, ◌++◌, map, length, drop, take, refl, sym, ap, ◌∙◌, subst, Ordering, Less, Equal, Greater, is_eq, nat_lt, cond, Option, Some, None, arith}
+use Rattle.std.proofs.Common.{◌≡◌, ℕ, suc, ◌+◌, Bool, true, false, ◌&&◌, ◌||◌, List, [], ◌∷◌, ◌++◌, map, length, drop, take, refl, sym, ap, ◌∙◌, Ordering, Less, Equal, Greater, is_eq, nat_lt, cond, Option, Some, None, arith}
 use Rattle.std.specs.Prelude.{filter, not}
 use Rattle.std.specs.Option.{option_map, option_to_list}
-use Rattle.std.specs.List.{list_all, list_any, last_or, flat_map}
+use Rattle.std.specs.List.{list_all, list_any}
 use Rattle.std.specs.Ordering.{is_gt, is_lt}
-use Rattle.std.proofs.lemmas.Bool.{false≢true, lt-ltb}
-use Rattle.std.proofs.lemmas.List.{take-append-drop}
+use Rattle.std.proofs.lemmas.Bool.{lt-ltb}
 use Rattle.hdfs_values.specs.Text.{same}
-use Rattle.file_paths.specs.Path.{is_prefix, is_beneath}
-use Rattle.file_paths.specs.PathOrder.{path_cmp, same_path, paths_total}
+use Rattle.file_paths.specs.Path.{is_prefix}
+use Rattle.file_paths.specs.PathOrder.{path_cmp, same_path}
 use Rattle.hdfs_types.specs.declared.file.FileState.{FileState}
 use Rattle.hdfs_types.specs.declared.file.FileState.TheVariants.{Closed}
 use Rattle.namespace_rows.specs.declared.file_row.FileRow.{FileRow}
@@ -16,11 +15,11 @@ use Rattle.namespace_rows.specs.declared.row.Row.{Row}
 use Rattle.namespace_rows.specs.declared.row.Change.{Change}
 use Rattle.namespace_rows.specs.declared.row.Change.TheVariants as change
 use Rattle.namespace_rows.specs.First.{first}
-use Rattle.namespace_rows.specs.Rows.{row_at, is_missing, is_before, is_beyond, rows_replaced, with_sub_tree}
+use Rattle.namespace_rows.specs.Rows.{row_at, is_missing, is_before, is_beyond, rows_replaced}
 use Rattle.namespace_rows.specs.Namespace.{IsNamespace, is_ascending, is_before_all}
 use Rattle.flat_rows.specs.Changes.{rows_under, without, moved_row, with_rows_moved, with_change, row_rewritten}
-use Rattle.namespace_rows.specs.Files.{with_state, is_client, holder_of_file, holders, is_open_by, open_files}
-use Rattle.namespace_rows.proofs.Tests.{both, and, all_kept}
+use Rattle.namespace_rows.specs.Files.{with_state, is_client, holder_of_file, holders, is_open_by}
+use Rattle.namespace_rows.proofs.Tests.{both, all_kept}
 use Rattle.namespace_rows.proofs.PathOrders.{less_is, starts_upto, tied_starts, same_path_is}
 use Rattle.flat_rows.proofs.Changes.{same_self}
 use Rattle.flat_rows.proofs.Missing.{missing_above, found, missing_any}

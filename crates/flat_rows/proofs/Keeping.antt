@@ -1,5 +1,5 @@
 -- An operation that keeps leases leaves each client's files open as they were.
-use Rattle.std.proofs.Common.{◌≡◌, ℕ, ◌+◌, Bool, true, false, List, [], ◌∷◌, Option, Some, None, refl, sym, ap, ◌∙◌, arith}
+use Rattle.std.proofs.Common.{◌≡◌, ℕ, ◌+◌, true, false, List, [], ◌∷◌, Option, Some, None, refl, sym, ap, ◌∙◌, arith}
 use Rattle.std.specs.Prelude.{◌||◌, not, Result, Ok, Err, unwrap_or}
 use Rattle.std.specs.Option.{option_or}
 use Rattle.hdfs_types.specs.Request.{keeps_leases}
@@ -13,11 +13,10 @@ use Rattle.acl_entries.specs.Acl.{Acl}
 use Rattle.partial_acl.specs.AclChange.{acl_change, with_mode}
 use Rattle.principals.specs.Users.{Users}
 use Rattle.namespace_rows.specs.declared.row.Row.{Row}
-use Rattle.namespace_rows.specs.declared.file_row.FileRow.{FileRow}
 use Rattle.namespace_rows.specs.declared.row.Change.TheVariants as change
 use Rattle.namespace_rows.specs.Rows.{row_at, is_none, directory_of, ancestor}
 use Rattle.namespace_rows.specs.Namespace.{IsNamespace, is_root}
-use Rattle.flat_rows.specs.Changes.{with_change, row_rewritten, are_paths}
+use Rattle.flat_rows.specs.Changes.{row_rewritten, are_paths}
 use Rattle.flat_rows.specs.Denial as denied
 use Rattle.flat_rows.specs.Decision.{decision}
 use Rattle.namespace_rows.specs.Files.{is_open_by, with_file_replication}

@@ -1,9 +1,8 @@
 -- How many files a client has open once something is made at a path.
-use Rattle.std.proofs.Common.{◌≡◌, ℕ, ◌+◌, Bool, true, false, ◌&&◌, ◌||◌, List, [], ◌∷◌, ◌++◌, length, drop, take, refl, sym, ap, ◌∙◌, subst, Ordering, Less, Equal, Greater, is_eq, cond, Option, Some, None, arith}
+use Rattle.std.proofs.Common.{◌≡◌, ℕ, ◌+◌, Bool, true, false, ◌&&◌, ◌||◌, List, [], ◌∷◌, ◌++◌, length, drop, take, refl, sym, ap, ◌∙◌, Ordering, Less, is_eq, cond, Option, Some, None, arith}
 use Rattle.std.specs.Prelude.{filter, not}
 use Rattle.std.specs.List.{list_all, list_any, last_or}
 use Rattle.std.specs.Ordering.{is_lt}
-use Rattle.std.specs.Cmp.{tied_itself}
 use Rattle.std.proofs.lemmas.List.{take-append-drop}
 use Rattle.file_paths.specs.Path.{is_prefix, is_beneath}
 use Rattle.file_paths.specs.PathOrder.{path_cmp, same_path, paths_total}
@@ -15,10 +14,10 @@ use Rattle.namespace_rows.specs.Namespace.{IsNamespace, is_ascending, is_before_
 use Rattle.flat_rows.specs.Outcome.{new_row, new_rows, mode_of_new, file_of_new, with_new}
 use Rattle.flat_rows.specs.Changes.{without}
 use Rattle.namespace_rows.specs.Files.{is_client, holder_of_file, is_open_by}
-use Rattle.namespace_rows.proofs.Tests.{both, and, or_left, or_right, all_filtered}
+use Rattle.namespace_rows.proofs.Tests.{both, and, or_left, or_right}
 use Rattle.namespace_rows.proofs.PathOrders.{less_is, same_path_is}
 use Rattle.namespace_rows.proofs.Namespaces.{namespace_tests, ascending_filter}
-use Rattle.flat_rows.proofs.NewDirectories.{longer_less, starts_self, last_all, ancestor_above, Beneath, beneath_parts}
+use Rattle.flat_rows.proofs.NewDirectories.{longer_less, last_all, ancestor_above, beneath_parts}
 use Rattle.flat_rows.proofs.Changes.{any_kept}
 use Rattle.flat_rows.proofs.Changes as changes
 use Rattle.flat_rows.proofs.Missing.{found, missing_any}

@@ -1,5 +1,5 @@
 -- A namespace whose files a tick takes is a namespace.
-use Rattle.std.proofs.Common.{◌≡◌, ℕ, true, List, [], ◌∷◌, map, Option, Some, None, refl, ap, ◌∙◌}
+use Rattle.std.proofs.Common.{◌≡◌, ℕ, true, List, [], ◌∷◌, map, Option, Some, None, refl, ap}
 use Rattle.std.specs.List.{list_all}
 use Rattle.hdfs_types.specs.declared.file.FileState.TheVariants.{Closed, Recovering}
 use Rattle.recovery_queue.specs.declared.begun.BegunRecovery.{BegunRecovery}

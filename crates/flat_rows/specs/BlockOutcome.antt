@@ -2,7 +2,7 @@
 -- leaves of the blocks of a file.
 -- (HDFS Architecture, "Data Replication" and "Replication Pipelining"; HADOOP-4359 for the tokens. That a DataNode has to have reported the
 -- last block is this project's own rule.)
-use Rattle.std.specs.Prelude.{ℕ, ◌==◌, Bool, true, false, not, List, [], ◌∷◌, if◌then◌else◌, Option, Some, None}
+use Rattle.std.specs.Prelude.{ℕ, ◌==◌, Bool, true, false, List, [], ◌∷◌, if◌then◌else◌, Option, Some, None}
 use Rattle.std.specs.Option.{option_map, option_and_then}
 use Rattle.std.specs.List.{filter_map}
 use Rattle.std.specs.Map.{keys_of}

@@ -1,6 +1,6 @@
 -- What the operations on files refuse and answer: who may write a file, one client at a time.
 -- (HDFS Architecture, "The File System Namespace" and "Data Replication"; the limits of leases are this project's profile.)
-use Rattle.std.specs.Prelude.{ℕ, Bool, true, false, ◌&&◌, ◌||◌, not, List, [], ◌∷◌, length, filter, if◌then◌else◌, Option, Some, None}
+use Rattle.std.specs.Prelude.{ℕ, Bool, true, false, ◌&&◌, ◌||◌, List, length, if◌then◌else◌, Option, Some, None}
 use Rattle.hdfs_values.specs.Text.{same}
 use Rattle.hdfs_types.specs.declared.file.FileState.{FileState}
 use Rattle.hdfs_types.specs.declared.file.FileState.TheVariants.{Closed, Open, Recovering}
@@ -11,7 +11,7 @@ use Rattle.namespace_rows.specs.declared.file_row.FileRow.{FileRow}
 use Rattle.namespace_rows.specs.declared.row.Row.{Row}
 use Rattle.namespace_rows.specs.Rows.{is_directory}
 use Rattle.file_blocks.specs.Blocks.{length_of}
-use Rattle.namespace_rows.specs.Files.{holder_of, holder_of_file}
+use Rattle.namespace_rows.specs.Files.{holder_of_file}
 
 -- how the leases of clients stand when a request is judged
 pub record LeaseFacts : Type 0 where

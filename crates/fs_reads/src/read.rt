@@ -1,4 +1,4 @@
-ghost use Rattle.std.specs.Prelude.{◌≡◌, ◌<◌, ◌^◌, ◌-◌, ℕ, List, Some, None, IfOk, map};
+ghost use Rattle.std.specs.Prelude.{◌≡◌, ◌<◌, ◌-◌, List, Some, None, IfOk, map};
 ghost use Rattle.std.specs.Option.{option_copied};
 ghost use Rattle.hdfs_types.specs.Verb.{read_op};
 ghost use Rattle.principals.specs.Users.{Users};

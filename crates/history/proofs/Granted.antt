@@ -1,5 +1,5 @@
 -- Each row of the ledger stands for what an entry granted.
-use Rattle.std.proofs.Common.{◌≡◌, ℕ, List, [], ◌∷◌, ◌++◌, map, refl, ◌⊎◌, inl, inr}
+use Rattle.std.proofs.Common.{◌≡◌, ℕ, List, [], ◌∷◌, ◌++◌, map, refl, inl, inr}
 use Rattle.std.specs.List.{AllByRecursion}
 use Rattle.permission_bits.specs.Modes.{modes}
 use Rattle.permission_bits.specs.declared.modes.Modes.{Modes}
@@ -12,15 +12,13 @@ use Rattle.hdfs_types.specs.declared.op.Op.TheVariants as op
 use Rattle.hdfs_types.specs.declared.reply.Reply.{Reply}
 use Rattle.hdfs_types.specs.declared.reply.Reply.TheVariants as reply
 use Rattle.block_tokens.specs.Ring.{KeyRing}
-use Rattle.grant_ledger.specs.declared.ledger.LedgerRow.{LedgerRow}
 use Rattle.flat_rows.specs.declared.verdict.Verdict.{Verdict}
 use Rattle.flat_rows.specs.declared.verdict.Verdict.TheVariants.{Done, Denied, Refused}
 use Rattle.history.specs.declared.entry.HistoryEntry.{HistoryEntry}
-use Rattle.history.specs.Config.{Opening}
 use Rattle.history.specs.ClockAndLease.{clock_of}
 use Rattle.history.specs.Keys.{ring_of}
 use Rattle.history.specs.Grants.{BlockModes, granted_with, granted_by, ledger_row, rows_granted, ledger_of}
-use Rattle.history.specs.GrantLaws.{IsAmong, Lets, LetsBy, IsGrantOf, IsGrantOfAny, GrantsWereAsked}
+use Rattle.history.specs.GrantLaws.{IsAmong, Lets, IsGrantOf, IsGrantOfAny, GrantsWereAsked}
 
 all_joined : {X : Type 0} (P : X → Type 0) (xs ys : List X) → AllByRecursion P xs → AllByRecursion P ys → AllByRecursion P (xs ++ ys)
 all_joined P [] ys h k = k

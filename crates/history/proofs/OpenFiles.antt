@@ -8,7 +8,6 @@ use Rattle.hdfs_values.specs.Text.{same}
 use Rattle.file_paths.specs.Path.{is_prefix}
 use Rattle.file_paths.specs.PathOrder.{path_cmp, same_path}
 use Rattle.hdfs_types.specs.declared.file.FileState.{FileState}
-use Rattle.hdfs_types.specs.declared.file.FileState.TheVariants.{Closed}
 use Rattle.namespace_rows.specs.declared.file_row.FileRow.{FileRow}
 use Rattle.namespace_rows.specs.declared.row.Row.{Row}
 use Rattle.namespace_rows.specs.declared.row.Change.{Change}

@@ -4,7 +4,6 @@ use Rattle.std.proofs.lemmas.Bool.{false≢true}
 use Rattle.std.proofs.lemmas.List.{append-nil}
 use Rattle.std.specs.declared.alloc.AllocError.{AllocError}
 use Rattle.file_paths.specs.Path.{IsPath, is_prefix}
-use Rattle.hdfs_types.specs.declared.file.FileState.TheVariants.{Closed}
 use Rattle.acl_entries.specs.Acl.{Acl, suits_file}
 use Rattle.namespace_rows.specs.declared.file_row.FileRow.{FileRow}
 use Rattle.namespace_rows.specs.declared.row.Change.{Change}

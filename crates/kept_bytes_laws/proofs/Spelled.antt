@@ -1,5 +1,5 @@
 -- A number that is spelled as an id of a DataNode is that id, however great it is.
-use Rattle.std.proofs.Common.{◌≡◌, ℕ, zero, suc, ◌+◌, ◌*◌, ◌/◌, ◌%◌, ◌<◌, ◌≤◌, ◌^◌, Bool, true, false, List, [], ◌∷◌, drop, length, cond, nat_lt, refl, ap, ◌∙◌, arith, Some}
+use Rattle.std.proofs.Common.{◌≡◌, ℕ, zero, suc, ◌+◌, ◌*◌, ◌/◌, ◌%◌, ◌<◌, ◌≤◌, ◌^◌, Bool, true, false, List, [], ◌∷◌, drop, length, cond, nat_lt, refl, ap, arith, Some}
 use Rattle.std.specs.Prelude.{◌==◌}
 use Rattle.std.specs.Fmt.{digit_glyph, digits_onto, digits, decimal}
 use Rattle.std.proofs.lemmas.Bool.Decides.{nat_tests}

@@ -9,7 +9,7 @@ use Rattle.std.specs.Map.{keys_of, lookup, lookup_entry, remove_entry, set_value
 use Rattle.std.specs.Option.{option_map, option_map_or, option_or}
 use Rattle.lru.proofs.CallerLemmas.{Contains-lookup_entry}
 use Rattle.lru.specs.LruCache.{lru_cache, promoted, put_entries}
-use Rattle.hdfs_values.proofs.Texts.{same_is, same_self, same_symm}
+use Rattle.hdfs_values.proofs.Texts.{same_is, same_symm}
 use Rattle.hdfs_values.specs.Text.{same}
 use Rattle.lease_manager.specs.Leases.{Renewal, AreInOrder, AreRenewals, clients, renewals_without, renewals_with, renewal_of}
 use Rattle.lease_manager.specs.Shown.{renewals_of}

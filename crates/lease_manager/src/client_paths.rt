@@ -4,13 +4,12 @@ use hdfs_values::fault::ParseFault;
 use std::alloc::{AllocError, Global};
 use std::collections::{BTreeSet, VecDeque};
 
-/// How many paths of a client are kept in the order of their coming at most, so that to put them in the order of paths takes no more than
-/// some hundredths of a second.
+/// How many paths of a client stand as they came at most: so many are put in order in less than a tenth of a second.
 const MOST_RECENT: usize = 65_536;
 
 /// The paths of the files that one client has open. Each stands once: the recent ones as they came, since a file that is closed is most
-/// often the oldest or the newest one; the others in the order of paths, in which what is beneath a directory stands together. There
-/// all go once another one is looked for, or a directory. So each path is put in order once at most.
+/// often the client's oldest or newest one, which is found without a search; the others in the order of paths, in which what is beneath a
+/// directory stands together. All go there once another one is closed, or a directory is looked for, so each is put in order once at most.
 #[derive(Drop)]
 pub(crate) struct ClientPaths {
     recent: VecDeque<Path>,
@@ -79,6 +78,9 @@ impl ClientPaths {
     }
 
     /// Puts a path in that isn't there.
+    ///
+    /// # Errors
+    /// Out of memory; the oldest of the recent paths may be left out then, too.
     pub(crate) fn insert(&mut self, path: Path) -> Result<(), AllocError> {
         if self.recent.len() >= MOST_RECENT
             && let Some(oldest) = self.recent.pop_front()
@@ -89,7 +91,7 @@ impl ClientPaths {
         Ok(())
     }
 
-    // Puts all in the order of paths. Where there is no memory for one, it is left out.
+    // Puts all in the order of paths. Where there is no memory for one, it is left out, and the later ones stay as they came.
     fn put_in_order(&mut self) -> Result<(), AllocError> {
         while let Some(path) = self.recent.pop_front() {
             self.in_order.insert(path)?;
@@ -106,7 +108,7 @@ impl ClientPaths {
         self.recent.pop_back_if(|own| &*own == path)
     }
 
-    /// Takes a path out.
+    /// Takes a path out. Takes memory only to put the others in order.
     pub(crate) fn take(&mut self, path: &Path) -> Option<Path> {
         if let Some(own) = self.take_recent(path) {
             return Some(own);
@@ -118,13 +120,19 @@ impl ClientPaths {
         self.in_order.take(path)
     }
 
-    /// Whether a path is there.
+    /// Whether a path is there, once all are in order.
+    ///
+    /// # Errors
+    /// Out of memory.
     pub(crate) fn has(&mut self, path: &Path) -> Result<bool, AllocError> {
         self.put_in_order()?;
         Ok(self.in_order.contains(path))
     }
 
     /// Takes a file out, or all beneath a directory.
+    ///
+    /// # Errors
+    /// Out of memory, and some may stay.
     pub(crate) fn remove_at(&mut self, alloc: Global, path: &Path) -> Result<(), AllocError> {
         if self.take(path).is_some() {
             return Ok(());
@@ -136,7 +144,10 @@ impl ClientPaths {
         Ok(())
     }
 
-    /// Gives each path beneath one another beginning.
+    /// Gives each path at one and beneath it another beginning; one that would be beyond the limits is left out.
+    ///
+    /// # Errors
+    /// Out of memory, and some may be left out, or stay as they are.
     pub(crate) fn move_front(
         &mut self,
         alloc: Global,
@@ -153,7 +164,10 @@ impl ClientPaths {
         Ok(())
     }
 
-    /// Copies of all paths.
+    /// Copies of all paths: the recent ones as they came, and then those in order.
+    ///
+    /// # Errors
+    /// Out of memory.
     pub(crate) fn copies(&self, alloc: Global) -> Result<Vec<Path>, AllocError> {
         let mut paths = Vec::new(alloc);
         for path in self.recent.iter().chain(&self.in_order) {

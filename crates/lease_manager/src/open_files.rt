@@ -1,5 +1,4 @@
 ghost use Rattle.std.specs.Prelude.{◌≡◌, ◌+◌, ◌-◌, ℕ, [], List, if◌then◌else◌, OnOk, OnErr};
-ghost use Rattle.std.specs.Map.{set_value};
 ghost use Rattle.hdfs_values.specs.Text.{same};
 ghost use Rattle.lease_manager.specs.Writers.{count_of, CanCountOneMore};
 

@@ -6,8 +6,9 @@ use std::alloc::{AllocError, Global};
 use std::collections::{BTreeMap, HashMap};
 use std::marker::Model;
 
-/// Where the files are that each client has open: their paths, in which what is beneath a directory stands together; and where those are
-/// whose last block is recovered, by this block. A call costs a look-up, if nothing else is said.
+/// Where the files are that each client has open, and where those are whose last block is recovered, by this block. A call costs a look-up,
+/// if nothing else is said, and once for each open file what it takes to put its path in order: where it is neither the oldest nor the
+/// newest one that is closed, and where a directory is deleted or moved.
 ///
 /// These are hints, of which no contract speaks: the tree confirms each before it is used, and where one is missing, which is so
 /// only where there was no memory for it, the tree is gone through instead.
@@ -93,7 +94,8 @@ impl OpenPaths {
         own
     }
 
-    /// Notes that a file is closed that a client had open. Takes no memory.
+    /// Notes that a file is closed that a client had open. Takes memory only to put paths in order; where there is none, paths are left
+    /// out, or the closed file's stays.
     pub fn close(&mut self, path: &Path, client: &Who) {
         let _closed = self.take(path, client);
     }
@@ -177,8 +179,8 @@ impl OpenPaths {
         let _noted = self.note_recovery(to, block);
     }
 
-    /// Notes that a directory is moved. Costs a look-up for each client that has files open, the open files beneath it, and the recoveries
-    /// that run.
+    /// Notes that a directory is moved. Costs a look-up for each client that has files open, the open files beneath it, the recoveries
+    /// that run, and what was opened since paths were last put in order.
     pub fn move_directory(&mut self, from: &Path, to: &Path) {
         if !self.clients.is_empty() {
             self.move_beneath(from, to);

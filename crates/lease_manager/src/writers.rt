@@ -1,7 +1,7 @@
 ghost use Rattle.std.specs.Prelude.{◌≡◌, ◌≤◌, ◌<◌, ◌+◌, ◌-◌, ℕ, [], List, Option, if◌then◌else◌, filter, length, IfOk, OnOk, OnErr};
 ghost use Rattle.hdfs_values.specs.Text.{same};
 ghost use Rattle.lease_manager.specs.Leases as lease;
-ghost use Rattle.lease_manager.specs.Writers.{count_of, renewal_moment_of, IsLeased, IsAlike, renewed_at};
+ghost use Rattle.lease_manager.specs.Writers.{count_of, IsLeased, IsAlike, renewed_at};
 
 use crate::leases::Leases;
 use crate::open_files::OpenFiles;

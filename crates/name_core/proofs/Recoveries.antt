@@ -3,7 +3,7 @@ use Rattle.std.proofs.Common.{◌≡◌, ◌≤◌, ℕ, true, List, Option, Som
 use Rattle.namespace_rows.specs.declared.row.Row.{Row}
 use Rattle.namespace_rows.specs.Rows.{row_at}
 use Rattle.flat_rows.specs.Changes.{recovers_nowhere_else}
-use Rattle.history.specs.State.{rows_of, blocks_of}
+use Rattle.history.specs.State.{rows_of}
 use Rattle.block_laws.proofs.Overdue.{one_file_recovers, overdue_are_due}
 use Rattle.namesystem.specs.Performed.{KnowsRecoveries, recovers_at}
 use Rattle.name_core.specs.declared.namenode.NameCore.TheInside.{Inside}

@@ -14,7 +14,6 @@ use Rattle.namespace_rows.specs.Files.{committed_at, recovered_at, state_recover
 use Rattle.flat_rows.specs.BlockOutcome.{refused_by}
 use Rattle.flat_rows.specs.Changes.{file_edited, recovery_ended}
 use Rattle.flat_rows.specs.Decision.{decision}
-use Rattle.flat_rows.specs.Facts.{Facts}
 use Rattle.flat_rows.specs.Outcome.{step, denied_or_outcome, refused_or_done}
 use Rattle.flat_rows.specs.Verdicts.{is_done}
 use Rattle.flat_rows.specs.declared.verdict.Verdict.{Verdict}

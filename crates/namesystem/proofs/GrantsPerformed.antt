@@ -1,5 +1,5 @@
 -- What requests for blocks leave, and what they enter into the ledger.
-use Rattle.std.proofs.Common.{◌≡◌, ℕ, Bool, true, false, List, [], ◌∷◌, ◌++◌, map, Option, Some, None, refl, sym, ap, ◌∙◌, subst}
+use Rattle.std.proofs.Common.{◌≡◌, ℕ, true, false, List, [], ◌∷◌, ◌++◌, map, Option, Some, refl, sym, ap, ◌∙◌}
 use Rattle.std.specs.List.{filter_map}
 use Rattle.std.proofs.lemmas.List.{append-nil}
 use Rattle.std.proofs.lemmas.Simd.{map-map}
@@ -11,16 +11,14 @@ use Rattle.block_records.specs.declared.last_block.LastBlock.{LastBlock}
 use Rattle.block_tokens.specs.Ring.{KeyRing}
 use Rattle.block_changes.specs.declared.behind.NewBlock.{NewBlock}
 use Rattle.block_map.specs.BlockFacts.{Blocks}
-use Rattle.block_map.specs.BlockEffects.{added_behind, given_behind}
+use Rattle.block_map.specs.BlockEffects.{added_behind}
 use Rattle.grant_ledger.specs.declared.ledger.LedgerRow.{LedgerRow}
 use Rattle.namespace_rows.specs.declared.row.Row.{Row}
 use Rattle.file_blocks.specs.declared.blocks.FileBlock.{FileBlock}
 use Rattle.namespace_rows.specs.Rows.{row_at}
 use Rattle.flat_rows.specs.declared.verdict.Verdict.{Verdict}
 use Rattle.flat_rows.specs.declared.verdict.Verdict.TheVariants.{Done, Denied, Refused}
-use Rattle.flat_rows.specs.NodeOutcome.{Tokens}
 use Rattle.flat_rows.specs.BlockOutcome.{replication_at, added_reply, located_block, opened_reply, with_block_at}
-use Rattle.flat_rows.specs.Facts.{Facts}
 use Rattle.flat_rows.specs.Outcome.{step}
 use Rattle.flat_rows.specs.Verdicts.{is_done}
 use Rattle.history.specs.Blocks.{file_extended}
@@ -28,12 +26,10 @@ use Rattle.history.specs.Grants.{rows_granted}
 use Rattle.node_commands.specs.Granted.{tokens_of}
 use Rattle.block_grants.specs.Granted.{writer_row, reader_row}
 use Rattle.write_rules.specs.JudgedBlocks.{IsNext}
-use Rattle.lease_manager.specs.declared.writers.Writers.{Writers}
 use Rattle.file_effects.specs.Effected.{IsExact}
 use Rattle.namesystem.specs.declared.namesystem.Namesystem.{Namesystem}
-use Rattle.namesystem.specs.Told.{may_change}
-use Rattle.namesystem.specs.Performed.{IsPerformed, IsUndone, facts_in}
-use Rattle.namesystem.proofs.Performing.{changing, undone_same, performed_done, performed_not_done}
+use Rattle.namesystem.specs.Performed.{IsPerformed, facts_in}
+use Rattle.namesystem.proofs.Performing.{changing, undone_same, performed_done}
 
 -- what isn't done grants nothing
 pub nothing_granted : (place : ℕ) (ring : KeyRing) (now : ℕ) (caller : List ℕ) (what : Op) (verdict : Verdict) (ledger : List LedgerRow) → is_done verdict ≡ false → ledger ≡ ledger ++ rows_granted place ring now caller what verdict

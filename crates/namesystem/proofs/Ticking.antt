@@ -1,5 +1,5 @@
 -- What a tick leaves, where it is known which clients' leases are past the hard limit.
-use Rattle.std.proofs.Common.{◌≡◌, ℕ, Bool, List, map, length, Option, Some, None, refl, sym, ap, ◌∙◌, subst}
+use Rattle.std.proofs.Common.{◌≡◌, ℕ, Bool, List, map, length, Option, Some, None, refl, sym, ap, ◌∙◌}
 use Rattle.std.specs.List.{IsDistinct, filter_map}
 use mathlib.Core.Path.{fun_ext}
 use Rattle.hdfs_values.specs.Text.{same}
@@ -18,11 +18,11 @@ use Rattle.flat_rows.specs.declared.takeover.Sought.{Sought}
 use Rattle.flat_rows.specs.Denial as denied
 use Rattle.flat_rows.specs.Decision.{decision}
 use Rattle.flat_rows.specs.Facts.{Facts}
-use Rattle.flat_rows.specs.Outcome.{step, denied_or_outcome}
-use Rattle.flat_rows.specs.Takeover.{sought_of, is_overdue, taken_row, expired_files, begun_in, row_ticked, sought_blocks}
-use Rattle.history.specs.ClockAndLease.{renews, is_past_hard, state_at}
+use Rattle.flat_rows.specs.Outcome.{denied_or_outcome}
+use Rattle.flat_rows.specs.Takeover.{sought_of, is_overdue, taken_row}
+use Rattle.history.specs.ClockAndLease.{is_past_hard, state_at}
 use Rattle.namesystem.specs.declared.namesystem.Namesystem.{Namesystem}
-use Rattle.file_effects.specs.Effected.{IsExact, renewed_where}
+use Rattle.file_effects.specs.Effected.{IsExact}
 use Rattle.file_takeovers.specs.Expiry.{is_among, blocks_to_recover, closed_of, IsExpired}
 use Rattle.file_takeovers.proofs.Expiring.{among_is}
 use Rattle.namesystem.specs.Performed.{IsPerformed, facts_in}

@@ -1,6 +1,5 @@
 -- The messages that a few numbers are, and those of a list that keeps them so.
 use Rattle.std.specs.Prelude.{List, [], ◌∷◌}
-use denote.Ref.{Bor}
 use Rattle.node_calls.specs.declared.call.PlanCall.TheVariants as plan
 use Rattle.node_calls.specs.declared.call.ReplicaState.TheVariants.{Writing, Finalized}
 use Rattle.node_calls.specs.declared.message.Kept.{Kept}

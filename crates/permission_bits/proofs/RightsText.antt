@@ -1,7 +1,6 @@
 -- The eight sets of rights and their texts.
-use Rattle.std.proofs.Common.{◌≡◌, ℕ, zero, suc, ◌+◌, ◌<◌, Bool, true, false, List, [], ◌∷◌, Option, Some, None, eqb, cond, refl, sym, ap, ◌∙◌, arith, subst}
-use Rattle.std.proofs.lemmas.Bool.Decides.{nat_tests}
-use Rattle.permission_bits.specs.Rights.{rights, rights_of, rights_text, bit_of, letter, sum_of}
+use Rattle.std.proofs.Common.{◌≡◌, ℕ, zero, suc, ◌<◌, Bool, Some, refl, arith}
+use Rattle.permission_bits.specs.Rights.{rights, rights_of, rights_text, letter}
 
 pub read_again : (bits : ℕ) → bits < 8 → rights_of (rights_text bits) ≡ Some (rights bits)
 read_again zero lt = refl

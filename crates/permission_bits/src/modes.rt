@@ -1,4 +1,4 @@
-ghost use Rattle.std.specs.Prelude.{⊤, ◌≡◌, [], ◌∷◌, codes, Some, None, nat_le, ◌&&◌, if◌then◌else◌};
+ghost use Rattle.std.specs.Prelude.{⊤, ◌≡◌, [], ◌∷◌, codes, Some, None};
 ghost use Rattle.permission_bits.specs.Modes as spec;
 ghost use Rattle.permission_bits.specs.Rights.{covers};
 

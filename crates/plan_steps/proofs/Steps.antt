@@ -1,5 +1,5 @@
 -- What a call leaves and is answered, where it is refused and where it isn't.
-use Rattle.std.proofs.Common.{◌≡◌, ℕ, List, [], ◌∷◌, length, refl, sym, ap, ◌∙◌, subst, Option, Some, None, unwrap_or, Ok, Err}
+use Rattle.std.proofs.Common.{◌≡◌, ℕ, List, [], ◌∷◌, length, sym, ap, ◌∙◌, subst, Option, Some, None, unwrap_or, Ok, Err}
 use Rattle.std.specs.Option.{option_and_then}
 use Rattle.block_answers.specs.declared.commands.Recover.{Recover}
 use Rattle.node_calls.specs.declared.call.PlanCall.TheVariants as plan

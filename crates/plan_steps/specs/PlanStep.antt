@@ -2,7 +2,7 @@
 -- is left of its plans. No call looks at a clock or at a token.
 -- (HDFS-265, "Block recovery": the leading node asks the others for their replicas, decides on a length, has the replicas cut to it, and
 -- tells the NameNode.)
-use Rattle.std.specs.Prelude.{ℕ, Bool, true, false, List, [], ◌∷◌, map, length, Option, Some, None, unwrap_or, Result, Ok, Err}
+use Rattle.std.specs.Prelude.{ℕ, Bool, true, false, List, [], ◌∷◌, map, length, Option, Some, None, unwrap_or, Ok, Err}
 use Rattle.node_ids.specs.NodeId.{node_principal}
 use Rattle.block_answers.specs.declared.commands.Recover.{Recover}
 use Rattle.node_calls.specs.declared.call.NodeCall.TheVariants.{Presenting}

@@ -1,7 +1,7 @@
-ghost use Rattle.std.specs.Prelude.{◌≡◌, ◌≤◌, ◌<◌, ℕ, Some, slice_get, length, true};
+ghost use Rattle.std.specs.Prelude.{◌≡◌, ◌<◌, Some, slice_get};
 ghost use Rattle.std.specs.Bool.{Decides};
 ghost use Rattle.std.specs.Option.{IsSomeAnd, option_copied};
-ghost use Rattle.receipt_checks.specs.Agreement.{Placed, IsPlaced, ChangeStands, LookRests, MatchesReceipt, Finds, bound_of, entry_at_place};
+ghost use Rattle.receipt_checks.specs.Agreement.{Placed, IsPlaced, MatchesReceipt, Finds, entry_at_place};
 ghost use Rattle.receipt_checks.specs.Placing.{PassPlaced};
 
 use crate::entries::gives;

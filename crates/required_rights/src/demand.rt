@@ -1,5 +1,4 @@
 ghost use Rattle.std.specs.Prelude.{◌≡◌, ◌∷◌, ◌++◌, [], Some, IfOk, OnOk};
-ghost use Rattle.file_paths.specs.Path.{IsPath};
 ghost use Rattle.permission_bits.specs.Rights.{rights};
 ghost use Rattle.required_rights.specs.Demands.{listed_demands};
 ghost use Rattle.required_rights.specs.RequiredRights as spec;

@@ -1,11 +1,10 @@
 -- The bytes of a file once the length of its last block is committed.
-use Rattle.std.proofs.Common.{◌≡◌, ℕ, zero, suc, ◌+◌, ◌-◌, ◌^◌, ◌==◌, nat_lt, Bool, true, false, not, ◌&&◌, ◌||◌, List, [], ◌∷◌, length, take, Option, Some, None, refl, sym, ap, ◌∙◌, cond, arith, slice_get}
+use Rattle.std.proofs.Common.{◌≡◌, ℕ, suc, ◌+◌, ◌-◌, ◌^◌, ◌==◌, nat_lt, Bool, true, false, not, ◌&&◌, ◌||◌, List, [], ◌∷◌, length, take, Some, None, refl, sym, ap, ◌∙◌, cond, arith, slice_get}
 use Rattle.std.specs.Prelude.{unwrap_or}
 use Rattle.std.specs.List.{list_any}
-use Rattle.block_records.specs.declared.last_block.LastBlock.{LastBlock}
 use Rattle.file_blocks.specs.declared.blocks.FileBlock.{FileBlock}
 use Rattle.file_blocks.specs.Blocks.{last_of, length_of, told_length, but_last, has_id, with_length_where, committed_in}
-use Rattle.flat_rows.specs.BlockOutcome.{has_block_id, is_last}
+use Rattle.flat_rows.specs.BlockOutcome.{has_block_id}
 
 flipped : (a b : ℕ) → (a == b) ≡ true → (b == a) ≡ true
 flipped a b h = grind (arith, h)

@@ -1,4 +1,4 @@
-ghost use Rattle.std.specs.Prelude.{◌≡◌, ℕ, List, IfOk};
+ghost use Rattle.std.specs.Prelude.{◌≡◌, IfOk};
 ghost use Rattle.principals.specs.Users.{Users};
 ghost use Rattle.flat_rows.specs.Facts.{Facts};
 ghost use Rattle.flat_rows.specs.Takeover.{refused_append};

@@ -1,9 +1,8 @@
-ghost use Rattle.std.specs.Prelude.{◌≡◌, ◌+◌, ℕ, List, true, IfOk};
+ghost use Rattle.std.specs.Prelude.{◌≡◌, true, IfOk};
 ghost use Rattle.std.specs.Option.{option_or};
 ghost use Rattle.hdfs_types.specs.declared.reply.Reply.TheVariants as reply;
 ghost use Rattle.flat_rows.specs.FileOutcome.{refused_write};
 ghost use Rattle.flat_rows.specs.BlockOutcome.{is_last, refused_unless_last, refused_end, bytes_behind};
-ghost use Rattle.file_blocks.specs.Blocks.{but_last, length_of};
 ghost use Rattle.write_rules.specs.Judged.{refused_or};
 
 use block_map::blocks::Blocks;

@@ -1,6 +1,5 @@
 ghost use Rattle.std.specs.Prelude.{◌≡◌, ℕ, List, true, false, length, IfOk};
 ghost use Rattle.hdfs_types.specs.Request.{is_for_nodes};
-ghost use Rattle.std.specs.Option.{option_or};
 ghost use Rattle.principals.specs.Users.{Users};
 ghost use Rattle.namespace_rows.specs.declared.row.Row.{Row};
 ghost use Rattle.required_rights.specs.RequiredRights.{required_rights};

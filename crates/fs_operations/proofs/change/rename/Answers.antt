@@ -1,8 +1,7 @@
-use Rattle.std.proofs.Common.{◌∙◌, false, [], None, sym, ap, subst}
+use Rattle.std.proofs.Common.{◌∙◌, [], None, sym, ap, subst}
 use Rattle.hdfs_types.specs.declared.op.Op.TheVariants.{Rename}
 use Rattle.hdfs_types.specs.declared.reply.Reply.TheVariants.{Empty}
 use Rattle.principals.specs.Users.{Users}
-use Rattle.flat_rows.specs.Facts.{Facts}
 use Rattle.flat_rows.specs.Outcome.{denied_or_outcome, refused_or_done}
 use Rattle.perm_walk.specs.Walked.{IsWalkedBoth}
 use Rattle.flat_rows.specs.declared.verdict.Verdict.TheVariants.{Done}

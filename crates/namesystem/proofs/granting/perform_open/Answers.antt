@@ -1,4 +1,4 @@
-use Rattle.std.proofs.Common.{◌≡◌, refl, sym, ap, ◌∙◌, ◌++◌, subst}
+use Rattle.std.proofs.Common.{◌≡◌, sym, ap, ◌∙◌, ◌++◌, subst}
 use Rattle.hdfs_types.specs.declared.op.Op.TheVariants as op
 use Rattle.history.specs.Grants.{rows_granted}
 use Rattle.flat_rows.specs.Outcome.{step}

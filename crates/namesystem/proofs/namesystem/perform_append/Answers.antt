@@ -1,6 +1,5 @@
-use Rattle.std.proofs.Common.{◌≡◌, refl, sym, ap, ◌∙◌, subst}
+use Rattle.std.proofs.Common.{sym, ap, ◌∙◌, subst}
 use Rattle.hdfs_types.specs.declared.op.Op.TheVariants as op
-use Rattle.flat_rows.specs.Outcome.{step}
 use Rattle.write_rules.specs.JudgedAppends.{verdict_of_append, IsJudgedAt}
 use Rattle.namesystem.specs.Performed.{facts_in}
 use Rattle.namesystem.proofs.Performing.{performed_not_done}

@@ -1,5 +1,4 @@
 use Rattle.std.proofs.Common.{refl}
-use Rattle.std.proofs.lemmas.Result.{IfOk-weaker}
 use Rattle.hdfs_types.specs.Verb.{read_op}
 use Rattle.namesystem.proofs.LeasesKept.{read_keeps}
 use Rattle.namesystem.proofs.Performing.{performed_kept, undone_same, given_all}

@@ -1,6 +1,5 @@
-use Rattle.std.proofs.Common.{◌≡◌, refl, sym, ap, ◌∙◌, subst}
+use Rattle.std.proofs.Common.{refl, sym, ◌∙◌, subst}
 use Rattle.hdfs_types.specs.declared.op.Op.TheVariants as op
-use Rattle.namesystem.specs.declared.namesystem.Namesystem.{Namesystem}
 use Rattle.namesystem.specs.Performed.{IsPerformed}
 use Rattle.namesystem.proofs.Performing.{performed_replication, unperformed_replication}
 use Rattle.namesystem.proofs.namesystem.perform_replication.Goals.{then-is_done, else-is_done}

@@ -1,4 +1,4 @@
-use Rattle.std.proofs.Common.{sym, ap, ◌∙◌, ◌∷◌, [], List, Ok}
+use Rattle.std.proofs.Common.{sym, ap, ◌∙◌, [], Ok}
 use Rattle.node_calls.specs.declared.call.PlanCall.{PlanCall}
 use Rattle.node_calls.specs.declared.call.PlanCall.TheVariants.{Commit}
 use Rattle.block_recovery.specs.Plans.{plan_at, refused_plan_commit}

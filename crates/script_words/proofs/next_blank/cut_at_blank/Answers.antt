@@ -1,4 +1,4 @@
-use Rattle.std.proofs.Common.{◌≡◌, ◌-◌, length, subst, arith}
+use Rattle.std.proofs.Common.{◌-◌, length, subst, arith}
 use Rattle.script_words.specs.Blanks.{IsNextBlank}
 use Rattle.script_words.proofs.Blanks.{first_of_end, can_cut_behind, first_cut, no_cut}
 use Rattle.script_words.proofs.next_blank.cut_at_blank.Goals as goal

@@ -1,4 +1,4 @@
-use Rattle.std.proofs.Common.{eqb, w8, ap, ◌∙◌, arith}
+use Rattle.std.proofs.Common.{eqb, w8, ap, ◌∙◌}
 use Rattle.std.specs.Int.{bit_at}
 use Rattle.std.proofs.lemmas.Simd.{bitmask_splat}
 use Rattle.script_words.proofs.Marks.{mark_is}

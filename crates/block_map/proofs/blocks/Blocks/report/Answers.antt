@@ -1,4 +1,4 @@
-use Rattle.std.proofs.Common.{◌≡◌, ◌∙◌, sym, ap}
+use Rattle.std.proofs.Common.{◌∙◌, sym, ap}
 use Rattle.known_blocks.specs.Known.{KnownBlocks}
 use Rattle.block_map.specs.BlockFacts.{Blocks}
 use Rattle.block_map.specs.BlockEffects.{with_replica_invalid, reported_by}

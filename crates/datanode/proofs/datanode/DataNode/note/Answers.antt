@@ -1,4 +1,4 @@
-use Rattle.std.proofs.Common.{◌≡◌, ◌<◌, ◌++◌, ◌∷◌, [], None, slice_index, rules, sym, ap, subst, ◌∙◌}
+use Rattle.std.proofs.Common.{◌≡◌, ◌<◌, ◌++◌, ◌∷◌, [], None, slice_index, sym, ap, subst, ◌∙◌}
 use Rattle.replicas.specs.ReplicaStep.{held_at}
 use Rattle.node_replies.specs.Asking.{record_of}
 use Rattle.datanode.specs.Kept.{AreBelow, AreCovered}

@@ -1,6 +1,4 @@
 use Rattle.std.proofs.Common.{◌∙◌, ℕ, List, sym, ap, subst}
-use Rattle.std.specs.BTreeMap.{insert_entry}
-use Rattle.std.specs.Ordering.{nat_cmp}
 use Rattle.block_records.proofs.Standing.{IsOrdered, set_there, inserted_in_gap, inserted_ordered}
 use Rattle.heartbeats.specs.Live.{with_heartbeat}
 use Rattle.heartbeats.proofs.heartbeats.Heartbeats.beat.Goals as goal

@@ -1,4 +1,4 @@
-use Rattle.std.proofs.Common.{◌∙◌, ◌∷◌, [], ◌++◌, Ok, Some, refl, sym, ap}
+use Rattle.std.proofs.Common.{◌∙◌, Ok, Some, sym, ap}
 use Rattle.namespace_rows.specs.Namespace.{suits_kind}
 use Rattle.namespace_rows.specs.Rows.{is_missing}
 use Rattle.inode_nodes.specs.Node.{rows, row_of}
