@@ -3,7 +3,7 @@
 use file_paths::path::Path;
 use hdfs_values::ids::BlockId;
 use hdfs_values::who::Who;
-use lease_manager::open_paths::OpenPaths;
+use open_file_paths::open_paths::OpenPaths;
 use std::alloc::Global;
 use std::fmt::Write;
 use std::test::Fail;

@@ -29,9 +29,9 @@ use hdfs_values::replication::Repl;
 use hdfs_values::who::Who;
 use inode_tree::blocks::FilesUnder;
 use inode_tree::tree::Tree;
-use lease_manager::open_paths::OpenPaths;
 use lease_manager::writers::Writers;
 use namespace_rows::row::Change;
+use open_file_paths::open_paths::OpenPaths;
 use permission_bits::mode::Mode;
 use std::alloc::{AllocError, Global};
 

@@ -16,8 +16,8 @@ use hdfs_types::replica::RecoveredBlock;
 use hdfs_types::reply::{Refusal, Reply};
 use hdfs_values::ids::BlockId;
 use inode_tree::tree::Tree;
-use lease_manager::open_paths::OpenPaths;
 use namespace_rows::row::Row;
+use open_file_paths::open_paths::OpenPaths;
 use std::alloc::{AllocError, Global};
 
 /// Whether what has a path is a file whose last block is in a recovery, and is this one. Takes no memory.

@@ -15,10 +15,10 @@ use hdfs_values::ids::BlockId;
 use hdfs_values::moment::Moment;
 use hdfs_values::who::Who;
 use inode_tree::tree::Tree;
-use lease_manager::open_paths::OpenPaths;
 use lease_manager::writers::Writers;
 use namespace_rows::file_row::{FileRow, ShownFile};
 use namespace_rows::row::Row;
+use open_file_paths::open_paths::OpenPaths;
 use std::alloc::{AllocError, Global};
 use std::collections::BTreeMap;
 

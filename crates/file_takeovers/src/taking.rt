@@ -22,9 +22,9 @@ use hdfs_values::ids::BlockId;
 use hdfs_values::moment::Moment;
 use hdfs_values::who::Who;
 use inode_tree::tree::Tree;
-use lease_manager::open_paths::OpenPaths;
 use lease_manager::writers::Writers;
 use namespace_rows::row::Change;
+use open_file_paths::open_paths::OpenPaths;
 use std::alloc::AllocError;
 
 /// Opens a closed file for a client to write. Costs the path.

@@ -1,9 +1,6 @@
-//! Leases of clients on the files that they have open, by their last renewals: how many files each client has open, and hints of
-//! where they are.
+//! Leases of clients on the files that they have open, by their last renewals, and how many files each client has open.
 #![tactic(auto)]
 
-mod client_paths;
 pub mod leases;
 pub mod open_files;
-pub mod open_paths;
 pub mod writers;

@@ -1,0 +1,5 @@
+//! Hints of where the files are that clients have open, and those whose last block is recovered.
+#![tactic(auto)]
+
+mod client_paths;
+pub mod open_paths;
