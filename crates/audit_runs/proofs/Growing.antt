@@ -1,7 +1,7 @@
 -- The entries of first lines are the first entries of all lines.
-use Rattle.std.proofs.Common.{◌≡◌, ℕ, zero, suc, ◌+◌, Bool, true, false, List, [], ◌∷◌, ◌++◌, take, length, reverse, Option, Some, None, Result, Ok, Err, refl, sym, ap, ◌∙◌, arith, append_assoc, subst}
+use Rattle.std.proofs.Common.{◌≡◌, ◌≤◌, ℕ, zero, suc, ◌+◌, Bool, true, false, List, [], ◌∷◌, ◌++◌, take, length, reverse, Option, Some, None, Result, Ok, Err, refl, sym, ap, ◌∙◌, arith, append_assoc, subst}
 use Rattle.std.specs.Prelude.{fold, OnOk, OnErr, if◌then◌else◌}
-use Rattle.std.proofs.lemmas.List.{take_all, take-append-le, length-append, reverse-append}
+use Rattle.std.proofs.lemmas.List.{take_all, take-append-le, length-append, length-reverse, reverse-append}
 use Rattle.block_records.specs.Numbers.{entry_at}
 use Rattle.hdfs_values.specs.declared.fault.IllFormed.{IllFormed}
 use Rattle.hdfs_types.specs.declared.op.Request.{Request}
@@ -18,7 +18,7 @@ use Rattle.cluster_trace.specs.declared.event.Event.{Event}
 use Rattle.cluster_trace.specs.declared.event.Event.TheVariants.{Name, Deliver, Data}
 use Rattle.cluster_trace.specs.declared.outcome.ClusterRefusal.TheVariants.{NotFromOutside}
 use Rattle.cluster_core.specs.Past.{World}
-use Rattle.cluster_core.specs.World.{state_after}
+use Rattle.cluster_core.specs.World.{state_after, with_event}
 use Rattle.script_words.specs.Words.{lines_of, is_skipped, without_return}
 use Rattle.cluster_runs.specs.Output.{State, no_lines, event_in, line_answered, after_answer, after_line, after_lines}
 use Rattle.audit_runs.specs.Audit.{history_after, history_of_script}

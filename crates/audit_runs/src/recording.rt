@@ -1,4 +1,4 @@
-ghost use Rattle.std.specs.Prelude.{◌≡◌, IfOk, OnOk, OnErr, Ok, Err, map};
+ghost use Rattle.std.specs.Prelude.{◌≡◌, List, ℕ, IfOk, OnOk, OnErr, Ok, Err, map};
 ghost use Rattle.cluster_runs.specs.Output as spec;
 ghost use Rattle.audit_runs.specs.Audit.{history_after, history_of_script};
 ghost use Rattle.audit_runs.specs.Recorded.{Holds, HoldsFirst, AreFirstOf};

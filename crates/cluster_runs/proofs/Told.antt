@@ -1,9 +1,10 @@
 -- One event more.
-use Rattle.std.proofs.Common.{◌≡◌, ℕ, ◌+◌, Bool, true, false, ◌||◌, List, [], ◌∷◌, ◌++◌, length, Ok, Err, refl, sym, ap, ◌∙◌, append-nil}
+use Rattle.std.proofs.Common.{◌≡◌, ℕ, ◌+◌, Bool, true, false, ◌||◌, List, [], ◌∷◌, ◌++◌, length, Result, Ok, Err, refl, sym, ap, ◌∙◌, append-nil}
 use Rattle.std.specs.List.{list_any}
 use Rattle.std.specs.String.{string_bytes}
 use Rattle.std.proofs.lemmas.List.Concat.{flat_map-append}
 use Rattle.std.proofs.lemmas.List.Folds.{list_any-append}
+use Rattle.hdfs_values.specs.declared.fault.IllFormed.{IllFormed}
 use Rattle.cluster_trace.specs.Trace.{event_outcome}
 use Rattle.cluster_trace.specs.declared.event.Event.{Event}
 use Rattle.cluster_trace.specs.declared.outcome.Outcome.{Outcome}

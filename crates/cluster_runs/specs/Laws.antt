@@ -9,7 +9,7 @@ use Rattle.cluster_trace.specs.Typed.{AreTyped}
 use Rattle.cluster_core.specs.World.{run_past, run_outcomes}
 use Rattle.script_words.specs.Words.{lines_of}
 use Rattle.cluster_text.specs.ToldText.{Told}
-use Rattle.cluster_runs.specs.Output.{Numbered, no_events, after_lines}
+use Rattle.cluster_runs.specs.Output.{State, Numbered, no_events, after_lines}
 
 -- the events that lines make, the oldest first
 abbrev pub events_in : List (List ℕ) → List Event

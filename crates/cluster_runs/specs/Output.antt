@@ -1,6 +1,6 @@
 -- What a script of a cluster prints: the answer to each line that is neither empty nor a comment, behind the line's number. Each line makes
 -- an event of the cluster that the lines before it leave, and is answered by what comes of that event.
-use Rattle.std.specs.Prelude.{ℕ, ◌+◌, List, [], ◌∷◌, ◌++◌, length, take, replicate, slice_get, if◌then◌else◌, Option, Result, Ok, Err, fold}
+use Rattle.std.specs.Prelude.{ℕ, ◌+◌, Bool, List, [], ◌∷◌, ◌++◌, length, take, replicate, slice_get, if◌then◌else◌, Option, Result, Ok, Err, fold}
 use Rattle.std.specs.List.{flat_map, list_any}
 use Rattle.std.specs.Option.{option_map}
 use Rattle.hdfs_values.specs.declared.fault.IllFormed.{IllFormed}

@@ -9,11 +9,12 @@ use Rattle.node_ids.specs.NodeId.{node_of}
 use Rattle.hdfs_values.specs.Text.{same}
 use Rattle.hdfs_values.specs.declared.fault.IllFormed.{IllFormed}
 use Rattle.hdfs_values.specs.declared.fault.IllFormed.TheVariants.{BadLine}
+use Rattle.hdfs_types.specs.declared.op.Request.{Request}
 use Rattle.grant_ledger.specs.declared.ledger.LedgerRow.{LedgerRow}
 use Rattle.cluster_trace.specs.DataCall.{DataCall, BeginWrite, Packet, Finalize, Read, Decide, Commit}
 use Rattle.cluster_trace.specs.declared.event.Event.{Event}
 use Rattle.cluster_trace.specs.declared.event.Event.TheVariants.{Name, Deliver, Data}
-use Rattle.script_words.specs.Values.{moment_word, who_word, number_word}
+use Rattle.script_words.specs.Values.{◌>>=◌, moment_word, who_word, number_word}
 use Rattle.request_lines.specs.Script.{request_of}
 use Rattle.node_words.specs.Calls.{is_call}
 use Rattle.node_words.specs.Words.{node_word, next_word, bytes_word, token_word}

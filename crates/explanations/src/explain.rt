@@ -1,7 +1,9 @@
-ghost use Rattle.std.specs.Prelude.{◌≡◌, ℕ, IfOk, IfSome, Err, Some, drop, map};
+ghost use Rattle.std.specs.Prelude.{◌≡◌, ◌+◌, List, ℕ, IfOk, IfSome, Err, Some, drop, map, take};
 ghost use Rattle.std.specs.Io.KnownBytes.{Appends, Keeps};
+ghost use Rattle.std.specs.Option.{option_copied};
 ghost use Rattle.std.specs.String.{string_bytes};
 ghost use Rattle.std.specs.Str.{IsUtf8};
+ghost use Rattle.flat_rows.specs.Decision.{trail as trail_said};
 ghost use Rattle.flat_rows.specs.DenialText.{trail_text};
 ghost use Rattle.script_runs.specs.Channel.{AppendsFront};
 ghost use Rattle.explanations.specs.Explanation as spec;

@@ -1,3 +1,4 @@
+use Rattle.std.specs.String.{string_bytes}
 use Rattle.audit_runs.specs.Audit.{history_after, history_of_script}
 use Rattle.audit_runs.proofs.Growing.{first_or_all}
 use Rattle.audit_runs.proofs.Writing.{first_of_history, front_of_history, known_first, known_front}

@@ -1,4 +1,4 @@
-use Rattle.std.proofs.Common.{◌∙◌, ap}
+use Rattle.std.proofs.Common.{◌∙◌, ap, map}
 use Rattle.cluster_core.specs.Past.{World}
 use Rattle.cluster_core.specs.World.{state_after}
 use Rattle.flat_rows.specs.DenialText.{trail_text}
