@@ -111,8 +111,8 @@ fn add_held_at(
     add(files, path, sought)
 }
 
-/// Adds the files of a client that are known, the last path first: a map that is searched from its least key on finds the place of a new least one
-/// at once.
+/// Adds the files of a client that are known, the last one first: where a client opened its files in the order of their paths, a map that is
+/// searched from its least key on finds the place of each at once.
 fn add_held(
     tree: &Tree,
     open_paths: &OpenPaths,

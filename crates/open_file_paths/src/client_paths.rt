@@ -4,8 +4,8 @@ use hdfs_values::fault::ParseFault;
 use std::alloc::{AllocError, Global};
 use std::collections::{BTreeSet, VecDeque};
 
-/// How many paths of a client stand as they came at most: so many are put in order in less than a tenth of a second.
-const MOST_RECENT: usize = 65_536;
+/// How many paths of a client stand as they came at most. So many are put in order in less than a tenth of a second.
+const MAX_RECENT: usize = 65_536;
 
 /// The paths of the files that one client has open. Each stands once: the recent ones as they came, since a file that is closed is most
 /// often the client's oldest or newest one, which is found without a search; the others in the order of paths, in which what is beneath a
@@ -82,7 +82,7 @@ impl ClientPaths {
     /// # Errors
     /// Out of memory; the oldest of the recent paths may be left out then, too.
     pub(crate) fn insert(&mut self, path: Path) -> Result<(), AllocError> {
-        if self.recent.len() >= MOST_RECENT
+        if self.recent.len() >= MAX_RECENT
             && let Some(oldest) = self.recent.pop_front()
         {
             self.in_order.insert(oldest)?;
