@@ -61,7 +61,8 @@ fn note(
 
 // Writes the paths of the files that a client has open, in their order and each with a blank behind it, then that of the file whose block 7 is
 // recovered, and a stop behind all.
-fn tell(paths: &OpenPaths, client: &Who, text: &mut String) -> Result<(), Fail> {
+fn tell(paths: &mut OpenPaths, client: &Who, text: &mut String) -> Result<(), Fail> {
+    paths.update_recoveries();
     let mut open = paths.of_client(client)?;
     open.sort_unstable();
     for path in &open {
@@ -219,6 +220,80 @@ fn files_are_closed_in_any_order(rt: HostRuntime) -> Result<(), Fail> {
     assert_eq!(rt;
         text.as_str(),
         "/a/b ./a/b /c ./a/b /a/d /c ./a/b /a/d /c /e ./a/b /a/d /e ./a/b /a/d /c /e ./a/d /c /e ./a/d /e ./a/d /e ./a/d /a/f /e ./e ."
+    );
+    Ok(())
+}
+
+// Directories are moved into one another, and to where others were; files are opened and closed between.
+const MOVED_OFTEN: [(Noted, &str); 11] = [
+    (Noted::Opened, "/a/b/f"),
+    (Noted::Opened, "/a/g"),
+    (Noted::DirectoryMoved("/x"), "/a"),
+    (Noted::DirectoryMoved("/a"), "/x/b"),
+    (Noted::Opened, "/x/b/h"),
+    (Noted::DirectoryMoved("/y"), "/x"),
+    (Noted::DirectoryMoved("/x"), "/a"),
+    (Noted::Closed, "/y/g"),
+    (Noted::DirectoryMoved("/x/b"), "/y/b"),
+    (Noted::Closed, "/x/f"),
+    (Noted::Closed, "/x/b/h"),
+];
+
+#[test]
+fn files_are_known_behind_all_moves(rt: HostRuntime) -> Result<(), Fail> {
+    let text = told(rt.alloc(), &MOVED_OFTEN)?;
+    assert_eq!(rt;
+        text.as_str(),
+        "/a/b/f ./a/b/f /a/g ./x/b/f /x/g ./a/f /x/g ./a/f /x/b/h /x/g ./a/f /y/b/h /y/g ./x/f /y/b/h /y/g ./x/f /y/b/h ./x/b/h /x/f ./x/b/h .."
+    );
+    Ok(())
+}
+
+// The path of a file in a directory.
+fn numbered(alloc: Global, directory: &str, number: u32) -> Result<Path, Fail> {
+    let mut text = String::new(alloc);
+    write!(text, "{directory}/f{number}")?;
+    Ok(Path::parse(alloc, text.as_str())?)
+}
+
+// Forty files in `/a`, of which one in the middle is closed before that moves to `/b`, and one behind the move.
+fn open_forty(alloc: Global, paths: &mut OpenPaths, client: &Who) -> Result<(), Fail> {
+    for number in 0..40 {
+        paths.open(&numbered(alloc, "/a", number)?, client);
+    }
+    paths.close(&numbered(alloc, "/a", 20)?, client);
+    paths.move_directory(&Path::parse(alloc, "/a")?, &Path::parse(alloc, "/b")?);
+    paths.close(&numbered(alloc, "/b", 21)?, client);
+    Ok(())
+}
+
+// Moves `/b` to `/a` and back again, and that so often.
+fn move_often(alloc: Global, paths: &mut OpenPaths, times: u32) -> Result<(), Fail> {
+    let (here, there) = (Path::parse(alloc, "/b")?, Path::parse(alloc, "/a")?);
+    for _ in 0..times {
+        paths.move_directory(&here, &there);
+        paths.move_directory(&there, &here);
+    }
+    Ok(())
+}
+
+// More moves than are kept: all files learn of them on the way.
+#[test]
+fn files_are_known_behind_more_moves_than_are_kept(rt: HostRuntime) -> Result<(), Fail> {
+    let alloc = rt.alloc();
+    let alice = Who::parse(alloc, "alice")?;
+    let mut paths = OpenPaths::new(alloc);
+    open_forty(alloc, &mut paths, &alice)?;
+    paths.open(&numbered(alloc, "/b", 77)?, &alice);
+    paths.recover(&numbered(alloc, "/b", 5)?, &alice, BlockId::new(7));
+    move_often(alloc, &mut paths, 700)?;
+    paths.open(&numbered(alloc, "/c", 1)?, &alice);
+    paths.move_directory(&Path::parse(alloc, "/b")?, &Path::parse(alloc, "/d/e")?);
+    let mut text = String::new(alloc);
+    tell(&mut paths, &alice, &mut text)?;
+    assert_eq!(rt;
+        text.as_str(),
+        "/c/f1 /d/e/f0 /d/e/f1 /d/e/f10 /d/e/f11 /d/e/f12 /d/e/f13 /d/e/f14 /d/e/f15 /d/e/f16 /d/e/f17 /d/e/f18 /d/e/f19 /d/e/f2 /d/e/f22 /d/e/f23 /d/e/f24 /d/e/f25 /d/e/f26 /d/e/f27 /d/e/f28 /d/e/f29 /d/e/f3 /d/e/f30 /d/e/f31 /d/e/f32 /d/e/f33 /d/e/f34 /d/e/f35 /d/e/f36 /d/e/f37 /d/e/f38 /d/e/f39 /d/e/f4 /d/e/f6 /d/e/f7 /d/e/f77 /d/e/f8 /d/e/f9 7 at /d/e/f5 ."
     );
     Ok(())
 }

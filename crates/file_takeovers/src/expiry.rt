@@ -201,6 +201,7 @@ pub fn expire(
     ensures latest { lease.latest_moment writers.new.leases.renewals ≤ lease.latest_moment writers.old.leases.renewals }
     ensures err { OnErr result ((tree.new ≡ tree.old) × (blocks.new ≡ blocks.old) × (writers.new ≡ writers.old)) }
 {
+    open_paths.update_recoveries();
     let files = sought_files(alloc, tree, blocks, writers, open_paths, past, now)?;
     let sought = sought_blocks(alloc, &files)?;
     let begun = blocks.plan_recoveries(&sought, now)?;

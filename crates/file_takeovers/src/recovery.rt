@@ -139,6 +139,7 @@ pub fn end_recovery(
     ensures err { OnErr result ((tree.new ≡ tree.old) × (blocks.new ≡ blocks.old)) }
 {
     let block = recovered.block;
+    open_paths.update_recovery(block);
     let verdict = match known_path(tree, open_paths, block) {
         Some(path) => end_at(tree, blocks, Some(path), recovered)?,
         None => {

@@ -2,4 +2,5 @@
 #![tactic(auto)]
 
 mod client_paths;
+mod moves;
 pub mod open_paths;
