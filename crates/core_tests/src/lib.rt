@@ -13,6 +13,8 @@ mod node_tests;
 #[cfg(test)]
 mod open_path_tests;
 #[cfg(test)]
+mod random_moves;
+#[cfg(test)]
 mod recovery_tests;
 #[cfg(test)]
 mod steps;
