@@ -1,5 +1,5 @@
-//! Tests of what no contract says of the core, the hints of where open files are, recoveries from their
-//! beginning to their end, and what DataNodes are told; and of the rows and the tree below it. Nothing stands on this crate.
+//! Tests of what no contract says of the core, recoveries from their beginning to their end, and what DataNodes are told; and of
+//! the rows and the tree below it. Nothing stands on this crate.
 #![tactic(auto)]
 
 #[cfg(test)]
@@ -10,10 +10,6 @@ mod blocks;
 mod namespaces;
 #[cfg(test)]
 mod node_tests;
-#[cfg(test)]
-mod open_path_tests;
-#[cfg(test)]
-mod random_moves;
 #[cfg(test)]
 mod recovery_tests;
 #[cfg(test)]
