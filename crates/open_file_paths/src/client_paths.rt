@@ -181,7 +181,7 @@ impl ClientPaths {
         Some(newest.path)
     }
 
-    /// Takes a path out. Takes memory only to put the others in order, and for what directories were moved with.
+    /// Takes a path out. Takes memory only to put the others in order, and to bring paths up to date.
     pub(crate) fn take(&mut self, alloc: Global, moves: &Moves, path: &Path) -> Option<Path> {
         self.update_ends(alloc, moves).ok()?;
         if let Some(own) = self.take_recent(path) {

@@ -96,8 +96,8 @@ impl OpenPaths {
         own
     }
 
-    /// Notes that a file is closed that a client had open. Takes memory only to put paths in order; where there is none, paths are left
-    /// out, or the closed file's stays.
+    /// Notes that a file is closed that a client had open. Takes memory only to put paths in order and to bring them up to date; where there is
+    /// none, paths are left out, or the closed file's stays.
     pub fn close(&mut self, path: &Path, client: &Who) {
         let _closed = self.take(path, client);
     }
