@@ -1,3 +1,4 @@
 pub mod Name
 pub mod Path
 pub mod PathOrder
+pub mod Marks

@@ -99,6 +99,23 @@ impl Name {
         })
     }
 
+    /// The name that a text spells whose bytes are all of names; `None` where it is none. One of at most 14 bytes takes no memory. The copy
+    /// comes before the judgement: a copy whose length is known to be above zero would clear its bytes by a call.
+    ///
+    /// # Errors
+    /// Out of memory, which may stand in place of `None`.
+    #[inline(always)]
+    pub(crate) fn spelled(alloc: Global, text: &str) -> Result<Option<Name>, AllocError>
+        requires { list_all spec.is_name_byte text.now ≡ true }
+        ensures { IfOk result (λ found. found ≡ name_of text.now) }
+    {
+        let copy = ShortText::copied(alloc, text)?;
+        if !makes_name(text.as_bytes()) {
+            return Ok(None);
+        }
+        Ok(Some(Name { text: copy }))
+    }
+
     /// The text of the name.
     pub fn as_str(&self) -> &str
         ensures text { result.now ≡ self.now }

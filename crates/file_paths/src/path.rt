@@ -1,6 +1,8 @@
 ghost use Rattle.std.specs.Prelude.{◌≡◌, ℕ, List, ◌≤◌, ◌<◌, true, false, get_or, IfOk, IfSome, length, take, [], ◌∷◌, Some, None, if◌then◌else◌, MatchOption};
+ghost use Rattle.std.specs.Bool.{Decides};
 ghost use Rattle.std.specs.List.{list_all, position_or_len, slice_split};
 ghost use Rattle.hdfs_values.specs.Parsed.{Parses};
+ghost use Rattle.file_paths.specs.Marks.{marks_of};
 ghost use Rattle.file_paths.specs.Name.{is_name, is_name_byte};
 ghost use Rattle.file_paths.specs.Path.{IsPath, IsRelative, is_slash, path_of, path_text, parent_of};
 ghost use Rattle.file_paths.specs.Path as spec;
@@ -10,6 +12,7 @@ ghost use Rattle.std.specs.Cmp.{partial_order_from_agreeing_total};
 ghost use Rattle.std.specs.Cmp.Rules.{comparing};
 ghost use Rattle.std.specs.Ordering.{as_partial_cmp};
 
+use crate::marks::{HALF_LANES, MOST_MARKED, first_marked, marks_in};
 use crate::name::{Name, is_name_byte, makes_name};
 use hdfs_values::fault::{IllFormed, ParseFault};
 use std::alloc::{AllocError, Global};
@@ -153,6 +156,80 @@ fn names_in(alloc: Global, text: &str, count: usize) -> Result<Vec<Name>, AllocE
     Ok(names)
 }
 
+/// The names between the slashes of a text, of which the marks of its bytes tell; `None` where a piece is no name. There is memory for as
+/// many as there are marks, each of which is a slash in the text of a path. Looks at a text once.
+///
+/// # Errors
+/// Out of memory, which may stand in place of `None`.
+fn marked_names(alloc: Global, text: &str, marks: u64) -> Result<Option<Vec<Name>>, AllocError>
+    requires marks { marks ≡ marks_of text.now }
+    requires most { length text.now ≤ 64 }
+    ensures { IfOk result (λ found. MatchOption found (list_all is_name (slice_split is_slash text.now) ≡ false)
+        (λ names. (list_all is_name (slice_split is_slash text.now) ≡ true) × (names.items ≡ slice_split is_slash text.now))) }
+{
+    let mut names = Vec::with_capacity(alloc, marks.count_ones() as usize + 1)?;
+    let mut stops = marks;
+    let mut rest = text;
+    while stops != 0 {
+        let Some(end) = first_marked(rest.as_bytes(), stops) else {
+            return Ok(None);
+        };
+        let Some(name) = Name::spelled(alloc, &rest[..end])? else {
+            return Ok(None);
+        };
+        names.push(name)?;
+        rest = &rest[end + 1..];
+        stops = (stops >> end) >> 1;
+    }
+    if !makes_name(rest.as_bytes()) {
+        return Ok(None);
+    }
+    names.push(Name::copied(alloc, rest)?)?;
+    Ok(Some(names))
+}
+
+/// What the reading of a text answers where memory ran out before the text was judged: it is judged here.
+#[cold]
+fn out_of_memory(text: &str, rest: &str) -> Result<Path, ParseFault>
+    requires behind { text.now ≡ 47 ∷ rest.now }
+    requires some { 0 < length rest.now }
+    ensures { Parses IllFormed.BadPath result (path_of text.now) }
+{
+    match depth_of(text, rest) {
+        Some(_) => Err(ParseFault::OutOfMemory),
+        None => Err(NO_PATH),
+    }
+}
+
+/// Reads a path other than the root whose text is a slash with `rest` behind it, of at most 64 bytes and at least one load, by marks.
+#[inline(always)]
+fn parse_marked(alloc: Global, text: &str, rest: &str) -> Result<Path, ParseFault>
+    requires behind { text.now ≡ 47 ∷ rest.now }
+    requires least { 8 ≤ length rest.now }
+    requires most { length rest.now ≤ 64 }
+    ensures { Parses IllFormed.BadPath result (path_of text.now) }
+{
+    match marked_names(alloc, rest, marks_in(rest.as_bytes())) {
+        Ok(Some(names)) => Ok(Path { names }),
+        Ok(None) => Err(NO_PATH),
+        Err(_) => out_of_memory(text, rest),
+    }
+}
+
+/// Reads a path other than the root whose text is a slash with `rest` behind it, byte by byte: first it is judged, then copied.
+fn parse_by_byte(alloc: Global, text: &str, rest: &str) -> Result<Path, ParseFault>
+    requires behind { text.now ≡ 47 ∷ rest.now }
+    requires some { 0 < length rest.now }
+    ensures { Parses IllFormed.BadPath result (path_of text.now) }
+{
+    let Some(depth) = depth_of(text, rest) else {
+        return Err(NO_PATH);
+    };
+    Ok(Path {
+        names: names_in(alloc, rest, depth)?,
+    })
+}
+
 impl Path {
     /// The most names that a path has.
     pub const MAX_NAMES: usize = 1000;
@@ -182,12 +259,11 @@ impl Path {
         if rest.is_empty() {
             return Ok(Path::root(alloc));
         }
-        let Some(depth) = depth_of(text, rest) else {
-            return Err(NO_PATH);
-        };
-        Ok(Path {
-            names: names_in(alloc, rest, depth)?,
-        })
+        if HALF_LANES <= rest.len() && rest.len() <= MOST_MARKED {
+            parse_marked(alloc, text, rest)
+        } else {
+            parse_by_byte(alloc, text, rest)
+        }
     }
 
     /// The path of these names, from the root down. Takes no memory.
@@ -268,11 +344,27 @@ impl Path {
     }
 }
 
+/// Whether two lists have the same names, compared in turn: the library's `==` of lists cuts a slice for each.
+#[tactic(auto, using(crate::proofs::Alike::text_decides))]
+fn are_alike(names: &[Name], others: &[Name]) -> bool
+    ensures { Decides result (names.now ≡ others.now) }
+{
+    if names.len() != others.len() {
+        return false;
+    }
+    for i in 0..names.len() {
+        if names[i] != others[i] {
+            return false;
+        }
+    }
+    true
+}
+
 /// Whether two lists of names are one path. Takes no memory.
 pub fn is_same(names: &[Name], others: &[Name]) -> bool
     ensures { result ≡ same_path names.now others.now }
 {
-    names == others
+    are_alike(names, others)
 }
 
 /// Whether the first names are a front of the second, or all of them: a path is the other or above it. Takes no memory.
@@ -280,7 +372,7 @@ pub fn is_prefix(front: &[Name], names: &[Name]) -> bool
     ensures { result ≡ spec.is_prefix front.now names.now }
 {
     let depth = front.len();
-    depth <= names.len() && &names[..depth] == front
+    depth <= names.len() && is_same(&names[..depth], front)
 }
 
 /// Whether the first names are a front of the second and not all of them. Takes no memory.
@@ -288,7 +380,7 @@ pub fn is_proper_prefix(front: &[Name], names: &[Name]) -> bool
     ensures { result ≡ spec.is_beneath names.now front.now }
 {
     let depth = front.len();
-    depth < names.len() && &names[..depth] == front
+    depth < names.len() && is_same(&names[..depth], front)
 }
 
 fn copied_front(alloc: Global, names: &[Name], depth: usize) -> Result<Vec<Name>, AllocError>
@@ -316,7 +408,7 @@ impl PartialEq for Path {
     ghost laws = { Prim.search (comparing, rules, paths_total) };
 
     fn eq(&self, other: &Path) -> bool {
-        self.names == other.names
+        is_same(&self.names, &other.names)
     }
 }
 

@@ -2,3 +2,4 @@ pub mod Texts
 pub mod Numbers
 pub mod ShortTexts
 pub mod Cuts
+pub mod Words

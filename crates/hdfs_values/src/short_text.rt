@@ -1,5 +1,6 @@
-ghost use Rattle.std.specs.Prelude.{◌≡◌, ◌≢◌, ◌+◌, ◌≤◌, length, IsOk, IfOk};
+ghost use Rattle.std.specs.Prelude.{◌≡◌, ◌≢◌, ◌-◌, ◌+◌, ◌<◌, ◌≤◌, ◌++◌, length, drop, replicate, IsOk, IfOk};
 ghost use Rattle.std.proofs.Common.{rules};
+ghost use Rattle.std.specs.Int.{w64, from_le_bytes};
 ghost use Rattle.std.specs.Cmp.{partial_order_from_own_ties};
 ghost use Rattle.std.specs.Cmp.Rules.{comparing};
 ghost use Rattle.std.specs.Ordering.{as_partial_cmp, is_eq, nat_cmp, ordering_then};
@@ -125,15 +126,73 @@ fn are_alike(own: &[u8], own_length: u8, others: &[u8], others_length: u8) -> bo
     own_length == others_length
 }
 
-/// A text of at most 14 bytes.
+/// The first eight bytes as a number, the first one lowest.
+fn eight(bytes: &[u8]) -> u64
+    requires { 8 ≤ length bytes.now }
+    ensures { result ≡ from_le_bytes w64 bytes.now }
+{
+    u64::from_le_bytes([
+        bytes[0], bytes[1], bytes[2], bytes[3], bytes[4], bytes[5], bytes[6], bytes[7],
+    ])
+}
+
+/// Eight to 14 bytes without the first six, before zeros: the last eight as a number, from which those are shifted out that stand among the
+/// first six.
+fn behind_six(bytes: &[u8]) -> [u8; 8]
+    requires least { 8 ≤ length bytes.now }
+    requires most { length bytes.now ≤ 14 }
+    ensures { result ≡ drop 6 bytes.now ++ replicate (14 - length bytes.now) 0 }
+{
+    let length = bytes.len();
+    let last = eight(&bytes[length - 8..]);
+    (last >> (8 * (INLINE_BYTES - length))).to_le_bytes()
+}
+
+/// Eight to 14 bytes before zeros, by three words that stay in registers.
+fn long(bytes: &[u8]) -> [u8; INLINE_BYTES]
+    requires least { 8 ≤ length bytes.now }
+    requires most { length bytes.now ≤ 14 }
+    ensures { result ≡ bytes.now ++ replicate (14 - length bytes.now) 0 }
+{
+    let mut held = [0; INLINE_BYTES];
+    held[..4].copy_from_slice(&bytes[..4]);
+    held[4..6].copy_from_slice(&bytes[4..6]);
+    held[6..].copy_from_slice(&behind_six(bytes));
+    held
+}
+
+/// Fewer than eight bytes before zeros, by a word of the first of them and one of the last, which may overlap.
+fn short(bytes: &[u8]) -> [u8; INLINE_BYTES]
+    requires { length bytes.now < 8 }
+    ensures { result ≡ bytes.now ++ replicate (14 - length bytes.now) 0 }
+{
+    let mut held = [0; INLINE_BYTES];
+    let length = bytes.len();
+    if length >= 4 {
+        held[..4].copy_from_slice(&bytes[..4]);
+        held[length - 4..length].copy_from_slice(&bytes[length - 4..]);
+    } else if length >= 2 {
+        held[..2].copy_from_slice(&bytes[..2]);
+        held[length - 2..length].copy_from_slice(&bytes[length - 2..]);
+    } else if length == 1 {
+        held[..1].copy_from_slice(&bytes[..1]);
+    }
+    held
+}
+
+/// A text of at most 14 bytes. Its bytes are copied by words: a copy of any length would be a call.
 fn inline(text: &str) -> ShortText
     requires { length text.now ≤ 14 }
     ensures { result ≡ text.now }
 {
-    let mut bytes = [0; INLINE_BYTES];
-    bytes[..text.len()].copy_from_slice(text.as_bytes());
+    let bytes = text.as_bytes();
+    let held = if bytes.len() < 8 {
+        short(bytes)
+    } else {
+        long(bytes)
+    };
     ShortText {
-        held: Held::Inline(text.len() as u8, bytes),
+        held: Held::Inline(text.len() as u8, held),
     }
 }
 
@@ -142,6 +201,8 @@ impl ShortText {
     ///
     /// # Errors
     /// Out of memory, where the text has more than 14 bytes.
+    // each name of each path is copied: so it stays in registers
+    #[inline(always)]
     pub fn copied(alloc: Global, text: &str) -> Result<ShortText, AllocError>
         ensures ok { IfOk result (λ copy. copy ≡ text.now) }
         ensures short { length text.now ≤ 14 → IsOk result }

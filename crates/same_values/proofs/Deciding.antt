@@ -1,16 +1,7 @@
 -- Tests that decide whether two values are one.
-use Rattle.std.proofs.Common.{◌≡◌, ℕ, Bool, true, false, ◌&&◌, List, refl, sym, ap, ◌∙◌, subst}
+use Rattle.std.proofs.Common.{◌≡◌, Bool, true, false, ◌&&◌, refl, sym, ap, ◌∙◌, subst}
 use Rattle.std.specs.Bool.{Decides}
-use Rattle.std.specs.Cmp.Lexicographic.{pointwise}
-use Rattle.std.proofs.lemmas.Slice.Eq.{slice_eq-Decides}
-use Rattle.hdfs_values.specs.Text.{same}
-use Rattle.hdfs_values.proofs.Texts.{same_is, same_self}
-
-pub text_decides : (a b : List ℕ) → Decides (same a b) (a ≡ b)
-text_decides a b = (same_is a b, λ e. subst (λ (x : List ℕ). same a x ≡ true) e (same_self a))
-
-pub texts_decide : (a b : List (List ℕ)) → Decides (pointwise same a b) (a ≡ b)
-texts_decide a b = slice_eq-Decides text_decides a b (pointwise same a b) refl
+pub use Rattle.file_paths.proofs.Alike.{text_decides, texts_decide}
 
 -- the test is computed in another way
 pub decides_by : {P : Type 0} (r b : Bool) → r ≡ b → Decides b P → Decides r P

@@ -1,8 +1,7 @@
--- Equal names, as `==` of lists tests them, are one path.
-use Rattle.std.proofs.Common.{◌∙◌, refl}
-use Rattle.std.specs.Cmp.Lexicographic.{lists_ties}
-use Rattle.hdfs_values.specs.Text.{text_cmp}
+-- The names are compared in turn.
+use Rattle.file_paths.specs.PathOrder.{same_path}
+use Rattle.file_paths.proofs.Alike.{path_decides, decided_alike}
 use Rattle.file_paths.proofs.path.is_same.Goals as goal
 
 pub returns : goal.returns
-returns c = c.eq.ensures ∙ lists_ties text_cmp (λ _ _. refl) c.args.names.now c.args.others.now
+returns c = decided_alike c.are_alike.result (same_path c.args.names.now c.args.others.now) c.are_alike.ensures (path_decides c.args.names.now c.args.others.now)
