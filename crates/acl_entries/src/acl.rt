@@ -13,20 +13,23 @@ use std::marker::Model;
 /// The access control list of a file or a directory: the sticky bit, the entries that are judged, and the default entries that
 /// what is made in a directory inherits (HDFS Permissions Guide, "Overview" and "ACLs (Access Control Lists)").
 pub struct Acl {
-    sticky: bool,
     access: EntryList,
-    default: Option<Box<EntryList>>,
+    beside: Beside,
+}
+
+/// What isn't judged: the sticky bit, and the default list, where there is one. The bit stands in both cases, right behind the tag, since a
+/// field of its own would make each file and each directory eight bytes larger.
+#[derive(Drop)]
+enum Beside {
+    NoDefault(bool),
+    Default(bool, Box<EntryList>),
 }
 
 impl Drop for Acl {
     fn drop(self) {
-        let Acl {
-            sticky: _,
-            access,
-            default,
-        } = self;
+        let Acl { access, beside } = self;
         drop(access);
-        drop(default);
+        drop(beside);
     }
 }
 
@@ -59,10 +62,10 @@ impl Acl {
     pub fn from_mode(mode: Mode, kind: ObjectKind) -> Acl
         ensures { result ≡ acl_of_mode mode kind }
     {
+        let sticky = kind == ObjectKind::Directory && mode.is_sticky();
         Acl {
-            sticky: kind == ObjectKind::Directory && mode.is_sticky(),
             access: EntryList::of_bases(bases_of(mode)),
-            default: None,
+            beside: Beside::NoDefault(sticky),
         }
     }
 
@@ -79,15 +82,11 @@ impl Acl {
         requires { IsAcl (record { sticky = sticky; access = access; default = default }) }
         ensures { IfOk result (λ acl. acl ≡ record { sticky = sticky; access = access; default = default }) }
     {
-        let default = match default {
-            Some(list) => Some(Box::new(alloc, list)?),
-            None => None,
+        let beside = match default {
+            Some(list) => Beside::Default(sticky, Box::new(alloc, list)?),
+            None => Beside::NoDefault(sticky),
         };
-        Ok(Acl {
-            sticky,
-            access,
-            default,
-        })
+        Ok(Acl { access, beside })
     }
 
     /// The mode that the list shows: where there is a mask, it stands for the group.
@@ -98,14 +97,22 @@ impl Acl {
             Some(mask) => mask,
             None => self.access.group(),
         };
-        Mode::of_parts(self.sticky, self.access.user(), group, self.access.other())
+        Mode::of_parts(
+            self.is_sticky(),
+            self.access.user(),
+            group,
+            self.access.other(),
+        )
     }
 
     /// Whether only owners may remove or rename what a directory holds.
     pub fn is_sticky(&self) -> bool
         ensures { result ≡ self.now.sticky }
     {
-        self.sticky
+        match &self.beside {
+            Beside::NoDefault(sticky) => *sticky,
+            Beside::Default(sticky, _) => *sticky,
+        }
     }
 
     /// The entries that are judged.
@@ -120,9 +127,9 @@ impl Acl {
     pub fn default_list(&self) -> Option<&EntryList>
         ensures { option_copied result ≡ self.now.default }
     {
-        match &self.default {
-            Some(list) => Some(list),
-            None => None,
+        match &self.beside {
+            Beside::NoDefault(_) => None,
+            Beside::Default(_, list) => Some(list),
         }
     }
 
@@ -137,14 +144,14 @@ impl Acl {
     pub fn has_acl(&self) -> bool
         ensures { result ≡ has_acl self.now }
     {
-        self.is_extended() || self.default.is_some()
+        self.is_extended() || self.default_list().is_some()
     }
 
     /// Takes the default list away. Takes no memory.
     pub fn remove_default(&mut self)
         ensures { self.new ≡ record (self.old) { default = None } }
     {
-        self.default = None;
+        self.beside = Beside::NoDefault(self.is_sticky());
     }
 
     /// Gives what is judged other entries. Takes no memory.
@@ -159,7 +166,10 @@ impl Acl {
     pub fn set_sticky(&mut self, sticky: bool)
         ensures { self.new ≡ record (self.old) { sticky = sticky } }
     {
-        self.sticky = sticky;
+        match &mut self.beside {
+            Beside::NoDefault(own) => *own = sticky,
+            Beside::Default(own, _) => *own = sticky,
+        }
     }
 
     /// Gives owner, owning group and others other rights, and an extended list another mask. Takes no memory.
@@ -176,10 +186,11 @@ impl Clone for Acl {
     ghost is_clone = { λ acl copy. copy ≡ acl };
 
     fn clone(&self) -> Result<Acl, AllocError> {
-        Ok(Acl {
-            sticky: self.sticky,
-            access: self.access.clone()?,
-            default: self.default.clone()?,
-        })
+        let access = self.access.clone()?;
+        let beside = match &self.beside {
+            Beside::NoDefault(sticky) => Beside::NoDefault(*sticky),
+            Beside::Default(sticky, list) => Beside::Default(*sticky, list.clone()?),
+        };
+        Ok(Acl { access, beside })
     }
 }

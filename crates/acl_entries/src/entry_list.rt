@@ -43,27 +43,34 @@ struct NamedEntries {
     groups: Vec<NamedEntry>,
 }
 
+/// The rights that nobody is named for, and the mask.
+#[derive(Clone, Copy)]
+struct Unnamed {
+    bases: Bases,
+    mask: Option<Rights>,
+}
+
+/// How a list is kept. The rights stand in both cases, right behind the tag, since a field of their own would make each file and each
+/// directory eight bytes larger.
+#[derive(Drop)]
+enum Held {
+    /// Nobody is named.
+    Alone(Unnamed),
+    /// Users or groups are.
+    Named(Unnamed, Box<NamedEntries>),
+}
+
 /// The entries of one scope of an access control list: those of the owner, the owning group and all others, those of named
 /// users and named groups in the order of their names, and the mask, where there is one; at most 32 (HDFS Permissions Guide,
 /// "ACLs (Access Control Lists)").
 pub struct EntryList {
-    user: Rights,
-    group: Rights,
-    other: Rights,
-    mask: Option<Rights>,
-    named: Option<Box<NamedEntries>>,
+    held: Held,
 }
 
 impl Drop for EntryList {
     fn drop(self) {
-        let EntryList {
-            user: _,
-            group: _,
-            other: _,
-            mask: _,
-            named,
-        } = self;
-        drop(named);
+        let EntryList { held } = self;
+        drop(held);
     }
 }
 
@@ -94,13 +101,11 @@ impl Clone for EntryList {
     ghost is_clone = { λ list copy. copy ≡ list };
 
     fn clone(&self) -> Result<EntryList, AllocError> {
-        Ok(EntryList {
-            user: self.user,
-            group: self.group,
-            other: self.other,
-            mask: self.mask,
-            named: self.named.clone()?,
-        })
+        let held = match &self.held {
+            Held::Alone(unnamed) => Held::Alone(*unnamed),
+            Held::Named(unnamed, named) => Held::Named(*unnamed, named.clone()?),
+        };
+        Ok(EntryList { held })
     }
 }
 
@@ -111,11 +116,7 @@ impl EntryList {
         ensures { result ≡ base_entries bases.user bases.group bases.other }
     {
         EntryList {
-            user: bases.user,
-            group: bases.group,
-            other: bases.other,
-            mask: None,
-            named: None,
+            held: Held::Alone(Unnamed { bases, mask: None }),
         }
     }
 
@@ -133,19 +134,13 @@ impl EntryList {
         requires { IsEntryList (list_of_parts bases mask users.items groups.items) }
         ensures { IfOk result (λ list. list ≡ list_of_parts bases mask users.items groups.items) }
     {
-        let Bases { user, group, other } = bases;
-        let named = if users.is_empty() && groups.is_empty() {
-            None
+        let unnamed = Unnamed { bases, mask };
+        let held = if users.is_empty() && groups.is_empty() {
+            Held::Alone(unnamed)
         } else {
-            Some(Box::new(alloc, NamedEntries { users, groups })?)
+            Held::Named(unnamed, Box::new(alloc, NamedEntries { users, groups })?)
         };
-        Ok(EntryList {
-            user,
-            group,
-            other,
-            mask,
-            named,
-        })
+        Ok(EntryList { held })
     }
 
     /// Gives owner, owning group and others other rights, and another mask. Takes no memory.
@@ -153,10 +148,20 @@ impl EntryList {
         requires { IsEntryList (list_of_parts bases mask self.old.users self.old.groups) }
         ensures { self.new ≡ list_of_parts bases mask self.old.users self.old.groups }
     {
-        self.user = bases.user;
-        self.group = bases.group;
-        self.other = bases.other;
-        self.mask = mask;
+        match &mut self.held {
+            Held::Alone(unnamed) => *unnamed = Unnamed { bases, mask },
+            Held::Named(unnamed, _) => *unnamed = Unnamed { bases, mask },
+        }
+    }
+
+    /// The rights that nobody is named for, and the mask.
+    fn unnamed(&self) -> Unnamed
+        ensures { list_of_parts result.bases result.mask self.now.users self.now.groups ≡ self.now }
+    {
+        match &self.held {
+            Held::Alone(unnamed) => *unnamed,
+            Held::Named(unnamed, _) => *unnamed,
+        }
     }
 
     /// What the owner is granted.
@@ -164,37 +169,37 @@ impl EntryList {
         ensures user { result ≡ self.now.user }
         ensures list { IsEntryList self.now }
     {
-        self.user
+        self.unnamed().bases.user
     }
 
     /// What the owning group is granted.
     pub fn group(&self) -> Rights
         ensures { result ≡ self.now.group }
     {
-        self.group
+        self.unnamed().bases.group
     }
 
     /// What all others are granted.
     pub fn other(&self) -> Rights
         ensures { result ≡ self.now.other }
     {
-        self.other
+        self.unnamed().bases.other
     }
 
     /// What the mask lets through, where there is one.
     pub fn mask(&self) -> Option<Rights>
         ensures { result ≡ self.now.mask }
     {
-        self.mask
+        self.unnamed().mask
     }
 
     /// The entries of named users, in the order of their names.
     pub fn users(&self) -> &[NamedEntry]
         ensures { result.now ≡ self.now.users }
     {
-        match &self.named {
-            Some(named) => named.users.as_slice(),
-            None => &[],
+        match &self.held {
+            Held::Alone(_) => &[],
+            Held::Named(_, named) => named.users.as_slice(),
         }
     }
 
@@ -202,9 +207,9 @@ impl EntryList {
     pub fn groups(&self) -> &[NamedEntry]
         ensures { result.now ≡ self.now.groups }
     {
-        match &self.named {
-            Some(named) => named.groups.as_slice(),
-            None => &[],
+        match &self.held {
+            Held::Alone(_) => &[],
+            Held::Named(_, named) => named.groups.as_slice(),
         }
     }
 }

@@ -3,3 +3,4 @@ pub mod Numbers
 pub mod ShortTexts
 pub mod Cuts
 pub mod Words
+pub mod Filled

@@ -3,7 +3,7 @@
 use Rattle.std.proofs.Common.{◌≡◌, ℕ, zero, suc, ◌+◌, ◌-◌, ◌*◌, ◌/◌, ◌^◌, ◌<◌, ◌≤◌, List, [], ◌∷◌, ◌++◌, length, get_or, take, drop, replicate, refl, sym, ap, subst, ◌∙◌, arith}
 use Rattle.std.proofs.lemmas.List.{take_all, drop-drop, get_or-drop, length-append, length-drop, length-replicate}
 use Rattle.std.proofs.lemmas.Nat.{div-mul-add, shr-shr, le_bytes_8}
-use Rattle.std.specs.Int.{w64, from_le_bytes, to_le_bytes}
+use Rattle.std.specs.Int.{w32, w64, from_le_bytes, to_le_bytes}
 
 abbrev pub AreBytes : List ℕ → Type 0
 AreBytes xs = (i : ℕ) → get_or xs i 0 < 256
@@ -33,8 +33,17 @@ before_zeros : (xs : List ℕ) (k : ℕ) → number (xs ++ replicate k 0) ≡ nu
 before_zeros [] k = no_more k
 before_zeros (x ∷ xs) k = ap (λ n. n * 256 + x) (before_zeros xs k)
 
+-- the first four bytes are all of four
+pub of_four : (xs : List ℕ) → length xs ≡ 4 → from_le_bytes w32 xs ≡ number xs
+of_four [] l = absurd (omega arith)
+of_four (a ∷ []) l = absurd (omega arith)
+of_four (a ∷ b ∷ []) l = absurd (omega arith)
+of_four (a ∷ b ∷ c ∷ []) l = absurd (omega arith)
+of_four (a ∷ b ∷ c ∷ d ∷ []) l = omega arith
+of_four (a ∷ b ∷ c ∷ d ∷ e ∷ xs) l = absurd (omega arith)
+
 -- the first eight bytes are all of eight
-of_eight : (xs : List ℕ) → length xs ≡ 8 → from_le_bytes w64 xs ≡ number xs
+pub of_eight : (xs : List ℕ) → length xs ≡ 8 → from_le_bytes w64 xs ≡ number xs
 of_eight [] l = absurd (omega arith)
 of_eight (a ∷ []) l = absurd (omega arith)
 of_eight (a ∷ b ∷ []) l = absurd (omega arith)
@@ -60,20 +69,21 @@ filled_are_bytes [] k small i = zeros_are_bytes k i
 filled_are_bytes (x ∷ xs) k small zero = small 0
 filled_are_bytes (x ∷ xs) k small (suc i) = filled_are_bytes xs k (λ j. small (suc j)) i
 
--- eight to 14 bytes without the first six, before zeros: the last eight of them, shifted
-pub behind_six_are : (xs : List ℕ) (word : ℕ) → 8 ≤ length xs → length xs ≤ 14 → AreBytes xs → word ≡ from_le_bytes w64 (take (length xs - (length xs - 8)) (drop (length xs - 8) xs))
-    → to_le_bytes w64 (word / 2 ^ (8 * (14 - length xs))) ≡ drop 6 xs ++ replicate (14 - length xs) 0
-behind_six_are xs word least most small is =
-    let last : List ℕ = drop (length xs - 8) xs in
-    let to_the_end : take (length xs - (length xs - 8)) last ≡ last = take_all (length xs - (length xs - 8)) last (omega (arith, length-drop (length xs - 8) xs)) in
-    let all : List ℕ = drop 6 xs ++ replicate (14 - length xs) 0 in
-    let len_last : length last ≡ 8 = omega (arith, length-drop (length xs - 8) xs) in
-    let len_all : length all ≡ 8 = omega (arith, length-append (drop 6 xs) (replicate (14 - length xs) 0), length-drop 6 xs, length-replicate {A = ℕ} (14 - length xs) 0) in
-    let rest : length xs - 8 + (14 - length xs) ≡ 6 = omega arith in
+-- the bytes behind the first ones, before zeros, eight in all: the last ones of them, read as a number and shifted
+pub behind_are : (first last : ℕ) (read : List ℕ → ℕ) → ((ys : List ℕ) → length ys ≡ last → read ys ≡ number ys) → last ≤ 8 → (xs : List ℕ) (word : ℕ)
+    → first ≤ length xs → last ≤ length xs → length xs ≤ first + last → AreBytes xs → word ≡ read (take (length xs - (length xs - last)) (drop (length xs - last) xs))
+    → to_le_bytes w64 (word / 2 ^ (8 * (first + last - length xs))) ≡ drop first xs ++ replicate (8 + first - length xs) 0
+behind_are first last read is_read few xs word front least most small is =
+    let end : List ℕ = drop (length xs - last) xs in
+    let to_the_end : take (length xs - (length xs - last)) end ≡ end = take_all (length xs - (length xs - last)) end (omega (arith, length-drop (length xs - last) xs)) in
+    let all : List ℕ = drop first xs ++ replicate (8 + first - length xs) 0 in
+    let len_end : length end ≡ last = omega (arith, length-drop (length xs - last) xs) in
+    let len_all : length all ≡ 8 = omega (arith, length-append (drop first xs) (replicate (8 + first - length xs) 0), length-drop first xs, length-replicate {A = ℕ} (8 + first - length xs) 0) in
+    let rest : length xs - last + (first + last - length xs) ≡ first = omega arith in
     let later : (n : ℕ) → AreBytes (drop n xs) = λ n i. subst (λ b. b < 256) (sym (get_or-drop n xs i 0)) (small (n + i)) in
-    le_bytes_8 all (word / 2 ^ (8 * (14 - length xs))) len_all (filled_are_bytes (drop 6 xs) (14 - length xs) (later 6))
-    (ap (λ n. n / 2 ^ (8 * (14 - length xs))) (is ∙ ap (from_le_bytes w64) to_the_end ∙ of_eight last len_last)
-    ∙ shifted (14 - length xs) last (later (length xs - 8))
-    ∙ ap number (drop-drop (14 - length xs) (length xs - 8) xs ∙ ap (λ n. drop n xs) rest)
-    ∙ sym (before_zeros (drop 6 xs) (14 - length xs))
+    le_bytes_8 all (word / 2 ^ (8 * (first + last - length xs))) len_all (filled_are_bytes (drop first xs) (8 + first - length xs) (later first))
+    (ap (λ n. n / 2 ^ (8 * (first + last - length xs))) (is ∙ ap read to_the_end ∙ is_read end len_end)
+    ∙ shifted (first + last - length xs) end (later (length xs - last))
+    ∙ ap number (drop-drop (first + last - length xs) (length xs - last) xs ∙ ap (λ n. drop n xs) rest)
+    ∙ sym (before_zeros (drop first xs) (8 + first - length xs))
     ∙ sym (of_eight all len_all))

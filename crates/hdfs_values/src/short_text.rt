@@ -1,6 +1,6 @@
 ghost use Rattle.std.specs.Prelude.{◌≡◌, ◌≢◌, ◌-◌, ◌+◌, ◌<◌, ◌≤◌, ◌++◌, length, drop, replicate, IsOk, IfOk};
 ghost use Rattle.std.proofs.Common.{rules};
-ghost use Rattle.std.specs.Int.{w64, from_le_bytes};
+ghost use Rattle.std.specs.Int.{w16, w32, w64, from_le_bytes};
 ghost use Rattle.std.specs.Cmp.{partial_order_from_own_ties};
 ghost use Rattle.std.specs.Cmp.Rules.{comparing};
 ghost use Rattle.std.specs.Ordering.{as_partial_cmp, is_eq, nat_cmp, ordering_then};
@@ -136,6 +136,22 @@ fn eight(bytes: &[u8]) -> u64
     ])
 }
 
+/// The first four bytes as a number, the first one lowest.
+fn four(bytes: &[u8]) -> u64
+    requires { 4 ≤ length bytes.now }
+    ensures { result ≡ from_le_bytes w32 bytes.now }
+{
+    u64::from(u32::from_le_bytes([bytes[0], bytes[1], bytes[2], bytes[3]]))
+}
+
+/// The first two bytes as a number, the first one lower.
+fn two(bytes: &[u8]) -> u64
+    requires { 2 ≤ length bytes.now }
+    ensures { result ≡ from_le_bytes w16 bytes.now }
+{
+    u64::from(u16::from_le_bytes([bytes[0], bytes[1]]))
+}
+
 /// Eight to 14 bytes without the first six, before zeros: the last eight as a number, from which those are shifted out that stand among the
 /// first six.
 fn behind_six(bytes: &[u8]) -> [u8; 8]
@@ -148,8 +164,32 @@ fn behind_six(bytes: &[u8]) -> [u8; 8]
     (last >> (8 * (INLINE_BYTES - length))).to_le_bytes()
 }
 
+/// Four to eight bytes without the first four, before zeros: the last four as a number, from which those are shifted out that stand among
+/// the first four.
+fn behind_four(bytes: &[u8]) -> [u8; 8]
+    requires least { 4 ≤ length bytes.now }
+    requires most { length bytes.now ≤ 8 }
+    ensures { result ≡ drop 4 bytes.now ++ replicate (12 - length bytes.now) 0 }
+{
+    let length = bytes.len();
+    let last = four(&bytes[length - 4..]);
+    (last >> (8 * (8 - length))).to_le_bytes()
+}
+
+/// Two to four bytes without the first two, before zeros: the last two as a number, from which those are shifted out that stand among the
+/// first two.
+fn behind_two(bytes: &[u8]) -> [u8; 8]
+    requires least { 2 ≤ length bytes.now }
+    requires most { length bytes.now ≤ 4 }
+    ensures { result ≡ drop 2 bytes.now ++ replicate (10 - length bytes.now) 0 }
+{
+    let length = bytes.len();
+    let last = two(&bytes[length - 2..]);
+    (last >> (8 * (4 - length))).to_le_bytes()
+}
+
 /// Eight to 14 bytes before zeros, by three words that stay in registers.
-fn long(bytes: &[u8]) -> [u8; INLINE_BYTES]
+fn of_eight_or_more(bytes: &[u8]) -> [u8; INLINE_BYTES]
     requires least { 8 ≤ length bytes.now }
     requires most { length bytes.now ≤ 14 }
     ensures { result ≡ bytes.now ++ replicate (14 - length bytes.now) 0 }
@@ -161,38 +201,65 @@ fn long(bytes: &[u8]) -> [u8; INLINE_BYTES]
     held
 }
 
-/// Fewer than eight bytes before zeros, by a word of the first of them and one of the last, which may overlap.
-fn short(bytes: &[u8]) -> [u8; INLINE_BYTES]
-    requires { length bytes.now < 8 }
+/// Four to seven bytes before zeros, by the same words.
+fn of_four_to_seven(bytes: &[u8]) -> [u8; INLINE_BYTES]
+    requires least { 4 ≤ length bytes.now }
+    requires most { length bytes.now < 8 }
     ensures { result ≡ bytes.now ++ replicate (14 - length bytes.now) 0 }
 {
     let mut held = [0; INLINE_BYTES];
-    let length = bytes.len();
-    if length >= 4 {
-        held[..4].copy_from_slice(&bytes[..4]);
-        held[length - 4..length].copy_from_slice(&bytes[length - 4..]);
-    } else if length >= 2 {
-        held[..2].copy_from_slice(&bytes[..2]);
-        held[length - 2..length].copy_from_slice(&bytes[length - 2..]);
-    } else if length == 1 {
-        held[..1].copy_from_slice(&bytes[..1]);
+    let rest = behind_four(bytes);
+    held[..4].copy_from_slice(&bytes[..4]);
+    held[4..6].copy_from_slice(&rest[..2]);
+    held[6..8].copy_from_slice(&rest[2..4]);
+    held
+}
+
+/// Two or three bytes before zeros. The last two aren't written over the first two: what reads them next would wait for both.
+fn of_two_or_three(bytes: &[u8]) -> [u8; INLINE_BYTES]
+    requires least { 2 ≤ length bytes.now }
+    requires most { length bytes.now < 4 }
+    ensures { result ≡ bytes.now ++ replicate (14 - length bytes.now) 0 }
+{
+    let mut held = [0; INLINE_BYTES];
+    let rest = behind_two(bytes);
+    held[..2].copy_from_slice(&bytes[..2]);
+    held[2..4].copy_from_slice(&rest[..2]);
+    held
+}
+
+/// Fewer than two bytes before zeros.
+fn of_at_most_one(bytes: &[u8]) -> [u8; INLINE_BYTES]
+    requires { length bytes.now < 2 }
+    ensures { result ≡ bytes.now ++ replicate (14 - length bytes.now) 0 }
+{
+    let mut held = [0; INLINE_BYTES];
+    if let Some(byte) = bytes.first() {
+        held[..2].copy_from_slice(&[*byte, 0]);
     }
     held
 }
 
-/// A text of at most 14 bytes. Its bytes are copied by words: a copy of any length would be a call.
+/// At most 14 bytes before zeros, by words: a copy of any length would be a call.
+fn filled(bytes: &[u8]) -> [u8; INLINE_BYTES]
+    requires { length bytes.now ≤ 14 }
+    ensures { result ≡ bytes.now ++ replicate (14 - length bytes.now) 0 }
+{
+    match bytes.len() {
+        8.. => of_eight_or_more(bytes),
+        4..8 => of_four_to_seven(bytes),
+        2..4 => of_two_or_three(bytes),
+        _ => of_at_most_one(bytes),
+    }
+}
+
+/// A text of at most 14 bytes.
 fn inline(text: &str) -> ShortText
     requires { length text.now ≤ 14 }
     ensures { result ≡ text.now }
 {
-    let bytes = text.as_bytes();
-    let held = if bytes.len() < 8 {
-        short(bytes)
-    } else {
-        long(bytes)
-    };
     ShortText {
-        held: Held::Inline(text.len() as u8, held),
+        held: Held::Inline(text.len() as u8, filled(text.as_bytes())),
     }
 }
 

@@ -111,6 +111,8 @@ impl PartialEq for Who {
 
     ghost laws = { Prim.search (comparing, rules) };
 
+    // each entry of a list that is looked at asks it
+    #[inline(always)]
     fn eq(&self, other: &Who) -> bool {
         self.text == other.text
     }

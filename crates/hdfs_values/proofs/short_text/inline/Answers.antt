@@ -2,13 +2,10 @@
 use Rattle.std.proofs.Common.{◌≡◌, ℕ, ◌-◌, ◌∙◌, ap, List, ◌++◌, length, replicate}
 use Rattle.std.proofs.Math.Seq.{drop-append_seam, take-append_seam}
 use Rattle.hdfs_values.proofs.short_text.inline.Goals as goal
-use Rattle.hdfs_values.proofs.short_text.inline.Goals.{then-bytes-lt8, else-bytes-lt8}
 
 pub invariant_of-result : goal.invariant_of-result
 invariant_of-result c =
     let text : List ℕ = c.args.text.now in
     let zeros : List ℕ = replicate {A = ℕ} (14 - length text) 0 in
-    let same : c.as_bytes-bytes.result.now ++ replicate {A = ℕ} (14 - length c.as_bytes-bytes.result.now) 0 ≡ text ++ zeros =
-    ap (λ bytes. bytes ++ replicate {A = ℕ} (14 - length bytes) 0) c.as_bytes-bytes.ensures.value in
-    let is : c.if-bytes-lt8.held ≡ text ++ zeros = elim c.if-bytes-lt8.branch [ then-bytes-lt8 w ↦ w.held-is ∙ w.short-held.ensures ∙ same | else-bytes-lt8 w ↦ w.held-is ∙ w.long-held.ensures ∙ same ] in
+    let is : c.filled.result ≡ text ++ zeros = c.filled.ensures ∙ ap (λ bytes. bytes ++ replicate {A = ℕ} (14 - length bytes) 0) c.as_bytes.ensures.value in
     rw is (c.requires, drop-append_seam text zeros, ∣ rw (take-append_seam text zeros) c.utf8.text ∣₁)
