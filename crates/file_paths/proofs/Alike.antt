@@ -10,7 +10,7 @@ use Rattle.file_paths.specs.PathOrder.{same_path}
 pub text_decides : (a b : List ℕ) → Decides (same a b) (a ≡ b)
 text_decides a b = (same_is a b, λ e. subst (λ (x : List ℕ). same a x ≡ true) e (same_self a))
 
-pub texts_decide : (a b : List (List ℕ)) → Decides (pointwise same a b) (a ≡ b)
+texts_decide : (a b : List (List ℕ)) → Decides (pointwise same a b) (a ≡ b)
 texts_decide a b = slice_eq-Decides text_decides a b (pointwise same a b) refl
 
 -- paths that compare as equal have the same names

@@ -4,7 +4,7 @@ use Rattle.std.specs.Prelude.{slice_range, MatchOption}
 use Rattle.std.specs.List.{list_all, prefix_len, slice_split}
 use Rattle.std.proofs.Math.Nat.{pow-succ', mul_assoc, mod-eq_of_lt, div-div-eq-div-mul, zero-div, div-one, pow-le-pow_right}
 use Rattle.std.proofs.lemmas.Bool.{agree_below, agree_below_at}
-use Rattle.std.proofs.lemmas.List.{length-map, length-drop, drop-drop}
+use Rattle.std.proofs.lemmas.List.{length-map, length-drop, length-take-le, drop-drop}
 use Rattle.std.proofs.lemmas.List.Sums.{count_by-le-length, prefix_len_passes, prefix_len_stops}
 use Rattle.std.proofs.lemmas.Simd.{mask_l-lt, mask_l-mod, trailing_mask_l, leading_from_mask_l}
 use lib.Count.{count_trailing_zeros}
@@ -75,25 +75,20 @@ take_more (byte ∷ bytes) (suc at) n =
     let e : suc at + n ≡ suc (at + n) = omega arith in
     ap (λ i. take i (byte ∷ bytes)) e ∙ ap (λ l. byte ∷ l) (take_more bytes at n)
 
-length_front : (bytes : List ℕ) (n : ℕ) → n ≤ length bytes → length (take n bytes) ≡ n
-length_front bytes zero le = refl
-length_front [] (suc n) le = absurd (omega arith)
-length_front (byte ∷ bytes) (suc n) le = ap suc (length_front bytes n (omega arith))
-
 -- the marks of the next n bytes, shifted behind those that are known
 pub more_marks : (bytes : List ℕ) (at n marks more : ℕ) → at + n ≤ length bytes → at + n ≤ 64 → marks ≡ marks_of (take at bytes) → more ≡ marks_of (chunk at n bytes)
     → marks + more * 2 ^ at % 2 ^ 64 ≡ marks_of (take (at + n) bytes)
 more_marks bytes at n marks more room few is next =
     let whole : marks_of (take (at + n) bytes) ≡ marks + 2 ^ at * more =
     ap marks_of (take_more bytes at n) ∙ joined_marks (take at bytes) (take n (drop at bytes))
-    ∙ ap₂ (λ k m. marks_of (take at bytes) + 2 ^ k * m) (length_front bytes at (omega arith)) (sym next) ∙ ap (λ m. m + 2 ^ at * more) (sym is) in
-    let low : marks_of (take (at + n) bytes) < 2 ^ 64 = few_fit (take (at + n) bytes) (omega (arith, length_front bytes (at + n) room)) in
+    ∙ ap₂ (λ k m. marks_of (take at bytes) + 2 ^ k * m) (length-take-le at bytes (omega arith)) (sym next) ∙ ap (λ m. m + 2 ^ at * more) (sym is) in
+    let low : marks_of (take (at + n) bytes) < 2 ^ 64 = few_fit (take (at + n) bytes) (omega (arith, length-take-le (at + n) bytes room)) in
     let swapped : more * 2 ^ at ≡ 2 ^ at * more = omega arith in
     let fits : more * 2 ^ at < 2 ^ 64 = omega (arith, whole, low, swapped) in
     ap (λ m. marks + m) (mod-eq_of_lt fits ∙ swapped) ∙ sym whole
 
 pub marks_fit : (bytes : List ℕ) (k marks : ℕ) → k ≤ 64 → marks ≡ marks_of (take k bytes) → k ≤ length bytes → Fits w64 marks
-marks_fit bytes k marks few is room = record { fits = subst (λ m. m < 2 ^ 64) (sym is) (few_fit (take k bytes) (omega (arith, length_front bytes k room))) }
+marks_fit bytes k marks few is room = record { fits = subst (λ m. m < 2 ^ 64) (sym is) (few_fit (take k bytes) (omega (arith, length-take-le k bytes room))) }
 
 -- of the last load, the bytes that no earlier one had
 pub last_load : (bytes : List ℕ) (n last at : ℕ) → last ≤ at → last + n ≡ length bytes → at < length bytes → drop (at - last) (chunk last n bytes) ≡ chunk at (length bytes - at) bytes

@@ -181,10 +181,10 @@ fn marked_names(alloc: Global, text: &str, marks: u64) -> Result<Option<Vec<Name
         rest = &rest[end + 1..];
         stops = (stops >> end) >> 1;
     }
-    if !makes_name(rest.as_bytes()) {
+    let Some(name) = Name::spelled(alloc, rest)? else {
         return Ok(None);
-    }
-    names.push(Name::copied(alloc, rest)?)?;
+    };
+    names.push(name)?;
     Ok(Some(names))
 }
 
@@ -344,9 +344,10 @@ impl Path {
     }
 }
 
-/// Whether two lists have the same names, compared in turn: the library's `==` of lists cuts a slice for each.
+/// Whether two lists have the same names in the same order. Costs the names up to the first that differ; takes no memory.
+// compared in turn, since the library's `==` of lists cuts a slice for each
 #[tactic(auto, using(crate::proofs::Alike::text_decides))]
-fn are_alike(names: &[Name], others: &[Name]) -> bool
+pub fn are_same_names(names: &[Name], others: &[Name]) -> bool
     ensures { Decides result (names.now ≡ others.now) }
 {
     if names.len() != others.len() {
@@ -364,7 +365,7 @@ fn are_alike(names: &[Name], others: &[Name]) -> bool
 pub fn is_same(names: &[Name], others: &[Name]) -> bool
     ensures { result ≡ same_path names.now others.now }
 {
-    are_alike(names, others)
+    are_same_names(names, others)
 }
 
 /// Whether the first names are a front of the second, or all of them: a path is the other or above it. Takes no memory.

@@ -1,7 +1,7 @@
 -- Tests that decide whether two values are one.
 use Rattle.std.proofs.Common.{◌≡◌, Bool, true, false, ◌&&◌, refl, sym, ap, ◌∙◌, subst}
 use Rattle.std.specs.Bool.{Decides}
-pub use Rattle.file_paths.proofs.Alike.{text_decides, texts_decide}
+pub use Rattle.file_paths.proofs.Alike.{text_decides}
 
 -- the test is computed in another way
 pub decides_by : {P : Type 0} (r b : Bool) → r ≡ b → Decides b P → Decides r P

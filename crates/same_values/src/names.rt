@@ -1,8 +1,8 @@
 ghost use Rattle.std.specs.Prelude.{◌≡◌};
 ghost use Rattle.std.specs.Bool.{Decides};
 
-use file_paths::name::Name;
 use file_paths::path::Path;
+pub use file_paths::path::are_same_names;
 use hdfs_types::given_name::GivenName;
 use hdfs_values::who::Who;
 
@@ -12,13 +12,6 @@ pub fn is_same_who(who: &Who, other: &Who) -> bool
     ensures { Decides result (who.now ≡ other.now) }
 {
     who == other
-}
-
-/// Whether two lists of names are one.
-pub fn are_same_names(names: &[Name], others: &[Name]) -> bool
-    ensures { Decides result (names.now ≡ others.now) }
-{
-    names == others
 }
 
 /// Whether two paths are one.

@@ -4,4 +4,4 @@ use Rattle.file_paths.proofs.Alike.{path_decides, decided_alike}
 use Rattle.file_paths.proofs.path.is_same.Goals as goal
 
 pub returns : goal.returns
-returns c = decided_alike c.are_alike.result (same_path c.args.names.now c.args.others.now) c.are_alike.ensures (path_decides c.args.names.now c.args.others.now)
+returns c = decided_alike c.are_same_names.result (same_path c.args.names.now c.args.others.now) c.are_same_names.ensures (path_decides c.args.names.now c.args.others.now)

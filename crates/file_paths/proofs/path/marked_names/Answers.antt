@@ -3,7 +3,7 @@ use Rattle.std.specs.List.{list_all, position_or_len, slice_split}
 use Rattle.std.proofs.lemmas.List.{length-drop}
 use Rattle.hdfs_values.proofs.Cuts.{cut_before, cut_behind, cut_first}
 use Rattle.file_paths.specs.Marks.{marks_of}
-use Rattle.file_paths.specs.Name.{is_name, is_name_byte}
+use Rattle.file_paths.specs.Name.{is_name}
 use Rattle.file_paths.specs.Path.{is_slash}
 use Rattle.file_paths.proofs.FirstNames.{first_is_none}
 use Rattle.file_paths.proofs.Marked.{unmarked_passes, unmarked_pieces, behind_marks, front_is, no_name_of, name_of_some, next_all, next_items}
@@ -50,25 +50,24 @@ loop-stops-preserved c =
       next_items c.loop-stops.names.items c.push.new.self.items (slice_split is_slash rest) (slice_split is_slash next) _ c.range.result.now c.in-Some-2.name pushed named.1 cut before.4,
     )
 
-pub makes_name-requires : goal.makes_name-requires
-makes_name-requires c =
+pub spelled-requires-2 : goal.spelled-requires-2
+spelled-requires-2 c =
     let none : marks_of c.loop-stops.rest.now ≡ 0 = omega (arith, c.loop-stops-test.false, c.loop-stops.invariant.1) in
-    ap (list_all is_name_byte) c.as_bytes-2.ensures.value ∙ unmarked_passes c.loop-stops.rest.now none
+    unmarked_passes c.loop-stops.rest.now none
 
-pub returns-then-not-makes_name : goal.returns-then-not-makes_name
-returns-then-not-makes_name c =
+pub returns-in_default-3 : goal.returns-in_default-3
+returns-in_default-3 c =
     let rest = c.loop-stops.rest.now in
     let none : marks_of rest ≡ 0 = omega (arith, c.loop-stops-test.false, c.loop-stops.invariant.1) in
-    let unnamed : is_name c.as_bytes-2.result.now ≡ false = search rules in
-    sym c.loop-stops.invariant.3 ∙ ap (list_all is_name) (unmarked_pieces rest none) ∙ ap (λ b. b && true) (ap is_name (sym c.as_bytes-2.ensures.value) ∙ unnamed)
+    sym c.loop-stops.invariant.3 ∙ ap (list_all is_name) (unmarked_pieces rest none) ∙ ap (λ b. b && true) (no_name_of rest (sym c.in_ok-name-2.ensures ∙ c.in_default-3.is))
 
 pub returns : goal.returns
 returns c =
     let rest = c.loop-stops.rest.now in
     let none : marks_of rest ≡ 0 = omega (arith, c.loop-stops-test.false, c.loop-stops.invariant.1) in
-    let named : is_name c.as_bytes-2.result.now ≡ true = search rules in
+    let named = name_of_some rest c.in-Some-3.name (sym c.in_ok-name-2.ensures ∙ c.in-Some-3.is) in
     let one = unmarked_pieces rest none in
-    let pushed : c.push-2.new.self.items ≡ c.loop-stops.names.items ++ rest ∷ [] = search rules in (
-      sym c.loop-stops.invariant.3 ∙ ap (list_all is_name) one ∙ ap (λ b. b && true) (ap is_name (sym c.as_bytes-2.ensures.value) ∙ named),
-      pushed ∙ ap (λ pieces. c.loop-stops.names.items ++ pieces) (sym one) ∙ c.loop-stops.invariant.4,
+    let pushed : c.push-2.new.self.items ≡ c.loop-stops.names.items ++ c.in-Some-3.name ∷ [] = search rules in (
+      sym c.loop-stops.invariant.3 ∙ ap (list_all is_name) one ∙ ap (λ b. b && true) named.0,
+      pushed ∙ ap (λ name. c.loop-stops.names.items ++ name ∷ []) named.1 ∙ ap (λ pieces. c.loop-stops.names.items ++ pieces) (sym one) ∙ c.loop-stops.invariant.4,
     )

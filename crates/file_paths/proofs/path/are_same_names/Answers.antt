@@ -1,7 +1,7 @@
 use Rattle.std.proofs.Common.{[], sym, ◌∙◌, arith}
 use Rattle.std.proofs.lemmas.List.{take_more_same, get_or_default}
 use Rattle.file_paths.proofs.Alike.{not_unlike}
-use Rattle.file_paths.proofs.path.are_alike.Goals as goal
+use Rattle.file_paths.proofs.path.are_same_names.Goals as goal
 
 pub loop-i-preserved : goal.loop-i-preserved
 loop-i-preserved c =

@@ -1,6 +1,0 @@
-use Rattle.std.proofs.lemmas.Slice.Eq.{slice_eq-Decides}
-use Rattle.same_values.proofs.Deciding.{text_decides}
-use Rattle.same_values.proofs.names.are_same_names.Goals as goal
-
-pub returns : goal.returns
-returns c = slice_eq-Decides text_decides c.args.names.now c.args.others.now c.eq.result c.eq.ensures
