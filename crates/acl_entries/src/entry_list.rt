@@ -156,7 +156,8 @@ impl EntryList {
 
     /// The rights that nobody is named for, and the mask.
     fn unnamed(&self) -> Unnamed
-        ensures { list_of_parts result.bases result.mask self.now.users self.now.groups ≡ self.now }
+        ensures parts { list_of_parts result.bases result.mask self.now.users self.now.groups ≡ self.now }
+        ensures list { IsEntryList self.now }
     {
         match &self.held {
             Held::Alone(unnamed) => *unnamed,
