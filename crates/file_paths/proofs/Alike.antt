@@ -13,9 +13,13 @@ text_decides a b = (same_is a b, λ e. subst (λ (x : List ℕ). same a x ≡ tr
 texts_decide : (a b : List (List ℕ)) → Decides (pointwise same a b) (a ≡ b)
 texts_decide a b = slice_eq-Decides text_decides a b (pointwise same a b) refl
 
--- paths that compare as equal have the same names
+-- paths compare as equal where their names do, pair by pair
+pub paired : (p q : List (List ℕ)) → same_path p q ≡ pointwise same p q
+paired p q = sym (lists_ties text_cmp (λ _ _. refl) p q)
+
+-- so they have the same names
 pub path_decides : (p q : List (List ℕ)) → Decides (same_path p q) (p ≡ q)
-path_decides p q = subst (λ (x : Bool). Decides x (p ≡ q)) (lists_ties text_cmp (λ _ _. refl) p q) (texts_decide p q)
+path_decides p q = subst (λ (x : Bool). Decides x (p ≡ q)) (sym (paired p q)) (texts_decide p q)
 
 -- two tests of one thing answer alike
 pub decided_alike : {P : Type 0} (r s : Bool) → Decides r P → Decides s P → r ≡ s

@@ -1,13 +1,11 @@
 -- The tests on two paths, against those of the code.
-use Rattle.std.proofs.Common.{◌≡◌, ℕ, ◌<◌, ◌≤◌, Bool, true, false, List, [], ◌∷◌, ◌&&◌, length, take, refl, sym, ap, ◌∙◌, arith}
-use Rattle.std.specs.Cmp.Lexicographic.{pointwise, lists_ties}
-use Rattle.hdfs_values.specs.Text.{same, text_cmp}
+use Rattle.std.proofs.Common.{◌≡◌, ℕ, ◌<◌, ◌≤◌, Bool, true, false, List, [], ◌∷◌, ◌&&◌, length, take, refl, ap, ◌∙◌, arith}
+use Rattle.std.specs.Cmp.Lexicographic.{pointwise}
+use Rattle.hdfs_values.specs.Text.{same}
 use Rattle.file_paths.specs.Path.{is_beneath, is_prefix}
 use Rattle.file_paths.specs.PathOrder.{same_path}
+use Rattle.file_paths.proofs.Alike.{paired}
 use Rattle.hdfs_values.proofs.Texts.{same_symm}
-
-paired : (p q : List (List ℕ)) → same_path p q ≡ pointwise same p q
-paired p q = sym (lists_ties text_cmp (λ _ _. refl) p q)
 
 longer : (p q : List (List ℕ)) → length q < length p → pointwise same (take (length q) p) q ≡ is_beneath p q
 longer [] q lt = absurd (omega arith)
