@@ -1,5 +1,5 @@
 -- What is left of a list, and what a spec adds to it, can stand in an access control list.
-use Rattle.std.proofs.Common.{◌≡◌, ℕ, ◌<◌, ◌%◌, Bool, true, false, not, List, [], ◌∷◌, cond, Option, Some, None, refl, arith}
+use Rattle.std.proofs.Common.{◌≡◌, ℕ, ◌<◌, ◌%◌, Bool, true, false, not, List, [], ◌∷◌, cond, Option, Some, None, refl, sym, ap, subst, ◌∙◌, arith}
 use Rattle.std.specs.Prelude.{filter}
 use Rattle.std.specs.List.{list_any, find, filter_map, cons_option}
 use Rattle.std.specs.Option.{option_map_or, option_map, option_or}
@@ -11,8 +11,8 @@ use Rattle.permission_specs.specs.declared.entry.Scope.{Scope}
 use Rattle.permission_specs.specs.declared.entry.EntryKind.{EntryKind}
 use Rattle.permission_specs.specs.declared.entry.EntryKind.TheVariants.{User, Group, Other}
 use Rattle.acl_entries.specs.declared.entry_list.NamedEntry.{NamedEntry}
-use Rattle.acl_entries.specs.Acl.{EntryList, IsEntryList, grant_rights, are_rights}
-use Rattle.partial_acl.specs.AclChange.{PartialList, all_of, after_addition, after_removal, base_rights, rights_granted, has_base, is_base_of, is_entry_for, named_in, unless, with_name}
+use Rattle.acl_entries.specs.Acl.{EntryList, IsEntryList, grant_rights, are_rights, fits_in_scope}
+use Rattle.partial_acl.specs.AclChange.{PartialList, all_of, after_addition, after_removal, base_rights, completed_list, default_left, has_no_entry, rights_granted, has_base, is_base_of, is_entry_for, named_in, unless, with_name}
 use Rattle.partial_acl.specs.Answers.{IsPartialList}
 use Rattle.partial_acl.proofs.Tests.{and, all_filter}
 use Rattle.partial_acl.proofs.NamedLists.{with_each_ascends, with_each_grants, filter_ascends}
@@ -89,3 +89,12 @@ all_good list h =
       group = parts.group;
       other = parts.other;
     })
+
+-- where an entry stays, the default list is what those that stay are completed to
+pub some_left : (old access made : EntryList) (due list : PartialList) → list ≡ due → has_no_entry list ≡ false
+    → (made ≡ completed_list None access list) × IsEntryList (completed_list None access list)
+    → (Some made ≡ default_left true (Some old) access due) × (option_map_or fits_in_scope (default_left true (Some old) access due) true ≡ true)
+some_left old access made due list is some done =
+    let stays : default_left true (Some old) access list ≡ Some (completed_list None access list) = ap (λ empty. cond empty None (Some (completed_list None access list))) some in
+    subst (λ (l : PartialList). (Some made ≡ default_left true (Some old) access l) × (option_map_or fits_in_scope (default_left true (Some old) access l) true ≡ true)) is
+    (ap (λ l. Some l) done.0 ∙ sym stays, ap (λ l. option_map_or fits_in_scope l true) stays ∙ (good (completed_list None access list) done.1).list_fits)
