@@ -6,7 +6,7 @@ t() { echo "== $1"; bash /work/helpers/try_edit.sh $R $RUN ${1%%/*} $W/$1.edit "
 R=$1; RUN=$2
 case $3 in
 1) for e in new_client_is_the_oldest take_dates_a_new_client_back take_forgets_a_new_client; do t lease_manager/$e lease_manager::leases::Leases::take; done
-   for e in release_ends_the_newest_too release_of_the_oldest; do t lease_manager/$e lease_manager::leases::Leases::release; done
+   for e in release_ends_the_newest_too releases_the_oldest_too; do t lease_manager/$e lease_manager::leases::Leases::release; done
    t lease_manager/opened_file_is_not_counted lease_manager::writers::Writers::open
    t lease_manager/state_of_an_absent_client lease_manager::leases::Leases::state;;
 2) t permission_specs/reads_no_entry permission_specs::spec_text::parse_spec
