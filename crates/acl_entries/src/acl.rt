@@ -17,11 +17,13 @@ pub struct Acl {
     beside: Beside,
 }
 
-/// What isn't judged: the sticky bit, and the default list, where there is one. The bit stands in both cases, right behind the tag, since a
-/// field of its own would make each file and each directory eight bytes larger.
+/// What stands beside the access entries: the sticky bit, and the default list, where there is one. The bit stands in both cases, right
+/// behind the tag, since a field of its own would make each file and each directory eight bytes larger.
 #[derive(Drop)]
 enum Beside {
+    /// The sticky bit, and no default list.
     NoDefault(bool),
+    /// The sticky bit, and the default list.
     Default(bool, Box<EntryList>),
 }
 

@@ -344,7 +344,8 @@ impl Path {
     }
 }
 
-/// Whether two lists have the same names in the same order. Costs the names up to the first that differ; takes no memory.
+/// Whether two lists have the same names in the same order. Costs the names up to the first that differ, and nothing where one list is
+/// longer; takes no memory.
 // compared in turn, since the library's `==` of lists cuts a slice for each
 #[tactic(auto, using(crate::proofs::Alike::text_decides))]
 pub fn are_same_names(names: &[Name], others: &[Name]) -> bool
@@ -361,7 +362,7 @@ pub fn are_same_names(names: &[Name], others: &[Name]) -> bool
     true
 }
 
-/// Whether two lists of names are one path. Takes no memory.
+/// Whether two lists of names are one path: what `are_same_names` tests, told by the order of paths. Costs what that does; takes no memory.
 pub fn is_same(names: &[Name], others: &[Name]) -> bool
     ensures { result ≡ same_path names.now others.now }
 {

@@ -1,5 +1,5 @@
 //! The plain values of the namesystem: texts as bytes and decimal numbers, what reading one answers, names of users and groups,
-//! moments, replications, and the numbers of blocks, stamps and keys.
+//! moments, replications, and the numbers of blocks, stamps and keys; and values that are placed as numbers of eight bytes are.
 #![tactic(auto)]
 
 pub mod at_word;

@@ -19,7 +19,7 @@ const INLINE_BYTES: usize = 14;
 /// Where a text stands.
 #[derive(Drop)]
 enum Held {
-    /// Within the value: the text's length, and its bytes before zeros.
+    /// Within the value: the text's length, and its bytes, padded with zeros.
     Inline(u8, [u8; INLINE_BYTES]),
     /// In memory of its own, as it is longer.
     Boxed(Box<String>),
@@ -152,8 +152,8 @@ fn two(bytes: &[u8]) -> u64
     u64::from(u16::from_le_bytes([bytes[0], bytes[1]]))
 }
 
-/// Eight to 14 bytes without the first six, before zeros: the last eight as a number, from which those are shifted out that stand among the
-/// first six.
+/// Eight to 14 bytes without the first six, padded with zeros to eight: the last eight as a number, from which those are shifted out that
+/// stand among the first six.
 fn behind_six(bytes: &[u8]) -> [u8; 8]
     requires least { 8 ≤ length bytes.now }
     requires most { length bytes.now ≤ 14 }
@@ -164,8 +164,8 @@ fn behind_six(bytes: &[u8]) -> [u8; 8]
     (last >> (8 * (INLINE_BYTES - length))).to_le_bytes()
 }
 
-/// Four to eight bytes without the first four, before zeros: the last four as a number, from which those are shifted out that stand among
-/// the first four.
+/// Four to eight bytes without the first four, padded with zeros to eight: the last four as a number, from which those are shifted out that
+/// stand among the first four.
 fn behind_four(bytes: &[u8]) -> [u8; 8]
     requires least { 4 ≤ length bytes.now }
     requires most { length bytes.now ≤ 8 }
@@ -176,8 +176,8 @@ fn behind_four(bytes: &[u8]) -> [u8; 8]
     (last >> (8 * (8 - length))).to_le_bytes()
 }
 
-/// Two to four bytes without the first two, before zeros: the last two as a number, from which those are shifted out that stand among the
-/// first two.
+/// Two to four bytes without the first two, padded with zeros to eight: the last two as a number, from which those are shifted out that
+/// stand among the first two.
 fn behind_two(bytes: &[u8]) -> [u8; 8]
     requires least { 2 ≤ length bytes.now }
     requires most { length bytes.now ≤ 4 }
@@ -188,7 +188,9 @@ fn behind_two(bytes: &[u8]) -> [u8; 8]
     (last >> (8 * (4 - length))).to_le_bytes()
 }
 
-/// Eight to 14 bytes before zeros, by three words that stay in registers.
+/// Eight to 14 bytes, padded with zeros to 14: the first four, the next two, and the others by one word.
+// A text is its tag, its length and these, so its second word begins with the seventh of them. No piece lies across that place: so each word
+// is put together in a register, and what reads the text next need not wait until all pieces are in memory.
 fn of_eight_or_more(bytes: &[u8]) -> [u8; INLINE_BYTES]
     requires least { 8 ≤ length bytes.now }
     requires most { length bytes.now ≤ 14 }
@@ -201,7 +203,7 @@ fn of_eight_or_more(bytes: &[u8]) -> [u8; INLINE_BYTES]
     held
 }
 
-/// Four to seven bytes before zeros, by the same words.
+/// Four to seven bytes, padded with zeros to 14: the first four, and the last four shifted, cut in two as `of_eight_or_more` cuts them.
 fn of_four_to_seven(bytes: &[u8]) -> [u8; INLINE_BYTES]
     requires least { 4 ≤ length bytes.now }
     requires most { length bytes.now < 8 }
@@ -215,7 +217,7 @@ fn of_four_to_seven(bytes: &[u8]) -> [u8; INLINE_BYTES]
     held
 }
 
-/// Two or three bytes before zeros. The last two aren't written over the first two: what reads them next would wait for both.
+/// Two or three bytes, padded with zeros to 14. The last two aren't written over the first two: what reads them next would wait for both.
 fn of_two_or_three(bytes: &[u8]) -> [u8; INLINE_BYTES]
     requires least { 2 ≤ length bytes.now }
     requires most { length bytes.now < 4 }
@@ -228,7 +230,8 @@ fn of_two_or_three(bytes: &[u8]) -> [u8; INLINE_BYTES]
     held
 }
 
-/// Fewer than two bytes before zeros.
+/// Fewer than two bytes, padded with zeros to 14.
+// one byte is put as two, a word that stays in a register
 fn of_at_most_one(bytes: &[u8]) -> [u8; INLINE_BYTES]
     requires { length bytes.now < 2 }
     ensures { result ≡ bytes.now ++ replicate (14 - length bytes.now) 0 }
@@ -240,7 +243,7 @@ fn of_at_most_one(bytes: &[u8]) -> [u8; INLINE_BYTES]
     held
 }
 
-/// At most 14 bytes before zeros, by words: a copy of any length would be a call.
+/// At most 14 bytes, padded with zeros to 14, by words: a copy of any length would be a call.
 fn filled(bytes: &[u8]) -> [u8; INLINE_BYTES]
     requires { length bytes.now ≤ 14 }
     ensures { result ≡ bytes.now ++ replicate (14 - length bytes.now) 0 }
@@ -318,7 +321,7 @@ impl PartialEq for ShortText {
 
     ghost laws = { Prim.search (comparing, rules) };
 
-    // each component of a path asks whether a caller's groups have the directory's
+    // each component of a path that doesn't grant everybody alike asks whether a caller's groups have the directory's
     #[inline(always)]
     fn eq(&self, other: &ShortText) -> bool {
         match (&self.held, &other.held) {

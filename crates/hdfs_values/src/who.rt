@@ -111,7 +111,7 @@ impl PartialEq for Who {
 
     ghost laws = { Prim.search (comparing, rules) };
 
-    // each entry of a list that is looked at asks it
+    // called for each named entry that a search looks at
     #[inline(always)]
     fn eq(&self, other: &Who) -> bool {
         self.text == other.text
