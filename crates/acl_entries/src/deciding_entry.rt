@@ -96,7 +96,7 @@ impl<'a> Chosen<'a> {
         self.mask
     }
 
-    /// The entry with a name of its own.
+    /// The entry with a name of its own. Costs that name.
     ///
     /// # Errors
     /// Out of memory.

@@ -147,7 +147,7 @@ impl fmt::Display for Acl {
 }
 
 #[tactic(auto, using(crate::proofs::Printing::joined))]
-/// The text of a list: its entries as `getfacl` prints them, with a comma between each two.
+/// The text of a list: its entries as `getfacl` prints them, with a comma between each two. Costs the text.
 ///
 /// # Errors
 /// Out of memory.

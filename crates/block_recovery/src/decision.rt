@@ -8,6 +8,7 @@ use std::alloc::AllocError;
 pub struct Decision {
     /// In bytes.
     pub length: u64,
+    /// Those that take part.
     pub nodes: NodeSet,
 }
 

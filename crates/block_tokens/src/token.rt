@@ -19,8 +19,11 @@ pub struct Body<'a> {
     /// Of the key under which the code was made.
     pub serial: Serial,
     pub block: BlockId,
+    /// What the user may do with the block.
     pub modes: Modes,
+    /// Who may present the token.
     pub user: &'a str,
+    /// The HMAC of all that stands before it.
     pub code: [u8; 20],
 }
 

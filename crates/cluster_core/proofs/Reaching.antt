@@ -1,6 +1,5 @@
 -- One event more.
-use Rattle.std.proofs.Common.{◌≡◌, ℕ, Bool, true, false, cond, List, [], ◌∷◌, ◌++◌, map, reverse, refl, sym, ap, ◌∙◌, subst, Option, Some, None}
-use Rattle.std.specs.List.{AllByRecursion}
+use Rattle.std.proofs.Common.{◌≡◌, ℕ, Bool, true, false, cond, List, [], ◌∷◌, ◌++◌, reverse, refl, sym, ap, ◌∙◌, subst, Option, Some, None}
 use Rattle.std.proofs.lemmas.List.{reverse-append}
 use Rattle.block_records.specs.Numbers.{entry_at}
 use Rattle.history.specs.declared.entry.HistoryEntry.{HistoryEntry}
@@ -22,13 +21,13 @@ use Rattle.cluster_trace.specs.declared.outcome.Outcome.{Outcome}
 use Rattle.cluster_trace.proofs.Right.{all_right}
 use Rattle.cluster_laws.specs.Laws.{RecordsOf}
 use Rattle.cluster_laws.proofs.Logs.{records_rest}
-use Rattle.cluster_parts.specs.Kept.{IsEventWithin, event_of_kept, IsKeptFor}
+use Rattle.cluster_parts.specs.Kept.{IsWithin, AreWithin, events_of, events_kept, IsOneMore}
 use Rattle.cluster_core.specs.Past.{World}
 use Rattle.cluster_core.specs.World.{state_after, with_event, history_of, past_of, IsReached}
-use Rattle.cluster_parts.specs.declared.kept.KeptEvent.{KeptEvent}
+use Rattle.cluster_parts.specs.declared.kept.KeptEvents.{KeptEvents}
 use Rattle.cluster_core.specs.declared.world.World.TheInside.{Inside}
 use Rattle.cluster_steps.proofs.Answering.{taken, not_taken}
-use Rattle.cluster_core.proofs.Keeping.{within_more, events_more}
+use Rattle.cluster_parts.proofs.Keeping.{one_more}
 
 -- ---- the NameNode's history grows at its end, if at all
 
@@ -66,32 +65,49 @@ grows state (Name request) = grows_asked state request (is_from_outside request.
 grows state (Deliver number now) = grows_delivered state now (message_at number state.messages)
 grows state (Data node now asked) = grows_delivered state now (Some (as_message node asked))
 
+-- what the history is longer by, the oldest first
+abbrev more_of : Inside → Event → List HistoryEntry
+more_of old event = reverse (grows old.cluster event).more
+
+history_more : (old new : Inside) (event : Event) → new.cluster ≡ happens old.cluster event → history_of new ≡ history_of old ++ more_of old event
+history_more old new event is =
+    let grown = grows old.cluster event in
+    ap reverse (ap (λ (state : Cluster). state.entries) is ∙ grown.is) ∙ reverse-append grown.more old.cluster.entries
+
 -- ---- a world that stepped an event
 
 pub record Steps (old : Inside) (event : Event) (new : Inside) : Type 0 where
   pub ids : new.ids.items ≡ old.ids.items
   pub cluster : new.cluster ≡ happens old.cluster event
-  pub kept : KeptEvent
-  pub events : new.events.items ≡ old.events.items ++ kept ∷ []
-  pub is_kept : IsKeptFor (history_of new) kept event
+  pub kept : AreWithin (history_of old) old.events.items → IsOneMore (history_of old) old.events.items event (history_of new) new.events.items
   pub fits : GrantsFit old.cluster → GrantsFit new.cluster
   pub call : CallFits (call_of old.cluster event)
 
--- the event is kept beside the history
-pub kept_steps : (old new : Inside) (event : Event) (kept : KeptEvent) → IsKeptFor (history_of new) kept event → new.ids.items ≡ old.ids.items → new.cluster ≡ happens old.cluster event
-    → new.events.items ≡ old.events.items ++ kept ∷ [] → (GrantsFit old.cluster → GrantsFit new.cluster) → CallFits (call_of old.cluster event) → Steps old event new
-kept_steps old new event kept is_kept ids cluster events fits call =
-    record { ids = ids; cluster = cluster; kept = kept; events = events; is_kept = is_kept; fits = fits; call = call }
+-- the event is kept as it is
+pub kept_steps : (old new : Inside) (event : Event) (own : KeptEvents) → ((history : List HistoryEntry) → IsWithin history own × (events_of history own ≡ event ∷ [])) → new.ids.items ≡ old.ids.items
+    → new.cluster ≡ happens old.cluster event → new.events.items ≡ old.events.items ++ own ∷ [] → (GrantsFit old.cluster → GrantsFit new.cluster) → CallFits (call_of old.cluster event) → Steps old event new
+kept_steps old new event own alone ids cluster events fits call =
+    let history : history_of new ≡ history_of old ++ more_of old event = history_more old new event cluster in
+    let told = alone (history_of old ++ more_of old event) in
+    record {
+      ids = ids;
+      cluster = cluster;
+      kept = λ within.
+          subst (λ (entries : List HistoryEntry). IsOneMore (history_of old) old.events.items event entries new.events.items) (sym history)
+          (subst (λ (all : List KeptEvents). IsOneMore (history_of old) old.events.items event (history_of old ++ more_of old event) all) (sym events)
+          (one_more (history_of old) (more_of old event) old.events.items own event within told.0 told.1));
+      fits = fits;
+      call = call;
+    }
 
 -- the history keeps the request
-pub asked_steps : (old new : Inside) (request : Request) (kept : KeptEvent) → is_from_outside request.op ≡ true → IsKeptFor (reverse (entry_of old.cluster request ∷ old.cluster.entries)) kept (Name request) → new.ids.items ≡ old.ids.items
-    → new.cluster ≡ left_by old.cluster (request_named old.cluster request) → new.events.items ≡ old.events.items ++ kept ∷ [] → (GrantsFit old.cluster → GrantsFit new.cluster) → Steps old (Name request) new
-asked_steps old new request kept outside is_kept ids cluster events fits = record {
+pub asked_steps : (old new : Inside) (request : Request) → is_from_outside request.op ≡ true
+    → (AreWithin (history_of old) old.events.items → IsOneMore (history_of old) old.events.items (Name request) (reverse (entry_of old.cluster request ∷ old.cluster.entries)) new.events.items)
+    → new.ids.items ≡ old.ids.items → new.cluster ≡ left_by old.cluster (request_named old.cluster request) → (GrantsFit old.cluster → GrantsFit new.cluster) → Steps old (Name request) new
+asked_steps old new request outside kept ids cluster fits = record {
   ids = ids;
   cluster = cluster ∙ ap (left_by old.cluster) (sym (taken old.cluster request outside));
-  kept = kept;
-  events = events;
-  is_kept = subst (λ (state : Cluster). IsKeptFor (reverse state.entries) kept (Name request)) (sym cluster) is_kept;
+  kept = λ within. subst (λ (state : Cluster). IsOneMore (history_of old) old.events.items (Name request) (reverse state.entries) new.events.items) (sym cluster) (kept within);
   fits = fits;
   call = tt;
 }
@@ -122,21 +138,9 @@ data_fits old new node now asked is fits = subst GrantsFit (sym is) (fits_data o
 
 -- ---- what it leaves
 
--- what the history is longer by, the oldest first
-abbrev more_of : Inside → Event → List HistoryEntry
-more_of old event = reverse (grows old.cluster event).more
-
-history_more : (old : Inside) (event : Event) (new : Inside) → Steps old event new → history_of new ≡ history_of old ++ more_of old event
-history_more old event new steps =
-    let grown = grows old.cluster event in
-    ap reverse (ap (λ (state : Cluster). state.entries) steps.cluster ∙ grown.is) ∙ reverse-append grown.more old.cluster.entries
-
 events_stepped : (old : Inside) (event : Event) (new : Inside) → IsReached old → Steps old event new → (past_of new).events ≡ event ∷ (past_of old).events
 events_stepped old event new reached steps =
-    let history : history_of new ≡ history_of old ++ more_of old event = history_more old event new steps in
-    ap (λ (own : List HistoryEntry). reverse (map (event_of_kept own) new.events.items)) history
-    ∙ ap (λ (own : List KeptEvent). reverse (map (event_of_kept (history_of old ++ more_of old event)) own)) steps.events
-    ∙ events_more (history_of old) (more_of old event) old.events.items steps.kept event reached.within (ap (λ (own : List HistoryEntry). event_of_kept own steps.kept) (sym history) ∙ steps.is_kept.is)
+    ap reverse (steps.kept reached.within).is ∙ reverse-append (events_kept (history_of old) old.events.items) (event ∷ [])
 
 past_more : (old : Inside) (event : Event) (new : Inside) → IsReached old → Steps old event new → past_of new ≡ with_event (past_of old) event
 past_more old event new reached steps =
@@ -148,14 +152,10 @@ past_more old event new reached steps =
 reached_more : (old : Inside) (event : Event) (new : Inside) → IsReached old → Steps old event new → IsReached new
 reached_more old event new reached steps =
     let past : past_of new ≡ with_event (past_of old) event = past_more old event new reached steps in
-    let history : history_of new ≡ history_of old ++ more_of old event = history_more old event new steps in
     let fits : GrantsFit (state_after (past_of old)) = subst GrantsFit reached.state reached.fits in
     let call : CallFits (call_of (state_after (past_of old)) event) = subst (λ (state : Cluster). CallFits (call_of state event)) reached.state steps.call in
-    let kept : IsEventWithin (history_of old ++ more_of old event) steps.kept = subst (λ (own : List HistoryEntry). IsEventWithin own steps.kept) history steps.is_kept.within in
     record {
-      within = subst (λ (own : List KeptEvent). AllByRecursion (IsEventWithin (history_of new)) own) (sym steps.events)
-          (subst (λ (own : List HistoryEntry). AllByRecursion (IsEventWithin own) (old.events.items ++ steps.kept ∷ [])) (sym history)
-          (within_more (history_of old) (more_of old event) old.events.items steps.kept reached.within kept));
+      within = (steps.kept reached.within).within;
       state = steps.cluster ∙ ap (λ (state : Cluster). happens state event) reached.state ∙ ap state_after (sym past);
       typed = subst (λ (own : World). AreTyped own.opening own.events) (sym past) (record { grants = fits; call = call }, reached.typed);
       fits = steps.fits reached.fits;
@@ -183,16 +183,16 @@ reached_rest world reached = records_rest (past_of world).opening (past_of world
 
 past_same : (old new : Inside) → new.ids.items ≡ old.ids.items → new.cluster ≡ old.cluster → new.events.items ≡ old.events.items → past_of new ≡ past_of old
 past_same old new ids cluster events =
-    ap (λ (own : Cluster). record { opening = record { name = own.opening; nodes = new.ids.items }; events = reverse (map (event_of_kept (reverse own.entries)) new.events.items) }) cluster
+    ap (λ (own : Cluster). record { opening = record { name = own.opening; nodes = new.ids.items }; events = reverse (events_kept (reverse own.entries) new.events.items) }) cluster
     ∙ ap (λ (own : List ℕ). record { opening = record { name = old.cluster.opening; nodes = own }; events = reverse (map (event_of_kept (history_of old)) new.events.items) }) ids
-    ∙ ap (λ (own : List KeptEvent). record { opening = (past_of old).opening; events = reverse (map (event_of_kept (history_of old)) own) }) events
+    ∙ ap (λ (own : List KeptEvents). record { opening = (past_of old).opening; events = reverse (events_kept (history_of old) own) }) events
 
 pub still_reached : (old new : Inside) → new.ids.items ≡ old.ids.items → new.cluster ≡ old.cluster → new.events.items ≡ old.events.items → IsReached old → IsReached new
 still_reached old new ids cluster events reached =
     let past : past_of new ≡ past_of old = past_same old new ids cluster events in
     record {
-      within = subst (λ (own : List KeptEvent). AllByRecursion (IsEventWithin (history_of new)) own) (sym events)
-          (subst (λ (own : Cluster). AllByRecursion (IsEventWithin (reverse own.entries)) old.events.items) (sym cluster) reached.within);
+      within = subst (λ (own : List KeptEvents). AreWithin (history_of new) own) (sym events)
+          (subst (λ (own : Cluster). AreWithin (reverse own.entries) old.events.items) (sym cluster) reached.within);
       state = cluster ∙ reached.state ∙ ap state_after (sym past);
       typed = subst (λ (own : World). AreTyped own.opening own.events) (sym past) reached.typed;
       fits = subst GrantsFit (sym cluster) reached.fits;

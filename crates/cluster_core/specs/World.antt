@@ -1,12 +1,11 @@
 -- What steps leave of a world, and how it is kept.
-use Rattle.std.specs.Prelude.{◌≡◌, List, [], ◌∷◌, map, reverse}
-use Rattle.std.specs.List.{AllByRecursion}
+use Rattle.std.specs.Prelude.{◌≡◌, List, [], ◌∷◌, reverse}
 use Rattle.history.specs.declared.entry.HistoryEntry.{HistoryEntry}
 use Rattle.cluster_trace.specs.Trace.{Cluster, after, event_outcome}
 use Rattle.cluster_trace.specs.Typed.{GrantsFit, AreTyped}
 use Rattle.cluster_trace.specs.declared.event.Event.{Event}
 use Rattle.cluster_trace.specs.declared.outcome.Outcome.{Outcome}
-use Rattle.cluster_parts.specs.Kept.{IsEventWithin, event_of_kept}
+use Rattle.cluster_parts.specs.Kept.{AreWithin, events_kept}
 use Rattle.cluster_core.specs.Past.{World}
 use Rattle.cluster_core.specs.declared.world.World.TheInside.{Inside}
 
@@ -35,12 +34,12 @@ history_of world = reverse world.cluster.entries
 abbrev pub past_of : Inside → World
 past_of world = record {
   opening = record { name = world.cluster.opening; nodes = world.ids.items };
-  events = reverse (map (event_of_kept (history_of world)) world.events.items);
+  events = reverse (events_kept (history_of world) world.events.items);
 }
 
 -- its events lead from its opening to its state, those that asked the NameNode stand in its history, and all values fit their types
 pub record IsReached (world : Inside) : Type 0 where
-  pub within : AllByRecursion (IsEventWithin (history_of world)) world.events.items
+  pub within : AreWithin (history_of world) world.events.items
   pub state : world.cluster ≡ state_after (past_of world)
   pub typed : AreTyped (past_of world).opening (past_of world).events
   pub fits : GrantsFit world.cluster

@@ -8,7 +8,7 @@ ghost use Rattle.cluster_trace.specs.declared.event.Event.TheVariants as event;
 ghost use Rattle.cluster_laws.specs.Laws.{RecordsOf};
 ghost use Rattle.cluster_core.specs.World.{state_after, with_event, run_past, run_outcomes};
 
-use cluster_parts::kept::KeptEvent;
+use cluster_parts::kept::{KeptEvents, keep_asked};
 pub use cluster_steps::cluster::NameCore;
 use cluster_steps::cluster::{Cluster, is_from_outside};
 use cluster_trace::data_call::DataCall;
@@ -30,7 +30,7 @@ pub struct World {
     ids: Vec<NodeId>,
     cluster: Cluster,
     // the oldest first
-    events: Vec<KeptEvent>,
+    events: Vec<KeptEvents>,
     alloc: Global,
 }
 
@@ -63,7 +63,7 @@ impl Drop for World {
 
 impl World {
     /// A cluster in which nothing has happened: a NameNode that opens with this configuration and this key, and DataNodes with these ids,
-    /// without replicas and without keys. An id that is named twice is one DataNode.
+    /// without replicas and without keys. An id that is named twice is one DataNode. Costs the ids.
     ///
     /// # Errors
     /// Out of memory.
@@ -128,7 +128,7 @@ impl World {
             drop(kept);
             return Err(AllocError);
         };
-        self.events.push_reserved(KeptEvent::Refused(kept));
+        self.events.push_reserved(KeptEvents::Refused(kept));
         Ok(outcome)
     }
 
@@ -145,7 +145,7 @@ impl World {
         }
         let entries = self.cluster.core().place();
         let outcome = self.cluster.name(request)?;
-        self.events.push_reserved(KeptEvent::asked(entries));
+        keep_asked(&mut self.events, entries);
         Ok(outcome)
     }
 
@@ -156,7 +156,8 @@ impl World {
     {
         self.events.reserve(1)?;
         let outcome = self.cluster.deliver(number, now)?;
-        self.events.push_reserved(KeptEvent::Delivered(number, now));
+        self.events
+            .push_reserved(KeptEvents::Delivered(number, now));
         Ok(outcome)
     }
 
@@ -174,7 +175,7 @@ impl World {
             return Err(AllocError);
         };
         self.events
-            .push_reserved(KeptEvent::Called(node, now, call));
+            .push_reserved(KeptEvents::Called(node, now, call));
         Ok(outcome)
     }
 
@@ -250,7 +251,8 @@ fn run_each(world: &mut World, events: &mut VecDeque<Event>, outcomes: &mut Vec<
     }
 }
 
-/// Steps events in their order, up to the first for which there is no memory, and keeps what came of those before it.
+/// Steps events in their order, up to the first for which there is no memory, and keeps what came of those before it. Costs what the steps of
+/// these events do.
 pub fn run(alloc: Global, world: World, events: VecDeque<Event>) -> Trace
     ensures outcomes { (rest : List Event) × (result.outcomes.items ++ run_outcomes result.world rest ≡ run_outcomes world events.items)
         × (run_past result.world rest ≡ run_past world events.items) }

@@ -1,31 +1,42 @@
--- How an event is kept beside the NameNode's history, which has the oldest entry first here.
-use Rattle.std.specs.Prelude.{◌≡◌, ◌<◌, List, length, Option, Some, None, slice_get}
+-- How events are kept beside the NameNode's history, which has the oldest entry first here.
+use Rattle.std.specs.Prelude.{◌≡◌, ◌<◌, ◌≤◌, ◌+◌, ◌-◌, ℕ, List, [], ◌∷◌, ◌++◌, length, map, take, drop}
 use Rattle.std.specs.Bool.{⊤}
+use Rattle.std.specs.List.{AllByRecursion, flat_map}
 use Rattle.history.specs.declared.entry.HistoryEntry.{HistoryEntry}
 use Rattle.cluster_trace.specs.declared.event.Event.{Event}
 use Rattle.cluster_trace.specs.declared.event.Event.TheVariants.{Name, Deliver, Data}
-use Rattle.cluster_parts.specs.declared.kept.KeptEvent.{KeptEvent}
-use Rattle.cluster_parts.specs.declared.kept.KeptEvent.TheVariants.{Asked, Refused, Delivered, Called}
+use Rattle.cluster_parts.specs.declared.kept.KeptEvents.{KeptEvents}
+use Rattle.cluster_parts.specs.declared.kept.KeptEvents.TheVariants.{Asked, Refused, Delivered, Called}
 
--- the entry that it names stands in the history
-abbrev pub IsEventWithin : List HistoryEntry → KeptEvent → Type 0
-IsEventWithin history (Asked index) = index < length history
-IsEventWithin history (Refused request) = ⊤
-IsEventWithin history (Delivered number now) = ⊤
-IsEventWithin history (Called node now call) = ⊤
+-- the entries that they name stand in the history
+abbrev pub IsWithin : List HistoryEntry → KeptEvents → Type 0
+IsWithin history (Asked first last) = (first ≤ last) × (last < length history)
+IsWithin history (Refused request) = ⊤
+IsWithin history (Delivered number now) = ⊤
+IsWithin history (Called node now call) = ⊤
 
--- what asked for an entry; that there is none is never seen
-abbrev pub event_of_entry : Option HistoryEntry → Event
-event_of_entry None = Deliver 0 0
-event_of_entry (Some entry) = Name entry.request
+abbrev pub AreWithin : List HistoryEntry → List KeptEvents → Type 0
+AreWithin history kept = AllByRecursion (IsWithin history) kept
 
-abbrev pub event_of_kept : List HistoryEntry → KeptEvent → Event
-event_of_kept history (Asked index) = event_of_entry (slice_get history index)
-event_of_kept history (Refused request) = Name request.value
-event_of_kept history (Delivered number now) = Deliver number now
-event_of_kept history (Called node now call) = Data node now call
+-- the entries from one index to another
+abbrev pub entries_between : List HistoryEntry → ℕ → ℕ → List HistoryEntry
+entries_between history first last = take (last + 1 - first) (drop first history)
 
--- beside this history, it is kept for this event
-pub record IsKeptFor (history : List HistoryEntry) (kept : KeptEvent) (event : Event) : Type 0 where
-  pub within : IsEventWithin history kept
-  pub is : event_of_kept history kept ≡ event
+-- what asked for these entries
+abbrev pub asked_for : List HistoryEntry → List Event
+asked_for entries = map (λ entry. Name entry.request) entries
+
+abbrev pub events_of : List HistoryEntry → KeptEvents → List Event
+events_of history (Asked first last) = asked_for (entries_between history first last)
+events_of history (Refused request) = Name request.value ∷ []
+events_of history (Delivered number now) = Deliver number now ∷ []
+events_of history (Called node now call) = Data node now call ∷ []
+
+-- all that are kept, the oldest first
+abbrev pub events_kept : List HistoryEntry → List KeptEvents → List Event
+events_kept history kept = flat_map (events_of history) kept
+
+-- beside another history one event more is kept
+pub record IsOneMore (history : List HistoryEntry) (kept : List KeptEvents) (event : Event) (history_left : List HistoryEntry) (kept_left : List KeptEvents) : Type 0 where
+  pub within : AreWithin history_left kept_left
+  pub is : events_kept history_left kept_left ≡ events_kept history kept ++ event ∷ []

@@ -400,7 +400,7 @@ impl DataNode {
     }
 
     /// Begins a replica at a stamp above all that were held or promised; these nodes come next in the pipeline. Refused as
-    /// `ReplicaExists`, `StampDiffers`.
+    /// `ReplicaExists`, `StampDiffers`. Costs a look-up, and these nodes.
     ///
     /// # Errors
     /// Out of memory. Nothing has changed then.
@@ -438,7 +438,7 @@ impl DataNode {
     }
 
     /// Ends the writing of a replica, which has this length; these nodes come next in the pipeline. Refused as `NoReplica`,
-    /// `StampDiffers`, `NotWritable`, `OffsetGap`.
+    /// `StampDiffers`, `NotWritable`, `OffsetGap`. Costs a look-up, and these nodes.
     ///
     /// # Errors
     /// Out of memory. Nothing has changed then.
@@ -476,7 +476,7 @@ impl DataNode {
     }
 
     /// Begins the recovery of a replica: nothing is written at another stamp from now on. The DataNode in whose name this is asked
-    /// leads it, and is told of the replica. Refused as `NoReplica`, `StampDiffers`.
+    /// leads it, and is told of the replica. Refused as `NoReplica`, `StampDiffers`. Costs a look-up.
     ///
     /// # Errors
     /// Out of memory. Nothing has changed then.
@@ -493,7 +493,7 @@ impl DataNode {
     }
 
     /// Ends the recovery of a replica: it has this length, and is finalized. The DataNode in whose name this is asked is told. Refused
-    /// as `NoReplica`, `StampDiffers`, `NotWritable`, `OutOfRange`.
+    /// as `NoReplica`, `StampDiffers`, `NotWritable`, `OutOfRange`. Costs a look-up, and the bytes that are cut off.
     ///
     /// # Errors
     /// Out of memory. Nothing has changed then.
@@ -590,7 +590,7 @@ impl DataNode {
         })
     }
 
-    /// Any call.
+    /// Any call, at the cost of its kind.
     ///
     /// # Errors
     /// Out of memory. Nothing has changed then.

@@ -27,7 +27,8 @@ pub fn setting_to_entries_copies()
 {}
 
 /// The text of a list's entries is read as those entries, and setting a directory's list to what is read is setting it to them. So
-/// a list without a default list becomes equal to the one that was printed, but for the sticky bit, of which the text says nothing.
+/// a list without a default list becomes equal to the one that was printed, but for the sticky bit, of which the text says nothing. It is
+/// told of lists whose rights have three bits and whose names are those of users and groups, as the types of both keep it.
 pub fn what_is_printed_is_set_again()
     ensures { law.WhatIsPrintedIsSetAgain }
 {

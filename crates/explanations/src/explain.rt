@@ -176,7 +176,7 @@ fn explain_line(alloc: Global, script: &str, number: u32) -> Result<Explanation,
 
 /// Reads a script whole, runs the lines before the one of this number, which counts all lines from 1, and prints each need of
 /// its request that is judged, in their order, up to the first that fails; then `granted` where none failed. Lines behind it
-/// aren't looked at.
+/// aren't looked at. Costs the lines before it, and the whole namespace that they leave.
 ///
 /// # Errors
 /// `CannotRead` where the reader fails, or hasn't ended after 4,294,967,295 reads, `NotUtf8` and `OutOfMemory`: nothing is

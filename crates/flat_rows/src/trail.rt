@@ -27,6 +27,7 @@ use std::fmt;
 /// A need that was judged at a component: what decided, and whether it is met.
 #[derive(Drop)]
 pub struct Judged {
+    /// Of the component.
     pub path: Path,
     pub need: Need,
     /// What decided.

@@ -8,6 +8,7 @@ use std::marker::Model;
 pub struct LedgerRow {
     /// Of the entry that granted it.
     pub place: u64,
+    /// What the token grants, and the token.
     pub grant: Grant,
 }
 

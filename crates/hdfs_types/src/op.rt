@@ -268,9 +268,11 @@ impl Clone for Op {
 
 /// A request: who asks, when, and for what.
 pub struct Request {
+    /// The user who asks, as he says that he is.
     pub caller: Who,
     /// The moment of the request, in milliseconds.
     pub moment: Moment,
+    /// What is asked for.
     pub op: Op,
 }
 

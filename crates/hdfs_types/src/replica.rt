@@ -17,9 +17,11 @@ pub struct ReportedReplica {
 /// that hold it (HDFS-265, "Block recovery").
 pub struct RecoveredBlock {
     pub block: BlockId,
+    /// The stamp under which the recovery ran.
     pub stamp: Stamp,
     /// In bytes.
     pub length: u64,
+    /// The DataNodes that hold the block at this length.
     pub nodes: NodeSet,
 }
 

@@ -75,6 +75,7 @@ impl BoxedDetail {
 /// What `stat` reports of a file or a directory.
 pub struct FileStatus {
     pub kind: ObjectKind,
+    /// With an access list behind it, its mask stands for the group's rights.
     pub mode: Mode,
     /// Whether an access list with named entries, or a default list, stands behind the mode.
     pub has_acl: bool,
@@ -265,7 +266,9 @@ impl fmt::Display for Names {
 /// What there is at a path and beneath it.
 #[derive(Clone, Copy, PartialEq, Eq)]
 pub struct ContentSummary {
+    /// What has the path is counted, too.
     pub directories: u64,
+    /// What has the path is counted, too.
     pub files: u64,
     /// The bytes that the files hold.
     pub bytes: u64,
@@ -420,7 +423,9 @@ impl Clone for BoxedAcl {
 /// How many files `tick` has closed, and of how many it has begun to recover the last block.
 #[derive(Clone, Copy, PartialEq, Eq)]
 pub struct Expired {
+    /// So many files.
     pub closed: u64,
+    /// So many recoveries, those that began anew among them.
     pub recovering: u64,
 }
 

@@ -16,9 +16,13 @@ use permission_specs::acl_change::AclChange;
 /// A verb that changes nothing and grants nothing: a look.
 #[derive(Clone, Copy)]
 pub enum Read<'a> {
+    /// What a file or a directory is.
     Stat(&'a Path),
+    /// The names that a directory holds.
     List(&'a Path),
+    /// How many directories and files there are at a path and beneath it.
     Summary(&'a Path),
+    /// An access control list.
     GetAcl(&'a Path),
 }
 
@@ -26,45 +30,68 @@ pub enum Read<'a> {
 /// blocks as they are.
 #[derive(Clone, Copy)]
 pub enum Update<'a> {
+    /// A directory of this mode, and the missing ones above it.
     Mkdirs(&'a Path, Mode),
+    /// What has the first path goes to the second.
     Rename(&'a Path, &'a Path),
+    /// Another mode.
     SetMode(&'a Path, Mode),
+    /// Another owner and another group, where they are given.
     SetOwner(&'a Path, &'a GivenName, &'a GivenName),
+    /// A change of an access control list.
     SetAcl(&'a Path, &'a AclChange),
+    /// A user becomes known, with these groups.
     AddUser(&'a Who, &'a Groups),
+    /// A known user gets these groups.
     SetGroups(&'a Who, &'a Groups),
 }
 
 /// A verb that makes or closes a file, or the deletion: who has which file open to write may change.
 #[derive(Clone, Copy)]
 pub enum Write<'a> {
+    /// A file of this mode and replication; whether it may replace one.
     Create(&'a Path, Mode, Repl, bool),
+    /// A file is closed, with what was written of its last block.
     Complete(&'a Path, Option<LastBlock>),
+    /// What has the path goes; whether with all that is beneath it.
     Delete(&'a Path, bool),
 }
 
 /// A verb that grants tokens: to open a file to read it, to ask for a new block, and a DataNode's heartbeat.
 #[derive(Clone, Copy)]
 pub enum Grant<'a> {
+    /// The blocks of a file, to read them.
     Open(&'a Path),
+    /// A new block at the end of a file, with what was written of the last one.
     AddBlock(&'a Path, Option<LastBlock>),
+    /// A DataNode lives.
     Heartbeat,
 }
 
 /// The verb of an operation, by what it may change.
 #[derive(Clone, Copy)]
 pub enum Verb<'a> {
+    /// It changes nothing and grants nothing.
     Read(Read<'a>),
+    /// It changes the namespace or the users alone.
     Update(Update<'a>),
+    /// It makes, closes or deletes a file.
     Write(Write<'a>),
+    /// It grants tokens.
     Grant(Grant<'a>),
     /// It opens a file to write it, or takes it from the client who has it open.
     Append(&'a Path),
+    /// A file gets another replication.
     SetReplication(&'a Path, Repl),
+    /// A key becomes the one under which tokens are issued.
     RollKey(Key),
+    /// The caller's lease is renewed.
     Renew,
+    /// The files of clients whose leases are past the hard limit are taken, and late recoveries begin anew.
     Tick,
+    /// A DataNode holds this replica.
     Reported(ReportedReplica),
+    /// The recovery of a block has ended.
     CommitRecovery(&'a RecoveredBlock),
 }
 

@@ -12,7 +12,9 @@ pub struct HistoryEntry {
     pub pass: u64,
     /// Which request of that session it is.
     pub index: u64,
+    /// What was asked.
     pub request: Request,
+    /// What was answered, by the rules on the entries before this one.
     pub verdict: Verdict,
 }
 

@@ -84,7 +84,7 @@ fn renew_present(renewals: &mut LruCache<Who, Moment>, client: &Who, now: Moment
 }
 
 impl Leases {
-    /// No client has a lease. The limits are in milliseconds.
+    /// No client has a lease. The limits are in milliseconds. Its cost is constant.
     ///
     /// # Errors
     /// Out of memory.

@@ -51,7 +51,7 @@ impl Writers {
         Ok(())
     }
 
-    /// Renews a client's lease.
+    /// Renews a client's lease, at the cost of `Leases::take`.
     ///
     /// # Errors
     /// Out of memory where the client has no lease, and nothing has changed.

@@ -111,7 +111,7 @@ impl Model for NameCore {
 
 impl NameCore {
     /// A core without entries: no user is known but the superuser, the namespace is the root, and tokens are issued under this key, which
-    /// has the first serial number.
+    /// has the first serial number. Costs the names of the configuration.
     ///
     /// # Errors
     /// Out of memory.
@@ -223,7 +223,7 @@ impl NameCore {
     }
 
     /// Answers a request that only looks, on what the history gives. It makes no entry, and the answer's place is the number of
-    /// entries.
+    /// entries. Costs the path, and what is told of what stands there; a summary what stands beneath it.
     ///
     /// # Errors
     /// Out of memory.

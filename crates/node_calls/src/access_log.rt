@@ -11,9 +11,11 @@ use std::marker::Model;
 
 /// That a DataNode let a caller at a block for the token that he presented.
 pub struct AccessRecord {
+    /// The DataNode that let him.
     pub node: NodeId,
     /// The node's clock.
     pub moment: Moment,
+    /// Who presented the token.
     pub caller: Who,
     pub block: BlockId,
     /// To read or to write.
@@ -22,6 +24,7 @@ pub struct AccessRecord {
     pub offset: u64,
     /// In bytes.
     pub length: u64,
+    /// What he presented.
     pub token: PresentedToken,
 }
 

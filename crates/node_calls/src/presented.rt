@@ -83,9 +83,12 @@ impl Clone for PresentedToken {
 
 /// Who asks for something of a block at a generation stamp, and the token that he presents for it.
 pub struct Presented {
+    /// Who asks, as he says that he is.
     pub caller: Who,
     pub block: BlockId,
+    /// The generation stamp of the replica that he asks for.
     pub stamp: Stamp,
+    /// What he presents: any bytes.
     pub token: PresentedToken,
 }
 

@@ -4,16 +4,19 @@ use hdfs_values::ids::Stamp;
 
 /// What a DataNode answers to a call that it doesn't refuse.
 pub enum NodeReply {
+    /// A replica is begun, and holds nothing yet.
     Begun,
     /// The replica has this length now.
     Taken(u64),
     /// At this length.
     Finalized(u64),
+    /// These bytes of the replica.
     Read(Chunks),
     /// The stamp, the length and the state of the replica.
     Replica(Stamp, u64, ReplicaState),
     /// To this length.
     Updated(u64),
+    /// The replica is gone.
     Removed,
     /// So many bytes.
     Copied(u64),

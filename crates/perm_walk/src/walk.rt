@@ -227,8 +227,9 @@ pub fn walk_along_both<'a>(
 }
 
 /// The first of the needs that fails for the caller, or none: the decision of the flat list of rows (HDFS Permissions Guide,
-/// "Permission Checks"). A superuser fails none. The needs cost one descent for each of the paths of the first two, and one for
-/// each need on another path; a need on a sub-tree costs another and its directories. Memory is taken only for a denial.
+/// "Permission Checks"). A superuser fails none; so what is for DataNodes alone, of which a superuser has no right either, is to be judged
+/// apart, as `write_rules::write::judge_node` does. The needs cost one descent for each of the paths of the first two, and
+/// one for each need on another path; a need on a sub-tree costs another and its directories. Memory is taken only for a denial.
 ///
 /// # Errors
 /// Out of memory.

@@ -7,6 +7,7 @@ use node_calls::message::Messages;
 pub enum PlanReply {
     /// So many nodes are asked for their replicas.
     Asked(u64),
+    /// What a node told of its replica is noted down.
     Noted,
     /// The replicas are to be cut to this length, and these nodes take part.
     Decided(Decision),

@@ -46,7 +46,7 @@ fn line_of(alloc: Global, body: &Body) -> Result<TokenLine, AllocError>
 
 /// The line for a token in hexadecimal digits of either case: `version 1 expiry E serial S block B modes M user U code HEX`
 /// with the expiry in milliseconds, the modes as `r-`, `-w` or `rw`, and the code in lower case digits. Where no token is
-/// spelled, as by an odd number of digits, the line is `T1 Malformed`. The code is shown, and no key is asked about it.
+/// spelled, as by an odd number of digits, the line is `T1 Malformed`. The code is shown, and no key is asked about it. Costs the digits.
 ///
 /// # Errors
 /// Out of memory.

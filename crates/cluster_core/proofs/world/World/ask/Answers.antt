@@ -1,20 +1,25 @@
-use Rattle.std.proofs.Common.{◌++◌, ◌∷◌, [], List, length, refl, sym, ap, ◌∙◌}
+use Rattle.std.proofs.Common.{◌∷◌, List, length, reverse, refl, sym, ap, ◌∙◌, subst}
 use Rattle.cluster_trace.specs.Trace.{entry_of, outcome_of}
 use Rattle.cluster_trace.specs.declared.event.Event.TheVariants.{Name}
-use Rattle.cluster_parts.specs.declared.kept.KeptEvent.{KeptEvent}
+use Rattle.cluster_parts.specs.Kept.{AreWithin, IsOneMore}
+use Rattle.cluster_parts.specs.declared.kept.KeptEvents.{KeptEvents}
 use Rattle.cluster_core.specs.declared.world.World.TheInside.{Inside}
 use Rattle.cluster_steps.proofs.Answering.{taken}
 use Rattle.cluster_core.proofs.Reaching.{Steps, asked_steps, step_reached, still_reached, step_past, step_outcome}
 use Rattle.cluster_core.proofs.world.World.ask.Goals as goal
 
-abbrev left : goal.After-push_reserved → Inside
-left c = record (c.self.inside) { cluster = c.name.new.self; events = c.push_reserved.new.self }
+abbrev left : goal.After-keep_asked → Inside
+left c = record (c.self.inside) { cluster = c.name.new.self; events = c.keep_asked.new.events }
 
-steps : (c : goal.After-push_reserved) → Steps c.self.inside (Name c.args.request) (left c)
+steps : (c : goal.After-keep_asked) → Steps c.self.inside (Name c.args.request) (left c)
 steps c =
-    asked_steps c.self.inside (left c) c.args.request c.asked.result c.requires
-    (c.asked.ensures c.self.inside.cluster.entries (entry_of c.self.inside.cluster c.args.request) (c.place-entries.ensures.place ∙ ap (λ own. length own.entries) c.core.ensures)) refl c.in_ok-outcome.ensures.ok
-    (c.push_reserved.ensures.items ∙ ap (λ (events : List KeptEvent). events ++ c.asked.result ∷ []) c.reserve.ensures.items) c.in_ok-outcome.ensures.fits
+    let state = c.self.inside.cluster in
+    asked_steps c.self.inside (left c) c.args.request c.requires
+    (λ within.
+    subst (λ (kept : List KeptEvents). IsOneMore (reverse state.entries) kept (Name c.args.request) (reverse (entry_of state c.args.request ∷ state.entries)) c.keep_asked.new.events.items) c.reserve.ensures.items
+    (c.keep_asked.ensures state.entries (entry_of state c.args.request) (c.place-entries.ensures.place ∙ ap (λ own. length own.entries) c.core.ensures)
+    (subst (λ (kept : List KeptEvents). AreWithin (reverse state.entries) kept) (sym c.reserve.ensures.items) within)))
+    refl c.in_ok-outcome.ensures.ok c.in_ok-outcome.ensures.fits
 
 pub invariant_of-self-2 : goal.invariant_of-self-2
 invariant_of-self-2 c = step_reached c.self.inside (Name c.args.request) (left c) c.self.invariant (steps c)

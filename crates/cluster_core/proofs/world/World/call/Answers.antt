@@ -1,7 +1,7 @@
 use Rattle.std.proofs.Common.{◌++◌, ◌∷◌, [], List, refl, ap, ◌∙◌}
 use Rattle.cluster_trace.specs.declared.event.Event.TheVariants.{Data}
-use Rattle.cluster_parts.specs.declared.kept.KeptEvent.{KeptEvent}
-use Rattle.cluster_parts.specs.declared.kept.KeptEvent.TheVariants.{Called}
+use Rattle.cluster_parts.specs.declared.kept.KeptEvents.{KeptEvents}
+use Rattle.cluster_parts.specs.declared.kept.KeptEvents.TheVariants.{Called}
 use Rattle.cluster_core.specs.declared.world.World.TheInside.{Inside}
 use Rattle.cluster_core.proofs.Reaching.{Steps, kept_steps, data_fits, step_reached, still_reached, step_past, step_outcome}
 use Rattle.cluster_core.proofs.world.World.call.Goals as goal
@@ -11,8 +11,8 @@ left c = record (c.self.inside) { cluster = c.data.new.self; events = c.push_res
 
 steps : (c : goal.After-push_reserved) → Steps c.self.inside (Data c.args.node c.args.now c.args.call) (left c)
 steps c =
-    kept_steps c.self.inside (left c) (Data c.args.node c.args.now c.args.call) (Called c.args.node c.args.now c.args.call) (record { within = tt; is = refl }) refl c.in-Ok.ensures.ok
-    (c.push_reserved.ensures.items ∙ ap (λ (events : List KeptEvent). events ++ Called c.args.node c.args.now c.args.call ∷ []) c.reserve.ensures.items)
+    kept_steps c.self.inside (left c) (Data c.args.node c.args.now c.args.call) (Called c.args.node c.args.now c.args.call) (λ history. (tt, refl)) refl c.in-Ok.ensures.ok
+    (c.push_reserved.ensures.items ∙ ap (λ (events : List KeptEvents). events ++ Called c.args.node c.args.now c.args.call ∷ []) c.reserve.ensures.items)
     (data_fits c.self.inside.cluster c.data.new.self c.args.node c.args.now c.args.call c.in-Ok.ensures.ok) c.in-Ok.ensures.bytes
 
 pub invariant_of-self-2 : goal.invariant_of-self-2

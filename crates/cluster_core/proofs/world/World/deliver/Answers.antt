@@ -1,7 +1,7 @@
 use Rattle.std.proofs.Common.{◌++◌, ◌∷◌, [], List, refl, ap, ◌∙◌}
 use Rattle.cluster_trace.specs.declared.event.Event.TheVariants.{Deliver}
-use Rattle.cluster_parts.specs.declared.kept.KeptEvent.{KeptEvent}
-use Rattle.cluster_parts.specs.declared.kept.KeptEvent.TheVariants.{Delivered}
+use Rattle.cluster_parts.specs.declared.kept.KeptEvents.{KeptEvents}
+use Rattle.cluster_parts.specs.declared.kept.KeptEvents.TheVariants.{Delivered}
 use Rattle.cluster_core.specs.declared.world.World.TheInside.{Inside}
 use Rattle.cluster_core.proofs.Reaching.{Steps, kept_steps, step_reached, step_past, step_outcome}
 use Rattle.cluster_core.proofs.world.World.deliver.Goals as goal
@@ -11,8 +11,8 @@ left c = record (c.self.inside) { cluster = c.deliver.new.self; events = c.push_
 
 steps : (c : goal.After-push_reserved) → Steps c.self.inside (Deliver c.args.number c.args.now) (left c)
 steps c =
-    kept_steps c.self.inside (left c) (Deliver c.args.number c.args.now) (Delivered c.args.number c.args.now) (record { within = tt; is = refl }) refl c.in_ok-outcome.ensures.ok
-    (c.push_reserved.ensures.items ∙ ap (λ (events : List KeptEvent). events ++ Delivered c.args.number c.args.now ∷ []) c.reserve.ensures.items)
+    kept_steps c.self.inside (left c) (Deliver c.args.number c.args.now) (Delivered c.args.number c.args.now) (λ history. (tt, refl)) refl c.in_ok-outcome.ensures.ok
+    (c.push_reserved.ensures.items ∙ ap (λ (events : List KeptEvents). events ++ Delivered c.args.number c.args.now ∷ []) c.reserve.ensures.items)
     c.in_ok-outcome.ensures.fits c.in_ok-outcome.ensures.bytes
 
 pub invariant_of-self-2 : goal.invariant_of-self-2

@@ -2,8 +2,8 @@ use Rattle.std.proofs.Common.{◌≡◌, ◌++◌, ◌∷◌, [], List, refl, ap
 use Rattle.hdfs_types.specs.declared.op.Request.{Request}
 use Rattle.cluster_trace.specs.Trace.{happens, event_outcome}
 use Rattle.cluster_trace.specs.declared.event.Event.TheVariants.{Name}
-use Rattle.cluster_parts.specs.declared.kept.KeptEvent.{KeptEvent}
-use Rattle.cluster_parts.specs.declared.kept.KeptEvent.TheVariants.{Refused}
+use Rattle.cluster_parts.specs.declared.kept.KeptEvents.{KeptEvents}
+use Rattle.cluster_parts.specs.declared.kept.KeptEvents.TheVariants.{Refused}
 use Rattle.cluster_core.specs.declared.world.World.TheInside.{Inside}
 use Rattle.cluster_core.proofs.Reaching.{Steps, kept_steps, lost_fits, step_reached, still_reached, step_past, step_outcome}
 use Rattle.cluster_core.proofs.world.World.refuse.Goals as goal
@@ -20,8 +20,8 @@ is_asked c = c.in-Ok.ensures.ok ∙ ap (λ (own : Request). happens c.self.insid
 
 steps : (c : goal.After-push_reserved) → Steps c.self.inside (Name c.args.request) (left c)
 steps c =
-    kept_steps c.self.inside (left c) (Name c.args.request) (Refused c.in_ok-kept.kept) (record { within = tt; is = ap Name c.in_ok-kept.ensures.ok }) refl (is_asked c)
-    (c.push_reserved.ensures.items ∙ ap (λ (events : List KeptEvent). events ++ Refused c.in_ok-kept.kept ∷ []) c.reserve.ensures.items)
+    kept_steps c.self.inside (left c) (Name c.args.request) (Refused c.in_ok-kept.kept) (λ history. (tt, ap (λ (own : Request). Name own ∷ []) c.in_ok-kept.ensures.ok)) refl (is_asked c)
+    (c.push_reserved.ensures.items ∙ ap (λ (events : List KeptEvents). events ++ Refused c.in_ok-kept.kept ∷ []) c.reserve.ensures.items)
     (lost_fits c.self.inside.cluster c.refuse.new.self c.args.request c.requires (is_asked c)) tt
 
 pub invariant_of-self-2 : goal.invariant_of-self-2
