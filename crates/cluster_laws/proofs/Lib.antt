@@ -1,2 +1,4 @@
 pub mod Logs
 pub mod Grants
+pub mod Lasting
+pub mod Growing

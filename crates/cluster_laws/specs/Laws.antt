@@ -1,11 +1,16 @@
--- What an operator of a cluster can rely on: who reaches a block, and how long.
+-- What an operator of a cluster can rely on: who reaches a block, and how long, and that the NameNode's history only grows.
 -- (HADOOP-4359: a DataNode takes a token by the keys that the NameNode sends it, and asks nobody.)
-use Rattle.std.specs.Prelude.{◌≡◌, ℕ, ◌<◌, ◌≤◌, true, List, [], ◌∷◌, ◌++◌, Option, Some, None, Ok}
+use Rattle.std.specs.Prelude.{◌≡◌, ℕ, ◌+◌, ◌<◌, ◌≤◌, true, ◌⊎◌, List, [], ◌∷◌, ◌++◌, Option, Some, None, Ok}
 use Rattle.std.specs.Bool.{⊤}
 use Rattle.std.specs.List.{AllByRecursion}
 use Rattle.permission_bits.specs.Rights.{covers}
 use Rattle.block_records.specs.Numbers.{entry_at}
 use Rattle.grant_ledger.specs.declared.ledger.LedgerRow.{LedgerRow}
+use Rattle.history.specs.ClockAndLease.{clock_of}
+use Rattle.history.specs.Config as name
+use Rattle.history.specs.Grants.{ledger_of}
+use Rattle.history.specs.Keys.{ring_of}
+use Rattle.history.specs.declared.entry.HistoryEntry.{HistoryEntry}
 use Rattle.node_calls.specs.declared.access_log.AccessRecord.{AccessRecord}
 use Rattle.node_calls.specs.declared.call.NodeCall.{NodeCall}
 use Rattle.node_calls.specs.declared.call.NodeCall.TheVariants.{Presenting, Invalidate, Keys}
@@ -18,12 +23,13 @@ use Rattle.node_replies.specs.Asking.{asked_by, record_of}
 use Rattle.replicas.specs.ReplicaStep.{held_at}
 use Rattle.datanode.specs.NodeStep.{DataNode, node_after, node_answer, clock_with}
 use Rattle.cluster_trace.specs.DataCall.{DataCall}
-use Rattle.cluster_trace.specs.Trace.{Cluster, ClusterOpening, message_at, event_happened, after}
+use Rattle.cluster_trace.specs.Trace.{Cluster, ClusterOpening, message_at, event_happened, happens, after}
 use Rattle.cluster_trace.specs.Provenance.{IsIn, ledger_in, IsForged, CallAt, call_of}
 use Rattle.cluster_trace.specs.Typed.{AreTyped}
 use Rattle.cluster_trace.specs.declared.event.Event.{Event}
 use Rattle.cluster_trace.specs.declared.event.Event.TheVariants.{Name, Deliver, Data}
-use Rattle.cluster_trace.specs.declared.outcome.EventAnswer.TheVariants.{Called}
+use Rattle.cluster_trace.specs.declared.outcome.ClusterRefusal.{ClusterRefusal}
+use Rattle.cluster_trace.specs.declared.outcome.EventAnswer.TheVariants.{Called, Lost}
 
 -- ---- forged tokens
 
@@ -111,3 +117,27 @@ GrantsEnd = (opening : ClusterOpening) (events : List Event) (event : Event) (ro
     → AreTyped opening (event ∷ events) → call_of (after opening events) event ≡ Some asked → asked.call ≡ Presenting presented call → entry_at asked.node (after opening events).nodes ≡ Some node
     → IsIn row (ledger_in (after opening events)) → row.grant.token ≡ presented.token → row.grant.expiry ≤ clock_with node asked.now
     → (event_happened (after opening events) event).answer ≡ Called (Ok told) → ⊥
+
+-- what a history's last entry granted expires one token lifetime after the clock at it, and is issued under the key that is the current one there
+pub record LastsOneLifetime (opening : name.Opening) (entry : HistoryEntry) (earlier : List HistoryEntry) (row : LedgerRow) : Type 0 where
+  pub place : row.place ≡ entry.place
+  pub expiry : row.grant.expiry ≡ clock_of (entry ∷ earlier) + opening.config.durations.token_lifetime
+  pub serial : row.grant.serial ≡ (ring_of opening earlier).serial
+
+abbrev pub LastsFromAny : name.Opening → List HistoryEntry → LedgerRow → Type 0
+LastsFromAny opening [] row = ⊥
+LastsFromAny opening (entry ∷ earlier) row = LastsOneLifetime opening entry earlier row ⊎ LastsFromAny opening earlier row
+
+-- each token that was ever granted
+abbrev pub GrantsLastOneLifetime : Type 0
+GrantsLastOneLifetime = (opening : name.Opening) (entries : List HistoryEntry) → AllByRecursion (LastsFromAny opening entries) (ledger_of opening entries)
+
+-- ---- what stays
+
+-- no entry goes or changes by what happens later: the newest entries stand first, so those that come stand before those that were there
+abbrev pub HistoriesOnlyGrow : Type 0
+HistoriesOnlyGrow = (opening : ClusterOpening) (later earlier : List Event) → (more : List HistoryEntry) × ((after opening (later ++ earlier)).entries ≡ more ++ (after opening earlier).entries)
+
+-- history, DataNodes, plans and messages are as they were
+abbrev pub LostEventsChangeNothing : Type 0
+LostEventsChangeNothing = (state : Cluster) (event : Event) (refusal : ClusterRefusal) → (event_happened state event).answer ≡ Lost refusal → (happens state event ≡ state) × ((event_happened state event).sent ≡ [])

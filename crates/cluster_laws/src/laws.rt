@@ -18,3 +18,16 @@ pub fn grants_outlive_rights_until_they_expire()
     ensures outlive { law.GrantsOutliveRights }
     ensures end { law.GrantsEnd }
 {}
+
+/// A token lives for the lifetime that the NameNode opened with, no longer and no shorter, from the NameNode's clock on at the entry that
+/// granted it, and is issued under the key that is the current one there (HADOOP-4359).
+pub fn grants_last_one_lifetime()
+    ensures { law.GrantsLastOneLifetime }
+{}
+
+/// What stands in the NameNode's history stays there, as it is, in its place: what happens later only appends to it. And an event that does
+/// nothing, as the delivery of a message that nobody sent, changes nothing at all in the cluster.
+pub fn histories_only_grow()
+    ensures grow { law.HistoriesOnlyGrow }
+    ensures lost { law.LostEventsChangeNothing }
+{}

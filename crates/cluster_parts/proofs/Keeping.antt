@@ -1,7 +1,7 @@
 -- What is kept of events stays, since a history only grows at its end; and one event more is kept.
-use Rattle.std.proofs.Common.{◌≡◌, ℕ, zero, suc, ◌+◌, ◌-◌, ◌≤◌, ◌<◌, List, [], ◌∷◌, ◌++◌, map, length, take, drop, refl, sym, ap, ◌∙◌, subst, arith}
-use Rattle.std.specs.List.{AllByRecursion, flat_map}
-use Rattle.std.proofs.lemmas.List.{length-append, length-drop, append_assoc, append-nil, map-append, take_all, take-append-le, drop-append-le}
+use Rattle.std.proofs.Common.{◌≡◌, ℕ, ◌+◌, ◌-◌, ◌≤◌, ◌<◌, List, [], ◌∷◌, ◌++◌, length, take, drop, reverse, refl, sym, ap, ◌∙◌, subst, arith}
+use Rattle.std.specs.List.{AllByRecursion}
+use Rattle.std.proofs.lemmas.List.{length-append, length-drop, length-reverse, reverse-append, append_assoc, append-nil, map-append, take_all, take-append-le, drop-append-le}
 use Rattle.std.proofs.lemmas.List.Concat.{flat_map-append}
 use Rattle.history.specs.declared.entry.HistoryEntry.{HistoryEntry}
 use Rattle.cluster_trace.specs.declared.event.Event.{Event}
@@ -87,7 +87,7 @@ regroup front own event all is =
     ∙ ap (λ (events : List Event). events ++ event ∷ []) (sym is)
 
 -- the last ones kept were made by the newest entries, and one more by the next
-pub run_more : (history : List HistoryEntry) (entry : HistoryEntry) (front : List KeptEvents) (first last : ℕ) → AreWithin history (front ++ Asked first last ∷ []) → length history ≡ last + 1
+run_more : (history : List HistoryEntry) (entry : HistoryEntry) (front : List KeptEvents) (first last : ℕ) → AreWithin history (front ++ Asked first last ∷ []) → length history ≡ last + 1
     → IsOneMore history (front ++ Asked first last ∷ []) (Name entry.request) (history ++ entry ∷ []) (front ++ Asked first (last + 1) ∷ [])
 run_more history entry front first last within long =
     let before : AreWithin history front = each_front (IsWithin history) front (Asked first last ∷ []) within in
@@ -105,9 +105,28 @@ run_more history entry front first last within long =
     }
 
 -- a first one is made by the newest entry
-pub new_run : (history : List HistoryEntry) (entry : HistoryEntry) (kept : List KeptEvents) (index : ℕ) → AreWithin history kept → index ≡ length history
+new_run : (history : List HistoryEntry) (entry : HistoryEntry) (kept : List KeptEvents) (index : ℕ) → AreWithin history kept → index ≡ length history
     → IsOneMore history kept (Name entry.request) (history ++ entry ∷ []) (kept ++ Asked index index ∷ [])
 new_run history entry kept index within long =
     one_more history (entry ∷ []) kept (Asked index index) (Name entry.request) within
     (omega arith, omega (arith, long, length-append history (entry ∷ [])))
     (ap asked_for (between_new history entry index long))
+
+-- ---- by the newest entry
+
+grown : (earlier : List HistoryEntry) (entry : HistoryEntry) → reverse (entry ∷ earlier) ≡ reverse earlier ++ entry ∷ []
+grown earlier entry = reverse-append (entry ∷ []) earlier
+
+pub kept_alone : (earlier : List HistoryEntry) (entry : HistoryEntry) (kept : List KeptEvents) (index : ℕ) → index ≡ length earlier → AreWithin (reverse earlier) kept
+    → IsOneMore (reverse earlier) kept (Name entry.request) (reverse (entry ∷ earlier)) (kept ++ Asked index index ∷ [])
+kept_alone earlier entry kept index long within =
+    subst (λ (history : List HistoryEntry). IsOneMore (reverse earlier) kept (Name entry.request) history (kept ++ Asked index index ∷ [])) (sym (grown earlier entry))
+    (new_run (reverse earlier) entry kept index within (long ∙ sym (length-reverse earlier)))
+
+pub kept_behind : (earlier : List HistoryEntry) (entry : HistoryEntry) (front : List KeptEvents) (first last index : ℕ) → index ≡ length earlier → index ≡ last + 1
+    → AreWithin (reverse earlier) (front ++ Asked first last ∷ [])
+    → IsOneMore (reverse earlier) (front ++ Asked first last ∷ []) (Name entry.request) (reverse (entry ∷ earlier)) (front ++ Asked first index ∷ [])
+kept_behind earlier entry front first last index long next within =
+    subst (λ (history : List HistoryEntry). IsOneMore (reverse earlier) (front ++ Asked first last ∷ []) (Name entry.request) history (front ++ Asked first index ∷ [])) (sym (grown earlier entry))
+    (subst (λ (at : ℕ). IsOneMore (reverse earlier) (front ++ Asked first last ∷ []) (Name entry.request) (reverse earlier ++ entry ∷ []) (front ++ Asked first at ∷ [])) (sym next)
+    (run_more (reverse earlier) entry front first last within (length-reverse earlier ∙ sym long ∙ next)))

@@ -3,6 +3,7 @@ pub mod EachPlan
 pub mod Keys
 pub mod Commands
 pub mod Tokens
+pub mod Lifetimes
 pub mod Sound
 pub mod Right
 pub mod Vectors

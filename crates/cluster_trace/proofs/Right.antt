@@ -21,6 +21,7 @@ use Rattle.block_tokens.proofs.Taking.{test_tells, parts_told}
 use Rattle.grant_ledger.specs.declared.ledger.LedgerRow.{LedgerRow}
 use Rattle.node_calls.specs.declared.call.NodeCall.{NodeCall}
 use Rattle.node_calls.specs.declared.call.NodeCall.TheVariants.{Presenting, Invalidate, Keys}
+use Rattle.node_calls.specs.declared.call.PlanCall.{PlanCall}
 use Rattle.node_calls.specs.declared.call.TokenCall.{TokenCall}
 use Rattle.node_calls.specs.declared.message.Message.{Message}
 use Rattle.node_calls.specs.declared.message.Message.TheVariants as message
@@ -31,9 +32,10 @@ use Rattle.node_calls.specs.declared.reply.NodeReply.{NodeReply}
 use Rattle.node_replies.specs.Asking.{asked_by, modes_of_call, sends_copy}
 use Rattle.replicas.specs.ReplicaStep.{held_at, replica_refusal}
 use Rattle.datanode.specs.NodeStep.{DataNode, node_answer, presented_answer, told_by, clock_with, call_refusal, token_or_replica, access_of}
-use Rattle.cluster_trace.specs.DataCall.{as_message}
-use Rattle.cluster_trace.specs.Provenance.{IsIn, ledger_in, IsGranted, IsForged, call_brought, call_of, request_brought, IsRuled, IsCovered, IsCoveredWhere, IsServedRightly, IsRightEvent, AllRight}
-use Rattle.cluster_trace.specs.Trace.{Cluster, ClusterOpening, event_lost, request_named, called_at, message_delivered, message_at, is_from_outside, after}
+use Rattle.block_recovery.specs.Plans.{PlanTable}
+use Rattle.cluster_trace.specs.DataCall.{DataCall, as_message, BeginWrite, Packet, Finalize, Read, Decide, Commit}
+use Rattle.cluster_trace.specs.Provenance.{IsIn, ledger_in, IsGranted, IsForged, call_brought, call_of, request_brought, request_made, IsRuled, IsCovered, IsCoveredWhere, IsServedRightly, IsRightEvent, AllRight}
+use Rattle.cluster_trace.specs.Trace.{Cluster, ClusterOpening, event_lost, request_named, called_at, led_at, message_delivered, message_at, is_from_outside, event_happened, after}
 use Rattle.cluster_trace.specs.Typed.{GrantFits, GrantsFit, PresentsBytes, CallFits, AreTyped}
 use Rattle.cluster_trace.specs.declared.event.Event.{Event}
 use Rattle.cluster_trace.specs.declared.event.Event.TheVariants.{Name, Deliver, Data}
@@ -169,23 +171,44 @@ delivered_rightly state now (Some (message.Plan node asked)) sound fits bytes = 
 delivered_rightly state now (Some (message.Reported node block stamp count)) sound fits bytes = tt
 delivered_rightly state now (Some (message.CommitRecovery node block stamp count nodes)) sound fits bytes = tt
 
+called_ruled : (state : Cluster) (id now : ℕ) (asked : NodeCall) (found : Option DataNode) → IsRuled state None (called_at state id now asked found)
+called_ruled state id now asked None = refl
+called_ruled state id now asked (Some node) = refl
+
+led_ruled : (state : Cluster) (id : ℕ) (asked : PlanCall) (found : Option PlanTable) → IsRuled state None (led_at state id asked found)
+led_ruled state id asked None = refl
+led_ruled state id asked (Some plans) = refl
+
 delivered_ruled : (state : Cluster) (now : ℕ) (found : Option Message) → IsRuled state (request_brought now found) (message_delivered state now found)
-delivered_ruled state now None = tt
-delivered_ruled state now (Some (message.Node node asked)) = tt
-delivered_ruled state now (Some (message.Plan node asked)) = tt
+delivered_ruled state now None = refl
+delivered_ruled state now (Some (message.Node node asked)) = called_ruled state node now asked (entry_at node state.nodes)
+delivered_ruled state now (Some (message.Plan node asked)) = led_ruled state node asked (entry_at node state.plans)
 delivered_ruled state now (Some (message.Reported node block stamp count)) = (refl, refl)
 delivered_ruled state now (Some (message.CommitRecovery node block stamp count nodes)) = (refl, refl)
 
+outside_ruled : (state : Cluster) (node now : ℕ) (asked : DataCall) → IsRuled state None (message_delivered state now (Some (as_message node asked)))
+outside_ruled state node now (BeginWrite presented next) = called_ruled state node now _ (entry_at node state.nodes)
+outside_ruled state node now (Packet presented offset bytes next) = called_ruled state node now _ (entry_at node state.nodes)
+outside_ruled state node now (Finalize presented count next) = called_ruled state node now _ (entry_at node state.nodes)
+outside_ruled state node now (Read presented offset count) = called_ruled state node now _ (entry_at node state.nodes)
+outside_ruled state node now (Decide block stamp) = led_ruled state node _ (entry_at node state.plans)
+outside_ruled state node now (Commit block stamp) = led_ruled state node _ (entry_at node state.plans)
+
 request_ruled : (state : Cluster) (request : Request) (b : Bool) → IsRuled state (cond b (Some request) None) (cond b (request_named state request) (event_lost state NotFromOutside))
 request_ruled state request true = (refl, refl)
-request_ruled state request false = tt
+request_ruled state request false = refl
+
+pub event_ruled : (state : Cluster) (event : Event) → IsRuled state (request_made state event) (event_happened state event)
+event_ruled state (Name request) = request_ruled state request (is_from_outside request.op)
+event_ruled state (Deliver number now) = delivered_ruled state now (message_at number state.messages)
+event_ruled state (Data node now asked) = outside_ruled state node now asked
 
 pub event_right : (state : Cluster) (event : Event) → IsSound state → GrantsFit state → CallFits (call_of state event) → IsRightEvent state event
-event_right state (Name request) sound fits bytes = record { ruled = request_ruled state request (is_from_outside request.op); served = tt }
+event_right state (Name request) sound fits bytes = record { ruled = event_ruled state (Name request); served = tt }
 event_right state (Deliver number now) sound fits bytes =
-    record { ruled = delivered_ruled state now (message_at number state.messages); served = delivered_rightly state now (message_at number state.messages) sound fits bytes }
+    record { ruled = event_ruled state (Deliver number now); served = delivered_rightly state now (message_at number state.messages) sound fits bytes }
 event_right state (Data node now asked) sound fits bytes =
-    record { ruled = tt; served = delivered_rightly state now (Some (as_message node asked)) sound fits bytes }
+    record { ruled = event_ruled state (Data node now asked); served = delivered_rightly state now (Some (as_message node asked)) sound fits bytes }
 
 pub all_right : (opening : ClusterOpening) (events : List Event) → AreTyped opening events → AllRight opening events
 all_right opening [] typed = tt

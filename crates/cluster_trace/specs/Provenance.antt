@@ -90,9 +90,10 @@ call_of state (Data node now asked) = call_brought now (Some (as_message node as
 
 -- ---- the theorem, for one event behind others
 
--- a request is answered by the next entry, with the verdict of the written rules on the entries before it
+-- a request is answered by the next entry, with the verdict of the written rules on the entries before it; an event that makes no request
+-- leaves the history as it was
 abbrev pub IsRuled : Cluster → Option Request → Happened → Type 0
-IsRuled state None what = ⊤
+IsRuled state None what = what.entries ≡ state.entries
 IsRuled state (Some request) what = (what.answer ≡ Named (length state.entries + 1)) × (what.entries ≡ entry_of state request ∷ state.entries)
 
 -- a call that presents a token is covered at its node: a copy is sent in the node's own name

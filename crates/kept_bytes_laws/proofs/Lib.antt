@@ -10,6 +10,14 @@ pub mod Safe
 pub mod Held
 pub mod Told
 pub mod Spelled
+pub mod Opened
 pub mod Listed
 pub mod Carried
 pub mod NotedCommits
+pub mod Tables
+pub mod Ordered
+pub mod Turned
+pub mod Reports
+pub mod Reporting
+pub mod Marked
+pub mod Deleted

@@ -1,10 +1,8 @@
 -- The NameNode lists DataNodes with what they have held.
-use Rattle.std.proofs.Common.{◌≡◌, ℕ, suc, ◌==◌, Bool, true, false, ◌||◌, inl, inr, List, [], ◌∷◌, filter, length, Option, Some, None, refl, sym, ap, ◌∙◌, subst, cond, arith}
+use Rattle.std.proofs.Common.{◌≡◌, ℕ, suc, ◌==◌, Bool, true, false, ◌||◌, inl, inr, List, [], ◌∷◌, filter, length, Some, refl, sym, ap, ◌∙◌, subst, cond, arith}
 use Rattle.std.specs.BTreeMap.{insert_entry}
-use Rattle.std.specs.Bool.{⊤}
 use Rattle.std.specs.List.{AllByRecursion}
 use Rattle.std.specs.Map.{keys_of, remove_entry}
-use Rattle.std.specs.Option.{option_map, option_and_then}
 use Rattle.std.specs.Ordering.{nat_cmp, is_eq, match_ordering}
 use Rattle.std.specs.declared.cmp.Ordering.{Ordering}
 use Rattle.std.specs.declared.cmp.Ordering.TheVariants.{Less, Equal, Greater}
@@ -12,50 +10,38 @@ use Rattle.std.proofs.lemmas.Bool.{eqb-true, eq-eqb}
 use Rattle.block_records.specs.Numbers.{is_number, has_number}
 use Rattle.block_records.specs.Reports.{agreeing_reports, with_reports_of}
 use Rattle.block_records.specs.declared.block_record.BlockRecord.{BlockRecord}
-use Rattle.block_records.specs.declared.last_block.LastBlock.{LastBlock}
 use Rattle.block_records.proofs.Numbers.{number_is}
 use Rattle.block_recovery.specs.declared.decision.Decision.{Decision}
 use Rattle.block_recovery.specs.declared.plan.Plan.{Plan}
 use Rattle.block_effect_laws.specs.Laws.{AgreeOn}
-use Rattle.block_map.specs.BlockFacts.{known_block, committed_length}
+use Rattle.block_map.specs.BlockFacts.{known_block}
 use Rattle.node_ids.specs.NodeId.{node_of}
-use Rattle.file_paths.specs.PathOrder.{same_path}
 use Rattle.block_answers.specs.declared.located.LocatedBlock.{LocatedBlock}
-use Rattle.hdfs_types.specs.declared.op.Op.{Op}
 use Rattle.hdfs_types.specs.declared.op.Op.TheVariants as op
 use Rattle.hdfs_types.specs.declared.replica.RecoveredBlock.{RecoveredBlock}
 use Rattle.hdfs_types.specs.declared.replica.ReportedReplica.{ReportedReplica}
-use Rattle.hdfs_types.specs.declared.reply.Reply.{Reply}
 use Rattle.hdfs_types.specs.declared.reply.Reply.TheVariants as reply
 use Rattle.file_blocks.specs.declared.blocks.FileBlock.{FileBlock}
-use Rattle.namespace_rows.specs.declared.row.Row.{Row}
-use Rattle.namespace_rows.specs.First.{first as front}
-use Rattle.namespace_rows.specs.Rows.{row_at}
-use Rattle.flat_rows.specs.BlockOutcome.{replication_at, added_to, located_block, located_with, blocks_of_file as blocks_in, blocks_of_row}
+use Rattle.flat_rows.specs.BlockOutcome.{located_with}
 use Rattle.flat_rows.specs.Facts.{Facts}
-use Rattle.flat_rows.specs.FileOutcome.{holder_at}
-use Rattle.flat_rows.specs.NodeOutcome.{heartbeat_reply}
-use Rattle.flat_rows.specs.Outcome.{reply_of, status_of, acl_status_of, serial_reply}
-use Rattle.flat_rows.specs.Takeover.{unfinished_at, appended_reply}
 use Rattle.flat_rows.specs.declared.verdict.Verdict.{Verdict}
 use Rattle.flat_rows.specs.declared.verdict.Verdict.TheVariants.{Done, Denied, Refused}
 use Rattle.history.specs.Blocks as blocks
 use Rattle.history.specs.LegalHistory.{now_at}
 use Rattle.history.specs.State.{rows_of, users_of, facts_of}
 use Rattle.history.specs.declared.entry.HistoryEntry.{HistoryEntry}
-use Rattle.block_laws.specs.Laws.{LengthsAre}
 use Rattle.block_laws.proofs.Histories.{stands, files_tell}
 use Rattle.block_laws.proofs.Unrefused.{was_done}
 use Rattle.node_calls.specs.declared.message.Message.TheVariants as message
 use Rattle.cluster_trace.specs.Provenance.{call_of}
 use Rattle.cluster_trace.specs.Trace.{Cluster, ClusterOpening, Happened, entry_of, request_named, event_happened, left_by, after}
 use Rattle.cluster_trace.specs.declared.event.Event.{Event}
-use Rattle.cluster_trace.proofs.Each.{some_is, never_some, each_more, each_in}
+use Rattle.cluster_trace.proofs.Each.{some_is, each_more, each_in}
 use Rattle.fencing_laws.specs.Fencing.{HasDecided}
 use Rattle.fencing_laws.proofs.Decided.{CommitDecided, Carries, all_carry}
 use Rattle.fencing_laws.proofs.Leaders.{each_both, facts_in, leaders}
-use Rattle.fencing_laws.proofs.Orders.{each_found}
 use Rattle.kept_bytes_laws.specs.Listed.{HasHeld, ListedNodesHeld}
+use Rattle.kept_bytes_laws.proofs.Opened.{OfListed, of_reply}
 use Rattle.kept_bytes_laws.proofs.Noted.{NotedBy, Noted, all_noted}
 use Rattle.kept_bytes_laws.proofs.Records.{OfEach, Stays, each_after}
 use Rattle.kept_bytes_laws.proofs.Spelled.{named}
@@ -217,10 +203,6 @@ record IsListed (opening : ClusterOpening) (events : List Event) (block stamp le
 abbrev Lists : ClusterOpening → List Event → LocatedBlock → Type 0
 Lists opening events listed = (node : ℕ) → has_number node listed.nodes ≡ true → HasHeld opening events node listed.block listed.stamp listed.length
 
-abbrev ListsHeld : ClusterOpening → List Event → Reply → Type 0
-ListsHeld opening events (reply.Opened file) = AllByRecursion (Lists opening events) file.blocks
-ListsHeld opening events _ = ⊤
-
 found_in : (P : ℕ → ℕ → Type 0) (node : ℕ) (reports : List (ℕ × ℕ)) → AllByRecursion (λ (report : ℕ × ℕ). P report.0 report.1) reports → has_number node (keys_of reports) ≡ true → (count : ℕ) × P node count
 found_in P node [] all has = cc
 found_in P node (report ∷ reports) all has = by (report.0 == node) refl has (found_in P node reports all.1)
@@ -229,82 +211,17 @@ found_in P node (report ∷ reports) all has = by (report.0 == node) refl has (f
     by true at h rest = (report.1, subst (λ n. P n report.1) (eqb-true report.0 node at) all.0)
     by false at h rest = rest h
 
-row_has : (P : Row → Type 0) (path : List (List ℕ)) (rows : List Row) (row : Row) → AllByRecursion P rows → row_at path rows ≡ Some row → P row
-row_has P path [] row all at = absurd (never_some row at)
-row_has P path (first ∷ rows) row all at = by (same_path path first.path) at (row_has P path rows row all.1)
-  where
-    by : (b : Bool) → front (cond b (first ∷ filter (λ other. same_path path other.path) rows) (filter (λ other. same_path path other.path) rows)) ≡ Some row → (row_at path rows ≡ Some row → P row) → P row
-    by true h rest = subst P (some_is first row h) all.0
-    by false h rest = rest h
-
-module _ (opening : ClusterOpening) (events : List Event) (facts : Facts) (caller : List ℕ) (rows : List Row) (records : OfEach (ReportsHeld opening events) facts.blocks.known.blocks)
-    (agree : (block : ℕ) (own : BlockRecord) → known_block facts.blocks block ≡ Some own → AgreeOn own.committed own.reports) (lengths : LengthsAre facts.blocks rows) where
-  abbrev IsTold : FileBlock → Type 0
-  IsTold block = committed_length facts.blocks block.id ≡ block.committed
-
-  located_is : (x y : LocatedBlock) → Some x ≡ Some y → x ≡ y
-  located_is x y e = cc
-
-  lists : (block : FileBlock) (listed : LocatedBlock) → IsTold block → located_block facts.token caller facts.blocks block ≡ Some listed → Lists opening events listed
-  lists block listed told is = by block.committed refl is
-    where
-      here : (length : ℕ) (own : BlockRecord) → block.committed ≡ Some length → known_block facts.blocks block.id ≡ Some own → Lists opening events (located_with facts.token caller block.id length own)
-      here length own e there node has =
-          let committed : own.committed ≡ Some length = ap (λ (found : Option BlockRecord). option_and_then (λ (one : BlockRecord). one.committed) found) (sym there) ∙ (told ∙ e) in
-          let all : AgreeOn (Some length) own.reports = subst (λ c. AgreeOn c own.reports) committed (agree block.id own there) in
-          let found = found_in (IsListed opening events block.id own.stamp length) node own.reports
-          (each_more (λ (report : ℕ × ℕ). HasHeld opening events report.0 block.id own.stamp report.1 × (report.1 ≡ length)) (λ (report : ℕ × ℕ). IsListed opening events block.id own.stamp length report.0 report.1)
-          (λ report h. record { held = h.0; same = h.1 }) own.reports
-          (each_both (λ (report : ℕ × ℕ). HasHeld opening events report.0 block.id own.stamp report.1) (λ (report : ℕ × ℕ). report.1 ≡ length) own.reports (records block.id own there) all)) has in
-          subst (λ count. HasHeld opening events node block.id own.stamp count) found.1.same found.1.held
-
-      by_record : (length : ℕ) → block.committed ≡ Some length → (found : Option BlockRecord) → known_block facts.blocks block.id ≡ found → option_map (located_with facts.token caller block.id length) found ≡ Some listed → Lists opening events listed
-      by_record length e None at h = absurd (never_some listed h)
-      by_record length e (Some own) at h = subst (Lists opening events) (located_is (located_with facts.token caller block.id length own) listed h) (here length own e at)
-
-      by : (found : Option ℕ) → block.committed ≡ found → option_and_then (λ length. option_map (located_with facts.token caller block.id length) (known_block facts.blocks block.id)) found ≡ Some listed → Lists opening events listed
-      by None e h = absurd (never_some listed h)
-      by (Some length) e h = by_record length e (known_block facts.blocks block.id) refl h
-
-  told_at : (found : Option Row) (path : List (List ℕ)) → row_at path rows ≡ found → AllByRecursion IsTold (blocks_of_row found)
-  told_at None path e = tt
-  told_at (Some row) path e = row_has (λ (one : Row). AllByRecursion IsTold (blocks_in one.file)) path rows row lengths e
-
-  status_lists : (at : Option Row) → ListsHeld opening events (status_of at)
-  status_lists None = tt
-  status_lists (Some row) = tt
-
-  acl_lists : (at : Option Row) → ListsHeld opening events (acl_status_of at)
-  acl_lists None = tt
-  acl_lists (Some row) = tt
-
-  append_lists : (holder : Option (List ℕ)) (block : Option ℕ) → ListsHeld opening events (appended_reply facts.blocks holder block)
-  append_lists None block = tt
-  append_lists (Some holder) None = tt
-  append_lists (Some holder) (Some block) = tt
-
-  serial_lists : (serial : Option ℕ) → ListsHeld opening events (serial_reply serial)
-  serial_lists None = tt
-  serial_lists (Some serial) = tt
-
-  added_lists : (last : Option LastBlock) (replication : Option ℕ) → ListsHeld opening events (added_to facts.token caller facts.blocks last facts.now replication)
-  added_lists last None = tt
-  added_lists last (Some replication) = tt
-
-  heartbeat_lists : (node : Option ℕ) → ListsHeld opening events (heartbeat_reply facts caller node)
-  heartbeat_lists None = tt
-  heartbeat_lists (Some node) = tt
-
-  reply_lists : (what : Op) → ListsHeld opening events (reply_of facts caller what rows)
-  reply_lists (op.Stat path) = status_lists (row_at path rows)
-  reply_lists (op.GetAcl path) = acl_lists (row_at path rows)
-  reply_lists (op.Append path) = append_lists (holder_at (row_at path rows)) (unfinished_at (row_at path rows))
-  reply_lists (op.AddBlock path last) = added_lists last (replication_at (row_at path rows))
-  reply_lists (op.Open path) =
-      each_found IsTold (Lists opening events) (located_block facts.token caller facts.blocks) lists (blocks_of_row (row_at path rows)) (told_at (row_at path rows) path refl)
-  reply_lists (op.RollKey key) = serial_lists facts.next_serial
-  reply_lists op.Heartbeat = heartbeat_lists (node_of caller)
-  reply_lists _ = tt
+module _ (opening : ClusterOpening) (events : List Event) (facts : Facts) (records : OfEach (ReportsHeld opening events) facts.blocks.known.blocks)
+    (agree : (block : ℕ) (own : BlockRecord) → known_block facts.blocks block ≡ Some own → AgreeOn own.committed own.reports) where
+  lists : (caller : List ℕ) (length : ℕ) (block : FileBlock) (own : BlockRecord) → own.committed ≡ Some length → known_block facts.blocks block.id ≡ Some own
+      → Lists opening events (located_with facts.token caller block.id length own)
+  lists caller length block own committed there node has =
+      let all : AgreeOn (Some length) own.reports = subst (λ c. AgreeOn c own.reports) committed (agree block.id own there) in
+      let found = found_in (IsListed opening events block.id own.stamp length) node own.reports
+      (each_more (λ (report : ℕ × ℕ). HasHeld opening events report.0 block.id own.stamp report.1 × (report.1 ≡ length)) (λ (report : ℕ × ℕ). IsListed opening events block.id own.stamp length report.0 report.1)
+      (λ report h. record { held = h.0; same = h.1 }) own.reports
+      (each_both (λ (report : ℕ × ℕ). HasHeld opening events report.0 block.id own.stamp report.1) (λ (report : ℕ × ℕ). report.1 ≡ length) own.reports (records block.id own there) all)) has in
+      subst (λ count. HasHeld opening events node block.id own.stamp count) found.1.same found.1.held
 
 -- ---- the law
 
@@ -338,7 +255,7 @@ listed_held opening earlier event entry file listed node entries opened i has = 
         let done : Done (reply.Opened file) ≡ (entry_of state request).verdict = sym opened ∙ ap (λ (e : HistoryEntry). e.verdict) (sym made) in
         let was = was_done facts rows (users_of state.entries) request.caller request.op (reply.Opened file) done in
         let legal = (leaders opening earlier).legal in
-        let lists = reply_lists opening earlier facts request.caller rows (all_true opening earlier)
-        (λ block own_record there. ((stands state.opening state.entries legal).sound.each block own_record there).agreed) (files_tell state.opening state.entries legal) request.op in
-        let all : ListsHeld opening earlier (reply.Opened file) = subst (ListsHeld opening earlier) (sym was.told_is) lists in
+        let listing = of_reply (Lists opening earlier) facts request.caller rows (files_tell state.opening state.entries legal)
+        (lists opening earlier facts (all_true opening earlier) (λ block own_record there. ((stands state.opening state.entries legal).sound.each block own_record there).agreed) request.caller) request.op in
+        let all : OfListed (Lists opening earlier) (reply.Opened file) = subst (OfListed (Lists opening earlier)) (sym was.told_is) listing in
         each_in (Lists opening earlier) file.blocks listed all i node has

@@ -49,7 +49,7 @@ module _ (P : ℕ → BlockRecord → Type 0) where
   abbrev pub OfEach : Table → Type 0
   OfEach table = (block : ℕ) (own : BlockRecord) → entry_at block table ≡ Some own → P block own
 
-  changed_has : (change : BlockRecord → BlockRecord) (block : ℕ) (table : Table) → ((own : BlockRecord) → entry_at block table ≡ Some own → P block own → P block (change own)) → OfEach table → OfEach (with_record_changed change block table)
+  pub changed_has : (change : BlockRecord → BlockRecord) (block : ℕ) (table : Table) → ((own : BlockRecord) → entry_at block table ≡ Some own → P block own → P block (change own)) → OfEach table → OfEach (with_record_changed change block table)
   changed_has change block table keeps all q own there = by (is_number block q) refl (sym (changed_at change block table q) ∙ there)
     where
       here : (found : Option BlockRecord) → entry_at block table ≡ found → option_map change found ≡ Some own → P block own
@@ -67,12 +67,12 @@ module _ (P : ℕ → BlockRecord → Type 0) where
       by true h = cc
       by false h = all q own h
 
-  all_removed_have : (blocks : List ℕ) (table : Table) → AreInOrder table → OfEach table → OfEach (without_blocks table blocks)
+  pub all_removed_have : (blocks : List ℕ) (table : Table) → AreInOrder table → OfEach table → OfEach (without_blocks table blocks)
   all_removed_have [] table up all = all
   all_removed_have (block ∷ blocks) table up all =
       all_removed_have blocks (remove_entry (is_number block) table) (taken_in_order (is_number block) table up) (removed_has block table up all)
 
-  added_has : (known : KnownBlocks) (targets : List ℕ) (replication : ℕ) → P known.next_block (new_record known.next_stamp targets replication) → OfEach known.blocks → OfEach (with_new_block known targets replication).blocks
+  pub added_has : (known : KnownBlocks) (targets : List ℕ) (replication : ℕ) → P known.next_block (new_record known.next_stamp targets replication) → OfEach known.blocks → OfEach (with_new_block known targets replication).blocks
   added_has known targets replication new all q own there = by (is_number known.next_block q) refl (sym (added_at known targets replication q) ∙ there)
     where
       made : BlockRecord

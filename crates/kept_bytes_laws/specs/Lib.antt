@@ -1,3 +1,4 @@
 pub mod KeptBytes
 pub mod Listed
 pub mod Carried
+pub mod Reports

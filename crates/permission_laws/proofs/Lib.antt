@@ -10,3 +10,4 @@ pub mod RowsAt
 pub mod Elsewhere
 pub mod LastAbove
 pub mod Parts
+pub mod Judging

@@ -1,2 +1,3 @@
 pub mod Attempt
 pub mod Laws
+pub mod Judging

@@ -1,5 +1,6 @@
 //! Laws of permissions. Each function does nothing: what it ensures follows from the definitions.
 
+ghost use Rattle.permission_laws.specs.Judging as judging;
 ghost use Rattle.permission_laws.specs.Laws as law;
 
 /// A superuser is never denied what isn't for DataNodes alone, and nobody else is one than the user that the NameNode runs as and the members of the supergroup (HDFS
@@ -89,4 +90,18 @@ pub fn parts_change_alone()
     ensures lists { law.ListsChangeAlone }
     ensures owners { law.OwnersChangeAlone }
     ensures stand { law.NothingComesOrGoes }
+{}
+
+/// The owner is judged by the owner's entry alone, without the mask; else a named user by his own, behind the mask, whatever groups he is
+/// in; else a member of groups that have entries by one of these, behind the mask, also where none grants: by the first that grants, else
+/// by the first. Who matches none of them is judged by the entry of all others, without the mask, and nobody else is (HDFS Permissions
+/// Guide, "ACLs (Access Control Lists)").
+pub fn the_entry_that_decides()
+    ensures owners { judging.OwnersAreUnmasked }
+    ensures named { judging.NamedUsersComeBeforeGroups }
+    ensures members { judging.GroupMembersAreNotOthers }
+    ensures granting { judging.FirstOfGroupsGrants }
+    ensures denying { judging.FirstOfGroupsDenies }
+    ensures others { judging.OthersAreUnmasked }
+    ensures nobody { judging.OthersMatchNothingElse }
 {}
