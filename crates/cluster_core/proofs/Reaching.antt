@@ -184,7 +184,7 @@ reached_rest world reached = records_rest (past_of world).opening (past_of world
 past_same : (old new : Inside) → new.ids.items ≡ old.ids.items → new.cluster ≡ old.cluster → new.events.items ≡ old.events.items → past_of new ≡ past_of old
 past_same old new ids cluster events =
     ap (λ (own : Cluster). record { opening = record { name = own.opening; nodes = new.ids.items }; events = reverse (events_kept (reverse own.entries) new.events.items) }) cluster
-    ∙ ap (λ (own : List ℕ). record { opening = record { name = old.cluster.opening; nodes = own }; events = reverse (map (event_of_kept (history_of old)) new.events.items) }) ids
+    ∙ ap (λ (own : List ℕ). record { opening = record { name = old.cluster.opening; nodes = own }; events = reverse (events_kept (history_of old) new.events.items) }) ids
     ∙ ap (λ (own : List KeptEvents). record { opening = (past_of old).opening; events = reverse (events_kept (history_of old) own) }) events
 
 pub still_reached : (old new : Inside) → new.ids.items ≡ old.ids.items → new.cluster ≡ old.cluster → new.events.items ≡ old.events.items → IsReached old → IsReached new
