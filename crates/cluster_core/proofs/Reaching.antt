@@ -1,5 +1,5 @@
 -- One event more.
-use Rattle.std.proofs.Common.{◌≡◌, ℕ, Bool, true, false, cond, List, [], ◌∷◌, ◌++◌, reverse, refl, sym, ap, ◌∙◌, subst, Option, Some, None}
+use Rattle.std.proofs.Common.{◌≡◌, ℕ, true, false, List, [], ◌∷◌, ◌++◌, reverse, sym, ap, ◌∙◌, subst, Option, Some, None}
 use Rattle.std.proofs.lemmas.List.{reverse-append}
 use Rattle.block_records.specs.Numbers.{entry_at}
 use Rattle.history.specs.declared.entry.HistoryEntry.{HistoryEntry}
@@ -10,15 +10,14 @@ use Rattle.datanode.specs.NodeStep.{DataNode}
 use Rattle.hdfs_types.specs.declared.op.Request.{Request}
 use Rattle.node_calls.specs.declared.call.PlanCall.{PlanCall}
 use Rattle.block_recovery.specs.Plans.{PlanTable}
-use Rattle.cluster_trace.specs.DataCall.{DataCall, as_message, BeginWrite, Packet, Finalize, Read, Decide, Commit}
-use Rattle.cluster_trace.specs.Trace.{Cluster, event_lost, entry_of, request_named, report_request, commit_request, called_at, led_at, message_at, message_delivered, is_from_outside, left_by, happens, event_outcome}
-use Rattle.cluster_trace.specs.Provenance.{AllRight, call_of}
+use Rattle.cluster_trace.specs.DataCall.{DataCall, BeginWrite, Packet, Finalize, Read, Decide, Commit}
+use Rattle.cluster_trace.specs.Trace.{Cluster, entry_of, request_named, called_at, led_at, is_from_outside, left_by, happens, event_outcome, Happened, event_happened}
+use Rattle.cluster_trace.specs.Provenance.{AllRight, IsRuled, call_of, request_made}
 use Rattle.cluster_trace.specs.Typed.{GrantsFit, CallFits, AreTyped}
 use Rattle.cluster_trace.specs.declared.event.Event.{Event}
-use Rattle.cluster_trace.specs.declared.event.Event.TheVariants.{Name, Deliver, Data}
-use Rattle.cluster_trace.specs.declared.outcome.ClusterRefusal.TheVariants.{NotFromOutside}
+use Rattle.cluster_trace.specs.declared.event.Event.TheVariants.{Name, Data}
 use Rattle.cluster_trace.specs.declared.outcome.Outcome.{Outcome}
-use Rattle.cluster_trace.proofs.Right.{all_right}
+use Rattle.cluster_trace.proofs.Right.{all_right, event_ruled}
 use Rattle.cluster_laws.specs.Laws.{RecordsOf}
 use Rattle.cluster_laws.proofs.Logs.{records_rest}
 use Rattle.cluster_parts.specs.Kept.{IsWithin, AreWithin, events_of, events_kept, IsOneMore}
@@ -35,35 +34,12 @@ pub record Grows (old new : List HistoryEntry) : Type 0 where
   pub more : List HistoryEntry
   pub is : new ≡ more ++ old
 
-stays : (entries : List HistoryEntry) → Grows entries entries
-stays entries = record { more = []; is = refl }
-
-grows_named : (state : Cluster) (request : Request) → Grows state.entries (request_named state request).entries
-grows_named state request = record { more = entry_of state request ∷ []; is = refl }
-
-grows_called : (state : Cluster) (id now : ℕ) (asked : NodeCall) (found : Option DataNode) → Grows state.entries (called_at state id now asked found).entries
-grows_called state id now asked None = stays state.entries
-grows_called state id now asked (Some node) = stays state.entries
-
-grows_led : (state : Cluster) (id : ℕ) (asked : PlanCall) (found : Option PlanTable) → Grows state.entries (led_at state id asked found).entries
-grows_led state id asked None = stays state.entries
-grows_led state id asked (Some plans) = stays state.entries
-
-grows_delivered : (state : Cluster) (now : ℕ) (found : Option Message) → Grows state.entries (message_delivered state now found).entries
-grows_delivered state now None = stays state.entries
-grows_delivered state now (Some (message.Node node asked)) = grows_called state node now asked (entry_at node state.nodes)
-grows_delivered state now (Some (message.Plan node asked)) = grows_led state node asked (entry_at node state.plans)
-grows_delivered state now (Some (message.Reported node block stamp bytes)) = record { more = entry_of state (report_request node now block stamp bytes) ∷ []; is = refl }
-grows_delivered state now (Some (message.CommitRecovery node block stamp bytes nodes)) = record { more = entry_of state (commit_request node now block stamp bytes nodes) ∷ []; is = refl }
-
-grows_asked : (state : Cluster) (request : Request) (outside : Bool) → Grows state.entries (cond outside (request_named state request) (event_lost state NotFromOutside)).entries
-grows_asked state request true = grows_named state request
-grows_asked state request false = stays state.entries
+grows_by : (state : Cluster) (request : Option Request) (what : Happened) → IsRuled state request what → Grows state.entries what.entries
+grows_by state None what ruled = record { more = []; is = ruled }
+grows_by state (Some request) what ruled = record { more = entry_of state request ∷ []; is = ruled.1 }
 
 grows : (state : Cluster) (event : Event) → Grows state.entries (happens state event).entries
-grows state (Name request) = grows_asked state request (is_from_outside request.op)
-grows state (Deliver number now) = grows_delivered state now (message_at number state.messages)
-grows state (Data node now asked) = grows_delivered state now (Some (as_message node asked))
+grows state event = grows_by state (request_made state event) (event_happened state event) (event_ruled state event)
 
 -- what the history is longer by, the oldest first
 abbrev more_of : Inside → Event → List HistoryEntry
