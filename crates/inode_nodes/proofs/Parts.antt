@@ -29,8 +29,8 @@ pub held_parts : (n : List ℕ) (i : Inside) (m : BTreeMap (List ℕ) Node) (b :
 held_parts n i m b o seen is sorted found =
     subst (λ x. IsPart n x.beneath o) seen (subst (λ h. IsPart n (rows_in h) o) (sym is) (subst (IsPart n (flatten m.entries)) found (part-lookup n m.entries (subst IsSorted is sorted))))
 
-pub file_parts : (n : List ℕ) (i : Inside) (file : FileRow) (b : Node) → branch_of i ≡ b → i.held ≡ File file → IsPart n b.beneath None
-file_parts n i file b seen is = subst (λ x. IsPart n x.beneath None) seen (subst (λ h. IsPart n (rows_in h) None) (sym is) (record { seen = λ p q h. refl }))
+pub file_parts : (n : List ℕ) (i : Inside) (place : ℕ) (b : Node) → branch_of i ≡ b → i.held ≡ File place → IsPart n b.beneath None
+file_parts n i place b seen is = subst (λ x. IsPart n x.beneath None) seen (subst (λ h. IsPart n (rows_in h) None) (sym is) (record { seen = λ p q h. refl }))
 
 -- wholes
 

@@ -15,8 +15,7 @@ use Rattle.namespace_rows.specs.First.{first}
 use Rattle.namespace_rows.specs.Rows.{is_directory, is_none, is_missing}
 use Rattle.namespace_rows.specs.Namespace.{is_child, has_parent}
 use Rattle.namespace_rows.specs.declared.row.Change.{Change}
-use Rattle.namespace_rows.specs.Files.{with_block}
-use Rattle.flat_rows.specs.Changes.{without, file_edited, with_change, row_rewritten, block_added}
+use Rattle.flat_rows.specs.Changes.{without, with_change, row_rewritten}
 use Rattle.inode_nodes.specs.Kept.{branch_of, rows_in, IsSorted}
 use Rattle.inode_nodes.specs.declared.node.Held.{Held}
 use Rattle.inode_nodes.specs.declared.node.Held.TheVariants.{File, Directory}
@@ -104,10 +103,10 @@ pub held_parent : (above : List (List ℕ)) (name : List ℕ) (i : Inside) (m : 
 held_parent above name i m b seen is h =
     subst (λ x. IsTrue (holds_parent above name (rows_in x))) is (subst (λ x. IsTrue (holds_parent above name x.beneath)) (sym seen) (parent_held above name b h))
 
-pub file_holds_none : (above : List (List ℕ)) (name : List ℕ) (i : Inside) (file : FileRow) (b : Node) → branch_of i ≡ b → i.held ≡ File file → IsTrue (has_parent (above ++ name ∷ []) (rows b)) → ⊥
-file_holds_none above name i file b seen is h = go above (subst (λ x. IsTrue (has_parent (above ++ name ∷ []) (rows (branch_of (record i { held = x }))))) is (subst (λ x. IsTrue (has_parent (above ++ name ∷ []) (rows x))) (sym seen) h))
+pub file_holds_none : (above : List (List ℕ)) (name : List ℕ) (i : Inside) (place : ℕ) (b : Node) → branch_of i ≡ b → i.held ≡ File place → IsTrue (has_parent (above ++ name ∷ []) (rows b)) → ⊥
+file_holds_none above name i place b seen is h = go above (subst (λ x. IsTrue (has_parent (above ++ name ∷ []) (rows (branch_of (record i { held = x }))))) is (subst (λ x. IsTrue (has_parent (above ++ name ∷ []) (rows x))) (sym seen) h))
   where
-    go : (above : List (List ℕ)) → IsTrue (has_parent (above ++ name ∷ []) (rows (branch_of (record i { held = File file })))) → ⊥
+    go : (above : List (List ℕ)) → IsTrue (has_parent (above ++ name ∷ []) (rows (branch_of (record i { held = File place })))) → ⊥
     go [] k = false≢true k
     go (n ∷ []) k = false≢true k
     go (n ∷ m ∷ ms) k = false≢true k
@@ -201,7 +200,7 @@ module _ (new : Row → Row) where
       ∙ ap (λ l. l ++ rewritten_by new [] (flatten es)) (untouched_row e.0 (rows e.1)) ∙ ap (λ l. map (under e.0) (rows e.1) ++ l) (untouched es)
 
   untouched_in : (h : Held) → rewritten_by new [] (rows_in h) ≡ rows_in h
-  untouched_in (File file) = refl
+  untouched_in (File place) = refl
   untouched_in (Directory m) = untouched m.entries
 
   untouched_beneath : (i : Inside) (b : Node) → branch_of i ≡ b → rewritten_by new [] b.beneath ≡ b.beneath
@@ -209,9 +208,6 @@ module _ (new : Row → Row) where
 
 pub unchanged_beneath : (c : Change) (i : Inside) (b : Node) → branch_of i ≡ b → row_rewritten [] c b.beneath ≡ b.beneath
 unchanged_beneath c = untouched_beneath (with_change c)
-
-pub unadded_beneath : (block : ℕ) (i : Inside) (b : Node) → branch_of i ≡ b → block_added [] block b.beneath ≡ b.beneath
-unadded_beneath block = untouched_beneath (file_edited (with_block block))
 
 module _ (new : Row → Row) (pathless : IsPathless new) where
   pub rewrite_top : (names : List (List ℕ)) (b d : Node) → names ≡ [] → rewritten_by new [] b.beneath ≡ b.beneath → d ≡ record { top = top_of (new (row_of [] b.top)); beneath = b.beneath } → rows d ≡ rewritten_by new names (rows b)

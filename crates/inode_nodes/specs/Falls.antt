@@ -15,5 +15,5 @@ most_le [] = omega arith
 most_le (e ∷ es) = omega (arith, most_le es, length-append (map (under e.0) (rows e.1)) (flatten es), length-map (rows e.1) (under e.0))
 
 pub falls : (h : Held) → max (deep-Held h) 0 ≤ length (rows_in h)
-falls (File file) = omega arith
+falls (File place) = omega arith
 falls (Directory m) = omega (arith, most_le m.entries)

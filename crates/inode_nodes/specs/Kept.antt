@@ -8,20 +8,21 @@ use Rattle.hdfs_types.specs.declared.reply.ObjectKind.TheVariants as kind
 use Rattle.namespace_rows.specs.declared.file_row.FileRow.{FileRow}
 use Rattle.namespace_rows.specs.declared.row.Row.{Row}
 use Rattle.inode_nodes.specs.Node.{Node, flatten}
+use Rattle.file_table.specs.Place.{placed}
 use Rattle.inode_nodes.specs.declared.node.Held.{Held}
 use Rattle.inode_nodes.specs.declared.node.Held.TheVariants.{File, Directory}
 use Rattle.inode_nodes.specs.declared.node.Node.TheInside.{Inside}
 
 abbrev pub kind_of : Held → ObjectKind
-kind_of (File file) = kind.File
+kind_of (File place) = kind.File
 kind_of (Directory map) = kind.Directory
 
 abbrev pub file_of : Held → Option FileRow
-file_of (File file) = Some file
+file_of (File place) = Some (placed place)
 file_of (Directory map) = None
 
 abbrev pub rows_in : Held → List Row
-rows_in (File file) = []
+rows_in (File place) = []
 rows_in (Directory map) = flatten map.entries
 
 abbrev pub branch_of : Inside → Node
@@ -29,5 +30,5 @@ branch_of node = record { top = record { kind = kind_of node.held; owner = node.
 
 -- the names of a directory ascend
 abbrev pub IsSorted : Held → Type 0
-IsSorted (File file) = Unit {0}
+IsSorted (File place) = Unit {0}
 IsSorted (Directory map) = IsStrictlySortedBy text_cmp (keys_of map.entries)

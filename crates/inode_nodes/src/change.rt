@@ -5,29 +5,33 @@ ghost use Rattle.file_paths.specs.Path.{is_prefix};
 ghost use Rattle.hdfs_values.specs.Text.{text_cmp};
 ghost use Rattle.namespace_rows.specs.Rows.{is_missing, file_above, ancestor};
 ghost use Rattle.namespace_rows.specs.Namespace.{has_parent};
-ghost use Rattle.namespace_rows.specs.Files.{with_state, with_file_replication, without_last, committed_at, completed_at, recovered_at};
 ghost use Rattle.flat_rows.specs.Outcome.{kind_of_new, with_new};
 ghost use Rattle.flat_rows.specs.Changes.{without, with_rows_moved, row_rewritten};
 ghost use Rattle.inode_nodes.specs.Node.{Top, rows, row_of, under, flatten, with_rows};
 ghost use Rattle.inode_nodes.specs.Part.{IsWhole};
-ghost use Rattle.inode_nodes.specs.Change.{branch_grafted, holds_parent, chain, changed_top};
-ghost use Rattle.inode_nodes.specs.Kept.{kind_of as kind_of_held, file_of, rows_in, IsSorted};
+ghost use Rattle.inode_nodes.specs.Change.{branch_grafted, holds_parent, chain, changed_top, change_of};
+ghost use Rattle.file_table.specs.Place.{placed};
 
 use crate::node::{Held, Node};
 use acl_entries::acl::Acl;
 use default_acl::inherit::inherit;
 use file_paths::name::Name;
-use hdfs_types::file::FileState;
+use file_table::place::FilePlace;
 use hdfs_types::reply::ObjectKind;
-use hdfs_values::ids::BlockId;
-use hdfs_values::replication::Repl;
 use hdfs_values::who::Who;
-use namespace_rows::file_row::FileRow;
-use namespace_rows::row::Change;
 use permission_bits::mode::Mode;
 use std::alloc::{AllocError, Global};
 use std::collections::BTreeMap;
-use std::mem::replace;
+use std::mem::swap;
+
+/// What is given to a file or a directory, in the place of what it has.
+#[derive(Drop)]
+pub enum Given {
+    /// This owner and this group.
+    Owners(Who, Who),
+    /// This access control list.
+    List(Acl),
+}
 
 impl Node {
     /// Puts a node by its name into the directory at the path.
@@ -110,44 +114,37 @@ impl Node {
         Ok(())
     }
 
-    /// Gives the node what the change says.
+    /// Gives the node another part, which is exchanged for what it has.
     #[tactic(auto, using(crate::proofs::Through::unchanged_beneath))]
-    fn give(&mut self, change: Change)
-        ensures given { self.new ≡ record { top = changed_top change self.old.top; beneath = self.old.beneath } }
-        ensures beneath { row_rewritten [] change self.old.beneath ≡ self.old.beneath }
+    fn give(&mut self, given: &mut Given)
+        ensures given { self.new ≡ record { top = changed_top (change_of given.old) self.old.top; beneath = self.old.beneath } }
+        ensures beneath { row_rewritten [] (change_of given.old) self.old.beneath ≡ self.old.beneath }
     {
-        match change {
-            Change::Owner(owner, group) => {
-                self.owner = owner;
-                self.group = group;
+        match given {
+            Given::Owners(owner, group) => {
+                swap(&mut self.owner, owner);
+                swap(&mut self.group, group);
             }
-            Change::List(acl) => replace_list(&mut self.acl, acl),
-            Change::State(state) => self.held.give_state(state),
-            Change::Replication(replication) => self.held.give_replication(replication),
-            Change::Committed(block, bytes) => self.held.commit(block, bytes),
-            Change::Completed(block, bytes) => self.held.complete(block, bytes),
-            Change::LastTaken => self.held.take_last(),
-            Change::Recovered(block, bytes) => self.held.end_recovery(block, bytes),
+            Given::List(acl) => swap(&mut self.acl, acl),
         }
     }
 
-    /// Gives what stands at the path what the change says.
-    pub fn rewrite(&mut self, path: &[Name], mut change: Change)
-        ensures { rows self.new ≡ row_rewritten path.now change (rows self.old) }
+    /// Gives what stands at the path another part.
+    pub fn rewrite(&mut self, path: &[Name], mut given: Given)
+        ensures { rows self.new ≡ row_rewritten path.now (change_of given) (rows self.old) }
     {
-        self.rewrite_by(path, &mut change);
+        self.rewrite_by(path, &mut given);
     }
 
-    /// Gives what stands at the path what the change says. A change is large, so it is lent on the way down, and taken where it is made: what
-    /// is left in its place is looked at no more, and holds nothing.
+    /// Gives what stands at the path another part. That is large, so it is lent on the way down, and exchanged where it is given.
     #[cycle(rewrite)]
-    fn rewrite_by(&mut self, path: &[Name], change: &mut Change)
-        ensures { rows self.new ≡ row_rewritten path.now change.old (rows self.old) }
+    fn rewrite_by(&mut self, path: &[Name], given: &mut Given)
+        ensures { rows self.new ≡ row_rewritten path.now (change_of given.old) (rows self.old) }
     {
         match path.split_first() {
-            None => self.give(replace(change, Change::LastTaken)),
+            None => self.give(given),
             Some((first, rest)) => match &mut self.held {
-                Held::Directory(map) => rewrite_in(map, first, rest, change),
+                Held::Directory(map) => rewrite_in(map, first, rest, given),
                 Held::File(_) => (),
             },
         }
@@ -157,12 +154,12 @@ impl Node {
     fn made(
         alloc: Global,
         mode: Mode,
-        file: Option<FileRow>,
+        file: Option<FilePlace>,
         owner: &Who,
         group: &Who,
         above: &Acl,
     ) -> Result<Node, AllocError>
-        ensures { IfOk result (λ node. rows node ≡ chain above.now group.now owner.now mode file []) }
+        ensures { IfOk result (λ node. rows node ≡ chain above.now group.now owner.now mode (option_map placed file) []) }
     {
         let (owner, group) = copied_owners(owner, group)?;
         let acl = inherit(alloc, above, mode, kind_of(&file))?;
@@ -177,12 +174,12 @@ impl Node {
         alloc: Global,
         names: &[Name],
         mode: Mode,
-        file: Option<FileRow>,
+        file: Option<FilePlace>,
         owner: &Who,
         group: &Who,
         above: &Acl,
     ) -> Result<Node, AllocError>
-        ensures { IfOk result (λ node. rows node ≡ chain above.now group.now owner.now mode file names.now) }
+        ensures { IfOk result (λ node. rows node ≡ chain above.now group.now owner.now mode (option_map placed file) names.now) }
     {
         let Some((first, rest)) = names.split_first() else {
             return Node::made(alloc, mode, file, owner, group, above);
@@ -222,12 +219,12 @@ impl Node {
         alloc: Global,
         path: &[Name],
         mode: Mode,
-        file: Option<FileRow>,
+        file: Option<FilePlace>,
         owner: &Who,
     ) -> Result<(), AllocError>
         requires missing { is_missing path.now (rows self.old) ≡ true }
         requires clear { file_above path.now (rows self.old) ≡ None }
-        ensures ok { OnOk result (rows self.new ≡ with_new path.now mode file owner.now (ancestor path.now (rows self.old)) (rows self.old)) }
+        ensures ok { OnOk result (rows self.new ≡ with_new path.now mode (option_map placed file) owner.now (ancestor path.now (rows self.old)) (rows self.old)) }
         ensures err { OnErr result (self.new ≡ self.old) }
     {
         let Some((first, rest)) = path.split_first() else {
@@ -250,92 +247,6 @@ impl Node {
     }
 }
 
-impl Held {
-    /// Gives a file another state.
-    fn give_state(&mut self, state: FileState)
-        requires { IsSorted self.old }
-        ensures sorted { IsSorted self.new }
-        ensures kind { kind_of_held self.new ≡ kind_of_held self.old }
-        ensures file { file_of self.new ≡ option_map (with_state state) (file_of self.old) }
-        ensures rows { rows_in self.new ≡ rows_in self.old }
-    {
-        match self {
-            Held::File(file) => file.state = state,
-            Held::Directory(_) => (),
-        }
-    }
-
-    /// Gives a file another replication.
-    fn give_replication(&mut self, replication: Repl)
-        requires { IsSorted self.old }
-        ensures sorted { IsSorted self.new }
-        ensures kind { kind_of_held self.new ≡ kind_of_held self.old }
-        ensures file { file_of self.new ≡ option_map (with_file_replication replication) (file_of self.old) }
-        ensures rows { rows_in self.new ≡ rows_in self.old }
-    {
-        match self {
-            Held::File(file) => file.replication = replication,
-            Held::Directory(_) => (),
-        }
-    }
-
-    /// Commits the length of a file's block.
-    fn commit(&mut self, block: BlockId, bytes: u64)
-        requires { IsSorted self.old }
-        ensures sorted { IsSorted self.new }
-        ensures kind { kind_of_held self.new ≡ kind_of_held self.old }
-        ensures file { file_of self.new ≡ option_map (committed_at block bytes) (file_of self.old) }
-        ensures rows { rows_in self.new ≡ rows_in self.old }
-    {
-        match self {
-            Held::File(file) => file.blocks.commit(block, bytes),
-            Held::Directory(_) => (),
-        }
-    }
-
-    /// Commits the length of a file's block, and closes the file.
-    fn complete(&mut self, block: BlockId, bytes: u64)
-        requires { IsSorted self.old }
-        ensures sorted { IsSorted self.new }
-        ensures kind { kind_of_held self.new ≡ kind_of_held self.old }
-        ensures file { file_of self.new ≡ option_map (completed_at block bytes) (file_of self.old) }
-        ensures rows { rows_in self.new ≡ rows_in self.old }
-    {
-        match self {
-            Held::File(file) => file.complete(block, bytes),
-            Held::Directory(_) => (),
-        }
-    }
-
-    /// Takes the last block out of a file.
-    fn take_last(&mut self)
-        requires { IsSorted self.old }
-        ensures sorted { IsSorted self.new }
-        ensures kind { kind_of_held self.new ≡ kind_of_held self.old }
-        ensures file { file_of self.new ≡ option_map without_last (file_of self.old) }
-        ensures rows { rows_in self.new ≡ rows_in self.old }
-    {
-        match self {
-            Held::File(file) => file.blocks.pop(),
-            Held::Directory(_) => (),
-        }
-    }
-
-    /// Ends the recovery of a file's block, where that is recovered.
-    fn end_recovery(&mut self, block: BlockId, bytes: u64)
-        requires { IsSorted self.old }
-        ensures sorted { IsSorted self.new }
-        ensures kind { kind_of_held self.new ≡ kind_of_held self.old }
-        ensures file { file_of self.new ≡ option_map (recovered_at block bytes) (file_of self.old) }
-        ensures rows { rows_in self.new ≡ rows_in self.old }
-    {
-        match self {
-            Held::File(file) => file.end_recovery(block, bytes),
-            Held::Directory(_) => (),
-        }
-    }
-}
-
 /// Copies of an owner and a group.
 fn copied_owners(owner: &Who, group: &Who) -> Result<(Who, Who), AllocError>
     ensures owner { IfOk result (λ both. both.0 ≡ owner.now) }
@@ -345,20 +256,13 @@ fn copied_owners(owner: &Who, group: &Who) -> Result<(Who, Who), AllocError>
 }
 
 /// A file where what it has is given, else a directory.
-fn kind_of(file: &Option<FileRow>) -> ObjectKind
-    ensures { result ≡ kind_of_new file.now }
+fn kind_of(file: &Option<FilePlace>) -> ObjectKind
+    ensures { result ≡ kind_of_new (option_map placed file.now) }
 {
     match file {
         Some(_) => ObjectKind::File,
         None => ObjectKind::Directory,
     }
-}
-
-/// Puts a list in the place of another.
-fn replace_list(place: &mut Acl, acl: Acl)
-    ensures { place.new ≡ acl }
-{
-    *place = acl;
 }
 
 /// One node by its name.
@@ -459,13 +363,13 @@ fn take_in(map: &mut BTreeMap<Name, Node>, first: &Name, rest: &[Name]) -> Optio
 }
 
 #[cycle(rewrite)]
-fn rewrite_in(map: &mut BTreeMap<Name, Node>, first: &Name, rest: &[Name], change: &mut Change)
+fn rewrite_in(map: &mut BTreeMap<Name, Node>, first: &Name, rest: &[Name], given: &mut Given)
     requires { IsStrictlySortedBy text_cmp (keys_of map.old.entries) }
     ensures sorted { IsStrictlySortedBy text_cmp (keys_of map.new.entries) }
-    ensures rows { flatten map.new.entries ≡ row_rewritten (first.now ∷ rest.now) change.old (flatten map.old.entries) }
+    ensures rows { flatten map.new.entries ≡ row_rewritten (first.now ∷ rest.now) (change_of given.old) (flatten map.old.entries) }
 {
     match map.get_mut(first) {
-        Some(child) => child.rewrite_by(rest, change),
+        Some(child) => child.rewrite_by(rest, given),
         None => (),
     }
 }
@@ -477,7 +381,7 @@ fn make_first(
     first: &Name,
     rest: &[Name],
     mode: Mode,
-    file: Option<FileRow>,
+    file: Option<FilePlace>,
     owner: &Who,
     group: &Who,
     above: &Acl,
@@ -485,7 +389,7 @@ fn make_first(
     requires sorted { IsStrictlySortedBy text_cmp (keys_of map.old.entries) }
     requires missing { is_missing (first.now ∷ []) (flatten map.old.entries) ≡ true }
     ensures sorted { IsStrictlySortedBy text_cmp (keys_of map.new.entries) }
-    ensures ok { OnOk result ((top : Top) → top.group ≡ group.now → top.acl ≡ above.now → row_of [] top ∷ flatten map.new.entries ≡ with_new (first.now ∷ rest.now) mode file owner.now (ancestor (first.now ∷ rest.now) (row_of [] top ∷ flatten map.old.entries)) (row_of [] top ∷ flatten map.old.entries)) }
+    ensures ok { OnOk result ((top : Top) → top.group ≡ group.now → top.acl ≡ above.now → row_of [] top ∷ flatten map.new.entries ≡ with_new (first.now ∷ rest.now) mode (option_map placed file) owner.now (ancestor (first.now ∷ rest.now) (row_of [] top ∷ flatten map.old.entries)) (row_of [] top ∷ flatten map.old.entries)) }
     ensures err { OnErr result (flatten map.new.entries ≡ flatten map.old.entries) }
 {
     let chain = Node::chain(alloc, rest, mode, file, owner, group, above)?;
@@ -500,7 +404,7 @@ fn make_in(
     first: &Name,
     rest: &[Name],
     mode: Mode,
-    file: Option<FileRow>,
+    file: Option<FilePlace>,
     owner: &Who,
     group: &Who,
     above: &Acl,
@@ -509,7 +413,7 @@ fn make_in(
     requires missing { is_missing (first.now ∷ rest.now) (flatten map.old.entries) ≡ true }
     requires clear { file_above (first.now ∷ rest.now) (flatten map.old.entries) ≡ None }
     ensures sorted { IsStrictlySortedBy text_cmp (keys_of map.new.entries) }
-    ensures ok { OnOk result ((top : Top) → top.group ≡ group.now → top.acl ≡ above.now → row_of [] top ∷ flatten map.new.entries ≡ with_new (first.now ∷ rest.now) mode file owner.now (ancestor (first.now ∷ rest.now) (row_of [] top ∷ flatten map.old.entries)) (row_of [] top ∷ flatten map.old.entries)) }
+    ensures ok { OnOk result ((top : Top) → top.group ≡ group.now → top.acl ≡ above.now → row_of [] top ∷ flatten map.new.entries ≡ with_new (first.now ∷ rest.now) mode (option_map placed file) owner.now (ancestor (first.now ∷ rest.now) (row_of [] top ∷ flatten map.old.entries)) (row_of [] top ∷ flatten map.old.entries)) }
     ensures err { OnErr result (flatten map.new.entries ≡ flatten map.old.entries) }
 {
     // the last name is missing, so it isn't looked up

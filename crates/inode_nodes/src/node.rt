@@ -1,20 +1,19 @@
-ghost use Rattle.std.specs.Prelude.{◌≡◌, [], IfOk, IfSome};
-ghost use Rattle.std.specs.Option.{option_copied};
+ghost use Rattle.std.specs.Prelude.{◌≡◌, [], IfSome};
+ghost use Rattle.std.specs.Option.{option_copied, option_map};
 ghost use Rattle.acl_entries.specs.JudgedEntry.{judged_entry};
-ghost use Rattle.namespace_rows.specs.Files.{holder_of_file};
 ghost use Rattle.flat_rows.specs.Outcome.{is_alone, kind_of_new};
 ghost use Rattle.inode_nodes.specs.Node.{rows};
+ghost use Rattle.file_table.specs.Place.{placed};
 ghost use Rattle.inode_nodes.specs.Part.{IsPart, IsWhole};
 
 use acl_entries::access_check::is_granted;
 use acl_entries::acl::Acl;
 use file_paths::name::Name;
-use hdfs_types::file::FileState;
+use file_table::place::FilePlace;
 use hdfs_types::reply::ObjectKind;
 use hdfs_values::who::Who;
-use namespace_rows::file_row::{FileRow, ShownFile};
 use permission_bits::rights::Rights;
-use std::alloc::{AllocError, Global};
+use std::alloc::Global;
 use std::collections::BTreeMap;
 use std::marker::Model;
 
@@ -32,8 +31,8 @@ pub struct Node {
 #[cycle(node)]
 #[derive(Drop)]
 pub enum Held {
-    /// A file, with its replication, its blocks and its state.
-    File(FileRow),
+    /// A file, whose replication, blocks and state a table of files has.
+    File(FilePlace),
     /// A directory, with what it holds by names.
     Directory(BTreeMap<Name, Node>),
 }
@@ -59,11 +58,11 @@ impl Model for Node {
 
 impl Node {
     /// A file, or a directory that holds nothing.
-    pub fn new(alloc: Global, owner: Who, group: Who, acl: Acl, file: Option<FileRow>) -> Node
-        ensures { result ≡ record { top = record { kind = kind_of_new file; owner = owner; group = group; acl = acl; file = file }; beneath = [] } }
+    pub fn new(alloc: Global, owner: Who, group: Who, acl: Acl, file: Option<FilePlace>) -> Node
+        ensures { result ≡ record { top = record { kind = kind_of_new (option_map placed file); owner = owner; group = group; acl = acl; file = option_map placed file }; beneath = [] } }
     {
         let held = match file {
-            Some(file) => Held::File(file),
+            Some(place) => Held::File(place),
             None => Held::Directory(BTreeMap::new(alloc)),
         };
         Node {
@@ -105,50 +104,13 @@ impl Node {
         &self.acl
     }
 
-    /// What a file has beside what a directory has.
-    pub fn file(&self) -> Option<&FileRow>
-        ensures { option_copied result ≡ self.now.top.file }
+    /// The place of what a file has.
+    pub fn place(&self) -> Option<FilePlace>
+        ensures { option_map placed result ≡ self.now.top.file }
     {
         match &self.held {
-            Held::File(file) => Some(file),
+            Held::File(place) => Some(*place),
             Held::Directory(_) => None,
-        }
-    }
-
-    /// It as it is, to be kept. Costs what `FileBlocks::to_shown` does.
-    ///
-    /// # Errors
-    /// Out of memory.
-    pub fn file_shown(&self) -> Result<Option<ShownFile>, AllocError>
-        ensures { IfOk result (λ file. file ≡ self.now.top.file) }
-    {
-        match self.file() {
-            Some(file) => Ok(Some(file.to_shown()?)),
-            None => Ok(None),
-        }
-    }
-
-    /// The same, but a copy of its blocks isn't remembered. Costs the blocks.
-    ///
-    /// # Errors
-    /// Out of memory.
-    pub fn file_copied(&self) -> Result<Option<ShownFile>, AllocError>
-        ensures { IfOk result (λ file. file ≡ self.now.top.file) }
-    {
-        match self.file() {
-            Some(file) => Ok(Some(file.to_copied()?)),
-            None => Ok(None),
-        }
-    }
-
-    /// The client who has the file open.
-    pub fn holder(&self) -> Option<&Who>
-        ensures { option_copied result ≡ holder_of_file self.now.top.file }
-    {
-        match &self.file()?.state {
-            FileState::Open(client) => Some(client),
-            FileState::Closed => None,
-            FileState::Recovering(_, _, _) => None,
         }
     }
 

@@ -1,9 +1,15 @@
-ghost use Rattle.std.specs.Prelude.{◌≡◌, ◌++◌, map, IfOk, OnOk};
-ghost use Rattle.namespace_rows.specs.Files.{blocks_in, holders};
+ghost use Rattle.std.specs.Prelude.{◌≡◌, ◌++◌, ℕ, map, Some, IfOk, OnOk};
+ghost use Rattle.slab.specs.Slab.{get};
+ghost use Rattle.namespace_rows.specs.Files.{blocks_in, holders, ids_in};
+ghost use Rattle.file_table.specs.Place.{placed};
+ghost use Rattle.file_table.specs.Seen.{file_held, seen_rows};
+ghost use Rattle.inode_tree.specs.Tree.{get_unless, are_at_place};
 ghost use Rattle.inode_nodes.specs.Node.{rows, flatten};
 
 use file_blocks::blocks::FileBlock;
 use file_paths::name::Name;
+use file_table::place::FilePlace;
+use file_table::table::FileTable;
 use hdfs_values::ids::BlockId;
 use hdfs_values::who::Who;
 use inode_nodes::node::{Held, Node};
@@ -15,33 +21,59 @@ use std::collections::BTreeMap;
 ///
 /// # Errors
 /// Out of memory.
-pub fn blocks_of(alloc: Global, node: &Node) -> Result<Vec<BlockId>, AllocError>
-    ensures { IfOk result (λ found. found.items ≡ blocks_in (rows node.now)) }
+pub fn blocks_of(
+    alloc: Global,
+    files: &FileTable,
+    node: &Node,
+) -> Result<Vec<BlockId>, AllocError>
+    ensures { IfOk result (λ found. found.items ≡ blocks_in (seen_rows files.now (rows node.now))) }
 {
     let mut found = Vec::new(alloc);
-    push_blocks(node, &mut found)?;
+    push_blocks(files, node, &mut found)?;
     Ok(found)
 }
 
 /// Adds the blocks of the files of the node and of all beneath it.
 #[cycle(blocks)]
-fn push_blocks(node: &Node, found: &mut Vec<BlockId>) -> Result<(), AllocError>
-    ensures { OnOk result (found.new.items ≡ found.old.items ++ blocks_in (rows node.now)) }
+fn push_blocks(
+    files: &FileTable,
+    node: &Node,
+    found: &mut Vec<BlockId>,
+) -> Result<(), AllocError>
+    ensures { OnOk result (found.new.items ≡ found.old.items ++ blocks_in (seen_rows files.now (rows node.now))) }
 {
     match &node.held {
-        Held::File(file) => push_ids(file.blocks.as_slice(), found),
-        Held::Directory(nodes) => push_blocks_in(nodes, found),
+        Held::File(place) => push_ids_at(files, *place, found),
+        Held::Directory(nodes) => push_blocks_in(files, nodes, found),
     }
 }
 
 #[cycle(blocks)]
-fn push_blocks_in(nodes: &BTreeMap<Name, Node>, found: &mut Vec<BlockId>) -> Result<(), AllocError>
-    ensures { OnOk result (found.new.items ≡ found.old.items ++ blocks_in (flatten nodes.now.entries)) }
+fn push_blocks_in(
+    files: &FileTable,
+    nodes: &BTreeMap<Name, Node>,
+    found: &mut Vec<BlockId>,
+) -> Result<(), AllocError>
+    ensures { OnOk result (found.new.items ≡ found.old.items ++ blocks_in (seen_rows files.now (flatten nodes.now.entries))) }
 {
     for (_name, child) in nodes {
-        push_blocks(child, found)?;
+        push_blocks(files, child, found)?;
     }
     Ok(())
+}
+
+/// Adds the ids of the blocks of the file at a place.
+fn push_ids_at(
+    files: &FileTable,
+    place: FilePlace,
+    found: &mut Vec<BlockId>,
+) -> Result<(), AllocError>
+    ensures { OnOk result (found.new.items ≡ found.old.items ++ ids_in (file_held files.now (Some (placed place)))) }
+{
+    match files.get(place) {
+        Some(file) => push_ids(file.blocks.as_slice(), found),
+        None => Ok(()),
+    }
 }
 
 /// Adds the ids of these blocks.
@@ -67,52 +99,83 @@ pub struct FilesUnder<'a> {
 ///
 /// # Errors
 /// Out of memory.
-pub fn files_of<'a>(alloc: Global, node: &'a Node) -> Result<FilesUnder<'a>, AllocError>
-    ensures clients { IfOk result (λ found. map (λ who. who.now) found.clients.items ≡ holders (rows node.now)) }
-    ensures blocks { IfOk result (λ found. found.blocks.items ≡ blocks_in (rows node.now)) }
+pub fn files_of<'a>(
+    alloc: Global,
+    files: &'a FileTable,
+    node: &Node,
+) -> Result<FilesUnder<'a>, AllocError>
+    ensures clients { IfOk result (λ found. map (λ who. who.now) found.clients.items ≡ holders (seen_rows files.now (rows node.now))) }
+    ensures blocks { IfOk result (λ found. found.blocks.items ≡ blocks_in (seen_rows files.now (rows node.now))) }
 {
     let mut clients = Vec::new(alloc);
     let mut blocks = Vec::new(alloc);
-    push_files(node, &mut clients, &mut blocks)?;
+    push_files(files, node, &mut clients, &mut blocks)?;
     Ok(FilesUnder { clients, blocks })
 }
 
 /// Adds the clients who have open the files of the node and of all beneath it, one for each open file, and the blocks of these files.
 #[cycle(files)]
 fn push_files<'a>(
-    node: &'a Node,
+    files: &'a FileTable,
+    node: &Node,
     clients: &mut Vec<&'a Who>,
     blocks: &mut Vec<BlockId>,
 ) -> Result<(), AllocError>
-    ensures clients { OnOk result (map (λ who. who.now) clients.new.items ≡ map (λ who. who.now) clients.old.items ++ holders (rows node.now)) }
-    ensures blocks { OnOk result (blocks.new.items ≡ blocks.old.items ++ blocks_in (rows node.now)) }
+    ensures clients { OnOk result (map (λ who. who.now) clients.new.items ≡ map (λ who. who.now) clients.old.items ++ holders (seen_rows files.now (rows node.now))) }
+    ensures blocks { OnOk result (blocks.new.items ≡ blocks.old.items ++ blocks_in (seen_rows files.now (rows node.now))) }
 {
     match &node.held {
-        Held::File(file) => {
-            push_ids(file.blocks.as_slice(), blocks)?;
-            push_holder(node, clients)
+        Held::File(place) => {
+            push_ids_at(files, *place, blocks)?;
+            push_holder(files, *place, clients)
         }
         Held::Directory(nodes) => {
             // Most directories hold nothing, and are told at once.
             if nodes.is_empty() {
                 return Ok(());
             }
-            push_files_in(nodes, clients, blocks)
+            push_files_in(files, nodes, clients, blocks)
         }
     }
 }
 
 #[cycle(files)]
 fn push_files_in<'a>(
-    nodes: &'a BTreeMap<Name, Node>,
+    files: &'a FileTable,
+    nodes: &BTreeMap<Name, Node>,
     clients: &mut Vec<&'a Who>,
     blocks: &mut Vec<BlockId>,
 ) -> Result<(), AllocError>
-    ensures clients { OnOk result (map (λ who. who.now) clients.new.items ≡ map (λ who. who.now) clients.old.items ++ holders (flatten nodes.now.entries)) }
-    ensures blocks { OnOk result (blocks.new.items ≡ blocks.old.items ++ blocks_in (flatten nodes.now.entries)) }
+    ensures clients { OnOk result (map (λ who. who.now) clients.new.items ≡ map (λ who. who.now) clients.old.items ++ holders (seen_rows files.now (flatten nodes.now.entries))) }
+    ensures blocks { OnOk result (blocks.new.items ≡ blocks.old.items ++ blocks_in (seen_rows files.now (flatten nodes.now.entries))) }
 {
     for (_name, child) in nodes {
-        push_files(child, clients, blocks)?;
+        push_files(files, child, clients, blocks)?;
     }
     Ok(())
+}
+
+/// Takes the files of the node and of all beneath it out of the table. Takes no memory.
+#[cycle(forget)]
+pub fn forget(files: &mut FileTable, node: &Node)
+    ensures { (place : ℕ) → get files.new place ≡ get_unless (are_at_place place (rows node.now)) files.old place }
+{
+    match &node.held {
+        Held::File(place) => files.remove(*place),
+        Held::Directory(nodes) => {
+            // Most directories hold nothing, and are told at once.
+            if !nodes.is_empty() {
+                forget_in(files, nodes);
+            }
+        }
+    }
+}
+
+#[cycle(forget)]
+fn forget_in(files: &mut FileTable, nodes: &BTreeMap<Name, Node>)
+    ensures { (place : ℕ) → get files.new place ≡ get_unless (are_at_place place (flatten nodes.now.entries)) files.old place }
+{
+    for (_name, child) in nodes {
+        forget(files, child);
+    }
 }

@@ -3,13 +3,16 @@ ghost use Rattle.std.specs.Option.{option_copied, option_map};
 ghost use Rattle.acl_entries.specs.JudgedEntry.{judged_entry};
 ghost use Rattle.namespace_rows.specs.Files.{holder_of_file};
 ghost use Rattle.inode_nodes.specs.Part.{IsPart};
+ghost use Rattle.inode_visits.specs.SeenNode.{seen_branch};
 ghost use Rattle.inode_tree.specs.Tree.{branch_at};
 
 use acl_entries::acl::Acl;
 use file_paths::name::Name;
+use file_table::table::FileTable;
 use hdfs_types::reply::ObjectKind;
 use hdfs_values::who::Who;
 use inode_nodes::node::Node;
+use inode_visits::visit::{file_of, holder_of};
 use namespace_rows::file_row::{FileRow, ShownFile};
 use permission_bits::rights::Rights;
 use std::alloc::AllocError;
@@ -18,14 +21,15 @@ use std::alloc::AllocError;
 #[derive(Clone, Copy)]
 pub struct Inode<'a> {
     node: &'a Node,
+    files: &'a FileTable,
 }
 
 impl<'a> Inode<'a> {
-    /// The file or the directory of this node.
-    pub fn new(node: &'a Node) -> Inode<'a>
-        ensures { branch_at result ≡ node.now }
+    /// The file or the directory of this node, where this is the table of files.
+    pub fn new(files: &'a FileTable, node: &'a Node) -> Inode<'a>
+        ensures { branch_at result ≡ seen_branch files.now node.now }
     {
-        Inode { node }
+        Inode { node, files }
     }
 
     /// Whether it is a file or a directory.
@@ -60,7 +64,7 @@ impl<'a> Inode<'a> {
     pub fn file(&self) -> Option<&'a FileRow>
         ensures { option_copied result ≡ (branch_at self.now).top.file }
     {
-        self.node.file()
+        file_of(self.files, self.node)
     }
 
     /// It as it is, to be kept. Costs what `FileBlocks::to_shown` does.
@@ -70,14 +74,17 @@ impl<'a> Inode<'a> {
     pub fn file_shown(&self) -> Result<Option<ShownFile>, AllocError>
         ensures { IfOk result (λ file. file ≡ (branch_at self.now).top.file) }
     {
-        self.node.file_shown()
+        match self.file() {
+            Some(file) => Ok(Some(file.to_shown()?)),
+            None => Ok(None),
+        }
     }
 
     /// The client who has the file open.
     pub fn holder(&self) -> Option<&'a Who>
         ensures { option_copied result ≡ holder_of_file (branch_at self.now).top.file }
     {
-        self.node.holder()
+        holder_of(self.file()?)
     }
 
     /// Whether the entry that decides for a caller with these groups grants what is needed. Where the list names nobody and all have the
@@ -96,6 +103,6 @@ impl<'a> Inode<'a> {
         ensures directory { IfSome result (λ _. (branch_at self.now).top.kind ≡ ObjectKind.Directory) }
     {
         let node = self.node.child(name)?;
-        Some(Inode::new(node))
+        Some(Inode::new(self.files, node))
     }
 }

@@ -4,7 +4,7 @@ ghost use Rattle.file_paths.specs.Path.{is_prefix};
 ghost use Rattle.hdfs_types.specs.declared.file.FileState.TheVariants.{Closed};
 ghost use Rattle.acl_entries.specs.Acl.{suits_file};
 ghost use Rattle.namespace_rows.specs.Opening.{root_row};
-ghost use Rattle.namespace_rows.specs.Rows.{row_at, is_directory_kind, is_missing, file_above, ancestor, with_sub_tree};
+ghost use Rattle.namespace_rows.specs.Rows.{row_at, has_file, is_directory_kind, is_missing, file_above, ancestor, with_sub_tree};
 ghost use Rattle.namespace_rows.specs.Namespace.{has_parent, is_root};
 ghost use Rattle.namespace_rows.specs.Files.{holders, blocks_in};
 ghost use Rattle.namespace_rows.specs.declared.row.Row.{Row};
@@ -15,7 +15,9 @@ ghost use Rattle.namespace_rows.specs.First.{first};
 ghost use Rattle.inode_visits.specs.Visits.{counts_of, is_closed};
 ghost use Rattle.inode_nodes.specs.Node.{rows, row_of};
 ghost use Rattle.inode_nodes.specs.Part.{IsWhole};
+ghost use Rattle.slab.specs.Slab.{SameValues};
 ghost use Rattle.inode_tree.specs.Tree.{branch_at, IsTree};
+ghost use Rattle.inode_tree.specs.Rooms.{IsRoomFor, HasRoomWhere, IsPut};
 
 use crate::blocks::{self, FilesUnder};
 use crate::inode::Inode;
@@ -23,9 +25,12 @@ use crate::limit;
 use acl_entries::acl::Acl;
 use file_paths::name::Name;
 use file_paths::path::Path;
+use file_table::place::FilePlace;
+use file_table::table::FileTable;
 use hdfs_types::reply::ObjectKind;
 use hdfs_values::ids::BlockId;
 use hdfs_values::who::Who;
+use inode_nodes::change::Given;
 use inode_nodes::node::Node;
 use inode_visits::visit::{self, Counts};
 use namespace_rows::file_row::FileRow;
@@ -40,13 +45,16 @@ use std::marker::Model;
 /// costs beyond that is said at the call.
 pub struct Tree {
     root: Node,
+    // What the files have, by the places that their nodes name.
+    files: FileTable,
     alloc: Global,
 }
 
 impl Drop for Tree {
     fn drop(self) {
-        let Tree { root, alloc } = self;
+        let Tree { root, files, alloc } = self;
         drop(root);
+        drop(files);
         drop(alloc);
     }
 }
@@ -55,13 +63,16 @@ impl Model for Tree {
     ghost use Rattle.std.specs.Prelude.{List};
     ghost use Rattle.namespace_rows.specs.declared.row.Row.{Row};
     ghost use Rattle.inode_nodes.specs.Node.{rows};
-    ghost use Rattle.inode_tree.specs.Tree.{IsTree};
+    ghost use Rattle.file_table.specs.Seen.{seen_rows};
+    ghost use Rattle.inode_tree.specs.Tree.{IsTree, AreKept};
 
     ghost Value = { List Row };
 
-    ghost view = { λ tree. rows tree.root };
+    ghost view = { λ tree. seen_rows tree.files (rows tree.root) };
 
-    ghost invariant = { λ tree. IsTree (rows tree.root) };
+    ghost use Rattle.std.specs.Prelude.{◌×◌};
+
+    ghost invariant = { λ tree. IsTree (seen_rows tree.files (rows tree.root)) × AreKept tree.files (rows tree.root) };
 }
 
 impl Tree {
@@ -72,6 +83,7 @@ impl Tree {
         let acl = Acl::from_mode(Mode::root(), ObjectKind::Directory);
         Tree {
             root: Node::new(alloc, superuser, supergroup, acl, None),
+            files: FileTable::new(alloc),
             alloc,
         }
     }
@@ -81,7 +93,7 @@ impl Tree {
         ensures rows { rows (branch_at result) ≡ self.now }
         ensures tree { IsTree self.now }
     {
-        Inode::new(&self.root)
+        Inode::new(&self.files, &self.root)
     }
 
     /// What stands at a path. Takes no memory.
@@ -90,7 +102,7 @@ impl Tree {
         ensures beneath { IsWhole path.now self.now (option_map branch_at result) }
     {
         let node = self.root.find(path.names())?;
-        Some(Inode::new(node))
+        Some(Inode::new(&self.files, node))
     }
 
     /// How many directories and how many files stand at a path and beneath it, and how many bytes the files hold. Costs also what
@@ -99,7 +111,7 @@ impl Tree {
         ensures { result ≡ counts_of (rows_under path.now self.now) }
     {
         match self.root.find(path.names()) {
-            Some(node) => visit::count(node),
+            Some(node) => visit::count(&self.files, node),
             None => Counts {
                 directories: 0,
                 files: 0,
@@ -150,7 +162,7 @@ impl Tree {
     {
         let mut rows = Vec::new(self.alloc);
         if let Some(node) = self.root.find(path.names()) {
-            visit::push_rows(self.alloc, node, path.clone()?, &mut rows)?;
+            visit::push_rows(self.alloc, &self.files, node, path.clone()?, &mut rows)?;
         }
         Ok(rows)
     }
@@ -177,7 +189,7 @@ impl Tree {
         ensures { IfOk result (λ found. map (λ who. who.now) found.items ≡ holders (rows_under path.now self.now)) }
     {
         match self.root.find(path.names()) {
-            Some(node) => visit::holders(self.alloc, node),
+            Some(node) => visit::holders(self.alloc, &self.files, node),
             None => Ok(Vec::new(self.alloc)),
         }
     }
@@ -191,7 +203,7 @@ impl Tree {
         ensures { IfOk result (λ found. found.items ≡ blocks_in (rows_under path.now self.now)) }
     {
         match self.root.find(path.names()) {
-            Some(node) => blocks::blocks_of(self.alloc, node),
+            Some(node) => blocks::blocks_of(self.alloc, &self.files, node),
             None => Ok(Vec::new(self.alloc)),
         }
     }
@@ -206,7 +218,7 @@ impl Tree {
         ensures blocks { IfOk result (λ found. found.blocks.items ≡ blocks_in (rows_under path.now self.now)) }
     {
         match self.root.find(path.names()) {
-            Some(node) => blocks::files_of(self.alloc, node),
+            Some(node) => blocks::files_of(self.alloc, &self.files, node),
             None => Ok(FilesUnder {
                 clients: Vec::new(self.alloc),
                 blocks: Vec::new(self.alloc),
@@ -250,14 +262,23 @@ impl Tree {
         let Some((name, above)) = path.names().split_last() else {
             unreachable!()
         };
-        let name = name.clone()?;
-        let new = Node::new(self.alloc, owner, group, acl, file);
-        self.root.put(above, name, new)
+        let own_name = name.clone()?;
+        let place = room_for(&mut self.files, &file)?;
+        let new = Node::new(self.alloc, owner, group, acl, place);
+        if let Some(node) = self.root.find(path.names()) {
+            keep(&mut self.files, file);
+            blocks::forget(&mut self.files, node);
+            self.root.fill(above, name, new);
+            return Ok(());
+        }
+        self.root.put(above, own_name, new)?;
+        keep(&mut self.files, file);
+        Ok(())
     }
 
-    /// Puts a file in the place of what stands at a path. Takes no memory.
+    /// Puts a file in the place of another. Takes no memory.
     pub fn replace(&mut self, path: &Path, owner: Who, group: Who, acl: Acl, file: FileRow)
-        requires there { is_missing path.now self.old ≡ false }
+        requires there { has_file path.now self.old ≡ true }
         requires parent { IsTrue (has_parent path.now self.old) }
         requires suits { IsTrue (suits_file acl) }
         ensures { self.new ≡ with_sub_tree self.old (record { path = path.now; kind = kind_of_new (Some file); owner = owner; group = group; acl = acl; file = Some file } ∷ []) }
@@ -265,8 +286,17 @@ impl Tree {
         let Some((name, above)) = path.names().split_last() else {
             unreachable!()
         };
-        let new = Node::new(self.alloc, owner, group, acl, Some(file));
+        let Some(place) = self.place_at(path) else {
+            unreachable!()
+        };
+        let new = Node::new(self.alloc, owner, group, acl, Some(place));
         self.root.fill(above, name, new);
+        self.files.replace(place, file);
+    }
+
+    /// The place of the file at a path.
+    fn place_at(&self, path: &Path) -> Option<FilePlace> {
+        self.root.find(path.names())?.place()
     }
 
     /// Makes what is missing of a path: the last a file, where what it has is given, else a directory, of this mode; the others
@@ -287,7 +317,11 @@ impl Tree {
         ensures ok { OnOk result (self.new ≡ with_new path.now mode file owner.now (ancestor path.now self.old) self.old) }
         ensures err { OnErr result (self.new ≡ self.old) }
     {
-        self.root.make(self.alloc, path.names(), mode, file, owner)
+        let place = room_for(&mut self.files, &file)?;
+        self.root
+            .make(self.alloc, path.names(), mode, place, owner)?;
+        keep(&mut self.files, file);
+        Ok(())
     }
 
     /// Removes what stands at a path that isn't the root, with all that is beneath it. Costs also what is removed, and takes
@@ -299,7 +333,11 @@ impl Tree {
         let Some((first, rest)) = path.names().split_first() else {
             unreachable!()
         };
-        let _removed = self.root.take(first, rest);
+        if let Some(removed) = self.root.take(first, rest) {
+            if !self.files.is_empty() {
+                blocks::forget(&mut self.files, &removed);
+            }
+        }
     }
 
     /// Moves what stands at a path, with all that is beneath it, to another path. Costs the two paths, and not what is moved.
@@ -329,7 +367,20 @@ impl Tree {
         requires { IsTrue (suits_change change (row_at path.now self.old)) }
         ensures { self.new ≡ row_rewritten path.now change self.old }
     {
-        self.root.rewrite(path.names(), change);
+        match change {
+            Change::Owner(owner, group) => {
+                self.root.rewrite(path.names(), Given::Owners(owner, group));
+            }
+            Change::List(acl) => self.root.rewrite(path.names(), Given::List(acl)),
+            change => self.change_file(path, change),
+        }
+    }
+
+    /// Gives the file at a path what a change says, which isn't an owner, a group or a list; where no file stands there, changes nothing.
+    fn change_file(&mut self, path: &Path, change: Change) {
+        if let Some(place) = self.place_at(path) {
+            self.files.change(place, change);
+        }
     }
 
     /// Adds a block, whose length isn't committed, at the end of the file at a path; where no file stands there, changes nothing.
@@ -340,7 +391,10 @@ impl Tree {
         ensures ok { OnOk result (self.new ≡ block_added path.now block self.old) }
         ensures err { OnErr result (self.new ≡ self.old) }
     {
-        self.root.push_block(path.names(), block)
+        match self.place_at(path) {
+            Some(place) => self.files.push_block(place, block),
+            None => Ok(()),
+        }
     }
 
     /// Takes the last block out of the file at a path, and so undoes `push_block`. Costs also the blocks of the file, and takes no memory.
@@ -348,7 +402,7 @@ impl Tree {
         ensures taken { self.new ≡ row_rewritten path.now change.LastTaken self.old }
         ensures undone { (block : ℕ) (rows : List Row) → self.old ≡ block_added path.now block rows → self.new ≡ rows }
     {
-        self.root.rewrite(path.names(), Change::LastTaken);
+        self.change_file(path, Change::LastTaken);
     }
 
     /// Commits the length of a block of the file at a path, where that has the block. Behind `push_block` of another block that is
@@ -357,8 +411,7 @@ impl Tree {
         ensures committed { self.new ≡ row_rewritten path.now (change.Committed block bytes) self.old }
         ensures as_before { (added : ℕ) (rows : List Row) → (added == block) ≡ false → self.old ≡ block_added path.now added rows → self.new ≡ block_added path.now added (row_rewritten path.now (change.Committed block bytes) rows) }
     {
-        self.root
-            .rewrite(path.names(), Change::Committed(block, bytes));
+        self.change_file(path, Change::Committed(block, bytes));
     }
 
     /// Closes the file at a path, and commits the length of a block, where the file has it; where no file stands there, changes nothing (HDFS
@@ -367,8 +420,7 @@ impl Tree {
     pub fn complete(&mut self, path: &Path, block: BlockId, bytes: u64)
         ensures { self.new ≡ row_rewritten path.now (change.Committed block bytes) (row_rewritten path.now (change.State Closed) self.old) }
     {
-        self.root
-            .rewrite(path.names(), Change::Completed(block, bytes));
+        self.change_file(path, Change::Completed(block, bytes));
     }
 
     /// Ends the recovery of a block in the file at a path, where the state of that is one of this block: the block's length is
@@ -379,7 +431,30 @@ impl Tree {
         ensures here { self.new ≡ row_rewritten path.now (change.Recovered block bytes) self.old }
         ensures all { IsTrue (recovers_nowhere_else path.now block self.old) → self.new ≡ recovery_ended block bytes self.old }
     {
-        self.root
-            .rewrite(path.names(), Change::Recovered(block, bytes));
+        self.change_file(path, Change::Recovered(block, bytes));
+    }
+}
+
+/// Room for a file, where one is given, and the place that it will get.
+fn room_for(
+    files: &mut FileTable,
+    file: &Option<FileRow>,
+) -> Result<Option<FilePlace>, AllocError>
+    ensures same { SameValues files.old files.new }
+    ensures room { IfOk result (IsRoomFor files.new file.now) }
+{
+    match file {
+        Some(_) => Ok(Some(files.make_room()?)),
+        None => Ok(None),
+    }
+}
+
+/// Keeps a file, where one is given, for which there is room. Takes no memory.
+fn keep(files: &mut FileTable, file: Option<FileRow>)
+    requires { HasRoomWhere file files.old }
+    ensures { IsPut file files.old files.new }
+{
+    if let Some(file) = file {
+        files.put(file);
     }
 }

@@ -1,6 +1,6 @@
-ghost use Rattle.std.specs.Prelude.{◌≡◌, ◌++◌, ◌∷◌, [], map, filter, reverse, true, IsTrue, IfOk, OnOk};
+ghost use Rattle.std.specs.Prelude.{◌≡◌, ◌++◌, ◌∷◌, [], map, filter, reverse, true, Some, IsTrue, IfOk, OnOk};
 ghost use Rattle.std.specs.List.{list_any};
-ghost use Rattle.std.specs.Option.{option_map, option_to_list};
+ghost use Rattle.std.specs.Option.{option_copied, option_map, option_to_list};
 ghost use Rattle.std.specs.Map.{keys_of};
 ghost use Rattle.file_paths.specs.Path.{IsPath};
 ghost use Rattle.namespace_rows.specs.Files as spec;
@@ -8,14 +8,22 @@ ghost use Rattle.namespace_rows.specs.First.{first};
 ghost use Rattle.namespace_rows.specs.Namespace.{is_ascending};
 ghost use Rattle.flat_rows.specs.Changes.{are_paths, child_names};
 ghost use Rattle.inode_nodes.specs.Node.{rows, row_of, flatten, under, row_placed};
+ghost use Rattle.file_table.specs.Place.{placed};
+ghost use Rattle.file_table.specs.Seen.{file_held, seen_rows};
+ghost use Rattle.file_blocks.specs.Blocks.{told_length};
 ghost use Rattle.inode_visits.specs.Visits.{counts_of, sum_told, is_closed, row_found};
+ghost use Rattle.inode_visits.specs.SeenNode.{seen_top, bytes_of_file};
 
 use acl_entries::acl::Acl;
 use file_paths::name::Name;
 use file_paths::path::Path;
+use file_table::place::FilePlace;
+use file_table::table::FileTable;
+use hdfs_types::file::FileState;
 use hdfs_types::reply::ObjectKind;
 use hdfs_values::who::Who;
 use inode_nodes::node::{Held, Node};
+use namespace_rows::file_row::{FileRow, ShownFile};
 use namespace_rows::row::Row;
 use permission_bits::rights::Rights;
 use std::alloc::{AllocError, Global};
@@ -34,14 +42,14 @@ pub struct Counts {
 
 /// The counts of what stands at the node and beneath it.
 #[cycle(count)]
-pub fn count(node: &Node) -> Counts
-    ensures { result ≡ counts_of (rows node.now) }
+pub fn count(files: &FileTable, node: &Node) -> Counts
+    ensures { result ≡ counts_of (seen_rows files.now (rows node.now)) }
 {
     match &node.held {
-        Held::File(file) => Counts {
+        Held::File(place) => Counts {
             directories: 0,
             files: 1,
-            bytes: file.blocks.length(),
+            bytes: length_at(files, *place),
         },
         Held::Directory(map) => {
             // Most directories hold nothing, and are told at once.
@@ -52,7 +60,7 @@ pub fn count(node: &Node) -> Counts
                     bytes: Some(0),
                 };
             }
-            let beneath = count_in(map);
+            let beneath = count_in(files, map);
             Counts {
                 directories: beneath.directories.saturating_add(1),
                 files: beneath.files,
@@ -63,22 +71,32 @@ pub fn count(node: &Node) -> Counts
 }
 
 #[cycle(count)]
-fn count_in(map: &BTreeMap<Name, Node>) -> Counts
-    ensures { result ≡ counts_of (flatten map.now.entries) }
+fn count_in(files: &FileTable, map: &BTreeMap<Name, Node>) -> Counts
+    ensures { result ≡ counts_of (seen_rows files.now (flatten map.now.entries)) }
 {
     let mut directories = 0u64;
-    let mut files = 0u64;
+    let mut others = 0u64;
     let mut bytes = Some(0u64);
     for (_name, child) in map {
-        let counts = count(child);
+        let counts = count(files, child);
         directories = directories.saturating_add(counts.directories);
-        files = files.saturating_add(counts.files);
+        others = others.saturating_add(counts.files);
         bytes = sum(bytes, counts.bytes);
     }
     Counts {
         directories,
-        files,
+        files: others,
         bytes,
+    }
+}
+
+/// The committed bytes of the file at a place.
+fn length_at(files: &FileTable, place: FilePlace) -> Option<u64>
+    ensures { result ≡ told_length (bytes_of_file (file_held files.now (Some (placed place)))) }
+{
+    match files.get(place) {
+        Some(file) => file.blocks.length(),
+        None => Some(0),
     }
 }
 
@@ -209,21 +227,22 @@ fn beneath(name: &Name, mut found: Found) -> Result<Found, AllocError>
 #[cycle(rows)]
 pub fn push_rows(
     alloc: Global,
+    files: &FileTable,
     node: &Node,
     path: Path,
     found: &mut Vec<Row>,
 ) -> Result<(), AllocError>
     requires { IsTrue (are_paths (map (row_placed path) (rows node.now))) }
-    ensures { OnOk result (found.new.items ≡ found.old.items ++ map (row_placed path) (rows node.now)) }
+    ensures { OnOk result (found.new.items ≡ found.old.items ++ map (row_placed path) (seen_rows files.now (rows node.now))) }
 {
     match &node.held {
         Held::File(_) => {
-            found.push(row_at(node, path)?)?;
+            found.push(row_at(files, node, path)?)?;
             Ok(())
         }
         Held::Directory(map) => {
-            found.push(row_at(node, path.clone()?)?)?;
-            push_rows_in(alloc, map, &path, found)
+            found.push(row_at(files, node, path.clone()?)?)?;
+            push_rows_in(alloc, files, map, &path, found)
         }
     }
 }
@@ -231,16 +250,17 @@ pub fn push_rows(
 #[cycle(rows)]
 fn push_rows_in(
     alloc: Global,
+    files: &FileTable,
     nodes: &BTreeMap<Name, Node>,
     path: &Path,
     found: &mut Vec<Row>,
 ) -> Result<(), AllocError>
     requires { IsTrue (are_paths (map (row_placed path.now) (flatten nodes.now.entries))) }
-    ensures { OnOk result (found.new.items ≡ found.old.items ++ map (row_placed path.now) (flatten nodes.now.entries)) }
+    ensures { OnOk result (found.new.items ≡ found.old.items ++ map (row_placed path.now) (seen_rows files.now (flatten nodes.now.entries))) }
 {
     for (name, child) in nodes {
         let beneath = path_beneath(alloc, path, name)?;
-        push_rows(alloc, child, beneath, found)?;
+        push_rows(alloc, files, child, beneath, found)?;
     }
     Ok(())
 }
@@ -253,13 +273,23 @@ fn owners_of(node: &Node) -> Result<(Who, Who), AllocError>
     Ok((node.owner().clone()?, node.group().clone()?))
 }
 
+/// What the node has as a file, to be kept, but a copy of its blocks isn't remembered.
+fn file_copied(files: &FileTable, node: &Node) -> Result<Option<ShownFile>, AllocError>
+    ensures { IfOk result (λ file. file ≡ file_held files.now node.now.top.file) }
+{
+    match file_of(files, node) {
+        Some(file) => Ok(Some(file.to_copied()?)),
+        None => Ok(None),
+    }
+}
+
 /// The row of a node that stands at the path.
-fn row_at(node: &Node, path: Path) -> Result<Row, AllocError>
-    ensures { IfOk result (λ row. row ≡ row_of path node.now.top) }
+fn row_at(files: &FileTable, node: &Node, path: Path) -> Result<Row, AllocError>
+    ensures { IfOk result (λ row. row ≡ row_of path (seen_top files.now node.now.top)) }
 {
     let (owner, group) = owners_of(node)?;
     let acl = node.acl().clone()?;
-    let file = node.file_copied()?;
+    let file = file_copied(files, node)?;
     Ok(Row {
         path,
         kind: node.kind(),
@@ -323,54 +353,84 @@ fn push_reversed(names: &mut Vec<Name>, mut last_first: Vec<Name>) -> Result<(),
     Ok(())
 }
 
-/// Adds the client who has the node open, where it is a file that one has open.
+/// What the node has as a file. Takes no memory.
+pub fn file_of<'a>(files: &'a FileTable, node: &Node) -> Option<&'a FileRow>
+    ensures { option_copied result ≡ file_held files.now node.now.top.file }
+{
+    files.get(node.place()?)
+}
+
+/// The client who has the file open.
+pub fn holder_of(file: &FileRow) -> Option<&Who>
+    ensures { option_copied result ≡ spec.holder_of file.now.state }
+{
+    match &file.state {
+        FileState::Open(client) => Some(client),
+        FileState::Closed => None,
+        FileState::Recovering(_, _, _) => None,
+    }
+}
+
+/// Adds the client who has the file at the place open, where one has.
 ///
 /// # Errors
 /// Out of memory.
-pub fn push_holder<'a>(node: &'a Node, found: &mut Vec<&'a Who>) -> Result<(), AllocError>
-    ensures { OnOk result (map (λ who. who.now) found.new.items ≡ map (λ who. who.now) found.old.items ++ option_to_list (spec.holder_of_file node.now.top.file)) }
+pub fn push_holder<'a>(
+    files: &'a FileTable,
+    place: FilePlace,
+    found: &mut Vec<&'a Who>,
+) -> Result<(), AllocError>
+    ensures { OnOk result (map (λ who. who.now) found.new.items ≡ map (λ who. who.now) found.old.items ++ option_to_list (spec.holder_of_file (file_held files.now (Some (placed place))))) }
 {
-    match node.holder() {
-        Some(holder) => {
-            found.push(holder)?;
-            Ok(())
-        }
-        None => Ok(()),
+    if let Some(file) = files.get(place)
+        && let Some(holder) = holder_of(file)
+    {
+        found.push(holder)?;
     }
+    Ok(())
 }
 
 /// The clients who have open the files of the node and of all beneath it, one for each open file.
 ///
 /// # Errors
 /// Out of memory.
-pub fn holders<'a>(alloc: Global, node: &'a Node) -> Result<Vec<&'a Who>, AllocError>
-    ensures { IfOk result (λ found. map (λ who. who.now) found.items ≡ spec.holders (rows node.now)) }
+pub fn holders<'a>(
+    alloc: Global,
+    files: &'a FileTable,
+    node: &Node,
+) -> Result<Vec<&'a Who>, AllocError>
+    ensures { IfOk result (λ found. map (λ who. who.now) found.items ≡ spec.holders (seen_rows files.now (rows node.now))) }
 {
     let mut found = Vec::new(alloc);
-    push_holders(node, &mut found)?;
+    push_holders(files, node, &mut found)?;
     Ok(found)
 }
 
 /// Adds the clients who have open the files of the node and of all beneath it, one for each open file.
 #[cycle(holders)]
-fn push_holders<'a>(node: &'a Node, found: &mut Vec<&'a Who>) -> Result<(), AllocError>
-    ensures { OnOk result (map (λ who. who.now) found.new.items ≡ map (λ who. who.now) found.old.items ++ spec.holders (rows node.now)) }
+fn push_holders<'a>(
+    files: &'a FileTable,
+    node: &Node,
+    found: &mut Vec<&'a Who>,
+) -> Result<(), AllocError>
+    ensures { OnOk result (map (λ who. who.now) found.new.items ≡ map (λ who. who.now) found.old.items ++ spec.holders (seen_rows files.now (rows node.now))) }
 {
     match &node.held {
-        Held::File(_) => push_holder(node, found),
-        Held::Directory(nodes) => push_holders_in(nodes, found),
+        Held::File(place) => push_holder(files, *place, found),
+        Held::Directory(nodes) => push_holders_in(files, nodes, found),
     }
 }
 
 #[cycle(holders)]
 fn push_holders_in<'a>(
-    nodes: &'a BTreeMap<Name, Node>,
+    files: &'a FileTable,
+    nodes: &BTreeMap<Name, Node>,
     found: &mut Vec<&'a Who>,
 ) -> Result<(), AllocError>
-    ensures { OnOk result (map (λ who. who.now) found.new.items ≡ map (λ who. who.now) found.old.items ++ spec.holders (flatten nodes.now.entries)) }
+    ensures { OnOk result (map (λ who. who.now) found.new.items ≡ map (λ who. who.now) found.old.items ++ spec.holders (seen_rows files.now (flatten nodes.now.entries))) }
 {
     for (_name, child) in nodes {
-        push_holders(child, found)?;
+        push_holders(files, child, found)?;
     }
     Ok(())
 }

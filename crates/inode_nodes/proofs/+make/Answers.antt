@@ -1,4 +1,6 @@
 use Rattle.std.proofs.Common.{◌≡◌, ◌∷◌, [], true, sym, subst, arith, List, ℕ, BTreeMap}
+use Rattle.std.specs.Option.{option_map}
+use Rattle.file_table.specs.Place.{placed}
 use Rattle.namespace_rows.specs.Rows.{is_missing}
 use Rattle.inode_nodes.specs.Node.{Node, flatten}
 use Rattle.inode_nodes.proofs.Through.{on_ok, on_err, found_mut, missed_mut, same_through}
@@ -21,7 +23,7 @@ pub change::make_in-returns-in-Some-clause-ok : goal.change::make_in-returns-in-
 change::make_in-returns-in-Some-clause-ok t c =
     let found = found_mut c.get_mut.result c.in-Some.child _ c.in-Some.is c.get_mut.ensures.value in
     on_ok c.make.result
-    (λ is top group list. make_through c.args.owner.now c.args.mode c.args.file c.args.first.now c.args.rest.now top _ c.make.new.self c.args.map.now.entries _ c.requires.sorted c.requires.missing found is (c.get_mut.follows.holds c.make.new.self).0) c.make.ensures.ok
+    (λ is top group list. make_through c.args.owner.now c.args.mode (option_map placed c.args.file) c.args.first.now c.args.rest.now top _ c.make.new.self c.args.map.now.entries _ c.requires.sorted c.requires.missing found is (c.get_mut.follows.holds c.make.new.self).0) c.make.ensures.ok
 
 pub change::make_in-make_first-requires-in-None-clause-missing : goal.change::make_in-make_first-requires-in-None-clause-missing
 change::make_in-make_first-requires-in-None-clause-missing t c =

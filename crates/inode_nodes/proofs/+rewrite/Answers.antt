@@ -1,7 +1,8 @@
 use Rattle.std.proofs.Common.{arith, ap, ◌∙◌, BTreeMap, List, ℕ}
-use Rattle.inode_nodes.specs.Node.{flatten, rows, Node}
+use Rattle.inode_nodes.specs.Node.{flatten, Node}
+use Rattle.inode_nodes.specs.Change.{change_of}
 use Rattle.inode_nodes.proofs.Through.{found_mut, missed_mut, no_names, held_sorted, rewrite_top, rewrite_through, rewrite_none}
-use Rattle.flat_rows.specs.Changes.{row_rewritten, with_change}
+use Rattle.flat_rows.specs.Changes.{with_change}
 use Rattle.inode_nodes.proofs.Levels.{changed_pathless}
 use Rattle.inode_nodes.proofs.+rewrite.Goals as goal
 
@@ -10,16 +11,17 @@ node::Node::rewrite_by-rewrite_in-requires t c = (omega (arith, c.decreases, c.i
 
 pub node::Node::rewrite_by-returns-in-None : goal.node::Node::rewrite_by-returns-in-None
 node::Node::rewrite_by-returns-in-None t c =
-    let change = c.replace.result in
+    let change = change_of c.args.given.now in
     rewrite_top (with_change change) (changed_pathless change) c.args.path.now c.args.self.now c.give.new.self (no_names _ c.in-None.ensures.cases) c.give.ensures.beneath c.give.ensures.given
-    ∙ ap (λ change. row_rewritten c.args.path.now change (rows c.args.self.now)) c.replace.ensures.value
 
 pub change::rewrite_in-returns-in-Some-clause-rows : goal.change::rewrite_in-returns-in-Some-clause-rows
 change::rewrite_in-returns-in-Some-clause-rows t c =
+    let change = change_of c.args.given.now in
     let found = found_mut c.get_mut.result c.in-Some.child _ c.in-Some.is c.get_mut.ensures.value in
-    rewrite_through (with_change c.args.change.now) (changed_pathless c.args.change.now) c.args.first.now c.args.rest.now _ c.rewrite_by.new.self c.args.map.now.entries _ c.requires found c.rewrite_by.ensures (c.get_mut.follows.holds c.rewrite_by.new.self).0
+    rewrite_through (with_change change) (changed_pathless change) c.args.first.now c.args.rest.now _ c.rewrite_by.new.self c.args.map.now.entries _ c.requires found c.rewrite_by.ensures (c.get_mut.follows.holds c.rewrite_by.new.self).0
 
 pub change::rewrite_in-returns-in-None-clause-rows : goal.change::rewrite_in-returns-in-None-clause-rows
 change::rewrite_in-returns-in-None-clause-rows t c =
+    let change = change_of c.args.given.now in
     let missed = missed_mut c.get_mut.result _ c.in-None.is c.get_mut.ensures.value in
-    ap (λ (m : BTreeMap (List ℕ) Node). flatten m.entries) c.get_mut.follows.holds-at-none ∙ rewrite_none (with_change c.args.change.now) (changed_pathless c.args.change.now) c.args.first.now c.args.rest.now c.args.map.now.entries c.requires missed
+    ap (λ (m : BTreeMap (List ℕ) Node). flatten m.entries) c.get_mut.follows.holds-at-none ∙ rewrite_none (with_change change) (changed_pathless change) c.args.first.now c.args.rest.now c.args.map.now.entries c.requires missed
