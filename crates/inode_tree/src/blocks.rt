@@ -3,7 +3,7 @@ ghost use Rattle.slab.specs.Slab.{get};
 ghost use Rattle.namespace_rows.specs.Files.{blocks_in, holders, ids_in};
 ghost use Rattle.file_table.specs.Place.{placed};
 ghost use Rattle.file_table.specs.Seen.{file_held, seen_rows};
-ghost use Rattle.inode_tree.specs.Tree.{get_unless, are_at_place};
+ghost use Rattle.file_table.specs.Kept.{get_unless, are_at_place};
 ghost use Rattle.inode_nodes.specs.Node.{rows, flatten};
 
 use file_blocks::blocks::FileBlock;

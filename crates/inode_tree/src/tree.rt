@@ -64,7 +64,8 @@ impl Model for Tree {
     ghost use Rattle.namespace_rows.specs.declared.row.Row.{Row};
     ghost use Rattle.inode_nodes.specs.Node.{rows};
     ghost use Rattle.file_table.specs.Seen.{seen_rows};
-    ghost use Rattle.inode_tree.specs.Tree.{IsTree, AreKept};
+    ghost use Rattle.file_table.specs.Kept.{AreKept};
+    ghost use Rattle.inode_tree.specs.Tree.{IsTree};
 
     ghost Value = { List Row };
 

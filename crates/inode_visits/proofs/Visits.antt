@@ -5,8 +5,10 @@ use Rattle.std.proofs.lemmas.List.{length-map, map-append}
 use Rattle.std.proofs.lemmas.List.Elements.{filter-append}
 use Rattle.std.proofs.lemmas.List.Folds.{list_all-append}
 use Rattle.std.specs.List.{filter, list_any}
+use Rattle.slab.specs.Slab.{Slab}
 use Rattle.std.specs.Option.{option_map, option_to_list}
 use Rattle.file_paths.specs.Path.{is_path}
+use Rattle.namespace_rows.specs.declared.file_row.FileRow.{FileRow}
 use Rattle.namespace_rows.specs.declared.row.Row.{Row}
 use Rattle.file_blocks.specs.Blocks.{told_length}
 use Rattle.namespace_rows.specs.Files.{holders, holder_of_file}
@@ -17,9 +19,29 @@ use Rattle.namespace_rows.specs.Rows.{is_directory}
 use Rattle.flat_rows.specs.Changes.{are_paths}
 use Rattle.namespace_rows.proofs.Tests.{both}
 use Rattle.inode_nodes.specs.Node.{Node, flatten, rows, row_of, top_of, under, row_placed}
+use Rattle.file_table.specs.Seen.{seen, seen_rows}
+use Rattle.inode_visits.specs.SeenNode.{seen_branch}
 use Rattle.inode_visits.specs.Visits.{told_number, directories, files, sum_told, row_found}
 use Rattle.inode_visits.specs.declared.visit.Found.{Found}
 use Rattle.inode_nodes.proofs.Filters.{Entries, filter-map, append_rows}
+
+-- entries as the namespace sees them, with a table of files
+abbrev pub seen_entries : Slab FileRow → Entries → Entries
+seen_entries files entries = map (λ entry. (entry.0, seen_branch files entry.1)) entries
+
+pub seen_under : (files : Slab FileRow) (n : List ℕ) (rs : List Row) → map (under n) (seen_rows files rs) ≡ seen_rows files (map (under n) rs)
+seen_under files n [] = refl
+seen_under files n (r ∷ rs) = ap (λ l. seen files (under n r) ∷ l) (seen_under files n rs)
+
+pub seen_flatten : (files : Slab FileRow) (es : Entries) → flatten (seen_entries files es) ≡ seen_rows files (flatten es)
+seen_flatten files [] = refl
+seen_flatten files (e ∷ es) =
+    ap (λ l. l ++ flatten (seen_entries files es)) (seen_under files e.0 (rows e.1)) ∙ ap (λ l. seen_rows files (map (under e.0) (rows e.1)) ++ l) (seen_flatten files es)
+    ∙ sym (map-append (seen files) (map (under e.0) (rows e.1)) (flatten es))
+
+pub seen_placed : (files : Slab FileRow) (path : List (List ℕ)) (rs : List Row) → map (row_placed path) (seen_rows files rs) ≡ seen_rows files (map (row_placed path) rs)
+seen_placed files path [] = refl
+seen_placed files path (r ∷ rs) = ap (λ l. seen files (row_placed path r) ∷ l) (seen_placed files path rs)
 
 pub shorter : (it new : Entries) (n : List ℕ) (b : Node) → it ≡ (n, b) ∷ new → length (flatten new) ≤ length (flatten it)
 shorter it new n b is = omega (arith, ap (λ (x : Entries). length (flatten x)) is, length-append (map (under n) (rows b)) (flatten new))

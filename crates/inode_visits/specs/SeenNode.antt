@@ -1,8 +1,6 @@
 -- A branch of nodes as the namespace sees it, with the table that has what its files have.
-use Rattle.std.specs.Prelude.{ℕ, List, Option, Some, None}
 use Rattle.slab.specs.Slab.{Slab}
 use Rattle.namespace_rows.specs.declared.file_row.FileRow.{FileRow}
-use Rattle.file_blocks.specs.Blocks.{length_of}
 use Rattle.inode_nodes.specs.Node.{Top, Node}
 use Rattle.file_table.specs.Seen.{file_held, seen_rows}
 
@@ -11,8 +9,3 @@ seen_top files top = record top { file = file_held files top.file }
 
 abbrev pub seen_branch : Slab FileRow → Node → Node
 seen_branch files branch = record { top = seen_top files branch.top; beneath = seen_rows files branch.beneath }
-
--- the committed bytes of what is a file
-abbrev pub bytes_of_file : Option FileRow → ℕ
-bytes_of_file None = 0
-bytes_of_file (Some file) = length_of file.blocks

@@ -7,12 +7,13 @@ ghost use Rattle.namespace_rows.specs.Files as spec;
 ghost use Rattle.namespace_rows.specs.First.{first};
 ghost use Rattle.namespace_rows.specs.Namespace.{is_ascending};
 ghost use Rattle.flat_rows.specs.Changes.{are_paths, child_names};
+ghost use Rattle.flat_rows.specs.FileOutcome.{file_bytes};
 ghost use Rattle.inode_nodes.specs.Node.{rows, row_of, flatten, under, row_placed};
 ghost use Rattle.file_table.specs.Place.{placed};
 ghost use Rattle.file_table.specs.Seen.{file_held, seen_rows};
 ghost use Rattle.file_blocks.specs.Blocks.{told_length};
 ghost use Rattle.inode_visits.specs.Visits.{counts_of, sum_told, is_closed, row_found};
-ghost use Rattle.inode_visits.specs.SeenNode.{seen_top, bytes_of_file};
+ghost use Rattle.inode_visits.specs.SeenNode.{seen_top};
 
 use acl_entries::acl::Acl;
 use file_paths::name::Name;
@@ -92,7 +93,7 @@ fn count_in(files: &FileTable, map: &BTreeMap<Name, Node>) -> Counts
 
 /// The committed bytes of the file at a place.
 fn length_at(files: &FileTable, place: FilePlace) -> Option<u64>
-    ensures { result ≡ told_length (bytes_of_file (file_held files.now (Some (placed place)))) }
+    ensures { result ≡ told_length (file_bytes (file_held files.now (Some (placed place)))) }
 {
     match files.get(place) {
         Some(file) => file.blocks.length(),
