@@ -22,28 +22,6 @@ use Rattle.inode_nodes.proofs.Through.{on_err}
 use Rattle.inode_tree.specs.Tree.{IsTree}
 use Rattle.inode_tree.proofs.Trees.{either_tree}
 
--- a visit
-
-module _ (f : Row → Row) (same : (row : Row) → (f row).file ≡ row.file) where
-  blocks_map : (rs : List Row) → blocks_in (map f rs) ≡ blocks_in rs
-  blocks_map [] = refl
-  blocks_map (r ∷ rs) = ap (λ file. ids_in file ++ blocks_in (map f rs)) (same r) ∙ ap (λ l. ids_in r.file ++ l) (blocks_map rs)
-
-blocks_append : (xs ys : List Row) → blocks_in (xs ++ ys) ≡ blocks_in xs ++ blocks_in ys
-blocks_append [] ys = refl
-blocks_append (x ∷ xs) ys = ap (λ l. ids_in x.file ++ l) (blocks_append xs ys) ∙ sym (append_assoc (ids_in x.file) (blocks_in xs) (blocks_in ys))
-
--- those of one entry are added, and those of the entries behind it are left
-pub blocks_next : (it new : Entries) (n : List ℕ) (b : Node) (before after all : List ℕ) → it ≡ (n, b) ∷ new → after ≡ before ++ blocks_in (rows b) → before ++ blocks_in (flatten it) ≡ all → after ++ blocks_in (flatten new) ≡ all
-blocks_next it new n b before after all is a h =
-    ap (λ l. l ++ blocks_in (flatten new)) a ∙ append_assoc before (blocks_in (rows b)) (blocks_in (flatten new))
-    ∙ ap (λ l. before ++ l) (sym (ap (λ (x : Entries). blocks_in (flatten x)) is ∙ blocks_append (map (under n) (rows b)) (flatten new) ∙ ap (λ l. l ++ blocks_in (flatten new)) (blocks_map (under n) (λ row. refl) (rows b)))) ∙ h
-
--- those of the rows at and beneath a path, where these were found there
-pub blocks_there : (names path : List (List ℕ)) → names ≡ path → (root : Node) (all : List Row) → rows root ≡ all → (o : Option Node) → IsWhole names (rows root) o → blocks_in (rows_or o) ≡ blocks_in (rows_under path all)
-blocks_there names path is root all seen o whole =
-    sym (ap blocks_in (sym (ap (λ p. rows_under p all) is) ∙ sym (ap (rows_under names) seen) ∙ whole) ∙ blocks_map (row_placed names) (λ row. refl) (rows_or o))
-
 -- a block that was added and taken back
 
 last_added : (blocks : List FileBlock) (new : FileBlock) → but_last (blocks ++ new ∷ []) ≡ blocks

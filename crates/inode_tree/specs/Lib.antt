@@ -1,3 +1,1 @@
-pub mod Limits
 pub mod Tree
-pub mod Rooms

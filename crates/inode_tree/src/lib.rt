@@ -2,7 +2,6 @@
 //! File System Namespace").
 #![tactic(auto)]
 
-pub mod blocks;
-pub mod inode;
-pub mod limit;
+pub use inode_files::blocks;
+pub use inode_files::inode;
 pub mod tree;

@@ -15,24 +15,20 @@ ghost use Rattle.namespace_rows.specs.First.{first};
 ghost use Rattle.inode_visits.specs.Visits.{counts_of, is_closed};
 ghost use Rattle.inode_nodes.specs.Node.{rows, row_of};
 ghost use Rattle.inode_nodes.specs.Part.{IsWhole};
-ghost use Rattle.slab.specs.Slab.{SameValues};
 ghost use Rattle.inode_tree.specs.Tree.{branch_at, IsTree};
-ghost use Rattle.inode_tree.specs.Rooms.{IsRoomFor, HasRoomWhere, IsPut};
 
-use crate::blocks::{self, FilesUnder};
+use crate::blocks::FilesUnder;
 use crate::inode::Inode;
-use crate::limit;
 use acl_entries::acl::Acl;
 use file_paths::name::Name;
 use file_paths::path::Path;
-use file_table::place::FilePlace;
-use file_table::table::FileTable;
 use hdfs_types::reply::ObjectKind;
 use hdfs_values::ids::BlockId;
 use hdfs_values::who::Who;
+use inode_files::limit;
+use inode_files::nodes::Nodes;
 use inode_nodes::change::Given;
-use inode_nodes::node::Node;
-use inode_visits::visit::{self, Counts};
+use inode_visits::visit::Counts;
 use namespace_rows::file_row::FileRow;
 use namespace_rows::row::{Change, Row};
 use permission_bits::mode::Mode;
@@ -44,17 +40,14 @@ use std::marker::Model;
 /// (HDFS Architecture, "The File System Namespace"). A call costs its path, one look-up in a map for each name; what it
 /// costs beyond that is said at the call.
 pub struct Tree {
-    root: Node,
-    // What the files have, by the places that their nodes name.
-    files: FileTable,
+    nodes: Nodes,
     alloc: Global,
 }
 
 impl Drop for Tree {
     fn drop(self) {
-        let Tree { root, files, alloc } = self;
-        drop(root);
-        drop(files);
+        let Tree { nodes, alloc } = self;
+        drop(nodes);
         drop(alloc);
     }
 }
@@ -62,18 +55,13 @@ impl Drop for Tree {
 impl Model for Tree {
     ghost use Rattle.std.specs.Prelude.{List};
     ghost use Rattle.namespace_rows.specs.declared.row.Row.{Row};
-    ghost use Rattle.inode_nodes.specs.Node.{rows};
-    ghost use Rattle.file_table.specs.Seen.{seen_rows};
-    ghost use Rattle.file_table.specs.Kept.{AreKept};
     ghost use Rattle.inode_tree.specs.Tree.{IsTree};
 
     ghost Value = { List Row };
 
-    ghost view = { λ tree. seen_rows tree.files (rows tree.root) };
+    ghost view = { λ tree. tree.nodes };
 
-    ghost use Rattle.std.specs.Prelude.{◌×◌};
-
-    ghost invariant = { λ tree. IsTree (seen_rows tree.files (rows tree.root)) × AreKept tree.files (rows tree.root) };
+    ghost invariant = { λ tree. IsTree tree.nodes };
 }
 
 impl Tree {
@@ -83,8 +71,7 @@ impl Tree {
     {
         let acl = Acl::from_mode(Mode::root(), ObjectKind::Directory);
         Tree {
-            root: Node::new(alloc, superuser, supergroup, acl, None),
-            files: FileTable::new(alloc),
+            nodes: Nodes::new(alloc, superuser, supergroup, acl),
             alloc,
         }
     }
@@ -94,7 +81,7 @@ impl Tree {
         ensures rows { rows (branch_at result) ≡ self.now }
         ensures tree { IsTree self.now }
     {
-        Inode::new(&self.files, &self.root)
+        self.nodes.top()
     }
 
     /// What stands at a path. Takes no memory.
@@ -102,8 +89,7 @@ impl Tree {
         ensures row { option_map (λ inode. row_of path.now (branch_at inode).top) result ≡ row_at path.now self.now }
         ensures beneath { IsWhole path.now self.now (option_map branch_at result) }
     {
-        let node = self.root.find(path.names())?;
-        Some(Inode::new(&self.files, node))
+        self.nodes.find(path.names())
     }
 
     /// How many directories and how many files stand at a path and beneath it, and how many bytes the files hold. Costs also what
@@ -111,8 +97,8 @@ impl Tree {
     pub fn count(&self, path: &Path) -> Counts
         ensures { result ≡ counts_of (rows_under path.now self.now) }
     {
-        match self.root.find(path.names()) {
-            Some(node) => visit::count(&self.files, node),
+        match self.nodes.find(path.names()) {
+            Some(inode) => inode.count(),
             None => Counts {
                 directories: 0,
                 files: 0,
@@ -125,8 +111,8 @@ impl Tree {
     pub fn is_alone(&self, path: &Path) -> bool
         ensures { result ≡ is_alone (rows_under path.now self.now) }
     {
-        match self.root.find(path.names()) {
-            Some(node) => node.is_alone(),
+        match self.nodes.find(path.names()) {
+            Some(inode) => inode.is_alone(),
             None => true,
         }
     }
@@ -145,10 +131,10 @@ impl Tree {
     ) -> Result<Option<Row>, AllocError>
         ensures { IfOk result (λ found. found ≡ first (filter (is_closed caller.now groups.now need) (rows_under path.now self.now))) }
     {
-        let Some(node) = self.root.find(path) else {
+        let Some(inode) = self.nodes.find(path) else {
             return Ok(None);
         };
-        match visit::first_closed(self.alloc, node, caller, groups, need)? {
+        match inode.first_closed(self.alloc, caller, groups, need)? {
             Some(found) => Ok(Some(found.into_row(self.alloc, path)?)),
             None => Ok(None),
         }
@@ -162,8 +148,8 @@ impl Tree {
         ensures { IfOk result (λ rows. rows.items ≡ rows_under path.now self.now) }
     {
         let mut rows = Vec::new(self.alloc);
-        if let Some(node) = self.root.find(path.names()) {
-            visit::push_rows(self.alloc, &self.files, node, path.clone()?, &mut rows)?;
+        if let Some(inode) = self.nodes.find(path.names()) {
+            inode.push_rows(self.alloc, path.clone()?, &mut rows)?;
         }
         Ok(rows)
     }
@@ -175,8 +161,8 @@ impl Tree {
     pub fn children(&self, path: &Path) -> Result<Vec<&Name>, AllocError>
         ensures { IfOk result (λ names. map (λ name. name.now) names.items ≡ child_names path.now self.now) }
     {
-        match self.root.find(path.names()) {
-            Some(node) => visit::names_of(self.alloc, node),
+        match self.nodes.find(path.names()) {
+            Some(inode) => inode.names(self.alloc),
             None => Ok(Vec::new(self.alloc)),
         }
     }
@@ -189,8 +175,8 @@ impl Tree {
     pub fn holders_under(&self, path: &Path) -> Result<Vec<&Who>, AllocError>
         ensures { IfOk result (λ found. map (λ who. who.now) found.items ≡ holders (rows_under path.now self.now)) }
     {
-        match self.root.find(path.names()) {
-            Some(node) => visit::holders(self.alloc, &self.files, node),
+        match self.nodes.find(path.names()) {
+            Some(inode) => inode.holders(self.alloc),
             None => Ok(Vec::new(self.alloc)),
         }
     }
@@ -203,8 +189,8 @@ impl Tree {
     pub fn blocks_under(&self, path: &Path) -> Result<Vec<BlockId>, AllocError>
         ensures { IfOk result (λ found. found.items ≡ blocks_in (rows_under path.now self.now)) }
     {
-        match self.root.find(path.names()) {
-            Some(node) => blocks::blocks_of(self.alloc, &self.files, node),
+        match self.nodes.find(path.names()) {
+            Some(inode) => inode.blocks(self.alloc),
             None => Ok(Vec::new(self.alloc)),
         }
     }
@@ -218,8 +204,8 @@ impl Tree {
         ensures clients { IfOk result (λ found. map (λ who. who.now) found.clients.items ≡ holders (rows_under path.now self.now)) }
         ensures blocks { IfOk result (λ found. found.blocks.items ≡ blocks_in (rows_under path.now self.now)) }
     {
-        match self.root.find(path.names()) {
-            Some(node) => blocks::files_of(self.alloc, &self.files, node),
+        match self.nodes.find(path.names()) {
+            Some(inode) => inode.files(self.alloc),
             None => Ok(FilesUnder {
                 clients: Vec::new(self.alloc),
                 blocks: Vec::new(self.alloc),
@@ -232,7 +218,7 @@ impl Tree {
     pub fn can_move(&self, from: &Path, to: &Path) -> bool
         ensures { result ≡ are_paths (map (moved_row from.now to.now) (rows_under from.now self.now)) }
     {
-        let Some(node) = self.root.find(from.names()) else {
+        let Some(inode) = self.nodes.find(from.names()) else {
             return true;
         };
         let depth = to.depth();
@@ -240,7 +226,7 @@ impl Tree {
         if depth <= from.depth() && bytes <= limit::text_bytes(from) {
             return true;
         }
-        limit::fits(node, depth, bytes)
+        inode.fits(depth, bytes)
     }
 
     /// Puts a file, where what it has is given, or else a directory that holds nothing, at a path, instead of what stood there.
@@ -260,21 +246,8 @@ impl Tree {
         ensures ok { OnOk result (self.new ≡ with_sub_tree self.old (record { path = path.now; kind = kind_of_new file; owner = owner; group = group; acl = acl; file = file } ∷ [])) }
         ensures err { OnErr result (self.new ≡ self.old) }
     {
-        let Some((name, above)) = path.names().split_last() else {
-            unreachable!()
-        };
-        let own_name = name.clone()?;
-        let place = room_for(&mut self.files, &file)?;
-        let new = Node::new(self.alloc, owner, group, acl, place);
-        if let Some(node) = self.root.find(path.names()) {
-            keep(&mut self.files, file);
-            blocks::forget(&mut self.files, node);
-            self.root.fill(above, name, new);
-            return Ok(());
-        }
-        self.root.put(above, own_name, new)?;
-        keep(&mut self.files, file);
-        Ok(())
+        self.nodes
+            .insert(self.alloc, path.names(), owner, group, acl, file)
     }
 
     /// Puts a file in the place of another. Takes no memory.
@@ -284,20 +257,8 @@ impl Tree {
         requires suits { IsTrue (suits_file acl) }
         ensures { self.new ≡ with_sub_tree self.old (record { path = path.now; kind = kind_of_new (Some file); owner = owner; group = group; acl = acl; file = Some file } ∷ []) }
     {
-        let Some((name, above)) = path.names().split_last() else {
-            unreachable!()
-        };
-        let Some(place) = self.place_at(path) else {
-            unreachable!()
-        };
-        let new = Node::new(self.alloc, owner, group, acl, Some(place));
-        self.root.fill(above, name, new);
-        self.files.replace(place, file);
-    }
-
-    /// The place of the file at a path.
-    fn place_at(&self, path: &Path) -> Option<FilePlace> {
-        self.root.find(path.names())?.place()
+        self.nodes
+            .replace(self.alloc, path.names(), owner, group, acl, file);
     }
 
     /// Makes what is missing of a path: the last a file, where what it has is given, else a directory, of this mode; the others
@@ -318,11 +279,8 @@ impl Tree {
         ensures ok { OnOk result (self.new ≡ with_new path.now mode file owner.now (ancestor path.now self.old) self.old) }
         ensures err { OnErr result (self.new ≡ self.old) }
     {
-        let place = room_for(&mut self.files, &file)?;
-        self.root
-            .make(self.alloc, path.names(), mode, place, owner)?;
-        keep(&mut self.files, file);
-        Ok(())
+        self.nodes
+            .make(self.alloc, path.names(), mode, file, owner)
     }
 
     /// Removes what stands at a path that isn't the root, with all that is beneath it. Costs also what is removed, and takes
@@ -334,11 +292,7 @@ impl Tree {
         let Some((first, rest)) = path.names().split_first() else {
             unreachable!()
         };
-        if let Some(removed) = self.root.take(first, rest) {
-            if !self.files.is_empty() {
-                blocks::forget(&mut self.files, &removed);
-            }
-        }
+        self.nodes.remove(first, rest);
     }
 
     /// Moves what stands at a path, with all that is beneath it, to another path. Costs the two paths, and not what is moved.
@@ -360,7 +314,7 @@ impl Tree {
         let Some((name, above)) = to.names().split_last() else {
             unreachable!()
         };
-        self.root.move_to(self.alloc, first, rest, above, name)
+        self.nodes.move_to(self.alloc, first, rest, above, name)
     }
 
     /// Gives what stands at a path another part: an owner and a group, an access list, or what a file has. Takes no memory.
@@ -370,17 +324,11 @@ impl Tree {
     {
         match change {
             Change::Owner(owner, group) => {
-                self.root.rewrite(path.names(), Given::Owners(owner, group));
+                self.nodes
+                    .rewrite(path.names(), Given::Owners(owner, group));
             }
-            Change::List(acl) => self.root.rewrite(path.names(), Given::List(acl)),
-            change => self.change_file(path, change),
-        }
-    }
-
-    /// Gives the file at a path what a change says, which isn't an owner, a group or a list; where no file stands there, changes nothing.
-    fn change_file(&mut self, path: &Path, change: Change) {
-        if let Some(place) = self.place_at(path) {
-            self.files.change(place, change);
+            Change::List(acl) => self.nodes.rewrite(path.names(), Given::List(acl)),
+            change => self.nodes.change_file(path.names(), change),
         }
     }
 
@@ -392,10 +340,7 @@ impl Tree {
         ensures ok { OnOk result (self.new ≡ block_added path.now block self.old) }
         ensures err { OnErr result (self.new ≡ self.old) }
     {
-        match self.place_at(path) {
-            Some(place) => self.files.push_block(place, block),
-            None => Ok(()),
-        }
+        self.nodes.push_block(path.names(), block)
     }
 
     /// Takes the last block out of the file at a path, and so undoes `push_block`. Costs also the blocks of the file, and takes no memory.
@@ -403,7 +348,7 @@ impl Tree {
         ensures taken { self.new ≡ row_rewritten path.now change.LastTaken self.old }
         ensures undone { (block : ℕ) (rows : List Row) → self.old ≡ block_added path.now block rows → self.new ≡ rows }
     {
-        self.change_file(path, Change::LastTaken);
+        self.nodes.change_file(path.names(), Change::LastTaken);
     }
 
     /// Commits the length of a block of the file at a path, where that has the block. Behind `push_block` of another block that is
@@ -412,7 +357,8 @@ impl Tree {
         ensures committed { self.new ≡ row_rewritten path.now (change.Committed block bytes) self.old }
         ensures as_before { (added : ℕ) (rows : List Row) → (added == block) ≡ false → self.old ≡ block_added path.now added rows → self.new ≡ block_added path.now added (row_rewritten path.now (change.Committed block bytes) rows) }
     {
-        self.change_file(path, Change::Committed(block, bytes));
+        self.nodes
+            .change_file(path.names(), Change::Committed(block, bytes));
     }
 
     /// Closes the file at a path, and commits the length of a block, where the file has it; where no file stands there, changes nothing (HDFS
@@ -421,7 +367,8 @@ impl Tree {
     pub fn complete(&mut self, path: &Path, block: BlockId, bytes: u64)
         ensures { self.new ≡ row_rewritten path.now (change.Committed block bytes) (row_rewritten path.now (change.State Closed) self.old) }
     {
-        self.change_file(path, Change::Completed(block, bytes));
+        self.nodes
+            .change_file(path.names(), Change::Completed(block, bytes));
     }
 
     /// Ends the recovery of a block in the file at a path, where the state of that is one of this block: the block's length is
@@ -432,30 +379,7 @@ impl Tree {
         ensures here { self.new ≡ row_rewritten path.now (change.Recovered block bytes) self.old }
         ensures all { IsTrue (recovers_nowhere_else path.now block self.old) → self.new ≡ recovery_ended block bytes self.old }
     {
-        self.change_file(path, Change::Recovered(block, bytes));
-    }
-}
-
-/// Room for a file, where one is given, and the place that it will get.
-fn room_for(
-    files: &mut FileTable,
-    file: &Option<FileRow>,
-) -> Result<Option<FilePlace>, AllocError>
-    ensures same { SameValues files.old files.new }
-    ensures room { IfOk result (IsRoomFor files.new file.now) }
-{
-    match file {
-        Some(_) => Ok(Some(files.make_room()?)),
-        None => Ok(None),
-    }
-}
-
-/// Keeps a file, where one is given, for which there is room. Takes no memory.
-fn keep(files: &mut FileTable, file: Option<FileRow>)
-    requires { HasRoomWhere file files.old }
-    ensures { IsPut file files.old files.new }
-{
-    if let Some(file) = file {
-        files.put(file);
+        self.nodes
+            .change_file(path.names(), Change::Recovered(block, bytes));
     }
 }

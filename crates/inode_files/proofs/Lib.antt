@@ -1,0 +1,6 @@
+pub mod SeenRows
+pub mod Places
+pub mod Counts
+pub mod Limits
+pub mod FileBlocks
+pub mod SeenParts
