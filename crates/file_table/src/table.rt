@@ -3,9 +3,12 @@ ghost use Rattle.std.specs.Option.{option_copied, option_map};
 ghost use Rattle.slab.specs.Slab.{get, ContainsKey, HasRoomFor, Updates, SameValues};
 ghost use Rattle.namespace_rows.specs.Files.{with_block};
 ghost use Rattle.file_table.specs.Changed.{file_changed};
+ghost use Rattle.file_table.specs.Finished.{is_finished_for, is_finished_of, closed_for};
 
 use crate::place::FilePlace;
+use hdfs_types::file::FileState;
 use hdfs_values::ids::BlockId;
+use hdfs_values::who::Who;
 use namespace_rows::file_row::FileRow;
 use namespace_rows::row::Change;
 use slab::Slab;
@@ -99,6 +102,17 @@ impl FileTable {
         }
     }
 
+    /// Closes the file at a place, where this client has it open and its last block isn't unfinished, and tells whether it did. Takes no memory.
+    pub fn close_finished(&mut self, place: FilePlace, client: &Who) -> bool
+        ensures told { result ≡ is_finished_of client.now (get self.old place) }
+        ensures closed { Updates self.old self.new place (option_map (closed_for client.now) (get self.old place)) }
+    {
+        match self.files.get_mut(place.key()) {
+            Some(file) => close_finished(file, client),
+            None => false,
+        }
+    }
+
     /// Adds a block to the file at a place.
     ///
     /// # Errors
@@ -112,6 +126,29 @@ impl FileTable {
             None => Ok(()),
         }
     }
+}
+
+/// Whether a client has a file open whose last block isn't unfinished.
+pub fn is_finished(file: &FileRow, client: &Who) -> bool
+    ensures { result ≡ is_finished_for client.now file.now }
+{
+    match &file.state {
+        FileState::Open(holder) => client == holder && file.blocks.unfinished().is_none(),
+        FileState::Closed => false,
+        FileState::Recovering(_, _, _) => false,
+    }
+}
+
+/// Closes such a file, and tells whether it did.
+fn close_finished(file: &mut FileRow, client: &Who) -> bool
+    ensures told { result ≡ is_finished_for client.now file.old }
+    ensures closed { file.new ≡ closed_for client.now file.old }
+{
+    if !is_finished(file, client) {
+        return false;
+    }
+    file.state = FileState::Closed;
+    true
 }
 
 /// Gives a file what the change says.

@@ -40,8 +40,8 @@ first_passes p q rs row h found = by (filter p rs) (all_kept p q rs h) found
         one : (x : Row) → Some x ≡ Some row → x ≡ row
         one x e = cc
 
--- what was found at these names, in a tree whose rows are all of these
-module _ (names path : List (List ℕ)) (is : names ≡ path) (root : Node) (all : List Row) (seen : rows root ≡ all) (tree : IsTree (rows root)) (o : Option Node) (whole : IsWhole names (rows root) o) where
+-- what was found at these names, among rows of a tree that are all of these
+module _ (names path : List (List ℕ)) (is : names ≡ path) (own all : List Row) (seen : own ≡ all) (tree : IsTree own) (o : Option Node) (whole : IsWhole names own o) where
   under : rows_under path all ≡ map (row_placed path) (rows_or o)
   under = sym (ap (λ p. rows_under p all) is) ∙ sym (ap (rows_under names) seen) ∙ whole ∙ ap (λ p. map (row_placed p) (rows_or o)) is
 
@@ -76,7 +76,7 @@ module _ (names path : List (List ℕ)) (is : names ≡ path) (root : Node) (all
       first_passes p (λ r. is_path r.path) (map (row_placed path) (rows_or o)) (row_placed path row) paths_there (ap first (filter-map p p (row_placed path) same (rows_or o)) ∙ first_placed path (filter p (rows_or o)) ∙ ap (option_map (row_placed path)) found)
 
   pub ascending_there : (b : Node) → o ≡ Some b → is_ascending (rows b) ≡ true
-  ascending_there b found = part_ascending names (rows root) b (subst (IsWhole names (rows root)) found whole) (namespace_tests (rows root) tree.namespace).ascending
+  ascending_there b found = part_ascending names own b (subst (IsWhole names own) found whole) (namespace_tests own tree.namespace).ascending
 
   pub names_there : child_names [] (rows_or o) ≡ child_names path all
-  names_there = child_names_whole names (rows root) o whole ∙ ap (λ p. child_names p (rows root)) is ∙ ap (child_names path) seen
+  names_there = child_names_whole names own o whole ∙ ap (λ p. child_names p own) is ∙ ap (child_names path) seen

@@ -1,5 +1,5 @@
 -- The blocks of files: those of a visit, and a block that was added and taken back.
-use Rattle.std.proofs.Common.{◌≡◌, ℕ, ◌+◌, ◌-◌, nat_eq, Bool, true, false, ◌||◌, not, List, [], ◌∷◌, ◌++◌, map, length, length-append, take, append_assoc, cond, Option, Some, None, refl, sym, ap, ◌∙◌, arith, Result, OnOk, OnErr}
+use Rattle.std.proofs.Common.{◌≡◌, ℕ, ◌+◌, ◌-◌, nat_eq, Bool, true, false, ◌||◌, not, List, [], ◌∷◌, ◌++◌, map, length, length-append, take, append_assoc, cond, Option, Some, None, refl, sym, ap, ◌∙◌, arith, Result, Ok, Err, OnOk, OnErr, subst}
 use Rattle.std.proofs.Math.Seq.{take-append_seam}
 use Rattle.std.specs.Option.{option_map}
 use Rattle.std.specs.declared.alloc.AllocError.{AllocError}
@@ -15,12 +15,16 @@ use Rattle.namespace_rows.proofs.Tests.{both}
 use Rattle.file_blocks.proofs.Commits.{committed_before}
 use Rattle.flat_rows.specs.Changes.{with_file, file_edited, row_rewritten, block_added, is_recovered, recovers_nowhere_else, recovery_ended, rows_under, suits_change}
 use Rattle.flat_rows.proofs.Changes.{edited_namespace, edited_paths}
-use Rattle.inode_nodes.specs.Node.{Node, flatten, rows, rows_or, under, row_placed}
+use Rattle.inode_nodes.specs.Node.{Node, rows_or, row_placed}
 use Rattle.inode_nodes.specs.Part.{IsWhole}
-use Rattle.inode_nodes.proofs.Filters.{Entries}
-use Rattle.inode_nodes.proofs.Through.{on_err}
+use Rattle.inode_files.specs.Branch.{file_rewritten}
+use Rattle.inode_files.proofs.FileBlocks.{blocks_map}
 use Rattle.inode_tree.specs.Tree.{IsTree}
-use Rattle.inode_tree.proofs.Trees.{either_tree}
+
+-- those of the rows at and beneath a path, where these were found there
+pub blocks_there : (names path : List (List ℕ)) → names ≡ path → (own all : List Row) → own ≡ all → (o : Option Node) → IsWhole names own o → blocks_in (rows_or o) ≡ blocks_in (rows_under path all)
+blocks_there names path is own all seen o whole =
+    sym (ap blocks_in (sym (ap (λ p. rows_under p all) is) ∙ sym (ap (rows_under names) seen) ∙ whole) ∙ blocks_map (row_placed names) (λ row. refl) (rows_or o))
 
 -- a block that was added and taken back
 
@@ -153,11 +157,13 @@ ending_suits block bytes (Some row) = refl
 
 -- a tree stays one
 
-module _ (path names : List (List ℕ)) (is : names ≡ path) (b : Node) (all : List Row) (seen : rows b ≡ all) (tree : IsTree (rows b)) where
-  pub push_keeps : (block : ℕ) (r : Result (Unit {0}) AllocError) (new : Node) → OnOk r (rows new ≡ block_added names block (rows b)) → OnErr r (new ≡ b) → IsTree (rows new)
-  push_keeps block r new ok err =
-      either_tree r (rows b) (rows new) (block_added names block (rows b)) ok (on_err r (ap rows) err)
-      (record {
-        namespace = edited_namespace (with_block block) (λ row. same_path names row.path) (rows b) tree.namespace;
-        paths = edited_paths (with_block block) (λ row. same_path names row.path) (rows b) tree.paths;
-      }) tree
+module _ (edit : FileRow → FileRow) (path : List (List ℕ)) (own new : List Row) (tree : IsTree own) where
+  pub edited_tree : new ≡ file_rewritten path edit own → IsTree new
+  edited_tree done = subst IsTree (sym done) (record {
+    namespace = edited_namespace edit (λ row. same_path path row.path) own tree.namespace;
+    paths = edited_paths edit (λ row. same_path path row.path) own tree.paths;
+  })
+
+  pub push_keeps : (r : Result (Unit {0}) AllocError) → OnOk r (new ≡ file_rewritten path edit own) → OnErr r (new ≡ own) → IsTree new
+  push_keeps (Ok x) ok err = edited_tree ok
+  push_keeps (Err e) ok err = subst IsTree (sym err) tree

@@ -1,4 +1,3 @@
-pub mod Limits
 pub mod Trees
 pub mod Asked
 pub mod FileBlocks

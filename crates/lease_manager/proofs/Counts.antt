@@ -28,20 +28,22 @@ absent_stays (entry ∷ counts) client n none = by (same client entry.0) none (a
     by true h rest = cc
     by false h rest = ap (λ es. entry ∷ es) (rest h)
 
--- one file less
-pub counted_less : (counts : List (List ℕ × ℕ)) (client other : List ℕ) → count_of (set_value (same client) counts (count_of counts client - 1)) other ≡ cond (same client other) (count_of counts client - 1) (count_of counts other)
-counted_less counts client other = by (lookup (same client) counts) refl
+-- so many files less
+pub counted_less : (counts : List (List ℕ × ℕ)) (client other : List ℕ) (number : ℕ)
+    → count_of (set_value (same client) counts (count_of counts client - number)) other ≡ cond (same client other) (count_of counts client - number) (count_of counts other)
+counted_less counts client other number = by (lookup (same client) counts) refl
   where
-    nothing : 0 - 1 ≡ 0
+    nothing : 0 - number ≡ 0
     nothing = omega arith
 
-    here : (b : Bool) → same client other ≡ b → lookup (same client) counts ≡ None → count_of counts other ≡ cond b (count_of counts client - 1) (count_of counts other)
-    here true at none = ap (λ who. count_of counts who) (sym (same_is client other at)) ∙ (ap (λ found. unwrap_or found 0) none ∙ (sym nothing ∙ ap (λ found. unwrap_or found 0 - 1) (sym none)))
+    here : (b : Bool) → same client other ≡ b → lookup (same client) counts ≡ None → count_of counts other ≡ cond b (count_of counts client - number) (count_of counts other)
+    here true at none = ap (λ who. count_of counts who) (sym (same_is client other at)) ∙ (ap (λ found. unwrap_or found 0) none ∙ (sym nothing ∙ ap (λ found. unwrap_or found 0 - number) (sym none)))
     here false at none = refl
 
-    by : (found : Option ℕ) → lookup (same client) counts ≡ found → count_of (set_value (same client) counts (count_of counts client - 1)) other ≡ cond (same client other) (count_of counts client - 1) (count_of counts other)
-    by None none = ap (λ es. count_of es other) (absent_stays counts client (count_of counts client - 1) none) ∙ here (same client other) refl none
-    by (Some n) at = counted_set counts client other (count_of counts client - 1) (some n at)
+    by : (found : Option ℕ) → lookup (same client) counts ≡ found
+        → count_of (set_value (same client) counts (count_of counts client - number)) other ≡ cond (same client other) (count_of counts client - number) (count_of counts other)
+    by None none = ap (λ es. count_of es other) (absent_stays counts client (count_of counts client - number) none) ∙ here (same client other) refl none
+    by (Some n) at = counted_set counts client other (count_of counts client - number) (some n at)
       where
         some : (n : ℕ) → lookup (same client) counts ≡ Some n → IsSome (lookup (same client) counts)
         some n at = ap is_some at
@@ -59,11 +61,11 @@ set_more old inside new client other n m seen is more made room =
     ap (λ es. count_of es other) (made ∙ (ap (λ es. set_value (same client) es m) seen ∙ ap (set_value (same client) old) (more ∙ ap (λ k. k + 1) is)))
     ∙ counted_set old client other (count_of old client + 1) room.known
 
-pub set_less : (old inside new : List (List ℕ × ℕ)) (client other : List ℕ) (n m : ℕ) → inside ≡ old → n ≡ count_of old client → m ≡ n - 1 → new ≡ set_value (same client) inside m
-    → count_of new other ≡ cond (same client other) (count_of old client - 1) (count_of old other)
-set_less old inside new client other n m seen is less made =
-    ap (λ es. count_of es other) (made ∙ (ap (λ es. set_value (same client) es m) seen ∙ ap (set_value (same client) old) (less ∙ ap (λ k. k - 1) is)))
-    ∙ counted_less old client other
+pub set_less : (old inside new : List (List ℕ × ℕ)) (client other : List ℕ) (number n m : ℕ) → inside ≡ old → n ≡ count_of old client → m ≡ n - number → new ≡ set_value (same client) inside m
+    → count_of new other ≡ cond (same client other) (count_of old client - number) (count_of old other)
+set_less old inside new client other number n m seen is less made =
+    ap (λ es. count_of es other) (made ∙ (ap (λ es. set_value (same client) es m) seen ∙ ap (set_value (same client) old) (less ∙ ap (λ k. k - number) is)))
+    ∙ counted_less old client other number
 
 unsaid : (found : Option ℕ) → false ≡ is_some found → found ≡ None
 unsaid None h = refl
@@ -80,11 +82,11 @@ made_anew old inside after client key other seen is absent made =
 pub count_found : (old inside : List (List ℕ × ℕ)) (client : List ℕ) (n : ℕ) → inside ≡ old → Some n ≡ lookup (same client) inside → n ≡ count_of old client
 count_found old inside client n seen found = ap (λ o. unwrap_or o 0) found ∙ ap (λ es. count_of es client) seen
 
-pub absent_less : (old inside new : List (List ℕ × ℕ)) (client other : List ℕ) → inside ≡ old → None ≡ lookup (same client) inside → new ≡ inside
-    → count_of new other ≡ cond (same client other) (count_of old client - 1) (count_of old other)
-absent_less old inside new client other seen none kept =
-    ap (λ es. count_of es other) (kept ∙ (seen ∙ sym (absent_stays old client (count_of old client - 1) (ap (λ es. lookup (same client) es) (sym seen) ∙ sym none))))
-    ∙ counted_less old client other
+pub absent_less : (old inside new : List (List ℕ × ℕ)) (client other : List ℕ) (number : ℕ) → inside ≡ old → None ≡ lookup (same client) inside → new ≡ inside
+    → count_of new other ≡ cond (same client other) (count_of old client - number) (count_of old other)
+absent_less old inside new client other number seen none kept =
+    ap (λ es. count_of es other) (kept ∙ (seen ∙ sym (absent_stays old client (count_of old client - number) (ap (λ es. lookup (same client) es) (sym seen) ∙ sym none))))
+    ∙ counted_less old client other number
 
 pub absent_more : {X : Type 0} (old inside : List (List ℕ × ℕ)) (client : List ℕ) → inside ≡ old → None ≡ lookup (same client) inside → CanCountOneMore old client → X
 absent_more {X} old inside client seen none room = by (lookup (same client) old) (none ∙ ap (λ es. lookup (same client) es) seen) room.known

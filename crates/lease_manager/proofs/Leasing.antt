@@ -36,19 +36,21 @@ leased_renew old new client now last renewals files some leased other =
     by true at = ap (λ c. cond c (Some now) None) (sym (lt-ltb 0 (count_of old.files client) some)) ∙ ap (λ who. cond (nat_lt 0 (count_of old.files who)) (Some now) None) (same_is client other at)
     by false at = leased other
 
-less : (n : ℕ) → 0 < n - 1 → nat_lt 0 n ≡ true
-less n h = lt-ltb 0 n (omega (arith, h))
+less : (n number : ℕ) → 0 < n - number → nat_lt 0 n ≡ true
+less n number h = lt-ltb 0 n (omega (arith, h))
 
 -- a client that has files left keeps its lease
-pub leased_kept : (old new : Writers) (client : List ℕ) (last : List ℕ → Option ℕ) → new.leases.renewals ≡ old.leases.renewals
-    → ((other : List ℕ) → count_of new.files other ≡ cond (same client other) (count_of old.files client - 1) (count_of old.files other)) → 0 < count_of old.files client - 1 → IsLeased last old → IsLeased last new
-leased_kept old new client last renewals counts some leased other =
+pub leased_kept : (old new : Writers) (client : List ℕ) (number : ℕ) (last : List ℕ → Option ℕ) → new.leases.renewals ≡ old.leases.renewals
+    → ((other : List ℕ) → count_of new.files other ≡ cond (same client other) (count_of old.files client - number) (count_of old.files other))
+    → 0 < count_of old.files client - number → IsLeased last old → IsLeased last new
+leased_kept old new client number last renewals counts some leased other =
     ap (λ rs. renewal_moment_of rs other) renewals ∙ (leased other ∙ (by (same client other) refl ∙ ap (λ n. cond (nat_lt 0 n) (last other) None) (sym (counts other))))
   where
-    by : (b : Bool) → same client other ≡ b → cond (nat_lt 0 (count_of old.files other)) (last other) None ≡ cond (nat_lt 0 (cond b (count_of old.files client - 1) (count_of old.files other))) (last other) None
+    by : (b : Bool) → same client other ≡ b
+        → cond (nat_lt 0 (count_of old.files other)) (last other) None ≡ cond (nat_lt 0 (cond b (count_of old.files client - number) (count_of old.files other))) (last other) None
     by true at =
         ap (λ who. cond (nat_lt 0 (count_of old.files who)) (last other) None) (sym (same_is client other at))
-        ∙ (ap (λ c. cond c (last other) None) (less (count_of old.files client) some) ∙ ap (λ c. cond c (last other) None) (sym (lt-ltb 0 (count_of old.files client - 1) some)))
+        ∙ (ap (λ c. cond c (last other) None) (less (count_of old.files client) number some) ∙ ap (λ c. cond c (last other) None) (sym (lt-ltb 0 (count_of old.files client - number) some)))
     by false at = refl
 
 none_left : (n : ℕ) → n ≤ 0 → nat_lt 0 n ≡ false
@@ -58,14 +60,15 @@ none_left n h = ap (nat_lt 0) (zero_is n h)
     zero_is n h = omega (arith, h)
 
 -- and with its last file it loses it
-pub leased_ended : (old new : Writers) (client : List ℕ) (last : List ℕ → Option ℕ) → new.leases.renewals ≡ renewals_without client old.leases.renewals
-    → ((other : List ℕ) → count_of new.files other ≡ cond (same client other) (count_of old.files client - 1) (count_of old.files other)) → count_of old.files client - 1 ≤ 0 → IsLeased last old → IsLeased last new
-leased_ended old new client last renewals counts none leased other =
+pub leased_ended : (old new : Writers) (client : List ℕ) (number : ℕ) (last : List ℕ → Option ℕ) → new.leases.renewals ≡ renewals_without client old.leases.renewals
+    → ((other : List ℕ) → count_of new.files other ≡ cond (same client other) (count_of old.files client - number) (count_of old.files other))
+    → count_of old.files client - number ≤ 0 → IsLeased last old → IsLeased last new
+leased_ended old new client number last renewals counts none leased other =
     ap (λ rs. renewal_moment_of rs other) renewals ∙ (moment_released client old.leases.renewals other
     ∙ (by (same client other) ∙ ap (λ n. cond (nat_lt 0 n) (last other) None) (sym (counts other))))
   where
-    by : (b : Bool) → cond b None (renewal_moment_of old.leases.renewals other) ≡ cond (nat_lt 0 (cond b (count_of old.files client - 1) (count_of old.files other))) (last other) None
-    by true = ap (λ c. cond c (last other) None) (sym (none_left (count_of old.files client - 1) none))
+    by : (b : Bool) → cond b None (renewal_moment_of old.leases.renewals other) ≡ cond (nat_lt 0 (cond b (count_of old.files client - number) (count_of old.files other))) (last other) None
+    by true = ap (λ c. cond c (last other) None) (sym (none_left (count_of old.files client - number) none))
     by false = leased other
 
 -- ---- a client more
@@ -97,13 +100,13 @@ pub more_after : (old between after client_old client_between : ℕ) (b : Bool) 
 more_after old between after client_old client_between b is c o = is ∙ (ap (λ n. cond b (n + 1) between) c ∙ ap (λ n. cond b (client_old + 1) n) o)
 
 -- what is left of a client's files, as it is counted
-pub some_left : (n m k r : ℕ) (b : Bool) → b ≡ true → m ≡ cond b (n - 1) k → r ≡ m → 0 < r → 0 < n - 1
-some_left n m k r true at is counted h = omega (arith, is, counted, h)
-some_left n m k r false at is counted h = cc
+pub some_left : (n number m k r : ℕ) (b : Bool) → b ≡ true → m ≡ cond b (n - number) k → r ≡ m → 0 < r → 0 < n - number
+some_left n number m k r true at is counted h = omega (arith, is, counted, h)
+some_left n number m k r false at is counted h = cc
 
-pub nothing_left : (n m k r : ℕ) (b : Bool) → b ≡ true → m ≡ cond b (n - 1) k → r ≡ m → r ≤ 0 → n - 1 ≤ 0
-nothing_left n m k r true at is counted h = omega (arith, is, counted, h)
-nothing_left n m k r false at is counted h = cc
+pub nothing_left : (n number m k r : ℕ) (b : Bool) → b ≡ true → m ≡ cond b (n - number) k → r ≡ m → r ≤ 0 → n - number ≤ 0
+nothing_left n number m k r true at is counted h = omega (arith, is, counted, h)
+nothing_left n number m k r false at is counted h = cc
 
 -- it is the client's own number that falls
 pub own_less : (f : List ℕ → ℕ) (client other : List ℕ) → cond (same client other) (f client - 1) (f other) ≡ cond (same client other) (f other - 1) (f other)

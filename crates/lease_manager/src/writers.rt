@@ -74,7 +74,17 @@ impl Writers {
         ensures limits { self.new.leases.limits ≡ self.old.leases.limits }
         ensures latest { lease.latest_moment self.new.leases.renewals ≤ lease.latest_moment self.old.leases.renewals }
     {
-        if self.files.take(client) > 0 {
+        self.close_some(client, 1);
+    }
+
+    /// Notes that a client has closed so many files; its lease ends with its last. Takes no memory.
+    pub fn close_some(&mut self, client: &Who, number: u64)
+        ensures files { (other : List ℕ) → count_of self.new.files other ≡ (if same client.now other then count_of self.old.files client.now - number else count_of self.old.files other) }
+        ensures leased { (last : List ℕ → Option ℕ) → IsLeased last self.old → IsLeased last self.new }
+        ensures limits { self.new.leases.limits ≡ self.old.leases.limits }
+        ensures latest { lease.latest_moment self.new.leases.renewals ≤ lease.latest_moment self.old.leases.renewals }
+    {
+        if self.files.take_some(client, number) > 0 {
             return;
         }
         self.leases.release(client);

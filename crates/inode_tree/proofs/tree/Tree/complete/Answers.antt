@@ -6,4 +6,4 @@ use Rattle.inode_tree.proofs.tree.Tree.complete.Goals as goal
 
 pub invariant_of-self : goal.invariant_of-self
 invariant_of-self c =
-    rewrite_keeps c.args.path.now c.names.result.now c.names.ensures.names c.self.inside.root c.args.self.now c.self.view_is c.self.invariant (change.Completed c.args.block c.args.bytes) c.rewrite.new.self (completing_suits c.args.block c.args.bytes (row_at c.args.path.now c.args.self.now)) c.rewrite.ensures
+    rewrite_keeps c.args.path.now c.names.result.now c.names.ensures.names c.self.inside.nodes c.args.self.now c.self.view_is c.self.invariant (change.Completed c.args.block c.args.bytes) c.change_file.new.self (completing_suits c.args.block c.args.bytes (row_at c.args.path.now c.args.self.now)) c.change_file.ensures

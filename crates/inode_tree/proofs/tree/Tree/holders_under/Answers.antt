@@ -1,15 +1,16 @@
 use Rattle.std.proofs.Common.{Some, None, ap, subst, ◌∙◌}
-use Rattle.std.specs.Option.{option_copied}
+use Rattle.std.specs.Option.{option_map}
 use Rattle.inode_nodes.specs.Node.{rows}
 use Rattle.inode_nodes.specs.Part.{IsWhole}
 use Rattle.inode_nodes.proofs.Through.{if_ok}
+use Rattle.inode_tree.specs.Tree.{branch_at}
 use Rattle.inode_tree.proofs.Asked.{holders_there}
 use Rattle.inode_tree.proofs.tree.Tree.holders_under.Goals as goal
 
 pub returns-in-Some : goal.returns-in-Some
 returns-in-Some c =
-    if_ok c.holders.result (λ found is. is ∙ holders_there c.names.result.now c.args.path.now c.names.ensures.names c.self.inside.root c.args.self.now c.self.view_is c.self.invariant (Some c.in-Some.node.now) (subst (IsWhole c.names.result.now (rows c.self.inside.root)) (ap option_copied c.in-Some.is) c.find.ensures)) c.holders.ensures
+    if_ok c.holders.result (λ found is. is ∙ holders_there c.names.result.now c.args.path.now c.names.ensures.names c.self.inside.nodes c.args.self.now c.self.view_is c.self.invariant (Some (branch_at c.in-Some.inode)) (subst (IsWhole c.names.result.now c.self.inside.nodes) (ap (option_map branch_at) c.in-Some.is) c.find.ensures)) c.holders.ensures
 
 pub returns-in-None : goal.returns-in-None
 returns-in-None c =
-    rw c.new.ensures.items (holders_there c.names.result.now c.args.path.now c.names.ensures.names c.self.inside.root c.args.self.now c.self.view_is c.self.invariant None (subst (IsWhole c.names.result.now (rows c.self.inside.root)) (ap option_copied c.in-None.is) c.find.ensures))
+    rw c.new.ensures.items (holders_there c.names.result.now c.args.path.now c.names.ensures.names c.self.inside.nodes c.args.self.now c.self.view_is c.self.invariant None (subst (IsWhole c.names.result.now c.self.inside.nodes) (ap (option_map branch_at) c.in-None.is) c.find.ensures))
