@@ -4,3 +4,4 @@ pub mod Counts
 pub mod Limits
 pub mod FileBlocks
 pub mod SeenParts
+pub mod KeptChanges

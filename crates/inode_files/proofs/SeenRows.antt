@@ -1,5 +1,5 @@
 -- Questions on rows of the namespace and changes of them don't look at what a row has as a file, so they commute with giving each row another file part.
-use Rattle.std.proofs.Common.{◌≡◌, ℕ, Bool, true, false, List, [], ◌∷◌, ◌++◌, map, filter, length, drop, if◌then◌else◌, cond, Option, Some, None, option_map, refl, sym, ap, ◌∙◌}
+use Rattle.std.proofs.Common.{◌≡◌, ℕ, Bool, true, false, ◌||◌, List, [], ◌∷◌, ◌++◌, map, filter, length, drop, if◌then◌else◌, cond, Option, Some, None, is_some, option_map, refl, sym, ap, ◌∙◌}
 use Rattle.std.proofs.lemmas.List.{map-append}
 use Rattle.std.specs.List.{list_all, list_any, last_or}
 use Rattle.namespace_rows.specs.declared.file_row.FileRow.{FileRow}
@@ -7,8 +7,8 @@ use Rattle.namespace_rows.specs.declared.row.Row.{Row}
 use Rattle.namespace_rows.specs.declared.row.Change.{Change}
 use Rattle.namespace_rows.specs.declared.row.Change.TheVariants as change
 use Rattle.namespace_rows.specs.First.{first}
-use Rattle.namespace_rows.specs.Rows.{is_none, row_at, is_missing, file_above, ancestor, is_before, is_beyond, rows_replaced, with_sub_tree}
-use Rattle.namespace_rows.specs.Namespace.{is_before_all, is_ascending, has_parent}
+use Rattle.namespace_rows.specs.Rows.{is_directory, is_none, row_at, is_missing, file_above, ancestor, is_before, is_beyond, rows_replaced, with_sub_tree}
+use Rattle.namespace_rows.specs.Namespace.{is_before_all, is_root, is_rooted, is_ascending, has_parent, have_parents, suits_parts, suits_kind, is_namespace}
 use Rattle.flat_rows.specs.Changes.{rows_under, children, last_name, child_names, without, moved_row, with_rows_moved, with_file, with_change, row_rewritten, are_paths}
 use Rattle.flat_rows.specs.Outcome.{is_alone, mode_of_new, file_of_new, kind_of_new, new_row, new_rows, with_new}
 
@@ -167,3 +167,30 @@ module _ (h : Option FileRow → Option FileRow) where
   pub shown_moved_paths : (from to : List (List ℕ)) (rows : List Row)
       → are_paths (map (moved_row from to) (rows_under from (map (shown h) rows))) ≡ are_paths (map (moved_row from to) (rows_under from rows))
   shown_moved_paths from to rows = ap are_paths (shown_block from to rows) ∙ shown_paths (map (moved_row from to) (rows_under from rows))
+
+-- a namespace stays one, where files stay files
+
+suits_some : (directory : Bool) (acl : _) (file other : Option FileRow) → is_some other ≡ is_some file → suits_parts directory acl other ≡ suits_parts directory acl file
+suits_some true acl None None e = refl
+suits_some true acl None (Some x) e = cc
+suits_some true acl (Some x) None e = cc
+suits_some true acl (Some x) (Some y) e = refl
+suits_some false acl None None e = refl
+suits_some false acl None (Some x) e = cc
+suits_some false acl (Some x) None e = cc
+suits_some false acl (Some x) (Some y) e = refl
+
+module _ (h : Option FileRow → Option FileRow) (keeps : (file : Option FileRow) → is_some (h file) ≡ is_some file) where
+  shown_rooted : (rows : List Row) → is_rooted (map (shown h) rows) ≡ is_rooted rows
+  shown_rooted [] = refl
+  shown_rooted (row ∷ rows) = refl
+
+  shown_parents : (rows all : List Row) → have_parents (map (shown h) rows) (map (shown h) all) ≡ have_parents rows all
+  shown_parents rows all =
+      shown_all h (λ row. is_root row.path || has_parent row.path (map (shown h) all)) (λ row. is_root row.path || has_parent row.path all) (λ row. ap (λ b. is_root row.path || b) (shown_parent h row.path all)) rows
+
+  shown_suits : (rows : List Row) → list_all suits_kind (map (shown h) rows) ≡ list_all suits_kind rows
+  shown_suits rows = shown_all h suits_kind suits_kind (λ row. suits_some (is_directory row) row.acl row.file (h row.file) (keeps row.file)) rows
+
+  pub shown_namespace : (rows : List Row) → is_namespace (map (shown h) rows) ≡ is_namespace rows
+  shown_namespace rows = rw (shown_rooted rows, shown_ascending h rows, shown_parents rows rows, shown_suits rows) refl

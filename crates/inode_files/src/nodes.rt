@@ -168,6 +168,7 @@ impl Nodes {
     {
         if let Some(removed) = self.root.take(first, rest) {
             forget(&mut self.files, &removed);
+            drop(removed);
         }
     }
 
