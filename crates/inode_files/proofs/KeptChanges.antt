@@ -69,7 +69,7 @@ module _ (files : Slab FileRow) (own all : List Row) (view : seen_rows files own
 -- a file that was put in at its place
 
 module _ (old roomy new : Slab FileRow) (file : Option FileRow) (place : Option ℕ) (same : SameValues old roomy) (room : IsRoomFor roomy file place) (put : IsPut file roomy new)
-  (own : List Row) (kept : AreKept old own) where
+    (own : List Row) (kept : AreKept old own) where
   placed_at : (f : FileRow) (p : ℕ) → file ≡ Some f → place ≡ Some p → IsRoomFor roomy (Some f) (Some p) → IsPut (Some f) roomy new → Updates roomy new p (Some f)
   placed_at f p e k r u = subst (λ key. Updates roomy new key (Some f)) (sym r.place_is) u
 
@@ -143,19 +143,19 @@ module _ (files : Slab FileRow) (node : Node) (all : List Row) (view : seen_rows
       let parts = beneath_parts path above.row.path (ancestor_above path all (shown (file_held files) above.row) above.seen) in
       ap (λ o. length (rows_at_place k (with_new path mode file owner o (rows node)))) above.found
       ∙ count_new k path mode file owner above.row (rows node)
-        (λ name names e.
-          let whole : path ≡ above.row.path ++ name ∷ names =
-          sym (take-append-drop (length above.row.path) path) ∙ ap (λ t. t ++ drop (length above.row.path) path) parts.front ∙ ap (λ t. above.row.path ++ t) e in
-          own_under files (rows node) all view (above.row.path ++ name ∷ []) (none_under (above.row.path ++ name ∷ []) all namespace
-          (first_missing path all (shown (file_held files) above.row) name names namespace missing above.seen whole)))
-        (λ e. no parts.name parts.names (sym parts.left ∙ e))
+      (λ name names e.
+      let whole : path ≡ above.row.path ++ name ∷ names =
+      sym (take-append-drop (length above.row.path) path) ∙ ap (λ t. t ++ drop (length above.row.path) path) parts.front ∙ ap (λ t. above.row.path ++ t) e in
+      own_under files (rows node) all view (above.row.path ++ name ∷ []) (none_under (above.row.path ++ name ∷ []) all namespace
+      (first_missing path all (shown (file_held files) above.row) name names namespace missing above.seen whole)))
+      (λ e. no parts.name parts.names (sym parts.left ∙ e))
     where
       no : (name : List ℕ) (names : List (List ℕ)) → (name ∷ names) ≡ [] → ⊥
       no name names h = cc
 
 module _ (old roomy new : Slab FileRow) (file : Option FileRow) (place : Option ℕ) (same : SameValues old roomy) (room : IsRoomFor roomy file place) (put : IsPut file roomy new)
-  (node made : Node) (kept : AreKept old (rows node)) (all : List Row) (view : seen_rows old (rows node) ≡ all) (path : List (List ℕ)) (mode : ℕ) (owner : List ℕ)
-  (namespace : IsNamespace all) (missing : is_missing path all ≡ true) (done : rows made ≡ with_new path mode (option_map placed place) owner (ancestor path (rows node)) (rows node)) where
+    (node made : Node) (kept : AreKept old (rows node)) (all : List Row) (view : seen_rows old (rows node) ≡ all) (path : List (List ℕ)) (mode : ℕ) (owner : List ℕ)
+    (namespace : IsNamespace all) (missing : is_missing path all ≡ true) (done : rows made ≡ with_new path mode (option_map placed place) owner (ancestor path (rows node)) (rows node)) where
   pub kept_made : AreKept new (rows made)
   kept_made =
       kept_with old roomy new file place same room put (rows node) kept (rows made)
@@ -174,7 +174,7 @@ module _ (old roomy new : Slab FileRow) (file : Option FileRow) (place : Option 
 -- what is removed
 
 module _ (old new : Slab FileRow) (node left : Node) (taken : Option Node) (path : List (List ℕ)) (whole : IsWhole path (rows node) taken) (done : rows left ≡ without path (rows node))
-  (kept : AreKept old (rows node)) (forgotten : (k : ℕ) → get new k ≡ get_unless (are_at_place k (rows_or taken)) old k) where
+    (kept : AreKept old (rows node)) (forgotten : (k : ℕ) → get new k ≡ get_unless (are_at_place k (rows_or taken)) old k) where
   count_left : (k : ℕ) → length (rows_at_place k (rows left)) + length (rows_at_place k (rows_or taken)) ≡ held_count old k
   count_left k =
       let stay : length (rows_at_place k (rows left)) ≡ length (rows_at_place k (without path (rows node))) = ap (λ rs. length (rows_at_place k rs)) done in
@@ -204,7 +204,8 @@ module _ (files : Slab FileRow) (node moved : Node) (all : List Row) (view : see
   pub seen_moved : rows moved ≡ with_rows_moved from to (rows node) → seen_rows files (rows moved) ≡ with_rows_moved from to all
   seen_moved done = ap (seen_rows files) done ∙ sym (shown_moved (file_held files) from to (rows node)) ∙ ap (with_rows_moved from to) view
 
-  pub kept_moved : {T E : Type 0} (r : Result T E) → AreKept files (rows node) → IsNamespace all → is_missing to all ≡ true → OnOk r (rows moved ≡ with_rows_moved from to (rows node)) → OnErr r (moved ≡ node) → AreKept files (rows moved)
+  pub kept_moved : {T E : Type 0} (r : Result T E) → AreKept files (rows node) → IsNamespace all → is_missing to all ≡ true
+      → OnOk r (rows moved ≡ with_rows_moved from to (rows node)) → OnErr r (moved ≡ node) → AreKept files (rows moved)
   kept_moved (Ok x) kept namespace free done same =
       let none : rows_under to (without from (rows node)) ≡ [] =
       none_left (λ row. is_prefix to row.path) (λ row. not (is_prefix from row.path)) (rows node) (own_under files (rows node) all view to (none_under to all namespace free)) in
@@ -213,13 +214,12 @@ module _ (files : Slab FileRow) (node moved : Node) (all : List Row) (view : see
 
 -- a leaf that is put at a path
 
-pub leaf_put : (path above : List (List ℕ)) (name : List ℕ) (b leaf : Node) → path ≡ above ++ name ∷ [] → leaf.beneath ≡ []
-    → rows (with_rows b (branch_grafted (above ++ name ∷ []) leaf b.beneath)) ≡ rows_replaced path (row_of path leaf.top ∷ []) (rows b)
-leaf_put path above name b leaf is none =
-    sym (put_top above name leaf b.top b.beneath)
-    ∙ ap (λ l. rows_replaced (above ++ name ∷ []) (row_of ((above ++ name ∷ []) ++ []) leaf.top ∷ map (row_placed (above ++ name ∷ [])) l) (rows b)) none
-    ∙ ap (λ p. rows_replaced (above ++ name ∷ []) (row_of p leaf.top ∷ []) (rows b)) (append-nil (above ++ name ∷ []))
-    ∙ ap (λ p. rows_replaced p (row_of p leaf.top ∷ []) (rows b)) (sym is)
+leaf_put : (path above : List (List ℕ)) (name : List ℕ) (node leaf now : Node) (top : Top) → leaf ≡ record { top = top; beneath = [] } → path ≡ above ++ name ∷ []
+    → now ≡ with_rows node (branch_grafted (above ++ name ∷ []) leaf node.beneath) → rows now ≡ rows_replaced path (row_of path top ∷ []) (rows node)
+leaf_put path above name node leaf now top leaf_is parted done =
+    ap rows done ∙ sym (put_top above name leaf node.top node.beneath) ∙ ap (λ n. branch_grafted (above ++ name ∷ []) n (rows node)) leaf_is
+    ∙ ap (λ p. rows_replaced (above ++ name ∷ []) (row_of p top ∷ []) (rows node)) (append-nil (above ++ name ∷ []))
+    ∙ ap (λ p. rows_replaced p (row_of p top ∷ []) (rows node)) (sym parted)
 
 count_one : (k : ℕ) (row : Row) → length (rows_at_place k (row ∷ [])) ≡ told_at k row.file
 count_one k row = by (is_at_place k row.file)
@@ -359,17 +359,15 @@ whole_there path own branch whole = ap is_none (sym (row_at_whole path own (Some
 -- a leaf is put in, and the files of what stood there are forgotten
 
 module _ (old roomy new last : Slab FileRow) (file : Option FileRow) (place : Option ℕ) (same : SameValues old roomy) (room : IsRoomFor roomy file place) (put : IsPut file roomy new)
-  (node leaf now : Node) (kept : AreKept old (rows node)) (path : List (List ℕ)) (part : Option Node) (whole : IsWhole path (rows node) part)
-  (forgotten : (k : ℕ) → get last k ≡ get_unless (are_at_place k (rows_or part)) new k)
-  (owner group : List ℕ) (acl : Acl) (leaf_is : leaf ≡ record { top = top_with (option_map placed place) owner group acl; beneath = [] })
-  (above : List (List ℕ)) (name : List ℕ) (parted : path ≡ above ++ name ∷ []) (done : now ≡ with_rows node (branch_grafted (above ++ name ∷ []) leaf node.beneath)) where
+    (node leaf now : Node) (kept : AreKept old (rows node)) (path : List (List ℕ)) (part : Option Node) (whole : IsWhole path (rows node) part)
+    (forgotten : (k : ℕ) → get last k ≡ get_unless (are_at_place k (rows_or part)) new k)
+    (owner group : List ℕ) (acl : Acl) (leaf_is : leaf ≡ record { top = top_with (option_map placed place) owner group acl; beneath = [] })
+    (above : List (List ℕ)) (name : List ℕ) (parted : path ≡ above ++ name ∷ []) (done : now ≡ with_rows node (branch_grafted (above ++ name ∷ []) leaf node.beneath)) where
   abbrev leaf_row : Row
   leaf_row = row_of path (top_with (option_map placed place) owner group acl)
 
   with_leaf : rows now ≡ rows_replaced path (leaf_row ∷ []) (rows node)
-  with_leaf =
-      ap rows done ∙ leaf_put path above name node leaf parted (ap (λ n. n.beneath) leaf_is)
-      ∙ ap (λ n. rows_replaced path (row_of path n.top ∷ []) (rows node)) leaf_is
+  with_leaf = leaf_put path above name node leaf now (top_with (option_map placed place) owner group acl) leaf_is parted done
 
   count_put : (k : ℕ) → length (rows_at_place k (rows now)) + length (rows_at_place k (rows_or part)) ≡ length (rows_at_place k (rows node)) + told_at k (option_map placed place)
   count_put k =
@@ -464,16 +462,14 @@ module _ (old : Slab FileRow) (node : Node) (all : List Row) (view : seen_rows o
       ap (λ rs. length (rows_at_place k rs)) (file_alone path (rows node) held up file_there.row file_there.at file_there.kind) ∙ count_one k file_there.row ∙ ap (told_at k) file_there.tells
 
   module _ (new : Slab FileRow) (file : FileRow) (told : Option ℕ) (place : ℕ) (is : option_map placed told ≡ option_and_then (λ (row : Row). row.file) (row_at path (rows node))) (some : told ≡ Some place)
-    (updates : Updates old new place (Some file)) (kept : AreKept old (rows node)) (leaf now : Node) (owner group : List ℕ) (acl : Acl)
-    (leaf_is : leaf ≡ record { top = top_with (Some (placed place)) owner group acl; beneath = [] })
-    (above : List (List ℕ)) (name : List ℕ) (parted : path ≡ above ++ name ∷ []) (done : now ≡ with_rows node (branch_grafted (above ++ name ∷ []) leaf node.beneath)) where
+      (updates : Updates old new place (Some file)) (kept : AreKept old (rows node)) (leaf now : Node) (owner group : List ℕ) (acl : Acl)
+      (leaf_is : leaf ≡ record { top = top_with (Some (placed place)) owner group acl; beneath = [] })
+      (above : List (List ℕ)) (name : List ℕ) (parted : path ≡ above ++ name ∷ []) (done : now ≡ with_rows node (branch_grafted (above ++ name ∷ []) leaf node.beneath)) where
     abbrev row_put : Row
     row_put = row_of path (top_with (Some (placed place)) owner group acl)
 
     with_put : rows now ≡ rows_replaced path (row_put ∷ []) (rows node)
-    with_put =
-        ap rows done ∙ leaf_put path above name node leaf parted (ap (λ n. n.beneath) leaf_is)
-        ∙ ap (λ n. rows_replaced path (row_of path n.top ∷ []) (rows node)) leaf_is
+    with_put = leaf_put path above name node leaf now (top_with (Some (placed place)) owner group acl) leaf_is parted done
 
     same_place : (k : ℕ) → told_at k (Some file_there.own) ≡ told_at k (Some (placed place))
     same_place k = ap (λ p. told_at k (Some (placed p))) (place_is told place is some)

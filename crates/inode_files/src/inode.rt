@@ -172,7 +172,7 @@ impl<'a> Inode<'a> {
     ///
     /// # Errors
     /// Out of memory.
-    pub fn blocks(&self, alloc: Global) -> Result<Vec<BlockId>, AllocError>
+    pub fn block_ids(&self, alloc: Global) -> Result<Vec<BlockId>, AllocError>
         ensures { IfOk result (λ found. found.items ≡ blocks_in (rows (branch_at self.now))) }
     {
         blocks_of(alloc, self.files, self.node)

@@ -1,5 +1,5 @@
 -- The blocks of files: those of a visit, and a block that was added and taken back.
-use Rattle.std.proofs.Common.{◌≡◌, ℕ, ◌+◌, ◌-◌, nat_eq, Bool, true, false, ◌||◌, not, List, [], ◌∷◌, ◌++◌, map, length, length-append, take, append_assoc, cond, Option, Some, None, refl, sym, ap, ◌∙◌, arith, Result, Ok, Err, OnOk, OnErr, subst}
+use Rattle.std.proofs.Common.{◌≡◌, ℕ, ◌+◌, ◌-◌, nat_eq, Bool, true, false, ◌||◌, not, List, [], ◌∷◌, ◌++◌, length, length-append, take, cond, Option, Some, None, refl, sym, ap, ◌∙◌, arith, Result, Ok, Err, OnOk, OnErr, subst}
 use Rattle.std.proofs.Math.Seq.{take-append_seam}
 use Rattle.std.specs.Option.{option_map}
 use Rattle.std.specs.declared.alloc.AllocError.{AllocError}
@@ -10,7 +10,7 @@ use Rattle.namespace_rows.specs.declared.file_row.FileRow.{FileRow}
 use Rattle.namespace_rows.specs.declared.row.Row.{Row}
 use Rattle.namespace_rows.specs.declared.row.Change.TheVariants as change
 use Rattle.file_blocks.specs.Blocks.{new_block, but_last}
-use Rattle.namespace_rows.specs.Files.{ids_in, blocks_in, with_block, with_state, without_last, committed_at, completed_at, recovered_at}
+use Rattle.namespace_rows.specs.Files.{blocks_in, with_block, with_state, without_last, committed_at, completed_at, recovered_at}
 use Rattle.namespace_rows.proofs.Tests.{both}
 use Rattle.file_blocks.proofs.Commits.{committed_before}
 use Rattle.flat_rows.specs.Changes.{with_file, file_edited, row_rewritten, block_added, is_recovered, recovers_nowhere_else, recovery_ended, rows_under, suits_change}

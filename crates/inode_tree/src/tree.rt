@@ -1,4 +1,4 @@
-ghost use Rattle.std.specs.Prelude.{ℕ, List, ◌≡◌, ◌==◌, false, [], ◌∷◌, ◌||◌, map, filter, not, None, Some, IsTrue, IfOk, OnOk, OnErr};
+ghost use Rattle.std.specs.Prelude.{ℕ, List, ◌≡◌, ◌==◌, true, false, [], ◌∷◌, ◌||◌, map, filter, not, None, Some, IsTrue, IfOk, OnOk, OnErr};
 ghost use Rattle.std.specs.Option.{option_map};
 ghost use Rattle.file_paths.specs.Path.{is_prefix};
 ghost use Rattle.hdfs_types.specs.declared.file.FileState.TheVariants.{Closed};
@@ -190,7 +190,7 @@ impl Tree {
         ensures { IfOk result (λ found. found.items ≡ blocks_in (rows_under path.now self.now)) }
     {
         match self.nodes.find(path.names()) {
-            Some(inode) => inode.blocks(self.alloc),
+            Some(inode) => inode.block_ids(self.alloc),
             None => Ok(Vec::new(self.alloc)),
         }
     }
@@ -363,7 +363,6 @@ impl Tree {
 
     /// Closes the file at a path, and commits the length of a block, where the file has it; where no file stands there, changes nothing (HDFS
     /// Architecture, "Data Replication"). Costs also the blocks behind that one; takes no memory.
-    #[tactic(auto, using(crate::proofs::FileBlocks::both_done))]
     pub fn complete(&mut self, path: &Path, block: BlockId, bytes: u64)
         ensures { self.new ≡ row_rewritten path.now (change.Committed block bytes) (row_rewritten path.now (change.State Closed) self.old) }
     {
@@ -374,7 +373,6 @@ impl Tree {
     /// Ends the recovery of a block in the file at a path, where the state of that is one of this block: the block's length is
     /// committed, and the file is closed (HDFS Architecture, "Data Replication"). Costs also the blocks behind that one; takes no
     /// memory.
-    #[tactic(auto, using(crate::proofs::FileBlocks::all_ended))]
     pub fn end_recovery(&mut self, path: &Path, block: BlockId, bytes: u64)
         ensures here { self.new ≡ row_rewritten path.now (change.Recovered block bytes) self.old }
         ensures all { IsTrue (recovers_nowhere_else path.now block self.old) → self.new ≡ recovery_ended block bytes self.old }

@@ -1,6 +1,5 @@
 use Rattle.std.proofs.Common.{Some, ap, subst, ◌∙◌}
 use Rattle.std.specs.Option.{option_map}
-use Rattle.inode_nodes.specs.Node.{rows}
 use Rattle.inode_nodes.specs.Part.{IsWhole}
 use Rattle.inode_tree.specs.Tree.{branch_at}
 use Rattle.inode_tree.proofs.Asked.{counts_there}

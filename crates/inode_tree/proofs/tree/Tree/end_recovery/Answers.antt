@@ -1,9 +1,14 @@
+use Rattle.std.proofs.Common.{ap, ◌∙◌}
 use Rattle.namespace_rows.specs.declared.row.Change.TheVariants as change
-use Rattle.namespace_rows.specs.Rows.{row_at}
-use Rattle.inode_tree.proofs.FileBlocks.{ending_suits}
-use Rattle.inode_tree.proofs.Trees.{rewrite_keeps}
+use Rattle.flat_rows.specs.Changes.{row_rewritten}
+use Rattle.file_table.specs.Changed.{file_changed}
+use Rattle.inode_tree.proofs.FileBlocks.{edited_tree, all_ended}
 use Rattle.inode_tree.proofs.tree.Tree.end_recovery.Goals as goal
 
 pub invariant_of-self : goal.invariant_of-self
-invariant_of-self c =
-    rewrite_keeps c.args.path.now c.names.result.now c.names.ensures.names c.self.inside.nodes c.args.self.now c.self.view_is c.self.invariant (change.Recovered c.args.block c.args.bytes) c.change_file.new.self (ending_suits c.args.block c.args.bytes (row_at c.args.path.now c.args.self.now)) c.change_file.ensures
+invariant_of-self c = edited_tree (file_changed (change.Recovered c.args.block c.args.bytes)) c.names.result.now c.self.inside.nodes c.change_file.new.self c.self.invariant c.change_file.ensures
+
+pub returns-clause-all : goal.returns-clause-all
+returns-clause-all c = λ nowhere.
+    c.change_file.ensures ∙ ap (λ p. row_rewritten p (change.Recovered c.args.block c.args.bytes) c.self.inside.nodes) c.names.ensures.names ∙ ap (row_rewritten c.args.path.now (change.Recovered c.args.block c.args.bytes)) c.self.view_is
+    ∙ all_ended c.args.path.now c.args.block c.args.bytes c.args.self.now nowhere

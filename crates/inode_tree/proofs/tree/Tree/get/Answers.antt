@@ -1,6 +1,5 @@
 use Rattle.std.proofs.Common.{ℕ, List, Option, Some, None, refl, ◌≡◌, ◌∙◌}
 use Rattle.std.specs.Option.{option_map}
-use Rattle.namespace_rows.specs.declared.row.Row.{Row}
 use Rattle.inode_nodes.specs.Node.{row_of}
 use Rattle.inode_nodes.proofs.Wholes.{row_found}
 use Rattle.inode_files.specs.declared.inode.Inode.{Inode}
