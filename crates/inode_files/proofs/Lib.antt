@@ -5,3 +5,4 @@ pub mod Limits
 pub mod FileBlocks
 pub mod SeenParts
 pub mod KeptChanges
+pub mod Closings

@@ -2,6 +2,7 @@
 #![tactic(auto)]
 
 pub mod blocks;
+pub mod closing;
 pub mod inode;
 pub mod limit;
 pub mod nodes;

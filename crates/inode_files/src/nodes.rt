@@ -34,8 +34,8 @@ use std::marker::Model;
 /// The nodes of a tree, with the table that has what their files have.
 #[derive(Drop)]
 pub struct Nodes {
-    root: Node,
-    files: FileTable,
+    pub(crate) root: Node,
+    pub(crate) files: FileTable,
 }
 
 impl Model for Nodes {
@@ -193,6 +193,16 @@ impl Nodes {
         ensures err { OnErr result (self.new ≡ self.old) }
     {
         self.root.move_to(alloc, first, rest, above, name)
+    }
+
+    /// The place of the file at the path, which stays its own for as long as the file is there.
+    pub fn place_of(&self, path: &[Name]) -> Option<FilePlace> {
+        place_at(&self.root, path)
+    }
+
+    /// The file at a place.
+    pub fn file_at(&self, place: FilePlace) -> Option<&FileRow> {
+        self.files.get(place)
     }
 
     /// Gives what stands at the path another owner and group, or another list.

@@ -1,5 +1,5 @@
 -- The blocks of files: those of a visit, and a block that was added and taken back.
-use Rattle.std.proofs.Common.{◌≡◌, ℕ, ◌+◌, ◌-◌, nat_eq, Bool, true, false, ◌||◌, not, List, [], ◌∷◌, ◌++◌, length, length-append, take, cond, Option, Some, None, refl, sym, ap, ◌∙◌, arith, Result, Ok, Err, OnOk, OnErr, subst}
+use Rattle.std.proofs.Common.{◌≡◌, ℕ, ◌+◌, ◌-◌, nat_eq, Bool, true, false, ◌||◌, not, List, [], ◌∷◌, ◌++◌, length, length-append, take, cond, Option, Some, None, is_some, refl, sym, ap, ◌∙◌, arith, Result, Ok, Err, OnOk, OnErr, subst}
 use Rattle.std.proofs.Math.Seq.{take-append_seam}
 use Rattle.std.specs.Option.{option_map}
 use Rattle.std.specs.declared.alloc.AllocError.{AllocError}
@@ -11,14 +11,17 @@ use Rattle.namespace_rows.specs.declared.row.Row.{Row}
 use Rattle.namespace_rows.specs.declared.row.Change.TheVariants as change
 use Rattle.file_blocks.specs.Blocks.{new_block, but_last}
 use Rattle.namespace_rows.specs.Files.{blocks_in, with_block, with_state, without_last, committed_at, completed_at, recovered_at}
+use Rattle.namespace_rows.specs.Namespace.{is_namespace}
 use Rattle.namespace_rows.proofs.Tests.{both}
 use Rattle.file_blocks.proofs.Commits.{committed_before}
-use Rattle.flat_rows.specs.Changes.{with_file, file_edited, row_rewritten, block_added, is_recovered, recovers_nowhere_else, recovery_ended, rows_under, suits_change}
+use Rattle.flat_rows.specs.Changes.{with_file, file_edited, row_rewritten, block_added, is_recovered, recovers_nowhere_else, recovery_ended, rows_under, suits_change, are_paths}
 use Rattle.flat_rows.proofs.Changes.{edited_namespace, edited_paths}
 use Rattle.inode_nodes.specs.Node.{Node, rows_or, row_placed}
 use Rattle.inode_nodes.specs.Part.{IsWhole}
 use Rattle.inode_files.specs.Branch.{file_rewritten}
+use Rattle.file_table.specs.Finished.{closed_for, with_finished_closed}
 use Rattle.inode_files.proofs.FileBlocks.{blocks_map}
+use Rattle.inode_files.proofs.SeenRows.{shown_namespace, shown_paths}
 use Rattle.inode_tree.specs.Tree.{IsTree}
 
 -- those of the rows at and beneath a path, where these were found there
@@ -167,3 +170,19 @@ module _ (edit : FileRow → FileRow) (path : List (List ℕ)) (own new : List R
   pub push_keeps : (r : Result (Unit {0}) AllocError) → OnOk r (new ≡ file_rewritten path edit own) → OnErr r (new ≡ own) → IsTree new
   push_keeps (Ok x) ok err = edited_tree ok
   push_keeps (Err e) ok err = subst IsTree (sym err) tree
+
+-- a tree in which files were closed, and nothing else has changed
+
+module _ (client : List ℕ) where
+  abbrev closed_part : Option FileRow → Option FileRow
+  closed_part file = option_map (closed_for client) file
+
+  still_some : (file : Option FileRow) → is_some (closed_part file) ≡ is_some file
+  still_some None = refl
+  still_some (Some file) = refl
+
+  pub closing_tree : (own new : List Row) → with_finished_closed client new ≡ with_finished_closed client own → IsTree own → IsTree new
+  closing_tree own new same tree = record {
+    namespace = sym (shown_namespace closed_part still_some new) ∙ ap is_namespace same ∙ shown_namespace closed_part still_some own ∙ tree.namespace;
+    paths = sym (shown_paths closed_part new) ∙ ap are_paths same ∙ shown_paths closed_part own ∙ tree.paths;
+  }

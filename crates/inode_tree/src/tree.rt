@@ -1,4 +1,4 @@
-ghost use Rattle.std.specs.Prelude.{ℕ, List, ◌≡◌, ◌==◌, true, false, [], ◌∷◌, ◌||◌, map, filter, not, None, Some, IsTrue, IfOk, OnOk, OnErr};
+ghost use Rattle.std.specs.Prelude.{ℕ, List, ◌≡◌, ◌==◌, true, false, [], ◌∷◌, ◌||◌, ◌≤◌, length, map, filter, not, None, Some, IsTrue, IfOk, IfSome, OnOk, OnErr};
 ghost use Rattle.std.specs.Option.{option_map};
 ghost use Rattle.file_paths.specs.Path.{is_prefix};
 ghost use Rattle.hdfs_types.specs.declared.file.FileState.TheVariants.{Closed};
@@ -15,6 +15,7 @@ ghost use Rattle.namespace_rows.specs.First.{first};
 ghost use Rattle.inode_visits.specs.Visits.{counts_of, is_closed};
 ghost use Rattle.inode_nodes.specs.Node.{rows, row_of};
 ghost use Rattle.inode_nodes.specs.Part.{IsWhole};
+ghost use Rattle.file_table.specs.Finished.{finished_files, with_finished_closed};
 ghost use Rattle.inode_tree.specs.Tree.{branch_at, IsTree};
 
 use crate::blocks::FilesUnder;
@@ -22,6 +23,7 @@ use crate::inode::Inode;
 use acl_entries::acl::Acl;
 use file_paths::name::Name;
 use file_paths::path::Path;
+use file_table::place::FilePlace;
 use hdfs_types::reply::ObjectKind;
 use hdfs_values::ids::BlockId;
 use hdfs_values::who::Who;
@@ -315,6 +317,33 @@ impl Tree {
             unreachable!()
         };
         self.nodes.move_to(self.alloc, first, rest, above, name)
+    }
+
+    /// The place of the file at a path, by which it is found without a path for as long as it is there. Takes no memory.
+    pub fn place_of(&self, path: &Path) -> Option<FilePlace> {
+        self.nodes.place_of(path.names())
+    }
+
+    /// The file at a place, wherever it stands. Takes no memory.
+    pub fn file_at(&self, place: FilePlace) -> Option<&FileRow> {
+        self.nodes.file_at(place)
+    }
+
+    /// How many of the files at these places a client has open, whose last block isn't unfinished; `None` where the places don't ascend.
+    /// Costs these places, and takes no memory.
+    pub fn count_finished(&self, client: &Who, places: &[FilePlace]) -> Option<u64>
+        ensures { IfSome result (λ count. count ≤ length (finished_files client.now self.now)) }
+    {
+        self.nodes.count_finished(client, places)
+    }
+
+    /// Closes all files that a client has open and whose last block isn't unfinished, where there are at most so many. Costs these places;
+    /// the whole tree where some of the files aren't at them. Takes no memory.
+    pub fn close_finished(&mut self, client: &Who, places: &[FilePlace], number: u64)
+        ensures all { length (finished_files client.now self.old) ≤ number → self.new ≡ with_finished_closed client.now self.old }
+        ensures no_other { with_finished_closed client.now self.new ≡ with_finished_closed client.now self.old }
+    {
+        self.nodes.close_finished(client, places, number);
     }
 
     /// Gives what stands at a path another part: an owner and a group, an access list, or what a file has. Takes no memory.
