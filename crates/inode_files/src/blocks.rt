@@ -1,6 +1,7 @@
 ghost use Rattle.std.specs.Prelude.{◌≡◌, ◌++◌, ℕ, map, Some, IfOk, OnOk};
 ghost use Rattle.slab.specs.Slab.{get};
-ghost use Rattle.namespace_rows.specs.Files.{blocks_in, holders, ids_in};
+ghost use Rattle.std.specs.Option.{option_to_list};
+ghost use Rattle.namespace_rows.specs.Files.{blocks_in, holders, holder_of_file, ids_in};
 ghost use Rattle.file_table.specs.Place.{placed};
 ghost use Rattle.file_table.specs.Seen.{file_held, seen_rows};
 ghost use Rattle.file_table.specs.Kept.{get_unless, are_at_place};
@@ -13,7 +14,7 @@ use file_table::table::FileTable;
 use hdfs_values::ids::BlockId;
 use hdfs_values::who::Who;
 use inode_nodes::node::{Held, Node};
-use inode_visits::visit::push_holder;
+use inode_visits::visit::holder_of;
 use std::alloc::{AllocError, Global};
 use std::collections::BTreeMap;
 
@@ -86,11 +87,13 @@ fn push_ids(blocks: &[FileBlock], found: &mut Vec<BlockId>) -> Result<(), AllocE
     Ok(())
 }
 
-/// The clients who have open files of a sub-tree, and the blocks of all its files.
+/// The clients who have open files of a sub-tree, with the places of these, and the blocks of all its files.
 #[derive(Drop)]
 pub struct FilesUnder<'a> {
     /// In path order, one for each open file.
     pub clients: Vec<&'a Who>,
+    /// The places of these open files, in the same order.
+    pub places: Vec<FilePlace>,
     /// In path order, and those of a file in its order.
     pub blocks: Vec<BlockId>,
 }
@@ -108,9 +111,14 @@ pub fn files_of<'a>(
     ensures blocks { IfOk result (λ found. found.blocks.items ≡ blocks_in (seen_rows files.now (rows node.now))) }
 {
     let mut clients = Vec::new(alloc);
+    let mut places = Vec::new(alloc);
     let mut blocks = Vec::new(alloc);
-    push_files(files, node, &mut clients, &mut blocks)?;
-    Ok(FilesUnder { clients, blocks })
+    push_files(files, node, &mut clients, &mut places, &mut blocks)?;
+    Ok(FilesUnder {
+        clients,
+        places,
+        blocks,
+    })
 }
 
 /// Adds the clients who have open the files of the node and of all beneath it, one for each open file, and the blocks of these files.
@@ -119,6 +127,7 @@ fn push_files<'a>(
     files: &'a FileTable,
     node: &Node,
     clients: &mut Vec<&'a Who>,
+    places: &mut Vec<FilePlace>,
     blocks: &mut Vec<BlockId>,
 ) -> Result<(), AllocError>
     ensures clients { OnOk result (map (λ who. who.now) clients.new.items ≡ map (λ who. who.now) clients.old.items ++ holders (seen_rows files.now (rows node.now))) }
@@ -127,14 +136,14 @@ fn push_files<'a>(
     match &node.held {
         Held::File(place) => {
             push_ids_at(files, *place, blocks)?;
-            push_holder(files, *place, clients)
+            push_open(files, *place, clients, places)
         }
         Held::Directory(nodes) => {
             // Most directories hold nothing, and are told at once.
             if nodes.is_empty() {
                 return Ok(());
             }
-            push_files_in(files, nodes, clients, blocks)
+            push_files_in(files, nodes, clients, places, blocks)
         }
     }
 }
@@ -144,13 +153,32 @@ fn push_files_in<'a>(
     files: &'a FileTable,
     nodes: &BTreeMap<Name, Node>,
     clients: &mut Vec<&'a Who>,
+    places: &mut Vec<FilePlace>,
     blocks: &mut Vec<BlockId>,
 ) -> Result<(), AllocError>
     ensures clients { OnOk result (map (λ who. who.now) clients.new.items ≡ map (λ who. who.now) clients.old.items ++ holders (seen_rows files.now (flatten nodes.now.entries))) }
     ensures blocks { OnOk result (blocks.new.items ≡ blocks.old.items ++ blocks_in (seen_rows files.now (flatten nodes.now.entries))) }
 {
     for (_name, child) in nodes {
-        push_files(files, child, clients, blocks)?;
+        push_files(files, child, clients, places, blocks)?;
+    }
+    Ok(())
+}
+
+/// Adds the client who has the file at the place open, where one has, and the place.
+fn push_open<'a>(
+    files: &'a FileTable,
+    place: FilePlace,
+    clients: &mut Vec<&'a Who>,
+    places: &mut Vec<FilePlace>,
+) -> Result<(), AllocError>
+    ensures { OnOk result (map (λ who. who.now) clients.new.items ≡ map (λ who. who.now) clients.old.items ++ option_to_list (holder_of_file (file_held files.now (Some (placed place))))) }
+{
+    if let Some(file) = files.get(place)
+        && let Some(holder) = holder_of(file)
+    {
+        places.push(place)?;
+        clients.push(holder)?;
     }
     Ok(())
 }

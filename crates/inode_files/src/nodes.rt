@@ -112,7 +112,7 @@ impl Nodes {
         Ok(())
     }
 
-    /// Puts a file in the place of another.
+    /// Puts a file in the place of another, which it takes over in the table, too.
     pub fn replace(
         &mut self,
         alloc: Global,
@@ -121,7 +121,7 @@ impl Nodes {
         group: Who,
         acl: Acl,
         file: FileRow,
-    )
+    ) -> FilePlace
         requires there { has_file path.now self.old ≡ true }
         requires parent { IsTrue (has_parent path.now self.old) }
         requires namespace { IsNamespace self.old }
@@ -136,9 +136,10 @@ impl Nodes {
         let new = Node::new(alloc, owner, group, acl, Some(place));
         self.root.fill(above, name, new);
         self.files.replace(place, file);
+        place
     }
 
-    /// Makes what is missing of a path, all directories but a file that is given for the last.
+    /// Makes what is missing of a path, all directories but a file that is given for the last, and tells the place of that.
     ///
     /// # Errors
     /// Out of memory, and nothing has changed.
@@ -149,7 +150,7 @@ impl Nodes {
         mode: Mode,
         file: Option<FileRow>,
         owner: &Who,
-    ) -> Result<(), AllocError>
+    ) -> Result<Option<FilePlace>, AllocError>
         requires missing { is_missing path.now self.old ≡ true }
         requires clear { file_above path.now self.old ≡ None }
         requires namespace { IsNamespace self.old }
@@ -157,9 +158,10 @@ impl Nodes {
         ensures err { OnErr result (self.new ≡ self.old) }
     {
         let place = room_for(&mut self.files, &file)?;
+        let told = place.as_ref().copied();
         self.root.make(alloc, path, mode, place, owner)?;
         keep(&mut self.files, file);
-        Ok(())
+        Ok(told)
     }
 
     /// Removes what stands at the path of these names, with all that is beneath it.
@@ -212,14 +214,17 @@ impl Nodes {
         self.root.rewrite(path, given);
     }
 
-    /// Gives the file at the path what the change says; where no file stands there, and of an owner, a group or a list, changes nothing.
-    pub fn change_file(&mut self, path: &[Name], change: Change)
+    /// Gives the file at the path what the change says, and tells its place; where no file stands there, and of an owner, a group or a list,
+    /// changes nothing.
+    pub fn change_file(&mut self, path: &[Name], change: Change) -> Option<FilePlace>
         requires { is_ascending self.old ≡ true }
         ensures { self.new ≡ file_rewritten path.now (file_changed change) self.old }
     {
-        if let Some(place) = place_at(&self.root, path) {
+        let place = place_at(&self.root, path);
+        if let Some(place) = place {
             self.files.change(place, change);
         }
+        place
     }
 
     /// Adds a block at the end of the file at the path, where a file stands there.

@@ -63,7 +63,7 @@ module _ (path names : List (List ℕ)) (is : names ≡ path) (own all : List Ro
   insert_keeps r row new at held suits within ok err =
       either_tree r own new (with_sub_tree own (row ∷ [])) ok err (row_tree row own (ap (λ p. has_parent p own) at ∙ held_own held) suits (subst IsPath (sym (at ∙ is)) within) tree) tree
 
-  pub make_keeps : (r : Result (Unit {0}) AllocError) (owner : List ℕ) (mode : ℕ) (file : Option FileRow) (new : List Row) → file_above path all ≡ None → IsPath path → OnOk r (new ≡ with_new names mode file owner (ancestor names own) own) → OnErr r (new ≡ own) → IsTree new
+  pub make_keeps : {T : Type 0} (r : Result T AllocError) (owner : List ℕ) (mode : ℕ) (file : Option FileRow) (new : List Row) → file_above path all ≡ None → IsPath path → OnOk r (new ≡ with_new names mode file owner (ancestor names own) own) → OnErr r (new ≡ own) → IsTree new
   make_keeps r owner mode file new clear within ok err =
       either_tree r own new (with_new names mode file owner (ancestor names own) own) ok err
       (made_tree owner mode file names own (ap (λ p. file_above p own) is ∙ ap (file_above path) seen ∙ clear) (subst IsPath (sym is) within) tree) tree

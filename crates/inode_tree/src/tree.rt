@@ -24,6 +24,7 @@ use acl_entries::acl::Acl;
 use file_paths::name::Name;
 use file_paths::path::Path;
 use file_table::place::FilePlace;
+use hdfs_types::file::FileState;
 use hdfs_types::reply::ObjectKind;
 use hdfs_values::ids::BlockId;
 use hdfs_values::who::Who;
@@ -210,6 +211,7 @@ impl Tree {
             Some(inode) => inode.files(self.alloc),
             None => Ok(FilesUnder {
                 clients: Vec::new(self.alloc),
+                places: Vec::new(self.alloc),
                 blocks: Vec::new(self.alloc),
             }),
         }
@@ -252,20 +254,27 @@ impl Tree {
             .insert(self.alloc, path.names(), owner, group, acl, file)
     }
 
-    /// Puts a file in the place of another. Takes no memory.
-    pub fn replace(&mut self, path: &Path, owner: Who, group: Who, acl: Acl, file: FileRow)
+    /// Puts a file in the place of another, and tells it: the new one has it now. Takes no memory.
+    pub fn replace(
+        &mut self,
+        path: &Path,
+        owner: Who,
+        group: Who,
+        acl: Acl,
+        file: FileRow,
+    ) -> FilePlace
         requires there { has_file path.now self.old ≡ true }
         requires parent { IsTrue (has_parent path.now self.old) }
         requires suits { IsTrue (suits_file acl) }
         ensures { self.new ≡ with_sub_tree self.old (record { path = path.now; kind = kind_of_new (Some file); owner = owner; group = group; acl = acl; file = Some file } ∷ []) }
     {
         self.nodes
-            .replace(self.alloc, path.names(), owner, group, acl, file);
+            .replace(self.alloc, path.names(), owner, group, acl, file)
     }
 
     /// Makes what is missing of a path: the last a file, where what it has is given, else a directory, of this mode; the others
     /// directories without its sticky bit and open to their owner; all of this owner and of their parent's group (HDFS
-    /// Permissions Guide, "Overview").
+    /// Permissions Guide, "Overview"). Tells the place of a file.
     ///
     /// # Errors
     /// Out of memory, and nothing has changed.
@@ -275,7 +284,7 @@ impl Tree {
         mode: Mode,
         file: Option<FileRow>,
         owner: &Who,
-    ) -> Result<(), AllocError>
+    ) -> Result<Option<FilePlace>, AllocError>
         requires missing { IsTrue (is_missing path.now self.old) }
         requires clear { file_above path.now self.old ≡ None }
         ensures ok { OnOk result (self.new ≡ with_new path.now mode file owner.now (ancestor path.now self.old) self.old) }
@@ -357,8 +366,17 @@ impl Tree {
                     .rewrite(path.names(), Given::Owners(owner, group));
             }
             Change::List(acl) => self.nodes.rewrite(path.names(), Given::List(acl)),
-            change => self.nodes.change_file(path.names(), change),
+            change => {
+                let _place = self.nodes.change_file(path.names(), change);
+            }
         }
+    }
+
+    /// Gives the file at a path another state, and tells its place; where no file stands there, changes nothing. Takes no memory.
+    pub fn set_state(&mut self, path: &Path, state: FileState) -> Option<FilePlace>
+        ensures { self.new ≡ row_rewritten path.now (change.State state) self.old }
+    {
+        self.nodes.change_file(path.names(), Change::State(state))
     }
 
     /// Adds a block, whose length isn't committed, at the end of the file at a path; where no file stands there, changes nothing.
@@ -377,7 +395,7 @@ impl Tree {
         ensures taken { self.new ≡ row_rewritten path.now change.LastTaken self.old }
         ensures undone { (block : ℕ) (rows : List Row) → self.old ≡ block_added path.now block rows → self.new ≡ rows }
     {
-        self.nodes.change_file(path.names(), Change::LastTaken);
+        let _place = self.nodes.change_file(path.names(), Change::LastTaken);
     }
 
     /// Commits the length of a block of the file at a path, where that has the block. Behind `push_block` of another block that is
@@ -386,17 +404,18 @@ impl Tree {
         ensures committed { self.new ≡ row_rewritten path.now (change.Committed block bytes) self.old }
         ensures as_before { (added : ℕ) (rows : List Row) → (added == block) ≡ false → self.old ≡ block_added path.now added rows → self.new ≡ block_added path.now added (row_rewritten path.now (change.Committed block bytes) rows) }
     {
-        self.nodes
+        let _place = self
+            .nodes
             .change_file(path.names(), Change::Committed(block, bytes));
     }
 
-    /// Closes the file at a path, and commits the length of a block, where the file has it; where no file stands there, changes nothing (HDFS
+    /// Closes the file at a path, commits the length of a block, where the file has it, and tells its place; where no file stands there, changes nothing (HDFS
     /// Architecture, "Data Replication"). Costs also the blocks behind that one; takes no memory.
-    pub fn complete(&mut self, path: &Path, block: BlockId, bytes: u64)
+    pub fn complete(&mut self, path: &Path, block: BlockId, bytes: u64) -> Option<FilePlace>
         ensures { self.new ≡ row_rewritten path.now (change.Committed block bytes) (row_rewritten path.now (change.State Closed) self.old) }
     {
         self.nodes
-            .change_file(path.names(), Change::Completed(block, bytes));
+            .change_file(path.names(), Change::Completed(block, bytes))
     }
 
     /// Ends the recovery of a block in the file at a path, where the state of that is one of this block: the block's length is
@@ -406,7 +425,8 @@ impl Tree {
         ensures here { self.new ≡ row_rewritten path.now (change.Recovered block bytes) self.old }
         ensures all { IsTrue (recovers_nowhere_else path.now block self.old) → self.new ≡ recovery_ended block bytes self.old }
     {
-        self.nodes
+        let _place = self
+            .nodes
             .change_file(path.names(), Change::Recovered(block, bytes));
     }
 }

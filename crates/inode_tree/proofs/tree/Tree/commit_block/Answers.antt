@@ -8,10 +8,10 @@ use Rattle.inode_tree.proofs.tree.Tree.commit_block.Goals as goal
 
 pub invariant_of-self : goal.invariant_of-self
 invariant_of-self c =
-    rewrite_keeps c.args.path.now c.names.result.now c.names.ensures.names c.self.inside.nodes c.args.self.now c.self.view_is c.self.invariant (change.Committed c.args.block c.args.bytes) c.change_file.new.self
-    (committing_suits c.args.block c.args.bytes (row_at c.args.path.now c.args.self.now)) c.change_file.ensures
+    rewrite_keeps c.args.path.now c.names.result.now c.names.ensures.names c.self.inside.nodes c.args.self.now c.self.view_is c.self.invariant (change.Committed c.args.block c.args.bytes) c.change_file-place.new.self
+    (committing_suits c.args.block c.args.bytes (row_at c.args.path.now c.args.self.now)) c.change_file-place.ensures
 
 pub returns-clause-as_before : goal.returns-clause-as_before
 returns-clause-as_before c =
-    λ added before other was. committed_as_before c.args.path.now c.args.block c.args.bytes added other c.args.self.now c.change_file.new.self before
-    (c.change_file.ensures ∙ ap (λ p. row_rewritten p (change.Committed c.args.block c.args.bytes) c.self.inside.nodes) c.names.ensures.names ∙ ap (row_rewritten c.args.path.now (change.Committed c.args.block c.args.bytes)) c.self.view_is) was
+    λ added before other was. committed_as_before c.args.path.now c.args.block c.args.bytes added other c.args.self.now c.change_file-place.new.self before
+    (c.change_file-place.ensures ∙ ap (λ p. row_rewritten p (change.Committed c.args.block c.args.bytes) c.self.inside.nodes) c.names.ensures.names ∙ ap (row_rewritten c.args.path.now (change.Committed c.args.block c.args.bytes)) c.self.view_is) was

@@ -18,4 +18,4 @@ invariant_of-self-in-List c =
     (subst (λ given. suits_change given (row_at c.args.path.now c.args.self.now) ≡ true) c.in-List.is c.requires) c.rewrite-in-List.ensures
 
 pub invariant_of-self-in_default : goal.invariant_of-self-in_default
-invariant_of-self-in_default c = edited_tree (file_changed c.args.change) c.names-in_default.result.now c.self.inside.nodes c.change_file.new.self c.self.invariant c.change_file.ensures
+invariant_of-self-in_default c = edited_tree (file_changed c.args.change) c.names-in_default.result.now c.self.inside.nodes c.change_file-place.new.self c.self.invariant c.change_file-place.ensures
