@@ -21,6 +21,7 @@ use crate::make::make_file;
 use block_map::blocks::Blocks;
 use block_records::fault::BlockFault;
 use file_paths::path::Path;
+use file_table::place::FilePlace;
 use hdfs_types::file::{FileState, LastBlock};
 use hdfs_types::verb::Write;
 use hdfs_values::ids::BlockId;
@@ -30,7 +31,6 @@ use hdfs_values::who::Who;
 use inode_tree::blocks::FilesUnder;
 use inode_tree::tree::Tree;
 use lease_manager::writers::Writers;
-use namespace_rows::row::Change;
 use open_file_paths::open_paths::OpenPaths;
 use permission_bits::mode::Mode;
 use std::alloc::{AllocError, Global};
@@ -60,13 +60,21 @@ fn holders_at(alloc: Global, tree: &Tree, path: &Path) -> Result<Vec<Who>, Alloc
     copies(alloc, &clients)
 }
 
-/// The clients who have open the files at a path and beneath it, one for each open file, and the blocks of all these files.
-fn files_at(alloc: Global, tree: &Tree, path: &Path) -> Result<(Vec<Who>, Vec<BlockId>), AllocError>
+/// The clients who have open the files at a path and beneath it, one for each open file, the places of these, and the blocks of all files.
+fn files_at(
+    alloc: Global,
+    tree: &Tree,
+    path: &Path,
+) -> Result<(Vec<Who>, Vec<FilePlace>, Vec<BlockId>), AllocError>
     ensures clients { IfOk result (λ found. found.0.items ≡ holders (rows_under path.now tree.now)) }
-    ensures blocks { IfOk result (λ found. found.1.items ≡ blocks_in (rows_under path.now tree.now)) }
+    ensures blocks { IfOk result (λ found. found.2.items ≡ blocks_in (rows_under path.now tree.now)) }
 {
-    let FilesUnder { clients, blocks } = tree.files_under(path)?;
-    Ok((copies(alloc, &clients)?, blocks))
+    let FilesUnder {
+        clients,
+        places,
+        blocks,
+    } = tree.files_under(path)?;
+    Ok((copies(alloc, &clients)?, places, blocks))
 }
 
 // ---- files that are opened
@@ -84,7 +92,7 @@ fn create_first(
     over: bool,
     caller: &Who,
     now: Moment,
-) -> Result<(), AllocError>
+) -> Result<Option<FilePlace>, AllocError>
     requires latest { lease.latest_moment writers.old.leases.renewals ≤ now }
     requires room { CanCountOneMore writers.old.files caller.now }
     requires absent { renewal_moment_of writers.old.leases.renewals caller.now ≡ None }
@@ -99,7 +107,7 @@ fn create_first(
     ensures err_blocks { OnErr result (blocks.new ≡ blocks.old) }
 {
     writers.leases.take(caller, now)?;
-    let Ok(()) = make_file(
+    let Ok(place) = make_file(
         alloc,
         tree,
         blocks,
@@ -114,7 +122,7 @@ fn create_first(
         return Err(AllocError);
     };
     writers.files.add(caller);
-    Ok(())
+    Ok(place)
 }
 
 /// Makes a file that the caller has open; the blocks of one whose place it takes are known no more. A lease that the caller has is
@@ -131,7 +139,7 @@ fn create_open(
     over: bool,
     caller: &Who,
     now: Moment,
-) -> Result<(), AllocError>
+) -> Result<Option<FilePlace>, AllocError>
     requires latest { lease.latest_moment writers.old.leases.renewals ≤ now }
     requires clear { file_above path.now tree.old ≡ None }
     requires file { directory_there (row_at path.now tree.old) ≡ None }
@@ -159,7 +167,7 @@ fn create_open(
             now,
         );
     }
-    make_file(
+    let place = make_file(
         alloc,
         tree,
         blocks,
@@ -174,7 +182,7 @@ fn create_open(
         unreachable!()
     };
     writers.files.add(caller);
-    Ok(())
+    Ok(place)
 }
 
 /// The clients that hold the file which `create over` replaces; none without `over`, since then the path is free.
@@ -212,6 +220,22 @@ fn replaced_blocks(
     Ok(Vec::new(alloc))
 }
 
+/// Notes that a client has opened the new file at this place, in which these clients had another one open, with these blocks. The list of clients
+/// has one or none.
+fn note_created(
+    open_paths: &mut OpenPaths,
+    clients: &[Who],
+    replaced: &[BlockId],
+    caller: &Who,
+    place: Option<FilePlace>,
+) {
+    for client in clients {
+        open_paths.close(client, place);
+    }
+    open_paths.delete(&[], &[], replaced);
+    open_paths.open(caller, place);
+}
+
 /// Makes a file that the caller has open, in the place of one that has the path.
 fn create(
     alloc: Global,
@@ -238,7 +262,7 @@ fn create(
 {
     let clients = replaced_holders(alloc, tree, path, over)?;
     let replaced = replaced_blocks(alloc, tree, path, over)?;
-    create_open(
+    let place = create_open(
         alloc,
         tree,
         blocks,
@@ -252,21 +276,20 @@ fn create(
         now,
     )?;
     writers.close_each(&clients);
-    open_paths.delete(path, &clients, &replaced);
-    open_paths.open(path, caller);
+    note_created(open_paths, &clients, &replaced, caller, place);
     Ok(())
 }
 
 // ---- files that are closed or deleted
 
-/// Ends the writing of a file by the client who has it open: it gets this state. Takes no memory.
+/// Ends the writing of a file by the client who has it open: it gets this state. Tells the file's place in the tree; takes no memory.
 pub fn end_writing(
     tree: &mut Tree,
     writers: &mut Writers,
     path: &Path,
     client: &Who,
     state: FileState,
-)
+) -> Option<FilePlace>
     requires held { holder_at (row_at path.now tree.old) ≡ Some client.now }
     requires unheld { holder_of state ≡ None }
     requires namespace { IsNamespace tree.old }
@@ -276,7 +299,7 @@ pub fn end_writing(
     ensures latest { lease.latest_moment writers.new.leases.renewals ≤ lease.latest_moment writers.old.leases.renewals }
 {
     writers.close(client);
-    tree.rewrite(path, Change::State(state));
+    tree.set_state(path, state)
 }
 
 /// Closes a file that a client has open, and notes that. Takes no memory but for the note.
@@ -294,8 +317,8 @@ fn close(
     ensures limits { writers.new.leases.limits ≡ writers.old.leases.limits }
     ensures latest { lease.latest_moment writers.new.leases.renewals ≤ lease.latest_moment writers.old.leases.renewals }
 {
-    end_writing(tree, writers, path, client, FileState::Closed);
-    open_paths.close(path, client);
+    let place = end_writing(tree, writers, path, client, FileState::Closed);
+    open_paths.close(client, place);
 }
 
 /// Closes a file in the tree that a client has open, with the length of its last block committed there, and notes that. Takes no memory
@@ -316,8 +339,9 @@ fn close_with_last(
     ensures latest { lease.latest_moment writers.new.leases.renewals ≤ lease.latest_moment writers.old.leases.renewals }
 {
     writers.close(client);
-    tree.complete(path, last.block, last.length);
-    open_paths.close(path, client);
+    let place = tree.complete(path, last.block, last.length);
+    open_paths.close(client, place);
+    open_paths.end_block(last.block);
 }
 
 /// Deletes what has a path, with all that is beneath it: its blocks are known no more.
@@ -337,11 +361,11 @@ fn delete(
     ensures latest { lease.latest_moment writers.new.leases.renewals ≤ lease.latest_moment writers.old.leases.renewals }
     ensures err { OnErr result ((tree.new ≡ tree.old) × IsAlike writers.old writers.new) }
 {
-    let (clients, deleted) = files_at(alloc, tree, path)?;
+    let (clients, places, deleted) = files_at(alloc, tree, path)?;
     blocks.remove_all(&deleted)?;
     writers.close_each(&clients);
     tree.remove(path);
-    open_paths.delete(path, &clients, &deleted);
+    open_paths.delete(&clients, &places, &deleted);
     Ok(())
 }
 

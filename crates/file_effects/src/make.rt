@@ -12,6 +12,7 @@ use acl_entries::acl::Acl;
 use block_map::blocks::Blocks;
 use default_acl::inherit::inherit;
 use file_paths::path::Path;
+use file_table::place::FilePlace;
 use hdfs_types::reply::ObjectKind;
 use hdfs_values::ids::BlockId;
 use hdfs_values::replication::Repl;
@@ -55,8 +56,8 @@ fn taken_over(
     Ok(Inherited { owner, group, acl })
 }
 
-/// Puts a file in the place of another, with what it inherits from the directory that holds it; the blocks of the other are known no
-/// more.
+/// Puts a file in the place of another, with what it inherits from the directory that holds it, and tells this place; the blocks of the other are
+/// known no more.
 fn replace_file(
     alloc: Global,
     tree: &mut Tree,
@@ -66,7 +67,7 @@ fn replace_file(
     mode: Mode,
     file: FileRow,
     owner: &Who,
-) -> Result<(), AllocError>
+) -> Result<FilePlace, AllocError>
     requires there { is_missing path.now tree.old ≡ false }
     requires file { directory_there (row_at path.now tree.old) ≡ None }
     ensures ok { OnOk result (tree.new ≡ spec.with_new path.now mode (Some file) owner.now (ancestor path.now tree.old) tree.old) }
@@ -82,13 +83,12 @@ fn replace_file(
         drop(file);
         return Err(AllocError);
     };
-    tree.replace(path, parts.owner, parts.group, parts.acl, file);
-    Ok(())
+    Ok(tree.replace(path, parts.owner, parts.group, parts.acl, file))
 }
 
 /// Makes a file of a mode and a replication that the caller has open, instead of the file that has the path, and the missing
 /// directories above it. Without `over` nothing has the path. The blocks of the file that has the path are known no more; they are handed in. Costs the path, and what
-/// `Blocks::remove_all` costs (HDFS Architecture, "The File System Namespace").
+/// `Blocks::remove_all` costs (HDFS Architecture, "The File System Namespace"). Tells the file's place in the tree.
 ///
 /// # Errors
 /// Out of memory, and nothing has changed.
@@ -102,7 +102,7 @@ pub fn make_file(
     replication: Repl,
     over: bool,
     caller: &Who,
-) -> Result<(), AllocError>
+) -> Result<Option<FilePlace>, AllocError>
     requires clear { file_above path.now tree.old ≡ None }
     requires file { directory_there (row_at path.now tree.old) ≡ None }
     requires free { over ≡ false → is_missing path.now tree.old ≡ true }
@@ -116,7 +116,8 @@ pub fn make_file(
         return tree.make(path, mode, Some(file), caller);
     }
     if tree.get(path).is_some() {
-        return replace_file(alloc, tree, blocks, replaced, path, mode, file, caller);
+        let place = replace_file(alloc, tree, blocks, replaced, path, mode, file, caller)?;
+        return Ok(Some(place));
     }
     tree.make(path, mode, Some(file), caller)
 }

@@ -13,9 +13,8 @@ pub(crate) struct Known {
 
 // A directory that was moved.
 #[derive(Drop)]
-pub(crate) struct Move {
-    pub(crate) from: Path,
-    pub(crate) to: Path,
+struct Move {
+    to: Path,
 }
 
 // A path from which directories were moved, or the beginning of one.
@@ -50,7 +49,7 @@ fn joined(alloc: Global, front: &Path, behind: &[Name]) -> Result<Path, ParseFau
 ///
 /// # Errors
 /// Out of memory.
-pub(crate) fn with_front(
+fn with_front(
     alloc: Global,
     path: Path,
     depth: usize,
@@ -85,11 +84,6 @@ impl Moves {
 
     pub(crate) fn count(&self) -> usize {
         self.moves.len()
-    }
-
-    /// The moves behind the first ones, so many.
-    pub(crate) fn since(&self, count: usize) -> &[Move] {
-        self.moves.get(count..).unwrap_or(&[])
     }
 
     pub(crate) fn clear(&mut self) {
@@ -139,8 +133,8 @@ impl Moves {
     pub(crate) fn add(&mut self, alloc: Global, from: &Path, to: &Path) -> Result<(), AllocError> {
         let origin = self.put_origin(alloc, from)?;
         let place = self.moves.len();
-        let (from, to) = (from.clone()?, to.clone()?);
-        self.moves.push(Move { from, to })?;
+        let to = to.clone()?;
+        self.moves.push(Move { to })?;
         if let Some(origin) = self.origins.get_mut(origin) {
             origin.moves.push(place)?;
         }
@@ -175,7 +169,7 @@ impl Moves {
     }
 
     /// Whether a path that was so behind so many moves was moved since.
-    pub(crate) fn is_moved(&self, path: &Path, since: usize) -> bool {
+    fn is_moved(&self, path: &Path, since: usize) -> bool {
         self.next_of(&[], path.names(), since).is_some()
     }
 

@@ -1,18 +1,19 @@
-use crate::client_paths::ClientPaths;
+use crate::client_places::ClientPlaces;
 use crate::moves::{Known, Moves};
 use file_paths::path::Path;
+use file_table::place::FilePlace;
 use hdfs_values::ids::BlockId;
 use hdfs_values::who::Who;
 use std::alloc::{AllocError, Global};
 use std::collections::{BTreeMap, HashMap};
 use std::marker::Model;
 
-/// So many moves of directories, at least, are kept before all paths are brought up to date. Where more files are open, it is as many as these.
+/// So many moves of directories, at least, are kept before all paths are brought up to date. Where more blocks are noted, it is as many as these.
 const LEAST_MOVES: usize = 1_024;
 
-/// Where the files are that each client has open, and where those are whose last block is recovered, by this block. A call costs a look-up,
-/// if nothing else is said, and once for each open file what it takes to put its path in order: where it is neither the oldest nor the
-/// newest one that is closed, and where a directory is deleted.
+/// Which files each client has open, by their places in the tree, and where those files are whose last block is unfinished or recovered, by this
+/// block: only these have to be known by their paths, in whose order recoveries begin. A call costs a look-up, if nothing else is said, and
+/// what it takes to put a place in order or to take it out, where it is neither the oldest nor the newest of the client's.
 ///
 /// A directory is moved without a look at the files beneath it: the move is noted, and a path is brought up to date once it is asked for.
 ///
@@ -20,8 +21,8 @@ const LEAST_MOVES: usize = 1_024;
 /// only where there was no memory for it, the tree is gone through instead.
 #[derive(Drop)]
 pub struct OpenPaths {
-    clients: HashMap<Who, ClientPaths>,
-    recovering: BTreeMap<BlockId, Known>,
+    clients: HashMap<Who, ClientPlaces>,
+    blocks: BTreeMap<BlockId, Known>,
     moves: Moves,
     most_moves: usize,
     alloc: Global,
@@ -41,168 +42,131 @@ impl OpenPaths {
     pub fn new(alloc: Global) -> OpenPaths {
         OpenPaths {
             clients: HashMap::new(alloc),
-            recovering: BTreeMap::new(alloc),
+            blocks: BTreeMap::new(alloc),
             moves: Moves::new(alloc),
             most_moves: LEAST_MOVES,
             alloc,
         }
     }
 
-    /// The paths of the files that a client has open. Costs these files.
-    ///
-    /// # Errors
-    /// Out of memory.
-    pub fn of_client(&self, client: &Who) -> Result<Vec<Path>, AllocError> {
-        match self.clients.get(client) {
-            Some(paths) => paths.copies(self.alloc, &self.moves),
-            None => Ok(Vec::new(self.alloc)),
+    /// The places of the files that a client has open, in ascending order. Costs these places at most, and takes no memory.
+    pub fn places_of(&mut self, client: &Who) -> &[FilePlace] {
+        match self.clients.get_mut(client) {
+            Some(places) => places.as_slice(),
+            None => &[],
         }
     }
 
-    /// Notes that a client has opened a file. Where there is no memory for the path, it is left out.
-    pub fn open(&mut self, path: &Path, client: &Who) {
-        let _noted = self.put(path, client);
+    /// Notes that a client has opened the file at a place. Where there is no memory for it, it is left out.
+    pub fn open(&mut self, client: &Who, place: Option<FilePlace>) {
+        if let Some(place) = place {
+            let _noted = self.put(client, place);
+        }
     }
 
-    /// Notes that a client has a file open, where that isn't known any more. Where there is no memory for the path, it is left out.
-    pub fn keep_open(&mut self, path: &Path, client: &Who) {
-        if let Some(paths) = self.clients.get_mut(client)
-            && let Ok(true) = paths.has(self.alloc, &self.moves, path)
-        {
-            return;
+    fn put(&mut self, client: &Who, place: FilePlace) -> Result<(), AllocError> {
+        if let Some(places) = self.clients.get_mut(client) {
+            return places.insert(place);
         }
-        self.open(path, client);
-    }
-
-    fn put(&mut self, path: &Path, client: &Who) -> Result<(), AllocError> {
-        let path = path.clone()?;
-        if let Some(paths) = self.clients.get_mut(client) {
-            paths.insert(self.alloc, &self.moves, path)?;
-            return Ok(());
-        }
-        let mut paths = ClientPaths::new(self.alloc);
-        paths.insert(self.alloc, &self.moves, path)?;
-        self.clients.insert(client.clone()?, paths)?;
+        let mut places = ClientPlaces::new(self.alloc);
+        places.insert(place)?;
+        self.clients.insert(client.clone()?, places)?;
         Ok(())
     }
 
-    // The path of a file that a client had open, which is taken out.
-    fn take(&mut self, path: &Path, client: &Who) -> Option<Path> {
-        let paths = self.clients.get_mut(client)?;
-        let own = paths.take(self.alloc, &self.moves, path);
-        if paths.is_empty() {
+    /// Notes that a client doesn't have the file at a place open any more. Takes no memory.
+    pub fn close(&mut self, client: &Who, place: Option<FilePlace>) {
+        if let Some(place) = place {
+            self.take(client, place);
+        }
+    }
+
+    fn take(&mut self, client: &Who, place: FilePlace) {
+        let Some(places) = self.clients.get_mut(client) else {
+            return;
+        };
+        places.remove(place);
+        if places.is_empty() {
             self.clients.remove(client);
         }
-        own
     }
 
-    /// Notes that a file is closed that a client had open. Takes memory only to put paths in order and to bring them up to date; where there is
-    /// none, paths are left out, or the closed file's stays.
-    pub fn close(&mut self, path: &Path, client: &Who) {
-        let _closed = self.take(path, client);
+    /// Notes that a client has no file open any more. Costs its open files at most, and takes no memory.
+    pub fn forget(&mut self, client: &Who) {
+        self.clients.remove(client);
     }
 
-    /// Where the file is whose last block is this one, and recovered, if that is known: as the path was when it was last brought up
-    /// to date.
-    pub fn of_recovery(&self, block: BlockId) -> Option<&Path> {
-        let known = self.recovering.get(&block)?;
+    /// Where the file is whose last block is this one, and unfinished or recovered, if that is known: as the path was when it was last brought
+    /// up to date.
+    pub fn of_block(&self, block: BlockId) -> Option<&Path> {
+        let known = self.blocks.get(&block)?;
         Some(&known.path)
     }
 
     /// Brings the path of the file whose last block this is up to date. Where there is no memory for it, it stays as it was.
-    pub fn update_recovery(&mut self, block: BlockId) {
-        if let Some(known) = self.recovering.get_mut(&block) {
+    pub fn update_block(&mut self, block: BlockId) {
+        if let Some(known) = self.blocks.get_mut(&block) {
             let _updated = self.moves.update(self.alloc, known);
         }
     }
 
-    /// The same of all files whose last block is recovered. Costs these files.
-    pub fn update_recoveries(&mut self) {
-        for known in self.recovering.values_mut() {
+    /// The same of all such files. Costs these files.
+    pub fn update_blocks(&mut self) {
+        for known in self.blocks.values_mut() {
             let _updated = self.moves.update(self.alloc, known);
         }
     }
 
-    /// Notes that a file's last block is recovered, which a client had open. Where there is no memory for the note, it is left out.
-    pub fn recover(&mut self, path: &Path, client: &Who, block: BlockId) {
-        let _noted = match self.take(path, client) {
-            Some(own) => self.put_recovery(own, block),
-            None => self.note_recovery(path, block),
-        };
+    /// Notes that the file at a path ends with this block, which is unfinished or recovered. Where there is no memory for the note, it is left
+    /// out.
+    pub fn note_block(&mut self, path: &Path, block: BlockId) {
+        let _noted = self.put_block(path, block);
     }
 
-    fn note_recovery(&mut self, path: &Path, block: BlockId) -> Result<(), AllocError> {
+    fn put_block(&mut self, path: &Path, block: BlockId) -> Result<(), AllocError> {
         let path = path.clone()?;
-        self.put_recovery(path, block)
-    }
-
-    fn put_recovery(&mut self, path: Path, block: BlockId) -> Result<(), AllocError> {
         let since = self.moves.count();
-        self.recovering.insert(block, Known { path, since })?;
+        self.blocks.insert(block, Known { path, since })?;
         Ok(())
     }
 
-    /// Notes that a file's last block is recovered, where that isn't known any more. Where there is no memory for the path, it is left out.
-    pub fn keep_recovery(&mut self, path: &Path, block: BlockId) {
-        self.update_recovery(block);
-        if let Some(known) = self.of_recovery(block)
+    /// Notes the same, where that isn't known any more.
+    pub fn keep_block(&mut self, path: &Path, block: BlockId) {
+        self.update_block(block);
+        if let Some(known) = self.of_block(block)
             && known == path
         {
             return;
         }
-        let _noted = self.note_recovery(path, block);
+        self.note_block(path, block);
     }
 
-    /// Notes that the recovery of a block has ended. Takes no memory.
-    pub fn end_recovery(&mut self, block: BlockId) {
-        self.recovering.remove(&block);
+    /// Notes that a block is neither unfinished nor recovered any more. Takes no memory.
+    pub fn end_block(&mut self, block: BlockId) {
+        self.blocks.remove(&block);
     }
 
-    /// Notes that what has a path is deleted, where these clients had open what has the path, and the files beneath it: one client
-    /// for each file; and with it these blocks. Costs these files and blocks.
-    pub fn delete(&mut self, path: &Path, clients: &[Who], blocks: &[BlockId]) {
-        if !clients.is_empty() {
-            let _noted = self.remove_at(path, clients);
+    /// Notes that files are deleted with these blocks; these clients had some of them open, one for each of these places. Costs these files and
+    /// blocks, and takes no memory.
+    pub fn delete(&mut self, clients: &[Who], places: &[FilePlace], blocks: &[BlockId]) {
+        for (client, place) in clients.iter().zip(places) {
+            self.take(client, *place);
         }
-        if !self.recovering.is_empty() {
-            self.forget_recoveries(blocks);
+        if !self.blocks.is_empty() {
+            self.end_blocks(blocks);
         }
     }
 
-    fn forget_recoveries(&mut self, blocks: &[BlockId]) {
+    fn end_blocks(&mut self, blocks: &[BlockId]) {
         for block in blocks {
-            self.recovering.remove(block);
+            self.blocks.remove(block);
         }
     }
 
-    fn remove_at(&mut self, path: &Path, clients: &[Who]) -> Result<(), AllocError> {
-        for client in clients {
-            let Some(paths) = self.clients.get_mut(client) else {
-                continue;
-            };
-            paths.remove_at(self.alloc, &self.moves, path)?;
-            if paths.is_empty() {
-                self.clients.remove(client);
-            }
-        }
-        Ok(())
-    }
-
-    /// Notes that a file that a client has open is moved.
-    pub fn move_file(&mut self, from: &Path, to: &Path, client: &Who) {
-        self.close(from, client);
-        self.open(to, client);
-    }
-
-    /// Notes that a file is moved whose last block is recovered.
-    pub fn move_recovery(&mut self, to: &Path, block: BlockId) {
-        let _noted = self.note_recovery(to, block);
-    }
-
-    /// Notes that a directory is moved. Costs the two paths, and each open file and each recovery once in as many moves as there are of both, and
+    /// Notes that a directory is moved. Costs the two paths, and each block that is noted once in as many moves as there are of these, and
     /// in a thousand at least. Where there is no memory for the note, the paths of what is beneath stay as they were.
     pub fn move_directory(&mut self, from: &Path, to: &Path) {
-        if self.clients.is_empty() && self.recovering.is_empty() {
+        if self.blocks.is_empty() {
             self.moves.clear();
             return;
         }
@@ -212,35 +176,13 @@ impl OpenPaths {
         }
     }
 
-    // Brings the paths of all files that clients have open up to date, for moves that are counted from none on then, and says how many there are.
-    fn restart_clients(&mut self) -> usize {
-        let mut open: usize = 0;
-        for paths in self.clients.values_mut() {
-            paths.restart(self.alloc, &self.moves);
-            open = open.saturating_add(paths.count());
-        }
-        open
-    }
-
-    // The same of all files whose last block is recovered.
-    fn restart_recoveries(&mut self) {
-        for known in self.recovering.values_mut() {
+    // Brings all paths up to date, and forgets the moves.
+    fn forget_moves(&mut self) {
+        for known in self.blocks.values_mut() {
             let _updated = self.moves.update(self.alloc, known);
             known.since = 0;
         }
-    }
-
-    // Brings all paths up to date, and forgets the moves.
-    fn forget_moves(&mut self) {
-        let open = self.restart_clients();
-        self.restart_recoveries();
         self.moves.clear();
-        let known = open.saturating_add(self.recovering.len());
-        self.most_moves = known.max(LEAST_MOVES);
-    }
-
-    /// Notes that all files of a client are closed. Costs these files, and takes no memory.
-    pub fn forget(&mut self, client: &Who) {
-        self.clients.remove(client);
+        self.most_moves = self.blocks.len().max(LEAST_MOVES);
     }
 }
