@@ -65,7 +65,9 @@ fn files_at(alloc: Global, tree: &Tree, path: &Path) -> Result<(Vec<Who>, Vec<Bl
     ensures clients { IfOk result (λ found. found.0.items ≡ holders (rows_under path.now tree.now)) }
     ensures blocks { IfOk result (λ found. found.1.items ≡ blocks_in (rows_under path.now tree.now)) }
 {
-    let FilesUnder { clients, blocks } = tree.files_under(path)?;
+    let FilesUnder {
+        clients, blocks, ..
+    } = tree.files_under(path)?;
     Ok((copies(alloc, &clients)?, blocks))
 }
 
@@ -316,7 +318,7 @@ fn close_with_last(
     ensures latest { lease.latest_moment writers.new.leases.renewals ≤ lease.latest_moment writers.old.leases.renewals }
 {
     writers.close(client);
-    tree.complete(path, last.block, last.length);
+    let _place = tree.complete(path, last.block, last.length);
     open_paths.close(path, client);
 }
 

@@ -82,7 +82,7 @@ fn replace_file(
         drop(file);
         return Err(AllocError);
     };
-    tree.replace(path, parts.owner, parts.group, parts.acl, file);
+    let _place = tree.replace(path, parts.owner, parts.group, parts.acl, file);
     Ok(())
 }
 
@@ -113,10 +113,12 @@ pub fn make_file(
 {
     let file = FileRow::opened(alloc, replication, caller.clone()?);
     if !over {
-        return tree.make(path, mode, Some(file), caller);
+        let _place = tree.make(path, mode, Some(file), caller)?;
+        return Ok(());
     }
     if tree.get(path).is_some() {
         return replace_file(alloc, tree, blocks, replaced, path, mode, file, caller);
     }
-    tree.make(path, mode, Some(file), caller)
+    let _place = tree.make(path, mode, Some(file), caller)?;
+    Ok(())
 }
