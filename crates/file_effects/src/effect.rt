@@ -66,7 +66,9 @@ fn files_at(alloc: Global, tree: &Tree, path: &Path) -> Result<(Vec<Who>, Vec<Bl
     ensures blocks { IfOk result (λ found. found.1.items ≡ blocks_in (rows_under path.now tree.now)) }
 {
     let FilesUnder {
-        clients, blocks, ..
+        clients,
+        blocks,
+        ..
     } = tree.files_under(path)?;
     Ok((copies(alloc, &clients)?, blocks))
 }

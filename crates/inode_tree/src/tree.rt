@@ -290,8 +290,7 @@ impl Tree {
         ensures ok { OnOk result (self.new ≡ with_new path.now mode file owner.now (ancestor path.now self.old) self.old) }
         ensures err { OnErr result (self.new ≡ self.old) }
     {
-        self.nodes
-            .make(self.alloc, path.names(), mode, file, owner)
+        self.nodes.make(self.alloc, path.names(), mode, file, owner)
     }
 
     /// Removes what stands at a path that isn't the root, with all that is beneath it. Costs also what is removed, and takes
