@@ -1,11 +1,11 @@
 -- A creation that replaces nothing ends no client's open file.
-use Rattle.std.proofs.Common.{◌≡◌, ℕ, Bool, true, false, List, [], Option, Some, None, refl, sym, ap, cond}
+use Rattle.std.proofs.Common.{◌≡◌, ℕ, Bool, true, false, not, List, [], Option, Some, None, refl, sym, ap, cond}
 use Rattle.hdfs_types.specs.declared.op.Op.TheVariants as op
 use Rattle.refusals.specs.declared.refusal.Refusal.TheVariants.{IsDirectory, Exists}
 use Rattle.principals.specs.Users.{Users}
 use Rattle.namespace_rows.specs.declared.row.Row.{Row}
 use Rattle.namespace_rows.specs.Namespace.{IsNamespace}
-use Rattle.namespace_rows.specs.Rows.{is_none, is_directory, row_at}
+use Rattle.namespace_rows.specs.Rows.{is_none, is_directory, is_missing, is_some_where, has_file, row_at}
 use Rattle.flat_rows.specs.Changes.{rows_under}
 use Rattle.namespace_rows.specs.Files.{holders}
 use Rattle.flat_rows.specs.FileOutcome.{directory_there, file_there}
@@ -26,3 +26,15 @@ pub nothing_replaced : (path : List (List ℕ)) (mode replication : ℕ) (caller
 nothing_replaced path mode replication caller rows users namespace free =
     let clear = free_create path mode replication false caller rows users free in
     sym (ap holders (none_under path rows (missing_apart rows path namespace (absent (row_at path rows) clear.1 clear.2))))
+
+-- what has the path is a file
+pub file_stands : (path : List (List ℕ)) (rows : List Row) → is_missing path rows ≡ false → directory_there (row_at path rows) ≡ None → has_file path rows ≡ true
+file_stands path rows there file = by (row_at path rows) there file
+  where
+    no_directory : (b : Bool) → cond b (Some IsDirectory) None ≡ None → not b ≡ true
+    no_directory true f = cc
+    no_directory false f = refl
+
+    by : (at : Option Row) → is_none at ≡ false → directory_there at ≡ None → is_some_where (λ row. not (is_directory row)) at ≡ true
+    by None t f = cc
+    by (Some row) t f = no_directory (is_directory row) f

@@ -59,7 +59,7 @@ fn mkdirs(
     if is_there {
         return Ok(Verdict::Done(Reply::Empty));
     }
-    tree.make(path, mode, None, caller.name())?;
+    let _place = tree.make(path, mode, None, caller.name())?;
     Ok(Verdict::Done(Reply::Empty))
 }
 

@@ -288,6 +288,20 @@ module _ (client : List ℕ) where
         by k true = twice (get old k)
         by k false = refl
 
+  -- what was closed so far, where the rest of it is still to be closed
+  pub closes_left : (old new : Slab FileRow) (left all : List Row) → ((k : ℕ) → closed_where (are_at_place k left) new k ≡ closed_where (are_at_place k all) old k) → Closes old new
+  closes_left old new left all h k = sym (whole new (are_at_place k left)) ∙ ap closed_slot (h k) ∙ whole old (are_at_place k all)
+    where
+      whole : (files : Slab FileRow) (b : Bool) → closed_slot (closed_where b files k) ≡ closed_slot (get files k)
+      whole files true = twice (get files k)
+      whole files false = refl
+
+  -- no file is left once all are closed
+  pub none_left : (all : List Row) → length (finished_files client (with_finished_closed client all)) ≡ 0
+  none_left [] = refl
+  none_left (row ∷ all) =
+      omega (arith, tally_cons is_finished_row (file_edited (closed_for client) row) (with_finished_closed client all), ap bit (settled_slot row.file), none_left all)
+
   -- what is closed stays as it is
   pub closed_twice : (all : List Row) → with_finished_closed client (with_finished_closed client all) ≡ with_finished_closed client all
   closed_twice [] = refl

@@ -161,7 +161,7 @@ pub unchanged_there : (files : Slab FileRow) (rows : List Row) (path : List (Lis
 unchanged_there files rows path edit up none = unchanged_behind path edit files rows up none
 
 module _ (old new : Slab FileRow) (path : List (List ℕ)) (row : Row) (own : FileRow) (edit : FileRow → FileRow)
-  (is_file : row.file ≡ Some own) (updates : Updates old new (place_in own) (option_map edit (get old (place_in own)))) where
+    (is_file : row.file ≡ Some own) (updates : Updates old new (place_in own) (option_map edit (get old (place_in own)))) where
   abbrev here : Row → Bool
   here = tells (place_in own)
 
@@ -204,7 +204,7 @@ module _ (old new : Slab FileRow) (path : List (List ℕ)) (row : Row) (own : Fi
       by true e k behind rest =
           ap (λ r. r ∷ seen_rows new xs) (at_path (one x row k))
           ∙ ap (λ others. file_edited edit (seen old x) ∷ others)
-            (seen_elsewhere old new xs (place_in own) (option_map edit (get old (place_in own))) updates (others_alone (one x row k)) ∙ sym (behind e))
+          (seen_elsewhere old new xs (place_in own) (option_map edit (get old (place_in own))) updates (others_alone (one x row k)) ∙ sym (behind e))
       by false e k behind rest =
           let some : 1 ≤ tally here xs = counted_first here (λ r. same_path path r.path) row xs k row_here in
           ap (λ slot. with_file slot x ∷ seen_rows new xs) (held_elsewhere x.file (elsewhere some))
@@ -219,7 +219,7 @@ seen_changed old new rows path row own edit up at is_file updates kept =
 -- ---- files are taken out whose rows are gone
 
 module _ (old new : Slab FileRow) (rows gone : List Row) (left : (k : ℕ) → get new k ≡ get_unless (are_at_place k gone) old k)
-  (counts : (k : ℕ) → length (rows_at_place k rows) + length (rows_at_place k gone) ≡ held_count old k) where
+    (counts : (k : ℕ) → length (rows_at_place k rows) + length (rows_at_place k gone) ≡ held_count old k) where
   untouched : (k : ℕ) → are_at_place k gone ≡ false → get new k ≡ get old k
   untouched k e = left k ∙ ap (λ b. get_unless b old k) e
 

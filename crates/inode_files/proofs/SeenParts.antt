@@ -32,13 +32,15 @@ module _ (files : Slab FileRow) where
   seen_rows_or (Some branch) = refl
 
   pub seen_part : (n : List ℕ) (beneath : List Row) (part : Option Node) → IsPart n beneath part → IsPart n (seen_rows files beneath) (option_map (seen_branch files) part)
-  seen_part n beneath part is = record { seen = λ p q splits.
-      let before : (row : Row) → Bool = λ row. p (seen files row) in
-      let within : (row : Row) → Bool = λ row. q (seen files row) in
-      shown_filter (file_held files) p before (λ row. refl) beneath
-      ∙ ap (seen_rows files) (is.seen before within (record { lows = λ other row. splits.lows other (seen files row); highs = λ other row. splits.highs other (seen files row); here = λ row. splits.here (seen files row) }))
-      ∙ sym (seen_under files n (filter within (rows_or part)))
-      ∙ ap (map (under n)) (sym (shown_filter (file_held files) q within (λ row. refl) (rows_or part)) ∙ ap (filter q) (sym (seen_rows_or part))) }
+  seen_part n beneath part is = record {
+    seen = λ p q splits.
+        let before : (row : Row) → Bool = λ row. p (seen files row) in
+        let within : (row : Row) → Bool = λ row. q (seen files row) in
+        shown_filter (file_held files) p before (λ row. refl) beneath
+        ∙ ap (seen_rows files) (is.seen before within (record { lows = λ other row. splits.lows other (seen files row); highs = λ other row. splits.highs other (seen files row); here = λ row. splits.here (seen files row) }))
+        ∙ sym (seen_under files n (filter within (rows_or part)))
+        ∙ ap (map (under n)) (sym (shown_filter (file_held files) q within (λ row. refl) (rows_or part)) ∙ ap (filter q) (sym (seen_rows_or part)));
+  }
 
   pub seen_whole : (path : List (List ℕ)) (all : List Row) (part : Option Node) → IsWhole path all part → IsWhole path (seen_rows files all) (option_map (seen_branch files) part)
   seen_whole path all part whole =

@@ -22,11 +22,7 @@ use std::collections::BTreeMap;
 ///
 /// # Errors
 /// Out of memory.
-pub fn blocks_of(
-    alloc: Global,
-    files: &FileTable,
-    node: &Node,
-) -> Result<Vec<BlockId>, AllocError>
+pub fn blocks_of(alloc: Global, files: &FileTable, node: &Node) -> Result<Vec<BlockId>, AllocError>
     ensures { IfOk result (λ found. found.items ≡ blocks_in (seen_rows files.now (rows node.now))) }
 {
     let mut found = Vec::new(alloc);
@@ -36,11 +32,7 @@ pub fn blocks_of(
 
 /// Adds the blocks of the files of the node and of all beneath it.
 #[cycle(blocks)]
-fn push_blocks(
-    files: &FileTable,
-    node: &Node,
-    found: &mut Vec<BlockId>,
-) -> Result<(), AllocError>
+fn push_blocks(files: &FileTable, node: &Node, found: &mut Vec<BlockId>) -> Result<(), AllocError>
     ensures { OnOk result (found.new.items ≡ found.old.items ++ blocks_in (seen_rows files.now (rows node.now))) }
 {
     match &node.held {

@@ -1,4 +1,4 @@
-ghost use Rattle.std.specs.Prelude.{◌≡◌, ◌+◌, ◌≤◌, ℕ, List, length, if◌then◌else◌, IfSome};
+ghost use Rattle.std.specs.Prelude.{◌≡◌, ◌+◌, ◌^◌, ◌<◌, ◌≤◌, ℕ, List, length, if◌then◌else◌, IfSome};
 ghost use Rattle.std.specs.Option.{option_map};
 ghost use Rattle.slab.specs.Slab.{get};
 ghost use Rattle.namespace_rows.specs.declared.row.Row.{Row};
@@ -62,31 +62,35 @@ pub fn close_at(files: &mut FileTable, client: &Who, places: &[FilePlace]) -> u6
     closed
 }
 
-/// Closes all files of the node and of all beneath it that a client has open and whose last block isn't unfinished. Takes no memory.
+/// Closes all files of the node and of all beneath it that a client has open and whose last block isn't unfinished, and tells how many, where
+/// fewer than 2^64 are so. Takes no memory.
 #[cycle(close)]
-pub fn close_beneath(files: &mut FileTable, client: &Who, node: &Node)
-    ensures { (place : ℕ) → get files.new place ≡ (if are_at_place place (rows node.now) then option_map (closed_for client.now) (get files.old place) else get files.old place) }
+pub fn close_beneath(files: &mut FileTable, client: &Who, node: &Node) -> u64
+    ensures closed { (place : ℕ) → get files.new place ≡ (if are_at_place place (rows node.now) then option_map (closed_for client.now) (get files.old place) else get files.old place) }
+    ensures count { (all : List Row) → AreKept files.old all → length (finished_files client.now (seen_rows files.old all)) < 2 ^ 64 → result + length (finished_files client.now (seen_rows files.new all)) ≡ length (finished_files client.now (seen_rows files.old all)) }
 {
     match &node.held {
-        Held::File(place) => {
-            let _closed = files.close_finished(*place, client);
-        }
+        Held::File(place) => u64::from(files.close_finished(*place, client)),
         Held::Directory(nodes) => {
             // Most directories hold nothing, and are told at once.
-            if !nodes.is_empty() {
-                close_beneath_in(files, client, nodes);
+            if nodes.is_empty() {
+                return 0;
             }
+            close_beneath_in(files, client, nodes)
         }
     }
 }
 
 #[cycle(close)]
-fn close_beneath_in(files: &mut FileTable, client: &Who, nodes: &BTreeMap<Name, Node>)
-    ensures { (place : ℕ) → get files.new place ≡ (if are_at_place place (flatten nodes.now.entries) then option_map (closed_for client.now) (get files.old place) else get files.old place) }
+fn close_beneath_in(files: &mut FileTable, client: &Who, nodes: &BTreeMap<Name, Node>) -> u64
+    ensures closed { (place : ℕ) → get files.new place ≡ (if are_at_place place (flatten nodes.now.entries) then option_map (closed_for client.now) (get files.old place) else get files.old place) }
+    ensures count { (all : List Row) → AreKept files.old all → length (finished_files client.now (seen_rows files.old all)) < 2 ^ 64 → result + length (finished_files client.now (seen_rows files.new all)) ≡ length (finished_files client.now (seen_rows files.old all)) }
 {
+    let mut closed: u64 = 0;
     for (_name, child) in nodes {
-        close_beneath(files, client, child);
+        closed = closed.saturating_add(close_beneath(files, client, child));
     }
+    closed
 }
 
 impl Nodes {
@@ -98,15 +102,18 @@ impl Nodes {
         count_finished(&self.files, client, places)
     }
 
-    /// Closes all files that a client has open and whose last block isn't unfinished, where there are at most so many. Costs these places; the
-    /// whole tree where some of the files aren't at them. Takes no memory.
-    pub fn close_finished(&mut self, client: &Who, places: &[FilePlace], number: u64)
+    /// Closes all files that a client has open and whose last block isn't unfinished, and tells how many, where there are at most so many. Costs
+    /// these places; the whole tree where some of the files aren't at them. Takes no memory.
+    pub fn close_finished(&mut self, client: &Who, places: &[FilePlace], number: u64) -> u64
         ensures all { length (finished_files client.now self.old) ≤ number → self.new ≡ with_finished_closed client.now self.old }
         ensures no_other { with_finished_closed client.now self.new ≡ with_finished_closed client.now self.old }
+        ensures count { length (finished_files client.now self.old) ≤ number → result ≡ length (finished_files client.now self.old) }
     {
         let closed = close_at(&mut self.files, client, places);
         if closed < number {
-            close_beneath(&mut self.files, client, &self.root);
+            closed.saturating_add(close_beneath(&mut self.files, client, &self.root))
+        } else {
+            closed
         }
     }
 }

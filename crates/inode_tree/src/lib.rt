@@ -2,6 +2,6 @@
 //! File System Namespace").
 #![tactic(auto)]
 
-pub use inode_files::blocks;
-pub use inode_files::inode;
+pub use inode_files::{blocks, inode};
+
 pub mod tree;

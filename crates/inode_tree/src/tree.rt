@@ -290,8 +290,7 @@ impl Tree {
         ensures ok { OnOk result (self.new ≡ with_new path.now mode file owner.now (ancestor path.now self.old) self.old) }
         ensures err { OnErr result (self.new ≡ self.old) }
     {
-        self.nodes
-            .make(self.alloc, path.names(), mode, file, owner)
+        self.nodes.make(self.alloc, path.names(), mode, file, owner)
     }
 
     /// Removes what stands at a path that isn't the root, with all that is beneath it. Costs also what is removed, and takes
@@ -346,13 +345,14 @@ impl Tree {
         self.nodes.count_finished(client, places)
     }
 
-    /// Closes all files that a client has open and whose last block isn't unfinished, where there are at most so many. Costs these places;
-    /// the whole tree where some of the files aren't at them. Takes no memory.
-    pub fn close_finished(&mut self, client: &Who, places: &[FilePlace], number: u64)
+    /// Closes all files that a client has open and whose last block isn't unfinished, where there are at most so many, and tells how many these
+    /// were. Costs these places; the whole tree where some of the files aren't at them. Takes no memory.
+    pub fn close_finished(&mut self, client: &Who, places: &[FilePlace], number: u64) -> u64
+        ensures count { length (finished_files client.now self.old) ≤ number → result ≡ length (finished_files client.now self.old) }
         ensures all { length (finished_files client.now self.old) ≤ number → self.new ≡ with_finished_closed client.now self.old }
         ensures no_other { with_finished_closed client.now self.new ≡ with_finished_closed client.now self.old }
     {
-        self.nodes.close_finished(client, places, number);
+        self.nodes.close_finished(client, places, number)
     }
 
     /// Gives what stands at a path another part: an owner and a group, an access list, or what a file has. Takes no memory.

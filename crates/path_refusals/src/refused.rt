@@ -4,6 +4,7 @@ ghost use Rattle.namespace_rows.specs.declared.row.Row.{Row};
 ghost use Rattle.flat_rows.specs.Facts.{Facts};
 ghost use Rattle.flat_rows.specs.Outcome as spec;
 ghost use Rattle.perm_walk.specs.Reached.{IsReach};
+ghost use Rattle.path_refusals.specs.Target.{refusal_of_target};
 
 use file_paths::path::Path;
 use hdfs_types::op::Op;
@@ -56,16 +57,30 @@ pub fn refusal_of_rename(
     if let Found::Refused(refusal) = standing(alloc, from_reach)? {
         return Ok(Some(refusal));
     }
-    if let Some(file) = to_reach.file {
+    refusal_of_target(alloc, tree, from, to, to_reach)
+}
+
+/// Why what has a path can't be moved to another that leads so far, where that is for the other path's sake.
+fn refusal_of_target(
+    alloc: Global,
+    tree: &Tree,
+    from: &Path,
+    to: &Path,
+    reach: Reach<'_>,
+) -> Result<Option<Refusal>, AllocError>
+    requires { IsReach to.now tree.now reach }
+    ensures { IfOk result (λ refusal. refusal ≡ refusal_of_target from.now to.now tree.now) }
+{
+    if let Some(file) = reach.file {
         return Ok(Some(Refusal::NotDirectory(file.to_path(alloc)?)));
     }
     if to.is_at_or_under(from) {
         return Ok(Some(Refusal::UnderItself));
     }
-    if to_reach.at.is_some() {
+    if reach.at.is_some() {
         return Ok(Some(Refusal::Exists));
     }
-    if to_reach.parent.is_none() {
+    if reach.parent.is_none() {
         return Ok(Some(Refusal::NotFound));
     }
     if !tree.can_move(from, to) {

@@ -9,5 +9,5 @@ use Rattle.file_effects.proofs.effect.close_with_last.Goals as goal
 pub returns-clause-exact : goal.returns-clause-exact
 returns-clause-exact c =
     let rows = row_rewritten c.args.path.now (change.State Closed) c.args.tree.now in
-    λ last exact. exact_committed last c.args.path.now c.args.last.block c.args.last.length rows c.complete.new.self c.close.new.self c.complete.ensures
+    λ last exact. exact_committed last c.args.path.now c.args.last.block c.args.last.length rows c.complete-place.new.self c.close.new.self c.complete-place.ensures
     (exact_close c.args.path.now Closed c.args.client.now c.args.tree.now rows c.args.writers.now c.close.new.self c.requires.namespace c.requires.held refl refl c.close.ensures.files c.close.ensures.leased last exact)
