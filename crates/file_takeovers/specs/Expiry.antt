@@ -1,5 +1,5 @@
 -- Which files a tick takes, where the clients are known whose leases are past the hard limit, and what it leaves of them.
-use Rattle.std.specs.Prelude.{◌≡◌, ◌-◌, ◌≤◌, ℕ, Bool, false, not, List, map, filter, length, sum_by, nat_lt, Option, Some, None}
+use Rattle.std.specs.Prelude.{◌≡◌, ◌+◌, ◌-◌, ◌≤◌, ℕ, ⊤, Bool, true, false, not, if◌then◌else◌, List, [], ◌∷◌, map, filter, length, sum_by, nat_lt, Option, Some, None}
 use Rattle.std.specs.List.{AllByRecursion, list_any, filter_map}
 use Rattle.std.specs.Option.{is_some, option_map}
 use Rattle.std.specs.BTreeMap.{BTreeMap}
@@ -13,15 +13,16 @@ use Rattle.block_map.specs.BlockEffects.{recoveries_begun, with_recoveries_begun
 use Rattle.namespace_rows.specs.declared.file_row.FileRow.{FileRow}
 use Rattle.namespace_rows.specs.declared.row.Row.{Row}
 use Rattle.namespace_rows.specs.declared.row.Change.TheVariants as change
-use Rattle.namespace_rows.specs.Files.{holder_of}
+use Rattle.namespace_rows.specs.Files.{holder_of, with_state}
 use Rattle.namespace_rows.specs.Rows.{row_at}
-use Rattle.flat_rows.specs.Changes.{row_rewritten}
+use Rattle.flat_rows.specs.Changes.{file_edited, row_rewritten}
 use Rattle.flat_rows.specs.FileOutcome.{holder_at}
 use Rattle.flat_rows.specs.declared.takeover.Sought.{Sought}
 use Rattle.flat_rows.specs.Takeover.{sought_of, taken_row}
 use Rattle.lease_manager.specs.declared.writers.Writers.{Writers}
 use Rattle.lease_manager.specs.Writers.{count_of}
 use Rattle.file_effects.specs.Effected.{IsExact}
+use Rattle.file_table.specs.Finished.{is_finished_of, finished_files}
 use Rattle.file_takeovers.specs.Found.{file_in}
 
 abbrev pub is_among : List (List ℕ) → List ℕ → Bool
@@ -77,6 +78,47 @@ is_overdue_row retry now row = is_some (sought_of (λ client. false) (λ begun. 
 
 abbrev pub AreDue : ℕ → List Row → Blocks → Type 0
 AreDue now rows blocks = length (filter (is_overdue_row blocks.retry now) rows) ≤ length (due_recoveries blocks now)
+
+-- a client of these has the file open, and its last block isn't unfinished
+abbrev pub is_finished_among : List (List ℕ) → Option FileRow → Bool
+is_finished_among clients file = list_any (λ client. is_finished_of client file) clients
+
+abbrev pub closed_among : List (List ℕ) → Row → Row
+closed_among clients row = if is_finished_among clients row.file then file_edited (with_state Closed) row else row
+
+-- the rows with such files of these clients closed
+abbrev pub finished_closed : List (List ℕ) → List Row → List Row
+finished_closed clients rows = map (closed_among clients) rows
+
+abbrev pub finished_of : List (List ℕ) → List Row → List Row
+finished_of clients rows = filter (λ row. is_finished_among clients row.file) rows
+
+-- each of these clients has at most so many of them
+abbrev pub AreAtMost : List Row → List (List ℕ) → List ℕ → Type 0
+AreAtMost rows [] numbers = ⊤
+AreAtMost rows (client ∷ clients) [] = ⊥
+AreAtMost rows (client ∷ clients) (number ∷ numbers) = (length (finished_files client rows) ≤ number) × AreAtMost rows clients numbers
+
+-- each has at least so many
+abbrev pub AreAtLeast : List Row → List (List ℕ) → List ℕ → Type 0
+AreAtLeast rows [] numbers = ⊤
+AreAtLeast rows (client ∷ clients) [] = ⊥
+AreAtLeast rows (client ∷ clients) (number ∷ numbers) = (number ≤ length (finished_files client rows)) × AreAtLeast rows clients numbers
+
+-- how many files these clients have open beside so many of each
+abbrev pub open_beside : List (List ℕ × ℕ) → List (List ℕ) → List ℕ → ℕ
+open_beside counts [] numbers = 0
+open_beside counts (client ∷ clients) [] = count_of counts client + open_beside counts clients []
+open_beside counts (client ∷ clients) (number ∷ numbers) = (count_of counts client - number) + open_beside counts clients numbers
+
+abbrev pub HaveAtLeast : List (List ℕ × ℕ) → List (List ℕ) → List ℕ → Type 0
+HaveAtLeast counts [] numbers = ⊤
+HaveAtLeast counts (client ∷ clients) [] = ⊥
+HaveAtLeast counts (client ∷ clients) (number ∷ numbers) = (number ≤ count_of counts client) × HaveAtLeast counts clients numbers
+
+-- each file of these is recovered
+abbrev pub AreToRecover : BTreeMap (List (List ℕ)) Sought → Type 0
+AreToRecover files = AllByRecursion (λ (entry : List (List ℕ) × Sought). is_some entry.1.block ≡ true) files.entries
 
 -- the state that a tick gives a file, by the stamps under which recoveries begin
 abbrev pub state_from : ℕ → ℕ → Option ℕ → Option FileState

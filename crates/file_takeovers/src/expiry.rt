@@ -1,4 +1,4 @@
-ghost use Rattle.std.specs.Prelude.{◌≡◌, ◌≤◌, ◌++◌, ℕ, List, Option, Some, None, length, IfOk, OnOk, OnErr};
+ghost use Rattle.std.specs.Prelude.{◌≡◌, ◌≤◌, ◌<◌, ◌^◌, ◌++◌, ℕ, List, Option, Some, None, length, sum_by, IfOk, OnOk, OnErr};
 ghost use Rattle.std.specs.BTreeMap.{get, values};
 ghost use Rattle.std.specs.Option.{option_to_list};
 ghost use Rattle.std.specs.Ordering.{nat_cmp};
@@ -12,9 +12,11 @@ ghost use Rattle.flat_rows.specs.Takeover.{stamp_in};
 ghost use Rattle.lease_manager.specs.Leases as lease;
 ghost use Rattle.recovery_queue.specs.declared.begun.BegunRecovery.{BegunRecovery};
 ghost use Rattle.file_effects.specs.Effected.{IsExact};
+ghost use Rattle.file_table.specs.Finished.{finished_files, with_finished_closed};
+ghost use Rattle.block_map.specs.BlockEffects.{recoveries_begun, with_recoveries_begun};
 ghost use Rattle.file_takeovers.specs.Expiry as spec;
 
-use crate::sought::sought_files;
+use crate::sought::{Known, all_sought, known_files};
 use block_map::blocks::Blocks;
 use file_effects::effect::end_writing;
 use file_paths::path::Path;
@@ -26,7 +28,6 @@ use hdfs_values::moment::Moment;
 use hdfs_values::who::Who;
 use inode_tree::tree::Tree;
 use lease_manager::writers::Writers;
-use namespace_rows::row::Change;
 use open_file_paths::open_paths::OpenPaths;
 use recovery_queue::begun::BegunRecovery;
 use std::alloc::{AllocError, Global};
@@ -79,27 +80,19 @@ fn state_behind(file: &Sought, stamps: &BTreeMap<BlockId, Stamp>, now: Moment) -
 
 // ---- the files
 
-/// Notes what a file became that a client had open.
-fn note_taken(open_paths: &mut OpenPaths, path: &Path, holder: &Who, block: Option<BlockId>) {
-    match block {
-        Some(block) => open_paths.recover(path, holder, block),
-        None => open_paths.close(path, holder),
-    }
-}
-
-/// Notes where a file is whose last block was in a recovery before the tick, so that the tree isn't gone through for it at each tick.
-fn note_recovery(open_paths: &mut OpenPaths, path: &Path, block: Option<BlockId>) {
+/// Notes where a file is whose last block is unfinished or in a recovery, so that the tree isn't gone through for it at each tick.
+fn note_block(open_paths: &mut OpenPaths, path: &Path, block: Option<BlockId>) {
     if let Some(block) = block {
-        open_paths.keep_recovery(path, block);
+        open_paths.keep_block(path, block);
     }
 }
 
-/// Notes where a file is that stays as it is, since no recovery can begin, so that the tree isn't gone through for it at each tick.
-fn note_left(open_paths: &mut OpenPaths, path: &Path, file: &Sought) {
-    match &file.holder {
-        Some(holder) => open_paths.keep_open(path, holder),
-        None => note_recovery(open_paths, path, file.block),
+/// Notes where a file is that stays as it is, since no recovery can begin, and who has it open.
+fn note_left(tree: &Tree, open_paths: &mut OpenPaths, path: &Path, file: &Sought) {
+    if let Some(holder) = &file.holder {
+        open_paths.open(holder, tree.place_of(path));
     }
+    note_block(open_paths, path, file.block);
 }
 
 /// Gives a file another state, in which nobody has it open, and notes that. Takes no memory but for the note.
@@ -119,13 +112,13 @@ fn take(
     ensures limits { writers.new.leases.limits ≡ writers.old.leases.limits }
     ensures latest { lease.latest_moment writers.new.leases.renewals ≤ lease.latest_moment writers.old.leases.renewals }
 {
+    note_block(open_paths, path, file.block);
     let Some(holder) = &file.holder else {
-        tree.rewrite(path, Change::State(state));
-        note_recovery(open_paths, path, file.block);
+        let _place = tree.set_state(path, state);
         return;
     };
-    end_writing(tree, writers, path, holder, state);
-    note_taken(open_paths, path, holder, file.block);
+    let place = end_writing(tree, writers, path, holder, state);
+    open_paths.close(holder, place);
 }
 
 /// Gives a file the state that a tick gives it, if it gives one. Takes no memory but for a note.
@@ -147,7 +140,7 @@ fn take_where(
 {
     match state {
         Some(state) => take(tree, writers, open_paths, path, file, state),
-        None => note_left(open_paths, path, file),
+        None => note_left(tree, open_paths, path, file),
     }
 }
 
@@ -179,6 +172,136 @@ fn count_closed(files: &BTreeMap<Path, Sought>) -> u64
     files.values().filter(|file| file.block.is_none()).count() as u64
 }
 
+// ---- the files that are finished
+
+/// Closes the finished files of these clients, of each client at most so many, and tells how many these were. Costs these files.
+fn close_each(
+    tree: &mut Tree,
+    writers: &mut Writers,
+    open_paths: &mut OpenPaths,
+    past: &[Who],
+    numbers: &[u64],
+) -> u64
+    ensures no_other { spec.finished_closed past.now tree.new ≡ spec.finished_closed past.now tree.old }
+    ensures closed { spec.AreAtMost tree.old past.now numbers.now → tree.new ≡ spec.finished_closed past.now tree.old }
+    ensures count { spec.AreAtMost tree.old past.now numbers.now → sum_by (λ number. number) numbers.now < 2 ^ 64 → result ≡ length (spec.finished_of past.now tree.old) }
+    ensures exact { (last : List ℕ → Option ℕ) → spec.AreAtMost tree.old past.now numbers.now → IsExact last tree.old writers.old → IsExact last tree.new writers.new }
+    ensures limits { writers.new.leases.limits ≡ writers.old.leases.limits }
+    ensures latest { lease.latest_moment writers.new.leases.renewals ≤ lease.latest_moment writers.old.leases.renewals }
+{
+    let mut closed: u64 = 0;
+    for (client, number) in past.iter().zip(numbers) {
+        closed = closed.saturating_add(close_finished(tree, writers, open_paths, client, *number));
+    }
+    closed
+}
+
+/// Closes the finished files of a client, which are at most so many, and tells how many these were. Costs these files.
+fn close_finished(
+    tree: &mut Tree,
+    writers: &mut Writers,
+    open_paths: &mut OpenPaths,
+    client: &Who,
+    number: u64,
+) -> u64
+    ensures no_other { with_finished_closed client.now tree.new ≡ with_finished_closed client.now tree.old }
+    ensures closed { length (finished_files client.now tree.old) ≤ number → tree.new ≡ with_finished_closed client.now tree.old }
+    ensures count { length (finished_files client.now tree.old) ≤ number → result ≡ length (finished_files client.now tree.old) }
+    ensures exact { (last : List ℕ → Option ℕ) → length (finished_files client.now tree.old) ≤ number → IsExact last tree.old writers.old → IsExact last tree.new writers.new }
+    ensures limits { writers.new.leases.limits ≡ writers.old.leases.limits }
+    ensures latest { lease.latest_moment writers.new.leases.renewals ≤ lease.latest_moment writers.old.leases.renewals }
+{
+    let closed = tree.close_finished(client, open_paths.places_of(client), number);
+    writers.close_some(client, closed);
+    open_paths.forget(client);
+    closed
+}
+
+// ---- all
+
+/// The recoveries that begin for the blocks of these files: under which stamps, and how many.
+#[derive(Drop)]
+struct Begun {
+    stamps: BTreeMap<BlockId, Stamp>,
+    number: u64,
+}
+
+/// Has the recoveries begin of those blocks of these files whose recovery can begin.
+fn begin_all(
+    alloc: Global,
+    blocks: &mut Blocks,
+    files: &BTreeMap<Path, Sought>,
+    now: Moment,
+) -> Result<Begun, AllocError>
+    ensures begun { OnOk result (blocks.new ≡ with_recoveries_begun blocks.old (spec.blocks_to_recover (values files.now)) now) }
+    ensures stamps { IfOk result (λ begun. (block : ℕ) → get nat_cmp begun.stamps block ≡ stamp_in (recoveries_begun blocks.old (spec.blocks_to_recover (values files.now)) now) block) }
+    ensures number { IfOk result (λ begun. begun.number ≡ length (recoveries_begun blocks.old (spec.blocks_to_recover (values files.now)) now)) }
+    ensures err { OnErr result (blocks.new ≡ blocks.old) }
+{
+    let sought = sought_blocks(alloc, files)?;
+    let begun = blocks.plan_recoveries(&sought, now)?;
+    let stamps = stamps_of(alloc, &begun)?;
+    blocks.begin_recoveries(&sought, &begun, now)?;
+    Ok(Begun {
+        stamps,
+        number: begun.len() as u64,
+    })
+}
+
+/// Takes files of which not all were known, each by its path.
+fn expire_searched(
+    alloc: Global,
+    tree: &mut Tree,
+    blocks: &mut Blocks,
+    writers: &mut Writers,
+    open_paths: &mut OpenPaths,
+    past: &[Who],
+    now: Moment,
+) -> Result<Expired, AllocError>
+    requires namespace { IsNamespace tree.old }
+    ensures ok { (last : List ℕ → Option ℕ) → IsExact last tree.old writers.old → IfOk result (λ expired. spec.IsExpired last (record { past = past.now; retry = blocks.old.retry; now = now }) tree.old blocks.old expired tree.new blocks.new writers.new) }
+    ensures limits { writers.new.leases.limits ≡ writers.old.leases.limits }
+    ensures latest { lease.latest_moment writers.new.leases.renewals ≤ lease.latest_moment writers.old.leases.renewals }
+    ensures err { OnErr result ((tree.new ≡ tree.old) × (blocks.new ≡ blocks.old) × (writers.new ≡ writers.old)) }
+{
+    let files = all_sought(alloc, tree, past, blocks.retry(), now)?;
+    let begun = begin_all(alloc, blocks, &files, now)?;
+    take_each(tree, writers, open_paths, &files, &begun.stamps, now);
+    Ok(Expired {
+        closed: count_closed(&files),
+        recovering: begun.number,
+    })
+}
+
+/// Takes files that were all known: the finished ones are closed by their places, the others are taken by their paths.
+fn expire_known(
+    alloc: Global,
+    tree: &mut Tree,
+    blocks: &mut Blocks,
+    writers: &mut Writers,
+    open_paths: &mut OpenPaths,
+    past: &[Who],
+    known: &Known,
+    now: Moment,
+) -> Result<Expired, AllocError>
+    requires namespace { IsNamespace tree.old }
+    requires some { spec.AreSome (record { past = past.now; retry = blocks.old.retry; now = now }) tree.old known.now.files }
+    requires unfinished { spec.AreToRecover known.now.files }
+    requires fits { sum_by (λ number. number) known.now.finished.items < 2 ^ 64 }
+    ensures ok { (last : List ℕ → Option ℕ) → IsExact last tree.old writers.old → spec.AreAtMost tree.old past.now known.now.finished.items → spec.AreAll (record { past = past.now; retry = blocks.old.retry; now = now }) (spec.finished_closed past.now tree.old) known.now.files → IfOk result (λ expired. spec.IsExpired last (record { past = past.now; retry = blocks.old.retry; now = now }) tree.old blocks.old expired tree.new blocks.new writers.new) }
+    ensures limits { writers.new.leases.limits ≡ writers.old.leases.limits }
+    ensures latest { lease.latest_moment writers.new.leases.renewals ≤ lease.latest_moment writers.old.leases.renewals }
+    ensures err { OnErr result ((tree.new ≡ tree.old) × (blocks.new ≡ blocks.old) × (writers.new ≡ writers.old)) }
+{
+    let begun = begin_all(alloc, blocks, &known.files, now)?;
+    let closed = close_each(tree, writers, open_paths, past, &known.finished);
+    take_each(tree, writers, open_paths, &known.files, &begun.stamps, now);
+    Ok(Expired {
+        closed,
+        recovering: begun.number,
+    })
+}
+
 /// Takes the files of these clients from them: each is closed, but where its last block is unfinished, whose recovery begins then; and has
 /// the recoveries begin anew that began longer ago than the retry limit. A recovery that no live node can lead is passed over. Costs these
 /// files and the recoveries that run; the whole tree where some of the files aren't known.
@@ -201,15 +324,11 @@ pub fn expire(
     ensures latest { lease.latest_moment writers.new.leases.renewals ≤ lease.latest_moment writers.old.leases.renewals }
     ensures err { OnErr result ((tree.new ≡ tree.old) × (blocks.new ≡ blocks.old) × (writers.new ≡ writers.old)) }
 {
-    open_paths.update_recoveries();
-    let files = sought_files(alloc, tree, blocks, writers, open_paths, past, now)?;
-    let sought = sought_blocks(alloc, &files)?;
-    let begun = blocks.plan_recoveries(&sought, now)?;
-    let stamps = stamps_of(alloc, &begun)?;
-    blocks.begin_recoveries(&sought, &begun, now)?;
-    take_each(tree, writers, open_paths, &files, &stamps, now);
-    Ok(Expired {
-        closed: count_closed(&files),
-        recovering: begun.len() as u64,
-    })
+    open_paths.update_blocks();
+    match known_files(alloc, tree, blocks, writers, open_paths, past, now)? {
+        Some(known) => expire_known(
+            alloc, tree, blocks, writers, open_paths, past, &known, now,
+        ),
+        None => expire_searched(alloc, tree, blocks, writers, open_paths, past, now),
+    }
 }

@@ -44,7 +44,7 @@ fn recovers_in(row: &Row, block: BlockId) -> bool
 fn known_path<'a>(tree: &Tree, open_paths: &'a OpenPaths, block: BlockId) -> Option<&'a Path>
     ensures { IfSome result (λ path. spec.IsSearched block tree.now (Some path.now)) }
 {
-    let path = open_paths.of_recovery(block)?;
+    let path = open_paths.of_block(block)?;
     if !recovers_at(tree, path, block) {
         return None;
     }
@@ -139,7 +139,7 @@ pub fn end_recovery(
     ensures err { OnErr result ((tree.new ≡ tree.old) × (blocks.new ≡ blocks.old)) }
 {
     let block = recovered.block;
-    open_paths.update_recovery(block);
+    open_paths.update_block(block);
     let verdict = match known_path(tree, open_paths, block) {
         Some(path) => end_at(tree, blocks, Some(path), recovered)?,
         None => {
@@ -148,7 +148,7 @@ pub fn end_recovery(
         }
     };
     if let Verdict::Done(_) = &verdict {
-        open_paths.end_recovery(block);
+        open_paths.end_block(block);
     }
     Ok(verdict)
 }

@@ -1,4 +1,4 @@
-ghost use Rattle.std.specs.Prelude.{◌≡◌, ◌+◌, ◌-◌, ◌==◌, ◌++◌, ◌∷◌, [], ℕ, nat_lt, List, Option, Some, None, true, IfOk, IfSome, OnOk};
+ghost use Rattle.std.specs.Prelude.{◌≡◌, ◌+◌, ◌-◌, ◌<◌, ◌^◌, ◌++◌, ◌∷◌, [], ℕ, nat_lt, List, length, sum_by, Option, Some, None, is_some, true, IfOk, IfSome, OnOk};
 ghost use Rattle.namespace_rows.specs.declared.row.Row.{Row};
 ghost use Rattle.namespace_rows.specs.Namespace.{IsNamespace, is_ascending};
 ghost use Rattle.namespace_rows.specs.Rows.{row_at};
@@ -42,9 +42,10 @@ fn is_longer_ago(moment: Moment, limit: u32, now: Moment) -> bool
     now.milliseconds().saturating_sub(moment.milliseconds()) > limit as u64
 }
 
-/// What a tick does with a file, if this client has it open, whose lease is past the hard limit.
+/// What a tick does with a file, if this client has it open, whose lease is past the hard limit, and its last block is unfinished.
 fn held_by(file: &FileRow, client: &Who) -> Result<Option<Sought>, AllocError>
-    ensures { (expiry : spec.Expiry) → spec.is_among expiry.past client.now ≡ true → IfOk result (λ found. IfSome found (λ sought. spec.sought_by expiry (Some file.now) ≡ Some sought)) }
+    ensures sought { (expiry : spec.Expiry) → spec.is_among expiry.past client.now ≡ true → IfOk result (λ found. IfSome found (λ sought. spec.sought_by expiry (Some file.now) ≡ Some sought)) }
+    ensures unfinished { IfOk result (λ found. IfSome found (λ sought. is_some sought.block ≡ true)) }
 {
     let FileState::Open(holder) = &file.state else {
         return Ok(None);
@@ -52,7 +53,10 @@ fn held_by(file: &FileRow, client: &Who) -> Result<Option<Sought>, AllocError>
     if client != holder {
         return Ok(None);
     }
-    let sought = taken_from(holder, file.blocks.unfinished())?;
+    let Some(block) = file.blocks.unfinished() else {
+        return Ok(None);
+    };
+    let sought = taken_from(holder, Some(block))?;
     Ok(Some(sought))
 }
 
@@ -70,7 +74,8 @@ fn is_overdue(file: &FileRow, block: BlockId, retry: u32, now: Moment) -> bool
 
 /// The same of what has a path.
 fn held_at(tree: &Tree, path: &Path, client: &Who) -> Result<Option<Sought>, AllocError>
-    ensures { (expiry : spec.Expiry) → spec.is_among expiry.past client.now ≡ true → IfOk result (λ found. IfSome found (λ sought. spec.sought_at expiry (row_at path.now tree.now) ≡ Some sought)) }
+    ensures unfinished { IfOk result (λ found. IfSome found (λ sought. is_some sought.block ≡ true)) }
+    ensures sought { (expiry : spec.Expiry) → spec.is_among expiry.past client.now ≡ true → IfOk result (λ found. IfSome found (λ sought. spec.sought_at expiry (row_at path.now tree.now) ≡ Some sought)) }
 {
     match file_at(tree, path) {
         Some(file) => held_by(file, client),
@@ -90,7 +95,8 @@ fn is_overdue_at(tree: &Tree, path: &Path, block: BlockId, retry: u32, now: Mome
 
 /// Adds a file to those that are known.
 fn add(files: &mut BTreeMap<Path, Sought>, path: Path, sought: Sought) -> Result<(), AllocError>
-    ensures { (expiry : spec.Expiry) (rows : List Row) → spec.sought_at expiry (row_at path rows) ≡ Some sought → spec.AreSome expiry rows files.old → OnOk result (spec.AreSome expiry rows files.new) }
+    ensures unfinished { is_some sought.block ≡ true → spec.AreToRecover files.old → OnOk result (spec.AreToRecover files.new) }
+    ensures some { (expiry : spec.Expiry) (rows : List Row) → spec.sought_at expiry (row_at path rows) ≡ Some sought → spec.AreSome expiry rows files.old → OnOk result (spec.AreSome expiry rows files.new) }
 {
     files.insert(path, sought)?;
     Ok(())
@@ -103,7 +109,8 @@ fn add_held_at(
     client: &Who,
     files: &mut BTreeMap<Path, Sought>,
 ) -> Result<(), AllocError>
-    ensures { (expiry : spec.Expiry) → spec.is_among expiry.past client.now ≡ true → spec.AreSome expiry tree.now files.old → OnOk result (spec.AreSome expiry tree.now files.new) }
+    ensures unfinished { spec.AreToRecover files.old → OnOk result (spec.AreToRecover files.new) }
+    ensures some { (expiry : spec.Expiry) → spec.is_among expiry.past client.now ≡ true → spec.AreSome expiry tree.now files.old → OnOk result (spec.AreSome expiry tree.now files.new) }
 {
     let Some(sought) = held_at(tree, &path, client)? else {
         return Ok(());
@@ -111,35 +118,83 @@ fn add_held_at(
     add(files, path, sought)
 }
 
-/// Adds the files of a client that are known, the last one first: where a client opened its files in the order of their paths, a map that is
-/// searched from its least key on finds the place of each at once.
-fn add_held(
+// The last block of a file that a client has open, where it is unfinished.
+fn unfinished_for(file: &FileRow, client: &Who) -> Option<BlockId> {
+    match &file.state {
+        FileState::Open(holder) if holder == client => file.blocks.unfinished(),
+        _ => None,
+    }
+}
+
+/// The unfinished last blocks of the files that a client has open, as far as these are known.
+fn unfinished_of(
+    alloc: Global,
+    tree: &Tree,
+    open_paths: &mut OpenPaths,
+    client: &Who,
+) -> Result<Vec<BlockId>, AllocError> {
+    let mut found = Vec::new(alloc);
+    for place in open_paths.places_of(client) {
+        if let Some(file) = tree.file_at(*place)
+            && let Some(block) = unfinished_for(file, client)
+        {
+            found.push(block)?;
+        }
+    }
+    Ok(found)
+}
+
+/// Adds the file that ends with a block, where that is known and a client has it open.
+fn add_held_by(
     tree: &Tree,
     open_paths: &OpenPaths,
+    block: BlockId,
     client: &Who,
     files: &mut BTreeMap<Path, Sought>,
 ) -> Result<(), AllocError>
-    ensures { (expiry : spec.Expiry) → spec.is_among expiry.past client.now ≡ true → spec.AreSome expiry tree.now files.old → OnOk result (spec.AreSome expiry tree.now files.new) }
+    ensures unfinished { spec.AreToRecover files.old → OnOk result (spec.AreToRecover files.new) }
+    ensures some { (expiry : spec.Expiry) → spec.is_among expiry.past client.now ≡ true → spec.AreSome expiry tree.now files.old → OnOk result (spec.AreSome expiry tree.now files.new) }
 {
-    let mut paths = open_paths.of_client(client)?;
-    while let Some(path) = paths.pop() {
-        add_held_at(tree, path, client, files)?;
+    let Some(path) = open_paths.of_block(block) else {
+        return Ok(());
+    };
+    let path = path.clone()?;
+    add_held_at(tree, path, client, files)
+}
+
+/// Adds the unfinished files of a client that are known, the last one first: where a client opened its files in the order of their paths, a map that
+/// is searched from its least key on finds the place of each at once.
+fn add_held(
+    alloc: Global,
+    tree: &Tree,
+    open_paths: &mut OpenPaths,
+    client: &Who,
+    files: &mut BTreeMap<Path, Sought>,
+) -> Result<(), AllocError>
+    ensures unfinished { spec.AreToRecover files.old → OnOk result (spec.AreToRecover files.new) }
+    ensures some { (expiry : spec.Expiry) → spec.is_among expiry.past client.now ≡ true → spec.AreSome expiry tree.now files.old → OnOk result (spec.AreSome expiry tree.now files.new) }
+{
+    let mut blocks = unfinished_of(alloc, tree, open_paths, client)?;
+    while let Some(block) = blocks.pop() {
+        add_held_by(tree, open_paths, block, client, files)?;
     }
     Ok(())
 }
 
-/// Adds the files of these clients that are known, the last client first: where clients opened files by turns, the paths of an earlier one come
-/// before those that are in the map by then.
+/// Adds the unfinished files of these clients that are known, the last client first: where clients opened files by turns, the paths of an earlier
+/// one come before those that are in the map by then.
 fn add_each_held(
+    alloc: Global,
     tree: &Tree,
-    open_paths: &OpenPaths,
+    open_paths: &mut OpenPaths,
     past: &[Who],
     files: &mut BTreeMap<Path, Sought>,
 ) -> Result<(), AllocError>
-    ensures { (retry now : ℕ) → spec.AreSome (record { past = past.now; retry = retry; now = now }) tree.now files.old → OnOk result (spec.AreSome (record { past = past.now; retry = retry; now = now }) tree.now files.new) }
+    ensures unfinished { spec.AreToRecover files.old → OnOk result (spec.AreToRecover files.new) }
+    ensures some { (retry now : ℕ) → spec.AreSome (record { past = past.now; retry = retry; now = now }) tree.now files.old → OnOk result (spec.AreSome (record { past = past.now; retry = retry; now = now }) tree.now files.new) }
 {
     for client in past.iter().rev() {
-        add_held(tree, open_paths, client, files)?;
+        add_held(alloc, tree, open_paths, client, files)?;
     }
     Ok(())
 }
@@ -153,9 +208,10 @@ fn add_overdue(
     now: Moment,
     files: &mut BTreeMap<Path, Sought>,
 ) -> Result<(), AllocError>
-    ensures { (past : List (List ℕ)) → spec.AreSome (record { past = past; retry = retry; now = now }) tree.now files.old → OnOk result (spec.AreSome (record { past = past; retry = retry; now = now }) tree.now files.new) }
+    ensures unfinished { spec.AreToRecover files.old → OnOk result (spec.AreToRecover files.new) }
+    ensures some { (past : List (List ℕ)) → spec.AreSome (record { past = past; retry = retry; now = now }) tree.now files.old → OnOk result (spec.AreSome (record { past = past; retry = retry; now = now }) tree.now files.new) }
 {
-    let Some(path) = open_paths.of_recovery(block) else {
+    let Some(path) = open_paths.of_block(block) else {
         return Ok(());
     };
     if !is_overdue_at(tree, path, block, retry, now) {
@@ -178,7 +234,8 @@ fn add_each_overdue(
     now: Moment,
     files: &mut BTreeMap<Path, Sought>,
 ) -> Result<(), AllocError>
-    ensures { (past : List (List ℕ)) → spec.AreSome (record { past = past; retry = retry; now = now }) tree.now files.old → OnOk result (spec.AreSome (record { past = past; retry = retry; now = now }) tree.now files.new) }
+    ensures unfinished { spec.AreToRecover files.old → OnOk result (spec.AreToRecover files.new) }
+    ensures some { (past : List (List ℕ)) → spec.AreSome (record { past = past; retry = retry; now = now }) tree.now files.old → OnOk result (spec.AreSome (record { past = past; retry = retry; now = now }) tree.now files.new) }
 {
     for block in overdue {
         add_overdue(tree, open_paths, *block, retry, now, files)?;
@@ -186,16 +243,54 @@ fn add_each_overdue(
     Ok(())
 }
 
-/// Whether these clients have so many files open, beside this number. Takes no memory.
-fn have_open(writers: &Writers, clients: &[Who], number: usize, beside: usize) -> bool
-    ensures { result ≡ (spec.open_count writers.now.files clients.now + beside == number) }
+/// How many finished files each of these clients has, as far as that is known; `None` where it isn't. Costs their open files.
+fn count_each_finished(
+    alloc: Global,
+    tree: &Tree,
+    open_paths: &mut OpenPaths,
+    past: &[Who],
+) -> Result<Option<Vec<u64>>, AllocError>
+    ensures { IfOk result (λ found. IfSome found (λ numbers. spec.AreAtLeast tree.now past.now numbers.items)) }
+{
+    let mut numbers = Vec::new(alloc);
+    for client in past {
+        let Some(number) = tree.count_finished(client, open_paths.places_of(client)) else {
+            return Ok(None);
+        };
+        numbers.push(number)?;
+    }
+    Ok(Some(numbers))
+}
+
+/// The sum of these numbers, where it fits in 64 bits. Takes no memory.
+fn sum_of(numbers: &[u64]) -> Option<u64>
+    ensures { IfSome result (λ sum. sum ≡ sum_by (λ number. number) numbers.now) }
+{
+    let mut sum: u64 = 0;
+    for number in numbers {
+        sum = sum.checked_add(*number)?;
+    }
+    Some(sum)
+}
+
+/// Whether these clients have as many files open as are known: so many of each client, and so many of all without this number. Takes no memory.
+fn have_open(
+    writers: &Writers,
+    clients: &[Who],
+    finished: &[u64],
+    number: usize,
+    beside: usize,
+) -> bool
+    ensures { result ≡ true → length finished.now ≡ length clients.now → (spec.open_beside writers.now.files clients.now finished.now + beside ≡ number) × spec.HaveAtLeast writers.now.files clients.now finished.now }
 {
     let Some(others) = number.checked_sub(beside) else {
         return false;
     };
     let mut left = others as u64;
-    for client in clients {
-        let count = writers.files.count(client);
+    for (client, known) in clients.iter().zip(finished) {
+        let Some(count) = writers.files.count(client).checked_sub(*known) else {
+            return false;
+        };
         if count > left {
             return false;
         }
@@ -258,7 +353,10 @@ fn add_row(
 }
 
 /// All files that a tick takes, where not all of them are known. Costs the whole tree.
-fn all_sought(
+///
+/// # Errors
+/// Out of memory.
+pub(crate) fn all_sought(
     alloc: Global,
     tree: &Tree,
     past: &[Who],
@@ -278,33 +376,45 @@ fn all_sought(
 
 // ---- both
 
-/// The files that a tick takes, by their paths. Costs these files, and the recoveries that run; the whole tree where some of the files aren't
-/// known.
+/// The files that a tick takes whose last block is recovered, by their paths, and how many finished files each of the clients has.
+#[derive(Drop)]
+pub(crate) struct Known {
+    pub(crate) files: BTreeMap<Path, Sought>,
+    pub(crate) finished: Vec<u64>,
+}
+
+/// The files that a tick takes, where all are known. Costs these files, and the recoveries that run.
 ///
 /// # Errors
 /// Out of memory.
-pub(crate) fn sought_files(
+pub(crate) fn known_files(
     alloc: Global,
     tree: &Tree,
     blocks: &Blocks,
     writers: &Writers,
-    open_paths: &OpenPaths,
+    open_paths: &mut OpenPaths,
     past: &[Who],
     now: Moment,
-) -> Result<BTreeMap<Path, Sought>, AllocError>
+) -> Result<Option<Known>, AllocError>
     requires namespace { IsNamespace tree.now }
     requires due { spec.AreDue now tree.now blocks.now }
-    ensures all { (last : List ℕ → Option ℕ) → IsExact last tree.now writers.now → IfOk result (spec.AreAll (record { past = past.now; retry = blocks.now.retry; now = now }) tree.now) }
-    ensures some { IfOk result (spec.AreSome (record { past = past.now; retry = blocks.now.retry; now = now }) tree.now) }
+    ensures all { (last : List ℕ → Option ℕ) → IsExact last tree.now writers.now → IfOk result (λ found. IfSome found (λ known. spec.AreAll (record { past = past.now; retry = blocks.now.retry; now = now }) (spec.finished_closed past.now tree.now) known.files)) }
+    ensures finished { (last : List ℕ → Option ℕ) → IsExact last tree.now writers.now → IfOk result (λ found. IfSome found (λ known. spec.AreAtMost tree.now past.now known.finished.items)) }
+    ensures fits { IfOk result (λ found. IfSome found (λ known. sum_by (λ number. number) known.finished.items < 2 ^ 64)) }
+    ensures some { IfOk result (λ found. IfSome found (λ known. spec.AreSome (record { past = past.now; retry = blocks.now.retry; now = now }) tree.now known.files × spec.AreToRecover known.files)) }
 {
     let retry = blocks.retry();
     let overdue = blocks.due_recoveries(now)?;
     let mut files = BTreeMap::new(alloc);
-    add_each_held(tree, open_paths, past, &mut files)?;
+    add_each_held(alloc, tree, open_paths, past, &mut files)?;
     add_each_overdue(tree, open_paths, &overdue, retry, now, &mut files)?;
-    if have_open(writers, past, files.len(), overdue.len()) {
-        return Ok(files);
+    let Some(finished) = count_each_finished(alloc, tree, open_paths, past)? else {
+        return Ok(None);
+    };
+    if sum_of(&finished).is_some()
+        && have_open(writers, past, &finished, files.len(), overdue.len())
+    {
+        return Ok(Some(Known { files, finished }));
     }
-    drop(files);
-    all_sought(alloc, tree, past, retry, now)
+    Ok(None)
 }

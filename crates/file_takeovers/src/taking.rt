@@ -23,7 +23,6 @@ use hdfs_values::moment::Moment;
 use hdfs_values::who::Who;
 use inode_tree::tree::Tree;
 use lease_manager::writers::Writers;
-use namespace_rows::row::Change;
 use open_file_paths::open_paths::OpenPaths;
 use std::alloc::AllocError;
 
@@ -50,8 +49,8 @@ pub fn reopen(
 {
     let client = caller.clone()?;
     writers.open(caller, now)?;
-    tree.rewrite(path, Change::State(FileState::Open(client)));
-    open_paths.open(path, caller);
+    let place = tree.set_state(path, FileState::Open(client));
+    open_paths.open(caller, place);
     Ok(())
 }
 
@@ -80,15 +79,16 @@ pub fn take_over(
     ensures err { OnErr result ((tree.new ≡ tree.old) × (blocks.new ≡ blocks.old) × (writers.new ≡ writers.old)) }
 {
     let Some(block) = unfinished else {
-        end_writing(tree, writers, path, holder, FileState::Closed);
-        open_paths.close(path, holder);
+        let place = end_writing(tree, writers, path, holder, FileState::Closed);
+        open_paths.close(holder, place);
         return Ok(Verdict::Done(Reply::Released));
     };
     match blocks.begin_recovery(block, now) {
         Ok(stamp) => {
             let state = FileState::Recovering(block, stamp, now);
-            end_writing(tree, writers, path, holder, state);
-            open_paths.recover(path, holder, block);
+            let place = end_writing(tree, writers, path, holder, state);
+            open_paths.close(holder, place);
+            open_paths.keep_block(path, block);
             Ok(Verdict::Done(Reply::Recovering(block, stamp)))
         }
         Err(BlockFault::Refused(refusal)) => Ok(Verdict::Refused(Refusal::of_blocks(refusal))),
