@@ -229,11 +229,14 @@ fn note_created(
     caller: &Who,
     place: Option<FilePlace>,
 ) {
+    let Some(place) = place else {
+        return;
+    };
     for client in clients {
-        open_paths.close(client, place);
+        open_paths.close(client, Some(place));
     }
     open_paths.delete(&[], &[], replaced);
-    open_paths.open(caller, place);
+    open_paths.open(caller, Some(place));
 }
 
 /// Makes a file that the caller has open, in the place of one that has the path.

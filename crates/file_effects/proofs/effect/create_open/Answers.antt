@@ -16,4 +16,4 @@ pub returns-clause-ok : goal.returns-clause-ok
 returns-clause-ok c =
     created_with_room c.args.path.now c.args.mode c.args.replication c.args.caller.now c.args.now c.args.tree.now c.make_file.new.tree c.args.writers.now (record { leases = c.args.writers.now.leases; files = c.make_room.new.self }) (record { leases = c.take.new.self; files = c.add.new.self })
     refl c.in_ok-make_room.ensures.counts
-    (record { tree = c.in_ok-make_file.ensures.ok no_facts true; files = c.add.ensures; renewals = ap (λ (l : Leases). l.renewals) c.in-Ok.ensures.ok; latest = c.in-Ok.ensures.latest })
+    (record { tree = c.in_ok-place.ensures.ok no_facts true; files = c.add.ensures; renewals = ap (λ (l : Leases). l.renewals) c.in-Ok.ensures.ok; latest = c.in-Ok.ensures.latest })

@@ -3,4 +3,4 @@ use Rattle.file_effects.proofs.effect.end_writing.Goals as goal
 
 pub returns-clause-exact : goal.returns-clause-exact
 returns-clause-exact c =
-    exact_close c.args.path.now c.args.state c.args.client.now c.args.tree.now c.rewrite.new.self c.args.writers.now c.close.new.self c.requires.namespace c.requires.held c.requires.unheld c.rewrite.ensures c.close.ensures.files c.close.ensures.leased
+    exact_close c.args.path.now c.args.state c.args.client.now c.args.tree.now c.set_state.new.self c.args.writers.now c.close.new.self c.requires.namespace c.requires.held c.requires.unheld c.set_state.ensures c.close.ensures.files c.close.ensures.leased
