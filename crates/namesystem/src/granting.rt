@@ -18,10 +18,12 @@ use grant_ledger::ledger::Ledger;
 use hdfs_types::file::LastBlock;
 use hdfs_types::reply::Reply;
 use hdfs_types::verb::Grant;
+use hdfs_values::ids::BlockId;
 use hdfs_values::moment::Moment;
 use hdfs_values::who::Who;
 use node_commands::commands::granted_commands;
 use node_ids::node_id::node_of;
+use open_file_paths::open_paths::OpenPaths;
 use required_rights::demand::Needs;
 use std::alloc::{AllocError, Global};
 use write_rules::blocks::{JudgedBlock, JudgedOpen, judge_add_block, judge_open};
@@ -79,11 +81,20 @@ fn told_of_block(given: GivenBlock) -> Told
     }
 }
 
+/// Notes that a file ends with a new block, and where it is.
+fn note_added(open_paths: &mut OpenPaths, path: &Path, last: Option<LastBlock>, block: BlockId) {
+    if let Some(last) = last {
+        open_paths.end_block(last.block);
+    }
+    open_paths.note_block(path, block);
+}
+
 /// A request for a new block at the end of a file that the caller writes. What the caller is told is made before anything changes. Costs
 /// the path, what `Blocks::plan_behind` and `Blocks::add_planned` cost, and a code.
 fn perform_add_block(
     alloc: Global,
     system: &mut Namesystem,
+    open_paths: &mut OpenPaths,
     ledger: &mut Ledger,
     place: u64,
     caller: &Who,
@@ -114,6 +125,7 @@ fn perform_add_block(
     match judged {
         JudgedBlock::Verdict(verdict) => with_copy(verdict),
         JudgedBlock::New { new, replication } => {
+            let block = new.block;
             let given = give_block(
                 alloc,
                 &mut system.tree,
@@ -128,6 +140,7 @@ fn perform_add_block(
                 replication,
                 now,
             )?;
+            note_added(open_paths, path, last, block);
             Ok(told_of_block(given))
         }
     }
@@ -188,6 +201,7 @@ fn perform_open(
 pub fn perform_grant(
     alloc: Global,
     system: &mut Namesystem,
+    open_paths: &mut OpenPaths,
     ledger: &mut Ledger,
     place: u64,
     caller: &Who,
@@ -206,7 +220,7 @@ pub fn perform_grant(
     match grant {
         Grant::Open(path) => perform_open(alloc, system, ledger, place, caller, needs, path, now),
         Grant::AddBlock(path, last) => perform_add_block(
-            alloc, system, ledger, place, caller, needs, path, *last, now,
+            alloc, system, open_paths, ledger, place, caller, needs, path, *last, now,
         ),
         Grant::Heartbeat => perform_heartbeat(alloc, system, ledger, place, caller, needs, now),
     }

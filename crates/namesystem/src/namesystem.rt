@@ -39,6 +39,7 @@ use hdfs_types::replica::{RecoveredBlock, ReportedReplica};
 use hdfs_types::reply::{Counter, ObjectKind, Refusal, Reply};
 use hdfs_types::verb::{Grant, Read, Update, Verb, Write};
 use hdfs_values::at_word::AtWord;
+use hdfs_values::ids::BlockId;
 use hdfs_values::moment::Moment;
 use hdfs_values::replication::Repl;
 use hdfs_values::who::Who;
@@ -113,18 +114,25 @@ fn note_move(tree: &Tree, open_paths: &mut OpenPaths, update: &Update<'_>, verdi
         ObjectKind::Directory => open_paths.move_directory(from, to),
         ObjectKind::File => {
             if let Some(file) = inode.file() {
-                note_move_of(file, open_paths, from, to);
+                note_move_of(file, open_paths, to);
             }
         }
     }
 }
 
-/// Notes where a file is that is moved.
-fn note_move_of(file: &FileRow, open_paths: &mut OpenPaths, from: &Path, to: &Path) {
+/// The last block of a file, where it is unfinished or recovered.
+fn unfinished_in(file: &FileRow) -> Option<BlockId> {
     match &file.state {
-        FileState::Closed => {}
-        FileState::Open(holder) => open_paths.move_file(from, to, holder),
-        FileState::Recovering(block, _, _) => open_paths.move_recovery(to, *block),
+        FileState::Closed => None,
+        FileState::Open(_) => file.blocks.unfinished(),
+        FileState::Recovering(block, _, _) => Some(*block),
+    }
+}
+
+/// Notes where a file is that is moved.
+fn note_move_of(file: &FileRow, open_paths: &mut OpenPaths, to: &Path) {
+    if let Some(block) = unfinished_in(file) {
+        open_paths.note_block(to, block);
     }
 }
 
@@ -463,6 +471,7 @@ fn perform_commit_recovery(
 fn perform_granting(
     alloc: Global,
     system: &mut Namesystem,
+    open_paths: &mut OpenPaths,
     ledger: &mut Ledger,
     place: u64,
     caller: &Who,
@@ -477,7 +486,9 @@ fn perform_granting(
     ensures err { OnErr result (IsUndone system.old system.new) }
     ensures err_ledger { OnErr result (ledger.new.rows ≡ ledger.old.rows) }
 {
-    let told = perform_grant(alloc, system, ledger, place, caller, needs, grant, now)?;
+    let told = perform_grant(
+        alloc, system, open_paths, ledger, place, caller, needs, grant, now,
+    )?;
     Ok(verdict_of(told))
 }
 
@@ -513,7 +524,9 @@ fn perform_with(
         Verb::Renew => perform_renewal(system, caller, now),
         Verb::Tick => perform_tick(alloc, system, open_paths, caller, needs, now),
         Verb::Grant(grant) => {
-            perform_granting(alloc, system, ledger, place, caller, needs, &grant, now)
+            perform_granting(
+                alloc, system, open_paths, ledger, place, caller, needs, &grant, now,
+            )
         }
         Verb::SetReplication(path, replication) => {
             perform_replication(alloc, system, caller, needs, path, replication)
@@ -583,6 +596,7 @@ pub fn perform_with_copy(
         return perform_grant(
             alloc,
             system,
+            open_paths,
             ledger,
             place,
             &request.caller,
