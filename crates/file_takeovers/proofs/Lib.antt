@@ -1,5 +1,6 @@
 pub mod Expiring
 pub mod SoughtFiles
+pub mod FinishedFiles
 pub mod TakenFiles
 pub mod Recovering
 pub mod Reopening

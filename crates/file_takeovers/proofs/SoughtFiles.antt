@@ -16,24 +16,19 @@ use Rattle.namespace_rows.specs.declared.file_row.FileRow.{FileRow}
 use Rattle.namespace_rows.specs.declared.row.Row.{Row}
 use Rattle.namespace_rows.specs.First.{first}
 use Rattle.namespace_rows.specs.Rows.{row_at}
-use Rattle.namespace_rows.specs.Namespace.{IsNamespace, is_ascending, is_before_all}
+use Rattle.namespace_rows.specs.Namespace.{is_ascending, is_before_all}
 use Rattle.file_blocks.specs.Blocks.{unfinished_block}
 use Rattle.namespace_rows.specs.Files.{holder_of, holder_of_file, is_client}
-use Rattle.namespace_rows.proofs.Namespaces.{namespace_tests}
 use Rattle.namespace_rows.proofs.PathOrders.{same_path_is, less_is}
 use Rattle.namespace_rows.proofs.Tests.{both, and}
-use Rattle.block_map.specs.BlockFacts.{Blocks, due_recoveries}
 use Rattle.flat_rows.specs.Changes.{rows_under}
 use Rattle.flat_rows.specs.FileOutcome.{holder_at}
 use Rattle.flat_rows.specs.declared.takeover.Sought.{Sought}
 use Rattle.flat_rows.specs.Takeover.{sought_by_state}
 use Rattle.history.proofs.Counting.{count, bit, count_head}
 use Rattle.history.proofs.OpenFiles.{opens}
-use Rattle.lease_manager.specs.declared.writers.Writers.{Writers}
-use Rattle.lease_manager.specs.Writers.{count_of}
-use Rattle.file_effects.specs.Effected.{IsExact}
 use Rattle.file_takeovers.specs.Found.{file_in}
-use Rattle.file_takeovers.specs.Expiry.{Expiry, is_among, sought_by, sought_at, files_sought, with_path, sought_entries, open_count, is_overdue_row, AreDue}
+use Rattle.file_takeovers.specs.Expiry.{Expiry, is_among, sought_by, sought_at, files_sought, with_path, sought_entries, is_overdue_row}
 
 -- entries by their paths
 abbrev pub Entries : Type 0
@@ -329,26 +324,6 @@ module _ (expiry : Expiry) where
     where
       total : (n one rest c b cs l d ds : ℕ) → n ≡ one + rest → c ≡ b + cs → l ≡ d + ds → one ≤ b + d → rest ≤ cs + ds → n ≤ c + l
       total n one rest c b cs l d ds h i j k m = omega (arith, h, i, j, k, m)
-
--- what is counted of these clients is what they have open
-pub open_counts : (last : List ℕ → Option ℕ) (rows : List Row) (writers : Writers) → IsExact last rows writers → (clients : List (List ℕ)) → open_count writers.files clients ≡ counts clients rows
-open_counts last rows writers exact [] = refl
-open_counts last rows writers exact (client ∷ clients) =
-    sum_by-cons (count_of writers.files) client clients
-    ∙ (ap (λ n. n + open_count writers.files clients) (exact.files client) ∙ (ap (λ n. count (opens client) rows + n) (open_counts last rows writers exact clients) ∙ sym (sum_by-cons (λ c. count (opens c) rows) client clients)))
-
--- as many are known as there can be, and so all
-pub all_known : (last : List ℕ → Option ℕ) (past : List (List ℕ)) (now : ℕ) (rows : List Row) (writers : Writers) (blocks : Blocks) (entries : Entries) (due number : ℕ) → IsNamespace rows → IsExact last rows writers → AreDue now rows blocks
-    → due ≡ length (due_recoveries blocks now) → number ≡ length entries → open_count writers.files past + due ≡ number → IsStrictlySortedBy path_cmp (keys_of entries) → AreFoundIn (record { past = past; retry = blocks.retry; now = now }) rows entries
-    → entries ≡ sought_entries (record { past = past; retry = blocks.retry; now = now }) rows
-all_known last past now rows writers blocks entries due number namespace exact are_due due_is number_is have sorted found =
-    let expiry : Expiry = record { past = past; retry = blocks.retry; now = now } in
-    (whole expiry rows entries (namespace_tests rows namespace).ascending sorted found).all
-    (total (length (sought_entries expiry rows)) (counts past rows) (count (is_overdue_row blocks.retry now) rows) (length (due_recoveries blocks now)) (open_count writers.files past) due number (length entries)
-    (bounded expiry rows) (open_counts last rows writers exact past) are_due due_is number_is have)
-  where
-    total : (n c l d o due number e : ℕ) → n ≤ c + l → o ≡ c → l ≤ d → due ≡ d → number ≡ e → o + due ≡ number → n ≤ e
-    total n c l d o due number e h i j k m p = omega (arith, h, i, j, k, m, p)
 
 -- ---- one row after another
 

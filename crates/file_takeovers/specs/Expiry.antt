@@ -1,5 +1,5 @@
 -- Which files a tick takes, where the clients are known whose leases are past the hard limit, and what it leaves of them.
-use Rattle.std.specs.Prelude.{◌≡◌, ◌+◌, ◌-◌, ◌≤◌, ℕ, ⊤, Bool, true, false, not, if◌then◌else◌, List, [], ◌∷◌, map, filter, length, sum_by, nat_lt, Option, Some, None}
+use Rattle.std.specs.Prelude.{◌≡◌, ◌+◌, ◌-◌, ◌≤◌, ℕ, ⊤, Bool, true, false, not, if◌then◌else◌, List, [], ◌∷◌, map, filter, length, nat_lt, Option, Some, None}
 use Rattle.std.specs.List.{AllByRecursion, list_any, filter_map}
 use Rattle.std.specs.Option.{is_some, option_map}
 use Rattle.std.specs.BTreeMap.{BTreeMap}
@@ -68,10 +68,6 @@ AreAll expiry rows files = files.entries ≡ sought_entries expiry rows
 abbrev pub AreHeld : List Row → BTreeMap (List (List ℕ)) Sought → Type 0
 AreHeld rows files = AllByRecursion (λ (entry : List (List ℕ) × Sought). holder_at (row_at entry.0 rows) ≡ entry.1.holder) files.entries
 
--- how many files these clients have open
-abbrev pub open_count : List (List ℕ × ℕ) → List (List ℕ) → ℕ
-open_count counts clients = sum_by (count_of counts) clients
-
 -- the files whose recovery is overdue are no more than the blocks whose recovery is
 abbrev pub is_overdue_row : ℕ → ℕ → Row → Bool
 is_overdue_row retry now row = is_some (sought_of (λ client. false) (λ begun. nat_lt retry (now - begun)) row.file)
@@ -110,11 +106,6 @@ abbrev pub open_beside : List (List ℕ × ℕ) → List (List ℕ) → List ℕ
 open_beside counts [] numbers = 0
 open_beside counts (client ∷ clients) [] = count_of counts client + open_beside counts clients []
 open_beside counts (client ∷ clients) (number ∷ numbers) = (count_of counts client - number) + open_beside counts clients numbers
-
-abbrev pub HaveAtLeast : List (List ℕ × ℕ) → List (List ℕ) → List ℕ → Type 0
-HaveAtLeast counts [] numbers = ⊤
-HaveAtLeast counts (client ∷ clients) [] = ⊥
-HaveAtLeast counts (client ∷ clients) (number ∷ numbers) = (number ≤ count_of counts client) × HaveAtLeast counts clients numbers
 
 -- each file of these is recovered
 abbrev pub AreToRecover : BTreeMap (List (List ℕ)) Sought → Type 0

@@ -250,7 +250,8 @@ fn count_each_finished(
     open_paths: &mut OpenPaths,
     past: &[Who],
 ) -> Result<Option<Vec<u64>>, AllocError>
-    ensures { IfOk result (λ found. IfSome found (λ numbers. spec.AreAtLeast tree.now past.now numbers.items)) }
+    ensures long { IfOk result (λ found. IfSome found (λ numbers. length numbers.items ≡ length past.now)) }
+    ensures counted { IfOk result (λ found. IfSome found (λ numbers. spec.AreAtLeast tree.now past.now numbers.items)) }
 {
     let mut numbers = Vec::new(alloc);
     for client in past {
@@ -281,7 +282,7 @@ fn have_open(
     number: usize,
     beside: usize,
 ) -> bool
-    ensures { result ≡ true → length finished.now ≡ length clients.now → (spec.open_beside writers.now.files clients.now finished.now + beside ≡ number) × spec.HaveAtLeast writers.now.files clients.now finished.now }
+    ensures { result ≡ true → length finished.now ≡ length clients.now → spec.open_beside writers.now.files clients.now finished.now + beside ≡ number }
 {
     let Some(others) = number.checked_sub(beside) else {
         return false;
