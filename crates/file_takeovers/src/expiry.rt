@@ -295,6 +295,8 @@ fn expire_known(
 {
     let begun = begin_all(alloc, blocks, &known.files, now)?;
     let closed = close_each(tree, writers, open_paths, past, &known.finished);
+    // a call on the tree shows the prover that its rows are a tree
+    let _root = tree.root();
     take_each(tree, writers, open_paths, &known.files, &begun.stamps, now);
     Ok(Expired {
         closed,
