@@ -38,7 +38,7 @@ returns-clause-ok c = λ facts users.
     let granted = subst (IsWalked c.args.path.now c.args.tree.now c.args.caller.now c.args.needs.now) c.in-Reached.is c.in_ok-denial.ensures in
     let missing = ap is_some (sym granted.leads.at) ∙ sym c.is_some-is_there.ensures ∙ c.if-is_there.false in
     ap (λ rows. record { verdict = Done Empty; rows = rows; users = users })
-    (c.in_ok-place.ensures.ok ∙ ap (λ who. with_new c.args.path.now c.args.mode None who (ancestor c.args.path.now c.args.tree.now) c.args.tree.now) c.name.ensures
+    (c.in_ok-_place.ensures.ok ∙ ap (λ who. with_new c.args.path.now c.args.mode None who (ancestor c.args.path.now c.args.tree.now) c.args.tree.now) c.name.ensures
     ∙ sym (made_missing c.args.path.now c.args.mode c.args.caller.now.name _ c.args.tree.now missing))
     ∙ ap (refused_or_done facts c.args.tree.now users c.args.caller.now.name (Mkdirs c.args.path.now c.args.mode)) (sym c.in_default.is ∙ c.in_ok-refusal.ensures facts c.args.caller.now.name c.args.path.now c.args.mode c.args.tree.now users granted.leads)
     ∙ ap (denied_or_outcome facts c.args.tree.now users c.args.caller.now.name (Mkdirs c.args.path.now c.args.mode)) (sym granted.granted)
