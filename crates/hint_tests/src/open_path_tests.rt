@@ -1,269 +1,353 @@
-//! Where the files are that clients have open, and those whose last block is recovered.
+//! Where the files are whose last block is unfinished or recovered.
 
 use file_paths::path::Path;
 use hdfs_values::ids::BlockId;
-use hdfs_values::who::Who;
 use open_file_paths::open_paths::OpenPaths;
 use std::alloc::Global;
 use std::fmt::Write;
 use std::test::Fail;
 
-// What is noted of files that alice has open.
+// What is noted of blocks and of directories.
 #[derive(Clone, Copy)]
 enum Noted {
-    Opened,
-    // with another path
-    FileMoved(&'static str),
-    DirectoryMoved(&'static str),
-    // where bob had files open there, too
-    Deleted,
-    Closed,
-    // by bob, who has nothing open
-    ClosedByOther,
-    // of this block, which alice wrote
-    RecoveryBegun(u64),
-    // of this block, whose file moves to another path
-    RecoveryMoved(&'static str, u64),
-    RecoveryBegunAnew(u64),
-    StaysOpen,
-    RecoveryEnded(u64),
-    // with this block
-    DeletedWith(u64),
+    // the block is at this path: for the first time, or since its file was moved there
+    At(u64, &'static str),
+    // still at this path
+    Kept(u64, &'static str),
+    Ended(u64),
+    // its file is
+    Deleted(u64),
+    // from here to there
+    DirectoryMoved(&'static str, &'static str),
 }
 
-// Notes what happens at a path.
-fn note(
-    alloc: Global,
-    paths: &mut OpenPaths,
-    clients: &[Who; 2],
-    noted: Noted,
-    path: &Path,
-) -> Result<(), Fail> {
-    let [alice, bob] = clients;
+fn note(alloc: Global, paths: &mut OpenPaths, noted: Noted) -> Result<(), Fail> {
     match noted {
-        Noted::Opened => paths.open(path, alice),
-        Noted::FileMoved(to) => paths.move_file(path, &Path::parse(alloc, to)?, alice),
-        Noted::DirectoryMoved(to) => paths.move_directory(path, &Path::parse(alloc, to)?),
-        Noted::Deleted => paths.delete(path, clients, &[]),
-        Noted::Closed => paths.close(path, alice),
-        Noted::ClosedByOther => paths.close(path, bob),
-        Noted::RecoveryBegun(block) => paths.recover(path, alice, BlockId::new(block)),
-        Noted::RecoveryMoved(to, block) => {
-            paths.move_recovery(&Path::parse(alloc, to)?, BlockId::new(block))
+        Noted::At(block, path) => paths.note_block(&Path::parse(alloc, path)?, BlockId::new(block)),
+        Noted::Kept(block, path) => {
+            paths.keep_block(&Path::parse(alloc, path)?, BlockId::new(block))
         }
-        Noted::RecoveryBegunAnew(block) => paths.keep_recovery(path, BlockId::new(block)),
-        Noted::StaysOpen => paths.keep_open(path, alice),
-        Noted::RecoveryEnded(block) => paths.end_recovery(BlockId::new(block)),
-        Noted::DeletedWith(block) => paths.delete(path, clients, &[BlockId::new(block)]),
+        Noted::Ended(block) => paths.end_block(BlockId::new(block)),
+        Noted::Deleted(block) => paths.delete(&[], &[], &[BlockId::new(block)]),
+        Noted::DirectoryMoved(from, to) => {
+            paths.move_directory(&Path::parse(alloc, from)?, &Path::parse(alloc, to)?)
+        }
     }
     Ok(())
 }
 
-// Writes the paths of the files that a client has open, in their order and each with a blank behind it, then that of the file whose block 7 is
-// recovered, and a stop behind all.
-fn tell(paths: &mut OpenPaths, client: &Who, text: &mut String) -> Result<(), Fail> {
-    paths.update_recoveries();
-    let mut open = paths.of_client(client)?;
-    open.sort_unstable();
-    for path in &open {
-        write!(text, "{path} ")?;
-    }
-    if let Some(path) = paths.of_recovery(BlockId::new(7)) {
-        write!(text, "7 at {path} ")?;
+// Writes where the blocks below a number are, each with a blank behind it, and a stop behind all.
+fn tell(paths: &OpenPaths, bound: u64, text: &mut String) -> Result<(), Fail> {
+    for block in 0..bound {
+        if let Some(path) = paths.of_block(BlockId::new(block)) {
+            write!(text, "{block} at {path} ")?;
+        }
     }
     Ok(text.push('.')?)
 }
 
-// Notes what happens at each path, and writes behind each what alice has open.
-fn note_all(
-    alloc: Global,
-    paths: &mut OpenPaths,
-    clients: &[Who; 2],
-    table: &[(Noted, &str)],
-    text: &mut String,
-) -> Result<(), Fail> {
-    for (noted, path) in table {
-        note(alloc, paths, clients, *noted, &Path::parse(alloc, path)?)?;
-        tell(paths, &clients[0], text)?;
-    }
-    Ok(())
-}
-
+// Notes what happens, and writes behind each where the blocks are.
 fn told(alloc: Global, table: &[(Noted, &str)]) -> Result<String, Fail> {
-    let clients = [Who::parse(alloc, "alice")?, Who::parse(alloc, "bob")?];
     let mut paths = OpenPaths::new(alloc);
     let mut text = String::new(alloc);
-    note_all(alloc, &mut paths, &clients, table, &mut text)?;
+    for (noted, _) in table {
+        note(alloc, &mut paths, *noted)?;
+        paths.update_blocks();
+        tell(&paths, 9, &mut text)?;
+    }
     Ok(text)
 }
 
-const MOVED: [(Noted, &str); 6] = [
-    (Noted::Opened, "/a/b"),
-    (Noted::Opened, "/a/c/d"),
-    (Noted::Opened, "/a-b"),
-    (Noted::Opened, "/ab"),
-    (Noted::DirectoryMoved("/x/y"), "/a"),
-    (Noted::FileMoved("/c"), "/ab"),
+// Notes what happens, and writes only behind all of it where the blocks are.
+fn tell_late(alloc: Global, table: &[(Noted, &str)], text: &mut String) -> Result<(), Fail> {
+    let mut paths = OpenPaths::new(alloc);
+    for (noted, _) in table {
+        note(alloc, &mut paths, *noted)?;
+    }
+    paths.update_blocks();
+    tell(&paths, 9, text)
+}
+
+// Writes that of the first thing that happens, of the first two, and so on: what `told` writes, but that no path was brought up to date before.
+fn told_late(alloc: Global, table: &[(Noted, &str)]) -> Result<String, Fail> {
+    let mut text = String::new(alloc);
+    for (last, _) in table.iter().enumerate() {
+        if let Some(first) = table.get(..=last) {
+            tell_late(alloc, first, &mut text)?;
+        }
+    }
+    Ok(text)
+}
+
+// Where the blocks are to be behind each thing that happens.
+fn wanted(alloc: Global, table: &[(Noted, &str)]) -> Result<String, Fail> {
+    let mut text = String::new(alloc);
+    for (_, known) in table {
+        text.push_str(known)?;
+    }
+    Ok(text)
+}
+
+// A directory is moved with what is beneath it, and not with what has a name that begins alike; and a file is moved.
+const MOVED: [(Noted, &str); 7] = [
+    (Noted::At(1, "/a/b"), "1 at /a/b ."),
+    (Noted::At(2, "/a/c/d"), "1 at /a/b 2 at /a/c/d ."),
+    (Noted::At(3, "/a-b"), "1 at /a/b 2 at /a/c/d 3 at /a-b ."),
+    (
+        Noted::At(4, "/ab"),
+        "1 at /a/b 2 at /a/c/d 3 at /a-b 4 at /ab .",
+    ),
+    (
+        Noted::DirectoryMoved("/a", "/x/y"),
+        "1 at /x/y/b 2 at /x/y/c/d 3 at /a-b 4 at /ab .",
+    ),
+    (
+        Noted::At(4, "/c"),
+        "1 at /x/y/b 2 at /x/y/c/d 3 at /a-b 4 at /c .",
+    ),
+    (
+        Noted::DirectoryMoved("/x/y/c", "/e"),
+        "1 at /x/y/b 2 at /e/d 3 at /a-b 4 at /c .",
+    ),
 ];
 
 #[test]
-fn files_are_known_where_they_are_moved_to(rt: HostRuntime) -> Result<(), Fail> {
-    let text = told(rt.alloc(), &MOVED)?;
+fn blocks_are_known_where_they_are_moved_to(rt: HostRuntime) -> Result<(), Fail> {
+    let alloc = rt.alloc();
+    let wanted = wanted(alloc, &MOVED)?;
+    assert_eq!(rt; told(alloc, &MOVED)?.as_str(), wanted.as_str());
+    assert_eq!(rt; told_late(alloc, &MOVED)?.as_str(), wanted.as_str());
+    Ok(())
+}
+
+// Blocks are noted before a move and behind it, the latter where the others were; files are moved out of a directory before that is moved.
+const BEFORE_AND_BEHIND: [(Noted, &str); 10] = [
+    (Noted::At(1, "/a/b"), "1 at /a/b ."),
+    (Noted::At(2, "/a/c"), "1 at /a/b 2 at /a/c ."),
+    (Noted::DirectoryMoved("/a", "/x"), "1 at /x/b 2 at /x/c ."),
+    (Noted::At(3, "/a/b"), "1 at /x/b 2 at /x/c 3 at /a/b ."),
+    (Noted::At(1, "/e"), "1 at /e 2 at /x/c 3 at /a/b ."),
+    (
+        Noted::DirectoryMoved("/x", "/y"),
+        "1 at /e 2 at /y/c 3 at /a/b .",
+    ),
+    (
+        Noted::DirectoryMoved("/a", "/x"),
+        "1 at /e 2 at /y/c 3 at /x/b .",
+    ),
+    (Noted::At(1, "/x/c"), "1 at /x/c 2 at /y/c 3 at /x/b ."),
+    (Noted::At(3, "/a/b"), "1 at /x/c 2 at /y/c 3 at /a/b ."),
+    (
+        Noted::DirectoryMoved("/x", "/z"),
+        "1 at /z/c 2 at /y/c 3 at /a/b .",
+    ),
+];
+
+#[test]
+fn blocks_are_known_before_and_behind_a_move(rt: HostRuntime) -> Result<(), Fail> {
+    let alloc = rt.alloc();
+    let wanted = wanted(alloc, &BEFORE_AND_BEHIND)?;
+    assert_eq!(rt; told(alloc, &BEFORE_AND_BEHIND)?.as_str(), wanted.as_str());
     assert_eq!(rt;
-        text.as_str(),
-        "/a/b ./a/b /a/c/d ./a/b /a/c/d /a-b ./a/b /a/c/d /a-b /ab ./a-b /ab /x/y/b /x/y/c/d ./a-b /c /x/y/b /x/y/c/d ."
+        told_late(alloc, &BEFORE_AND_BEHIND)?.as_str(),
+        wanted.as_str()
     );
     Ok(())
 }
 
-const CLOSED: [(Noted, &str); 6] = [
-    (Noted::Opened, "/a/b"),
-    (Noted::Opened, "/a/c/d"),
-    (Noted::Opened, "/a-b"),
-    (Noted::Deleted, "/a"),
-    (Noted::ClosedByOther, "/a-b"),
-    (Noted::Closed, "/a-b"),
-];
-
-#[test]
-fn files_are_known_as_long_as_they_are_open(rt: HostRuntime) -> Result<(), Fail> {
-    let text = told(rt.alloc(), &CLOSED)?;
-    assert_eq!(rt;
-        text.as_str(),
-        "/a/b ./a/b /a/c/d ./a/b /a/c/d /a-b ./a-b ./a-b .."
-    );
-    Ok(())
-}
-
-const RECOVERED: [(Noted, &str); 6] = [
-    (Noted::Opened, "/a/b"),
-    (Noted::Opened, "/a/c"),
-    (Noted::RecoveryBegun(7), "/a/b"),
-    (Noted::DirectoryMoved("/x"), "/a"),
-    (Noted::RecoveryMoved("/y", 7), "/x/b"),
-    (Noted::RecoveryEnded(7), "/y"),
-];
-
-#[test]
-fn files_are_known_behind_the_recovery_of_another(rt: HostRuntime) -> Result<(), Fail> {
-    let text = told(rt.alloc(), &RECOVERED)?;
-    assert_eq!(rt;
-        text.as_str(),
-        "/a/b ./a/b /a/c ./a/c 7 at /a/b ./x/c 7 at /x/b ./x/c 7 at /y ./x/c ."
-    );
-    Ok(())
-}
-
-const FORGOTTEN: [(Noted, &str); 9] = [
-    (Noted::Opened, "/a/b"),
-    (Noted::Opened, "/c"),
-    (Noted::RecoveryBegun(7), "/a/b"),
-    (Noted::DeletedWith(8), "/z"),
-    (Noted::DeletedWith(7), "/a"),
-    (Noted::RecoveryBegunAnew(7), "/d"),
-    (Noted::RecoveryBegunAnew(7), "/e"),
-    (Noted::StaysOpen, "/c"),
-    (Noted::StaysOpen, "/b"),
-];
-
-#[test]
-fn a_recovery_is_forgotten_with_its_block_and_known_anew(rt: HostRuntime) -> Result<(), Fail> {
-    let text = told(rt.alloc(), &FORGOTTEN)?;
-    assert_eq!(rt;
-        text.as_str(),
-        "/a/b ./a/b /c ./c 7 at /a/b ./c 7 at /a/b ./c ./c 7 at /d ./c 7 at /e ./c 7 at /e ./b /c 7 at /e ."
-    );
-    Ok(())
-}
-
-const REOPENED: [(Noted, &str); 10] = [
-    (Noted::Opened, "/a/b"),
-    (Noted::Opened, "/a/c"),
-    (Noted::Opened, "/d"),
-    (Noted::Deleted, "/a/c"),
-    (Noted::DirectoryMoved("/x"), "/a"),
-    (Noted::Opened, "/a/b"),
-    (Noted::Deleted, "/d"),
-    (Noted::FileMoved("/e"), "/x/b"),
-    (Noted::Closed, "/a/b"),
-    (Noted::Deleted, "/e"),
-];
-
-#[test]
-fn files_are_known_before_and_behind_a_move(rt: HostRuntime) -> Result<(), Fail> {
-    let text = told(rt.alloc(), &REOPENED)?;
-    assert_eq!(rt;
-        text.as_str(),
-        "/a/b ./a/b /a/c ./a/b /a/c /d ./a/b /d ./d /x/b ./a/b /d /x/b ./a/b /x/b ./a/b /e ./e .."
-    );
-    Ok(())
-}
-
-// A file that is neither the oldest nor the newest one is closed; then others of both kinds are.
-const CLOSED_BETWEEN: [(Noted, &str); 11] = [
-    (Noted::Opened, "/a/b"),
-    (Noted::Opened, "/c"),
-    (Noted::Opened, "/a/d"),
-    (Noted::Opened, "/e"),
-    (Noted::Closed, "/c"),
-    (Noted::Opened, "/c"),
-    (Noted::Closed, "/a/b"),
-    (Noted::Closed, "/c"),
-    (Noted::StaysOpen, "/e"),
-    (Noted::Opened, "/a/f"),
-    (Noted::Deleted, "/a"),
-];
-
-#[test]
-fn files_are_closed_in_any_order(rt: HostRuntime) -> Result<(), Fail> {
-    let text = told(rt.alloc(), &CLOSED_BETWEEN)?;
-    assert_eq!(rt;
-        text.as_str(),
-        "/a/b ./a/b /c ./a/b /a/d /c ./a/b /a/d /c /e ./a/b /a/d /e ./a/b /a/d /c /e ./a/d /c /e ./a/d /e ./a/d /e ./a/d /a/f /e ./e ."
-    );
-    Ok(())
-}
-
-// Directories are moved into one another, and to where others were; files are opened and closed between.
+// Directories are moved into one another, and to where others were; blocks are noted and end between.
 const MOVED_OFTEN: [(Noted, &str); 11] = [
-    (Noted::Opened, "/a/b/f"),
-    (Noted::Opened, "/a/g"),
-    (Noted::DirectoryMoved("/x"), "/a"),
-    (Noted::DirectoryMoved("/a"), "/x/b"),
-    (Noted::Opened, "/x/b/h"),
-    (Noted::DirectoryMoved("/y"), "/x"),
-    (Noted::DirectoryMoved("/x"), "/a"),
-    (Noted::Closed, "/y/g"),
-    (Noted::DirectoryMoved("/x/b"), "/y/b"),
-    (Noted::Closed, "/x/f"),
-    (Noted::Closed, "/x/b/h"),
+    (Noted::At(1, "/a/b/f"), "1 at /a/b/f ."),
+    (Noted::At(2, "/a/g"), "1 at /a/b/f 2 at /a/g ."),
+    (Noted::DirectoryMoved("/a", "/x"), "1 at /x/b/f 2 at /x/g ."),
+    (Noted::DirectoryMoved("/x/b", "/a"), "1 at /a/f 2 at /x/g ."),
+    (Noted::At(3, "/x/b/h"), "1 at /a/f 2 at /x/g 3 at /x/b/h ."),
+    (
+        Noted::DirectoryMoved("/x", "/y"),
+        "1 at /a/f 2 at /y/g 3 at /y/b/h .",
+    ),
+    (
+        Noted::DirectoryMoved("/a", "/x"),
+        "1 at /x/f 2 at /y/g 3 at /y/b/h .",
+    ),
+    (Noted::Ended(2), "1 at /x/f 3 at /y/b/h ."),
+    (
+        Noted::DirectoryMoved("/y/b", "/x/b"),
+        "1 at /x/f 3 at /x/b/h .",
+    ),
+    (Noted::Ended(1), "3 at /x/b/h ."),
+    (Noted::DirectoryMoved("/x", "/w"), "3 at /w/b/h ."),
 ];
 
 #[test]
-fn files_are_known_behind_all_moves(rt: HostRuntime) -> Result<(), Fail> {
-    let text = told(rt.alloc(), &MOVED_OFTEN)?;
+fn blocks_are_known_behind_all_moves(rt: HostRuntime) -> Result<(), Fail> {
+    let alloc = rt.alloc();
+    let wanted = wanted(alloc, &MOVED_OFTEN)?;
+    assert_eq!(rt; told(alloc, &MOVED_OFTEN)?.as_str(), wanted.as_str());
+    assert_eq!(rt; told_late(alloc, &MOVED_OFTEN)?.as_str(), wanted.as_str());
+    Ok(())
+}
+
+// A directory is moved and moved back, once as it is and once from above; then to beneath another one, which is moved itself, and back to the
+// place where it was at first; and one is moved to beneath the place where it was.
+const MOVED_BACK: [(Noted, &str); 12] = [
+    (Noted::At(1, "/a/b/f"), "1 at /a/b/f ."),
+    (Noted::At(2, "/d/g"), "1 at /a/b/f 2 at /d/g ."),
+    (Noted::DirectoryMoved("/a/b", "/c"), "1 at /c/f 2 at /d/g ."),
+    (
+        Noted::DirectoryMoved("/c", "/a/b"),
+        "1 at /a/b/f 2 at /d/g .",
+    ),
+    (Noted::DirectoryMoved("/a", "/c"), "1 at /c/b/f 2 at /d/g ."),
+    (Noted::DirectoryMoved("/c/b", "/a"), "1 at /a/f 2 at /d/g ."),
+    (
+        Noted::DirectoryMoved("/a", "/d/e"),
+        "1 at /d/e/f 2 at /d/g .",
+    ),
+    (
+        Noted::DirectoryMoved("/d", "/k/m"),
+        "1 at /k/m/e/f 2 at /k/m/g .",
+    ),
+    (
+        Noted::DirectoryMoved("/k/m/e", "/a/b"),
+        "1 at /a/b/f 2 at /k/m/g .",
+    ),
+    (
+        Noted::DirectoryMoved("/k/m", "/d"),
+        "1 at /a/b/f 2 at /d/g .",
+    ),
+    (Noted::DirectoryMoved("/d", "/t"), "1 at /a/b/f 2 at /t/g ."),
+    (
+        Noted::DirectoryMoved("/t", "/d/d"),
+        "1 at /a/b/f 2 at /d/d/g .",
+    ),
+];
+
+#[test]
+fn blocks_are_known_behind_a_move_back(rt: HostRuntime) -> Result<(), Fail> {
+    let alloc = rt.alloc();
+    let wanted = wanted(alloc, &MOVED_BACK)?;
+    assert_eq!(rt; told(alloc, &MOVED_BACK)?.as_str(), wanted.as_str());
+    assert_eq!(rt; told_late(alloc, &MOVED_BACK)?.as_str(), wanted.as_str());
+    Ok(())
+}
+
+// A block is kept where it is: as it was noted, and behind a move; at another path, also at that where it was before the move; and where it
+// wasn't noted, or not any more.
+const KEPT: [(Noted, &str); 12] = [
+    (Noted::At(1, "/a/b"), "1 at /a/b ."),
+    (Noted::Kept(1, "/a/b"), "1 at /a/b ."),
+    (Noted::DirectoryMoved("/a", "/x"), "1 at /x/b ."),
+    (Noted::Kept(1, "/x/b"), "1 at /x/b ."),
+    (Noted::Kept(2, "/c"), "1 at /x/b 2 at /c ."),
+    (Noted::Kept(1, "/a/b"), "1 at /a/b 2 at /c ."),
+    (Noted::DirectoryMoved("/x", "/z"), "1 at /a/b 2 at /c ."),
+    (Noted::DirectoryMoved("/a", "/x"), "1 at /x/b 2 at /c ."),
+    (Noted::Kept(1, "/x/b"), "1 at /x/b 2 at /c ."),
+    (Noted::Ended(1), "2 at /c ."),
+    (Noted::Kept(1, "/x/b"), "1 at /x/b 2 at /c ."),
+    (Noted::DirectoryMoved("/x", "/y"), "1 at /y/b 2 at /c ."),
+];
+
+#[test]
+fn blocks_are_kept_where_they_are(rt: HostRuntime) -> Result<(), Fail> {
+    let alloc = rt.alloc();
+    let wanted = wanted(alloc, &KEPT)?;
+    assert_eq!(rt; told(alloc, &KEPT)?.as_str(), wanted.as_str());
+    assert_eq!(rt; told_late(alloc, &KEPT)?.as_str(), wanted.as_str());
+    Ok(())
+}
+
+// A block ends, another one is deleted; also such as aren't noted, or not any more; and both are noted anew.
+const ENDED: [(Noted, &str); 12] = [
+    (Noted::Ended(1), "."),
+    (Noted::Deleted(1), "."),
+    (Noted::At(1, "/a/b"), "1 at /a/b ."),
+    (Noted::At(2, "/a/c"), "1 at /a/b 2 at /a/c ."),
+    (Noted::At(3, "/a/d"), "1 at /a/b 2 at /a/c 3 at /a/d ."),
+    (Noted::Deleted(8), "1 at /a/b 2 at /a/c 3 at /a/d ."),
+    (Noted::Ended(1), "2 at /a/c 3 at /a/d ."),
+    (Noted::Deleted(3), "2 at /a/c ."),
+    (Noted::Deleted(1), "2 at /a/c ."),
+    (Noted::Ended(3), "2 at /a/c ."),
+    (Noted::At(3, "/e"), "2 at /a/c 3 at /e ."),
+    (Noted::At(1, "/a/c"), "1 at /a/c 2 at /a/c 3 at /e ."),
+];
+
+#[test]
+fn blocks_are_known_until_they_end_or_are_deleted(rt: HostRuntime) -> Result<(), Fail> {
+    let alloc = rt.alloc();
+    let wanted = wanted(alloc, &ENDED)?;
+    assert_eq!(rt; told(alloc, &ENDED)?.as_str(), wanted.as_str());
+    assert_eq!(rt; told_late(alloc, &ENDED)?.as_str(), wanted.as_str());
+    Ok(())
+}
+
+// Directories are moved where no block is noted: one that is noted behind such a move isn't moved by it, nor by those before.
+const NONE_NOTED: [(Noted, &str); 12] = [
+    (Noted::DirectoryMoved("/a", "/x"), "."),
+    (Noted::At(1, "/a/b"), "1 at /a/b ."),
+    (Noted::DirectoryMoved("/a", "/x"), "1 at /x/b ."),
+    (Noted::Ended(1), "."),
+    (Noted::At(2, "/a/c"), "2 at /a/c ."),
+    (Noted::DirectoryMoved("/x", "/y"), "2 at /a/c ."),
+    (Noted::Deleted(2), "."),
+    (Noted::DirectoryMoved("/a", "/y"), "."),
+    (Noted::At(3, "/a/d"), "3 at /a/d ."),
+    (Noted::At(4, "/x/c"), "3 at /a/d 4 at /x/c ."),
+    (Noted::DirectoryMoved("/a", "/z"), "3 at /z/d 4 at /x/c ."),
+    (Noted::DirectoryMoved("/x", "/a"), "3 at /z/d 4 at /a/c ."),
+];
+
+#[test]
+fn blocks_are_known_behind_moves_where_none_was_noted(rt: HostRuntime) -> Result<(), Fail> {
+    let alloc = rt.alloc();
+    let wanted = wanted(alloc, &NONE_NOTED)?;
+    assert_eq!(rt; told(alloc, &NONE_NOTED)?.as_str(), wanted.as_str());
+    assert_eq!(rt; told_late(alloc, &NONE_NOTED)?.as_str(), wanted.as_str());
+    Ok(())
+}
+
+// One path is brought up to date before the other one is, and stays so.
+#[test]
+fn a_path_is_brought_up_to_date_once_it_is_asked_for(rt: HostRuntime) -> Result<(), Fail> {
+    let alloc = rt.alloc();
+    let mut paths = OpenPaths::new(alloc);
+    let mut text = String::new(alloc);
+    note(alloc, &mut paths, Noted::At(1, "/a/b"))?;
+    note(alloc, &mut paths, Noted::At(2, "/a/c"))?;
+    note(alloc, &mut paths, Noted::DirectoryMoved("/a", "/x"))?;
+    tell(&paths, 9, &mut text)?;
+    paths.update_block(BlockId::new(1));
+    paths.update_block(BlockId::new(3));
+    tell(&paths, 9, &mut text)?;
+    note(alloc, &mut paths, Noted::DirectoryMoved("/x", "/y"))?;
+    paths.update_block(BlockId::new(2));
+    tell(&paths, 9, &mut text)?;
+    paths.update_blocks();
+    tell(&paths, 9, &mut text)?;
     assert_eq!(rt;
         text.as_str(),
-        "/a/b/f ./a/b/f /a/g ./x/b/f /x/g ./a/f /x/g ./a/f /x/b/h /x/g ./a/f /y/b/h /y/g ./x/f /y/b/h /y/g ./x/f /y/b/h ./x/b/h /x/f ./x/b/h .."
+        "1 at /a/b 2 at /a/c .1 at /x/b 2 at /a/c .1 at /x/b 2 at /y/c .1 at /y/b 2 at /y/c ."
     );
     Ok(())
 }
 
 // The path of a file in a directory.
-fn numbered(alloc: Global, directory: &str, number: u32) -> Result<Path, Fail> {
+fn numbered(alloc: Global, directory: &str, number: u64) -> Result<Path, Fail> {
     let mut text = String::new(alloc);
     write!(text, "{directory}/f{number}")?;
     Ok(Path::parse(alloc, text.as_str())?)
 }
 
-// Forty files in `/a`, of which one in the middle is closed before that moves to `/b`, and one behind the move.
-fn open_forty(alloc: Global, paths: &mut OpenPaths, client: &Who) -> Result<(), Fail> {
+// Forty blocks of files in `/a`, of which one in the middle ends before that moves to `/b`, and one behind the move.
+fn note_forty(alloc: Global, paths: &mut OpenPaths) -> Result<(), Fail> {
     for number in 0..40 {
-        paths.open(&numbered(alloc, "/a", number)?, client);
+        paths.note_block(&numbered(alloc, "/a", number)?, BlockId::new(number));
     }
-    paths.close(&numbered(alloc, "/a", 20)?, client);
+    paths.end_block(BlockId::new(20));
     paths.move_directory(&Path::parse(alloc, "/a")?, &Path::parse(alloc, "/b")?);
-    paths.close(&numbered(alloc, "/b", 21)?, client);
+    paths.end_block(BlockId::new(21));
     Ok(())
 }
 
@@ -277,23 +361,25 @@ fn move_often(alloc: Global, paths: &mut OpenPaths, times: u32) -> Result<(), Fa
     Ok(())
 }
 
-// More moves than are kept: all files learn of them on the way.
+// More moves than are kept: all blocks learn of them on the way. Others are noted before those moves and behind them, and one file is moved.
 #[test]
-fn files_are_known_behind_more_moves_than_are_kept(rt: HostRuntime) -> Result<(), Fail> {
+fn blocks_are_known_behind_more_moves_than_are_kept(rt: HostRuntime) -> Result<(), Fail> {
     let alloc = rt.alloc();
-    let alice = Who::parse(alloc, "alice")?;
     let mut paths = OpenPaths::new(alloc);
-    open_forty(alloc, &mut paths, &alice)?;
-    paths.open(&numbered(alloc, "/b", 77)?, &alice);
-    paths.recover(&numbered(alloc, "/b", 5)?, &alice, BlockId::new(7));
+    note_forty(alloc, &mut paths)?;
+    note(alloc, &mut paths, Noted::At(44, "/b/f77"))?;
+    note(alloc, &mut paths, Noted::At(5, "/b/c/g"))?;
     move_often(alloc, &mut paths, 700)?;
-    paths.open(&numbered(alloc, "/c", 1)?, &alice);
-    paths.move_directory(&Path::parse(alloc, "/b")?, &Path::parse(alloc, "/d/e")?);
+    note(alloc, &mut paths, Noted::At(41, "/c/f1"))?;
+    note(alloc, &mut paths, Noted::At(42, "/b/f2"))?;
+    note(alloc, &mut paths, Noted::At(43, "/a/f3"))?;
+    note(alloc, &mut paths, Noted::DirectoryMoved("/b", "/d/e"))?;
+    paths.update_blocks();
     let mut text = String::new(alloc);
-    tell(&mut paths, &alice, &mut text)?;
+    tell(&paths, 50, &mut text)?;
     assert_eq!(rt;
         text.as_str(),
-        "/c/f1 /d/e/f0 /d/e/f1 /d/e/f10 /d/e/f11 /d/e/f12 /d/e/f13 /d/e/f14 /d/e/f15 /d/e/f16 /d/e/f17 /d/e/f18 /d/e/f19 /d/e/f2 /d/e/f22 /d/e/f23 /d/e/f24 /d/e/f25 /d/e/f26 /d/e/f27 /d/e/f28 /d/e/f29 /d/e/f3 /d/e/f30 /d/e/f31 /d/e/f32 /d/e/f33 /d/e/f34 /d/e/f35 /d/e/f36 /d/e/f37 /d/e/f38 /d/e/f39 /d/e/f4 /d/e/f6 /d/e/f7 /d/e/f77 /d/e/f8 /d/e/f9 7 at /d/e/f5 ."
+        "0 at /d/e/f0 1 at /d/e/f1 2 at /d/e/f2 3 at /d/e/f3 4 at /d/e/f4 5 at /d/e/c/g 6 at /d/e/f6 7 at /d/e/f7 8 at /d/e/f8 9 at /d/e/f9 10 at /d/e/f10 11 at /d/e/f11 12 at /d/e/f12 13 at /d/e/f13 14 at /d/e/f14 15 at /d/e/f15 16 at /d/e/f16 17 at /d/e/f17 18 at /d/e/f18 19 at /d/e/f19 22 at /d/e/f22 23 at /d/e/f23 24 at /d/e/f24 25 at /d/e/f25 26 at /d/e/f26 27 at /d/e/f27 28 at /d/e/f28 29 at /d/e/f29 30 at /d/e/f30 31 at /d/e/f31 32 at /d/e/f32 33 at /d/e/f33 34 at /d/e/f34 35 at /d/e/f35 36 at /d/e/f36 37 at /d/e/f37 38 at /d/e/f38 39 at /d/e/f39 41 at /c/f1 42 at /d/e/f2 43 at /a/f3 44 at /d/e/f77 ."
     );
     Ok(())
 }
