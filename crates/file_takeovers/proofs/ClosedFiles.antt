@@ -391,12 +391,13 @@ module _ (expiry : Expiry) where
   pub still_found : (rows left : List Row) (entries : Entries) → finished_closed expiry.past left ≡ finished_closed expiry.past rows → AreFoundIn expiry rows entries
       → AllByRecursion (λ (entry : List (List ℕ) × Sought). is_some entry.1.block ≡ true) entries → AreFoundIn expiry left entries
   still_found rows left [] same_else found recovered = tt
-  still_found rows left (entry ∷ entries) same_else found recovered =
-      (one_left (sought_at expiry (row_at entry.0 left)) entry.1
-      (sym (sought_behind entry.0 left)
-      ∙ (ap (λ rs. sought_at expiry (row_at entry.0 rs)) same_else
-      ∙ (sought_behind entry.0 rows ∙ (ap to_recover found.0 ∙ ap (λ b. cond b (Some entry.1) None) recovered.0)))),
-      still_found rows left entries same_else found.1 recovered.1)
+  still_found rows left (entry ∷ entries) same_else found recovered = (
+    one_left (sought_at expiry (row_at entry.0 left)) entry.1
+        (sym (sought_behind entry.0 left)
+        ∙ (ap (λ rs. sought_at expiry (row_at entry.0 rs)) same_else
+        ∙ (sought_behind entry.0 rows ∙ (ap to_recover found.0 ∙ ap (λ b. cond b (Some entry.1) None) recovered.0)))),
+    still_found rows left entries same_else found.1 recovered.1,
+  )
 
   -- ---- what is taken behind them
 

@@ -223,10 +223,11 @@ module _ (past : List (List ℕ)) where
     no_more_finished (client ∷ clients) (number ∷ numbers) among least whole =
         let made = sum_by-cons (λ c. count (opens c) left) client clients in
         let own = left_of client among.0 in
-        let rest = at_most_beside clients numbers among.1 least.1 in
-        (first_of_them _ (count (opens client) left) (counts clients left) (length (finished_files client rows)) (count_of files client) number (open_beside files clients numbers) made own least.0 rest whole,
+        let rest = at_most_beside clients numbers among.1 least.1 in (
+          first_of_them _ (count (opens client) left) (counts clients left) (length (finished_files client rows)) (count_of files client) number (open_beside files clients numbers) made own least.0 rest whole,
           no_more_finished clients numbers among.1 least.1
-          (others_of_them _ (count (opens client) left) (counts clients left) (length (finished_files client rows)) (count_of files client) number (open_beside files clients numbers) made own least.0 rest whole))
+              (others_of_them _ (count (opens client) left) (counts clients left) (length (finished_files client rows)) (count_of files client) number (open_beside files clients numbers) made own least.0 rest whole),
+        )
       where
         first_of_them : (all one others finished own number beside : ℕ) → all ≡ one + others → one + finished ≡ own → number ≤ finished → others ≤ beside → (own - number) + beside ≤ all → finished ≤ number
         first_of_them all one others finished own number beside h i j k l = omega (arith, h, i, j, k, l)

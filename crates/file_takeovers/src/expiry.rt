@@ -328,9 +328,7 @@ pub fn expire(
 {
     open_paths.update_blocks();
     match known_files(alloc, tree, blocks, writers, open_paths, past, now)? {
-        Some(known) => expire_known(
-            alloc, tree, blocks, writers, open_paths, past, &known, now,
-        ),
+        Some(known) => expire_known(alloc, tree, blocks, writers, open_paths, past, &known, now),
         None => expire_searched(alloc, tree, blocks, writers, open_paths, past, now),
     }
 }

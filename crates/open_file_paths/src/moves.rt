@@ -49,12 +49,7 @@ fn joined(alloc: Global, front: &Path, behind: &[Name]) -> Result<Path, ParseFau
 ///
 /// # Errors
 /// Out of memory.
-fn with_front(
-    alloc: Global,
-    path: Path,
-    depth: usize,
-    front: &Path,
-) -> Result<Path, AllocError> {
+fn with_front(alloc: Global, path: Path, depth: usize, front: &Path) -> Result<Path, AllocError> {
     let Some(behind) = path.names().get(depth..) else {
         return Ok(path);
     };

@@ -17,5 +17,5 @@ loop-client-preserved c =
     record {
       long = ap length pushed ∙ (length-append numbers (c.in-Some.number ∷ []) ∙ ap (λ n. n + 1) c.loop-client.invariant.long);
       counted = subst (λ some. AreAtLeast rows some c.push.new.self.items) (sym more) (subst (AreAtLeast rows (take i past ++ c.client-item.result ∷ [])) (sym pushed)
-      (at_least_more rows (take i past) numbers c.client-item.result c.in-Some.number long c.in-Some.ensures c.loop-client.invariant.counted));
+          (at_least_more rows (take i past) numbers c.client-item.result c.in-Some.number long c.in-Some.ensures c.loop-client.invariant.counted));
     }
