@@ -234,7 +234,7 @@ fn blocks_are_known_behind_a_move_back(rt: HostRuntime) -> Result<(), Fail> {
 
 // A block is kept where it is: as it was noted, and behind a move; at another path, also at that where it was before the move; and where it
 // wasn't noted, or not any more.
-const KEPT: [(Noted, &str); 12] = [
+const KEPT: [(Noted, &str); 13] = [
     (Noted::At(1, "/a/b"), "1 at /a/b ."),
     (Noted::Kept(1, "/a/b"), "1 at /a/b ."),
     (Noted::DirectoryMoved("/a", "/x"), "1 at /x/b ."),
@@ -247,6 +247,7 @@ const KEPT: [(Noted, &str); 12] = [
     (Noted::Ended(1), "2 at /c ."),
     (Noted::Kept(1, "/x/b"), "1 at /x/b 2 at /c ."),
     (Noted::DirectoryMoved("/x", "/y"), "1 at /y/b 2 at /c ."),
+    (Noted::Kept(1, "/x/b"), "1 at /x/b 2 at /c ."),
 ];
 
 #[test]
