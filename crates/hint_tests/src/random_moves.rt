@@ -275,9 +275,8 @@ impl Files {
 
     fn close(&mut self, random: &mut Random) {
         if let Some(client) = self.clients.get_mut(random.below(CLIENTS)) {
-            let place = client.any_place(random);
-            self.paths.close(&client.who, place);
-            if let Some(place) = place {
+            if let Some(place) = client.any_place(random) {
+                self.paths.close(&client.who, Some(place));
                 client.close(place);
             }
         }
