@@ -40,11 +40,6 @@ impl FileTable {
         }
     }
 
-    /// Whether there is no file. Takes no memory.
-    pub fn is_empty(&self) -> bool {
-        self.files.is_empty()
-    }
-
     /// The file at a place. Takes no memory.
     pub fn get(&self, place: FilePlace) -> Option<&FileRow>
         ensures { option_copied result ≡ get self.now place }
