@@ -4,7 +4,7 @@ ghost use Rattle.acl_entries.specs.Acl.{IsEntryList, is_access_list, IsAcl, acl_
 ghost use Rattle.acl_entries.specs.Kept.{AreBases, bases_of_mode, list_of_parts};
 
 use crate::entry_list::{Bases, EntryList};
-use hdfs_types::reply::ObjectKind;
+use file_states::kind::ObjectKind;
 use permission_bits::mode::Mode;
 use permission_bits::rights::Rights;
 use std::alloc::{AllocError, Global};

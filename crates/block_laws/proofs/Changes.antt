@@ -3,7 +3,7 @@ use Rattle.std.proofs.Common.{◌≡◌, ℕ, zero, suc, ◌+◌, ◌≤◌, Boo
 use Rattle.std.specs.List.{list_any}
 use Rattle.std.specs.Option.{option_map}
 use Rattle.file_paths.specs.PathOrder.{same_path}
-use Rattle.hdfs_types.specs.declared.file.FileState.{FileState}
+use Rattle.file_states.specs.declared.state.FileState.{FileState}
 use Rattle.file_blocks.specs.declared.blocks.FileBlock.{FileBlock}
 use Rattle.namespace_rows.specs.declared.file_row.FileRow.{FileRow}
 use Rattle.namespace_rows.specs.declared.row.Row.{Row}
@@ -15,7 +15,7 @@ use Rattle.namespace_rows.specs.Files.{with_state, with_file_replication, with_b
 use Rattle.namespace_rows.specs.Rows.{row_at}
 use Rattle.namespace_rows.specs.Namespace.{is_ascending}
 use Rattle.flat_rows.specs.BlockOutcome as file
-use Rattle.flat_rows.specs.Changes.{with_change, file_edited, row_rewritten, block_added}
+use Rattle.namespace_rows.specs.Changes.{with_change, file_edited, row_rewritten, block_added}
 use Rattle.block_laws.proofs.Sums.{one_row, sum_rewritten, sum_anew, part}
 use Rattle.block_laws.proofs.Totals.{bit, Weight, total, own, by_blocks, in_rows, has, total_append}
 

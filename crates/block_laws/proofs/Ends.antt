@@ -2,15 +2,15 @@
 use Rattle.std.proofs.Common.{◌≡◌, ℕ, ◌+◌, ◌-◌, ◌≤◌, ◌==◌, Bool, true, false, List, [], ◌∷◌, is_some, Option, Some, None, refl, sym, ap, ◌∙◌, subst, cond, arith}
 use Rattle.std.proofs.lemmas.Bool.{eqb-true}
 use Rattle.std.specs.Option.{option_map}
-use Rattle.hdfs_types.specs.declared.file.FileState.{FileState}
-use Rattle.hdfs_types.specs.declared.file.FileState.TheVariants.{Closed, Open, Recovering}
+use Rattle.file_states.specs.declared.state.FileState.{FileState}
+use Rattle.file_states.specs.declared.state.FileState.TheVariants.{Closed, Open, Recovering}
 use Rattle.block_records.specs.declared.block_record.BlockRecord.{BlockRecord}
 use Rattle.block_tables.specs.Changes.{with_recovered}
 use Rattle.known_blocks.specs.Known.{KnownBlocks, block_of, with_block_changed}
 use Rattle.namespace_rows.specs.declared.file_row.FileRow.{FileRow}
 use Rattle.namespace_rows.specs.declared.row.Row.{Row}
 use Rattle.namespace_rows.specs.Files.{with_state, committed_at, state_recovers, recovered_at}
-use Rattle.flat_rows.specs.Changes.{file_edited, recovery_ended}
+use Rattle.namespace_rows.specs.Changes.{file_edited, recovery_ended}
 use Rattle.block_laws.proofs.Sums.{once, sum_files, sum_given, spare, sum_spared, sum_neither, sum_through}
 use Rattle.block_laws.proofs.Totals.{Weight, total, by_blocks, in_rows, has}
 use Rattle.block_laws.proofs.Changes.{committed, changes_one, unchanged}

@@ -15,8 +15,8 @@ use Rattle.block_records.specs.declared.block_record.BlockRecord.{BlockRecord}
 use Rattle.known_blocks.specs.Known.{KnownBlocks, block_of}
 use Rattle.block_map.specs.BlockFacts.{Blocks, newest_stamp}
 use Rattle.block_effect_laws.specs.Laws.{Becomes, KeepsKnown}
-use Rattle.hdfs_types.specs.declared.file.FileState.{FileState}
-use Rattle.hdfs_types.specs.declared.file.FileState.TheVariants.{Recovering}
+use Rattle.file_states.specs.declared.state.FileState.{FileState}
+use Rattle.file_states.specs.declared.state.FileState.TheVariants.{Recovering}
 use Rattle.file_blocks.specs.declared.blocks.FileBlock.{FileBlock}
 use Rattle.namespace_rows.specs.declared.row.Row.{Row}
 use Rattle.history.specs.declared.entry.HistoryEntry.{HistoryEntry}

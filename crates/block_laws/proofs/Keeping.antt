@@ -11,7 +11,7 @@ use Rattle.namespace_rows.specs.declared.row.Change.TheVariants as change
 use Rattle.namespace_rows.specs.Files.{new_file}
 use Rattle.namespace_rows.specs.Namespace.{IsNamespace}
 use Rattle.namespace_rows.specs.Rows.{is_none, row_at, ancestor}
-use Rattle.flat_rows.specs.Changes.{rows_under, without}
+use Rattle.namespace_rows.specs.Changes.{rows_under, without}
 use Rattle.flat_rows.specs.FileOutcome.{directory_there}
 use Rattle.flat_rows.specs.Outcome.{with_new, made_at, with_mode_at, with_owner_at, with_acl_at, with_list_at}
 use Rattle.history.proofs.Apart.{missing_apart, none_under, no_ancestor}

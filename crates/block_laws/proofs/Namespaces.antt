@@ -4,7 +4,7 @@ use Rattle.std.specs.Prelude.{unwrap_or}
 use Rattle.file_paths.specs.PathOrder.{same_path}
 use Rattle.hdfs_values.proofs.Texts.{same_self}
 use Rattle.permission_specs.specs.declared.acl_change.AclChange.{AclChange}
-use Rattle.hdfs_types.specs.declared.file.FileState.TheVariants.{Closed}
+use Rattle.file_states.specs.declared.state.FileState.TheVariants.{Closed}
 use Rattle.hdfs_types.specs.declared.op.Op.{Op}
 use Rattle.hdfs_types.specs.declared.op.Op.TheVariants as op
 use Rattle.refusals.specs.declared.refusal.Refusal.{Refusal}
@@ -24,7 +24,7 @@ use Rattle.namespace_rows.proofs.Tests.{or_right}
 use Rattle.namespace_rows.proofs.PathOrders.{same_path_is}
 use Rattle.namespace_rows.proofs.Namespaces.{namespace_tests, with_sub_tree_namespace}
 use Rattle.flat_rows.specs.BlockOutcome.{last_committed}
-use Rattle.flat_rows.specs.Changes.{row_rewritten, suits_change, block_added}
+use Rattle.namespace_rows.specs.Changes.{row_rewritten, suits_change, block_added}
 use Rattle.flat_rows.specs.FileOutcome.{directory_there, file_there, holder_at}
 use Rattle.flat_rows.specs.Takeover.{unfinished_at, state_after_append, begun_in}
 use Rattle.flat_rows.specs.Facts.{Facts}

@@ -4,7 +4,7 @@ use Rattle.std.proofs.lemmas.Bool.{eq-eqb, eqb-true}
 use Rattle.std.specs.Option.{option_map}
 use Rattle.node_ids.specs.NodeId.{node_of}
 use Rattle.file_paths.specs.PathOrder.{same_path}
-use Rattle.hdfs_types.specs.declared.file.FileState.TheVariants.{Closed}
+use Rattle.file_states.specs.declared.state.FileState.TheVariants.{Closed}
 use Rattle.hdfs_types.specs.declared.op.Op.{Op}
 use Rattle.hdfs_types.specs.declared.op.Op.TheVariants as op
 use Rattle.hdfs_types.specs.declared.replica.ReportedReplica.{ReportedReplica}
@@ -30,7 +30,7 @@ use Rattle.namespace_rows.specs.Rows.{row_at, ancestor}
 use Rattle.namespace_rows.proofs.Namespaces.{namespace_tests}
 use Rattle.flat_rows.specs.BlockOutcome as file
 use Rattle.flat_rows.specs.BlockOutcome.{is_last, has_block_id, replication_of, replication_at, ids_at, with_block_at, ended_at}
-use Rattle.flat_rows.specs.Changes.{rows_under, without, with_change, file_edited, row_rewritten, block_added}
+use Rattle.namespace_rows.specs.Changes.{rows_under, without, with_change, file_edited, row_rewritten, block_added}
 use Rattle.flat_rows.specs.FileOutcome.{holder_at}
 use Rattle.flat_rows.specs.Takeover.{unfinished_at, state_after_append, sought_blocks}
 use Rattle.flat_rows.specs.Facts.{Facts}

@@ -9,8 +9,8 @@ use Rattle.std.specs.Option.{option_map, option_and_then, option_to_list}
 use Rattle.std.specs.Ordering.{nat_cmp, is_eq}
 use Rattle.std.specs.declared.cmp.Ordering.TheVariants.{Less}
 use Rattle.file_paths.specs.PathOrder.{same_path}
-use Rattle.hdfs_types.specs.declared.file.FileState.{FileState}
-use Rattle.hdfs_types.specs.declared.file.FileState.TheVariants.{Closed, Open, Recovering}
+use Rattle.file_states.specs.declared.state.FileState.{FileState}
+use Rattle.file_states.specs.declared.state.FileState.TheVariants.{Closed, Open, Recovering}
 use Rattle.block_records.specs.Numbers.{entry_at}
 use Rattle.block_records.specs.declared.block_record.BlockRecord.{BlockRecord}
 use Rattle.block_records.proofs.Reporting.{number_eq}
@@ -24,7 +24,7 @@ use Rattle.file_blocks.specs.Blocks.{unfinished_block}
 use Rattle.namespace_rows.specs.Files.{state_recovers, recovered_at}
 use Rattle.namespace_rows.specs.Rows.{row_at}
 use Rattle.namespace_rows.proofs.Tests.{and}
-use Rattle.flat_rows.specs.Changes.{is_recovered, recovers_nowhere_else, recovery_ended}
+use Rattle.namespace_rows.specs.Changes.{is_recovered, recovers_nowhere_else, recovery_ended}
 use Rattle.flat_rows.specs.Takeover.{sought_of, sought_by_state}
 use Rattle.flat_rows.specs.declared.takeover.Sought.{Sought}
 use Rattle.history.specs.State.{rows_of, blocks_of}

@@ -4,8 +4,8 @@ use Rattle.std.proofs.Common.{◌≡◌, ℕ, ◌+◌, ◌-◌, ◌≤◌, ◌==
 use Rattle.std.proofs.lemmas.Bool.{eq-eqb, eqb-true}
 use Rattle.std.specs.List.{last_or}
 use Rattle.std.specs.Option.{option_map, option_and_then}
-use Rattle.hdfs_types.specs.declared.file.FileState.{FileState}
-use Rattle.hdfs_types.specs.declared.file.FileState.TheVariants.{Closed, Open, Recovering}
+use Rattle.file_states.specs.declared.state.FileState.{FileState}
+use Rattle.file_states.specs.declared.state.FileState.TheVariants.{Closed, Open, Recovering}
 use Rattle.block_records.specs.Numbers.{is_number, has_number, entry_at}
 use Rattle.block_records.specs.declared.block_record.BlockRecord.{BlockRecord}
 use Rattle.block_tables.specs.Changes.{with_recovery}

@@ -12,7 +12,7 @@ use Rattle.namespace_rows.specs.Rows.{is_missing, row_at, ancestor, is_before, i
 use Rattle.namespace_rows.specs.Namespace.{IsNamespace, is_ascending, is_before_all}
 use Rattle.namespace_rows.proofs.Tests.{both, all_kept}
 use Rattle.namespace_rows.proofs.PathOrders.{same_path_is, less_is, starts_upto, tied_starts}
-use Rattle.flat_rows.specs.Changes.{rows_under, without, moved_row, with_rows_moved, with_change, row_rewritten}
+use Rattle.namespace_rows.specs.Changes.{rows_under, without, moved_row, with_rows_moved, with_change, row_rewritten}
 use Rattle.flat_rows.specs.Outcome.{new_rows, new_row, mode_of_new, file_of_new, with_new}
 use Rattle.flat_rows.proofs.NewDirectories.{beneath_parts, ancestor_above}
 use Rattle.history.proofs.Apart.{missing_apart, none_under, under_top}

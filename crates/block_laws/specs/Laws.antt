@@ -6,8 +6,8 @@ use Rattle.std.specs.Bool.{⊤}
 use Rattle.std.specs.List.{AllByRecursion, flat_map}
 use Rattle.std.specs.List.Sorted.{IsStrictlyIncreasing}
 use Rattle.std.specs.Option.{option_map, option_and_then, option_to_list}
-use Rattle.hdfs_types.specs.declared.file.FileState.{FileState}
-use Rattle.hdfs_types.specs.declared.file.FileState.TheVariants.{Closed, Open, Recovering}
+use Rattle.file_states.specs.declared.state.FileState.{FileState}
+use Rattle.file_states.specs.declared.state.FileState.TheVariants.{Closed, Open, Recovering}
 use Rattle.block_answers.specs.LocatedBlocks.{AddedBlock}
 use Rattle.hdfs_types.specs.declared.reply.Reply.{Reply}
 use Rattle.hdfs_types.specs.declared.reply.Reply.TheVariants as reply
@@ -22,7 +22,7 @@ use Rattle.namespace_rows.specs.Files.{blocks_in, state_recovers}
 use Rattle.namespace_rows.specs.Rows.{row_at}
 use Rattle.namespace_rows.specs.Namespace.{IsNamespace}
 use Rattle.flat_rows.specs.BlockOutcome as file
-use Rattle.flat_rows.specs.Changes.{is_recovered, recovers_nowhere_else}
+use Rattle.namespace_rows.specs.Changes.{is_recovered, recovers_nowhere_else}
 use Rattle.flat_rows.specs.Takeover.{sought_of}
 use Rattle.flat_rows.specs.declared.verdict.Verdict.{Verdict}
 use Rattle.flat_rows.specs.declared.verdict.Verdict.TheVariants.{Done, Denied, Refused}

@@ -1,4 +1,4 @@
 //! Keys as a NameNode sends them.
 
 pub use block_answers::key_list::{HeldKey, KeyList};
-pub use hdfs_types::key::Key;
+pub use block_keys::key::Key;

@@ -7,7 +7,7 @@ use Rattle.permission_bits.specs.declared.rights.Rights.{Rights}
 use Rattle.permission_specs.specs.declared.acl_change.AclChange.{AclChange}
 use Rattle.permission_specs.specs.declared.acl_change.AclChange.TheVariants.{Set, Modify, Remove, RemoveDefault, Clear}
 use Rattle.hdfs_values.specs.declared.fault.AclFault.{AclFault}
-use Rattle.hdfs_types.specs.declared.reply.ObjectKind.{ObjectKind}
+use Rattle.file_states.specs.declared.kind.ObjectKind.{ObjectKind}
 use Rattle.refusals.specs.declared.refusal.Refusal.{Refusal}
 use Rattle.refusals.specs.declared.refusal.Refusal.TheVariants.{BadAcl, TooManyEntries}
 use Rattle.acl_entries.specs.Acl.{Acl, EntryList, IsEntryList, IsAcl, base_entries, intersection, has_named, fits_in_scope, is_access_list}

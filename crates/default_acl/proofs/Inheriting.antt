@@ -4,8 +4,8 @@ use Rattle.std.specs.Option.{option_map, option_map_or, is_some}
 use Rattle.permission_bits.specs.Mode.{user_bits, group_bits, other_bits}
 use Rattle.permission_bits.specs.Rights.{rights}
 use Rattle.permission_bits.specs.declared.rights.Rights.{Rights}
-use Rattle.hdfs_types.specs.declared.reply.ObjectKind.{ObjectKind}
-use Rattle.hdfs_types.specs.declared.reply.ObjectKind.TheVariants.{File, Directory}
+use Rattle.file_states.specs.declared.kind.ObjectKind.{ObjectKind}
+use Rattle.file_states.specs.declared.kind.ObjectKind.TheVariants.{File, Directory}
 use Rattle.acl_entries.specs.declared.entry_list.Bases.{Bases}
 use Rattle.acl_entries.specs.declared.entry_list.NamedEntry.{NamedEntry}
 use Rattle.acl_entries.specs.Kept.{list_of_parts}

@@ -18,7 +18,7 @@ use Rattle.permission_specs.specs.declared.entry.Scope.TheVariants.{Access, Defa
 use Rattle.permission_specs.specs.declared.acl_change.AclChange.TheVariants.{Set}
 use Rattle.hdfs_values.specs.declared.fault.AclFault.{AclFault}
 use Rattle.hdfs_values.specs.declared.fault.AclFault.TheVariants.{NoBase}
-use Rattle.hdfs_types.specs.declared.reply.ObjectKind.TheVariants.{Directory}
+use Rattle.file_states.specs.declared.kind.ObjectKind.TheVariants.{Directory}
 use Rattle.refusals.specs.declared.refusal.Refusal.TheVariants.{TooManyEntries}
 use Rattle.acl_entries.specs.declared.entry_list.NamedEntry.{NamedEntry}
 use Rattle.acl_entries.specs.Acl.{Acl, EntryList, IsEntryList, ascend, base_entries, intersection, entries, entries_in, fits_in_scope, has_named, is_access_list, is_entry_list}

@@ -5,8 +5,8 @@ use Rattle.std.specs.Prelude.{ℕ, Option, Some, None}
 use Rattle.std.specs.Option.{option_map}
 use Rattle.permission_bits.specs.Mode.{user_bits, group_bits, other_bits}
 use Rattle.permission_bits.specs.Rights.{rights}
-use Rattle.hdfs_types.specs.declared.reply.ObjectKind.{ObjectKind}
-use Rattle.hdfs_types.specs.declared.reply.ObjectKind.TheVariants.{File, Directory}
+use Rattle.file_states.specs.declared.kind.ObjectKind.{ObjectKind}
+use Rattle.file_states.specs.declared.kind.ObjectKind.TheVariants.{File, Directory}
 use Rattle.acl_entries.specs.Acl.{Acl, EntryList, intersection, acl_of_mode, has_sticky_bit}
 use Rattle.partial_acl.specs.AclChange.{as_kept}
 

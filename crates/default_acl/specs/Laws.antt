@@ -12,8 +12,8 @@ use Rattle.permission_specs.specs.declared.entry.Entry.{Entry}
 use Rattle.permission_specs.specs.declared.entry.EntryKind.TheVariants.{Group, Other}
 use Rattle.permission_specs.specs.declared.entry.Scope.TheVariants.{Access}
 use Rattle.permission_specs.specs.declared.acl_change.AclChange.TheVariants.{Set, Modify, Clear}
-use Rattle.hdfs_types.specs.declared.reply.ObjectKind.{ObjectKind}
-use Rattle.hdfs_types.specs.declared.reply.ObjectKind.TheVariants.{File, Directory}
+use Rattle.file_states.specs.declared.kind.ObjectKind.{ObjectKind}
+use Rattle.file_states.specs.declared.kind.ObjectKind.TheVariants.{File, Directory}
 use Rattle.acl_entries.specs.Acl.{Acl, IsAcl, IsEntryList, base_entry, entries, fits_in_scope, has_acl, is_entry_list, shown_mode}
 use Rattle.acl_entries.specs.JudgedEntry.{judged_by, judged_entry}
 use Rattle.permission_specs.specs.SpecText.{is_printable, spec_of, spec_text}

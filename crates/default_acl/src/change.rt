@@ -1,6 +1,6 @@
 ghost use Rattle.std.specs.Prelude.{◌≡◌, ◌&&◌, true, false, Some, IfOk, IsOk, Ok};
 ghost use Rattle.std.specs.Option.{option_copied, option_map_or};
-ghost use Rattle.hdfs_types.specs.declared.reply.ObjectKind.{ObjectKind};
+ghost use Rattle.file_states.specs.declared.kind.ObjectKind.{ObjectKind};
 ghost use Rattle.permission_specs.specs.declared.acl_change.AclChange.TheVariants.{Set, Modify, Remove, RemoveDefault, Clear};
 ghost use Rattle.permission_specs.specs.declared.entry.Scope.TheVariants.{Access, Default};
 ghost use Rattle.permission_specs.specs.declared.entry.EntryKind.TheVariants.{User, Group, Mask, Other};
@@ -11,7 +11,7 @@ ghost use Rattle.default_acl.specs.Forms.{MakesChanged, change_of};
 
 use acl_entries::acl::Acl;
 use acl_entries::entry_list::{Bases, EntryList};
-use hdfs_types::reply::{ObjectKind, Refusal};
+use file_states::kind::ObjectKind;
 use hdfs_values::at_word::AtWord;
 use hdfs_values::fault::AclFault;
 use partial_acl::completed::{completed, copy_of, kept};
@@ -21,6 +21,7 @@ use partial_acl::scope::{given, has_base, touches};
 use permission_specs::acl_change::AclChange;
 use permission_specs::entry::{Entry, EntryKind, Scope};
 use permission_specs::spec::Spec;
+use refusals::refusal::Refusal;
 use std::alloc::{AllocError, Global};
 
 /// A form of `setfacl` that comes with a spec.

@@ -4,7 +4,7 @@ ghost use Rattle.partial_acl.specs.AclChange.{with_mode};
 
 use acl_entries::acl::{Acl, bases_of};
 use acl_entries::entry_list::{Bases, EntryList};
-use hdfs_types::reply::ObjectKind;
+use file_states::kind::ObjectKind;
 use permission_bits::mode::Mode;
 
 /// What a mode grants beside a mask, which stands for the owning group: its own entry stays.

@@ -9,7 +9,7 @@ ghost use Rattle.default_acl.specs.Inheritance as definition;
 use acl_entries::acl::Acl;
 use acl_entries::entry_list::{Bases, EntryList};
 use bitflags::Flags;
-use hdfs_types::reply::ObjectKind;
+use file_states::kind::ObjectKind;
 use partial_acl::completed::copy_of;
 use partial_acl::named::copies;
 use permission_bits::mode::Mode;

@@ -3,7 +3,7 @@ use Rattle.std.proofs.Common.{◌≡◌, ℕ, List, [], ◌∷◌, refl, Bor, le
 use Rattle.std.proofs.lemmas.List.{take-map, drop-map, take_min, drop_min}
 use Rattle.hdfs_types.specs.declared.op.Request.{Request}
 use Rattle.namespace_rows.specs.declared.row.Row.{Row}
-use Rattle.flat_rows.specs.Changes.{rows_under}
+use Rattle.namespace_rows.specs.Changes.{rows_under}
 use Rattle.flat_rows.specs.DenialText.{trail_text}
 use Rattle.explanations.specs.declared.explain.Explained.TheVariants.{Trail}
 use Rattle.cluster_runs.specs.Output.{after_lines, script_status}

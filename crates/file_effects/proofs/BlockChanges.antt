@@ -10,7 +10,7 @@ use Rattle.namespace_rows.specs.declared.row.Change.TheVariants as change
 use Rattle.namespace_rows.specs.Namespace.{IsNamespace}
 use Rattle.namespace_rows.specs.Rows.{is_missing}
 use Rattle.namespace_rows.specs.Files.{is_client, is_open_by, open_files, blocks_in, with_block, committed_at}
-use Rattle.flat_rows.specs.Changes.{rows_under, file_edited, row_rewritten, block_added}
+use Rattle.namespace_rows.specs.Changes.{rows_under, file_edited, row_rewritten, block_added}
 use Rattle.flat_rows.specs.BlockOutcome.{refused_by, refused_end}
 use Rattle.flat_rows.proofs.Holders.{tally_map, tally_rewritten, kept_file}
 use Rattle.history.proofs.Apart.{missing_apart, none_under}

@@ -2,7 +2,7 @@
 use Rattle.std.proofs.Common.{◌≡◌, ℕ, Bool, List, Option, Some, None, ap, ◌∙◌, subst, Result, Ok, Err, OnOk}
 use Rattle.hdfs_types.specs.declared.op.Op.TheVariants as op
 use Rattle.block_records.specs.declared.last_block.LastBlock.{LastBlock}
-use Rattle.hdfs_types.specs.declared.file.FileState.{FileState}
+use Rattle.file_states.specs.declared.state.FileState.{FileState}
 use Rattle.hdfs_values.specs.Text.{same}
 use Rattle.lease_manager.specs.Leases.{Leases, renewals_with}
 use Rattle.principals.specs.Users.{Users}
@@ -14,7 +14,7 @@ use Rattle.namespace_rows.specs.Files.{new_file, holder_of, holders}
 use Rattle.flat_rows.specs.FileOutcome.{holder_at}
 use Rattle.flat_rows.specs.BlockOutcome.{ended_at}
 use Rattle.flat_rows.specs.Outcome.{with_new}
-use Rattle.flat_rows.specs.Changes.{rows_under, row_rewritten, without}
+use Rattle.namespace_rows.specs.Changes.{rows_under, row_rewritten, without}
 use Rattle.lease_manager.specs.declared.writers.Writers.{Writers}
 use Rattle.lease_manager.specs.Writers.{count_of, IsLeased, renewed_at}
 use Rattle.file_effects.specs.Effected.{IsCreated, IsExact, IsFree, IsEffected}

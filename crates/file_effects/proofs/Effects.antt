@@ -6,8 +6,8 @@ use Rattle.hdfs_values.specs.Text.{same}
 use Rattle.hdfs_values.proofs.Texts.{same_is, same_symm}
 use Rattle.file_paths.specs.PathOrder.{same_path}
 use Rattle.hdfs_types.specs.declared.op.Op.TheVariants as op
-use Rattle.hdfs_types.specs.declared.file.FileState.{FileState}
-use Rattle.hdfs_types.specs.declared.file.FileState.TheVariants.{Closed, Open, Recovering}
+use Rattle.file_states.specs.declared.state.FileState.{FileState}
+use Rattle.file_states.specs.declared.state.FileState.TheVariants.{Closed, Open, Recovering}
 use Rattle.block_records.specs.declared.last_block.LastBlock.{LastBlock}
 use Rattle.refusals.specs.declared.refusal.Refusal.{Refusal}
 use Rattle.refusals.specs.declared.refusal.Refusal.TheVariants.{IsDirectory, IsRoot, NoLease, NotDirectory}
@@ -21,7 +21,7 @@ use Rattle.namespace_rows.specs.Namespace.{IsNamespace, suits_kind, suits_parts,
 use Rattle.namespace_rows.specs.Files.{new_file, holder_of, holder_of_file, is_client, open_files, holders}
 use Rattle.flat_rows.specs.FileOutcome.{directory_there, file_there, holder_at, of_file, if_some_file, refused_write, refused_by_state}
 use Rattle.flat_rows.specs.Outcome.{beneath_file, nothing_at, with_new, refused_where}
-use Rattle.flat_rows.specs.Changes.{rows_under, without, with_change, row_rewritten}
+use Rattle.namespace_rows.specs.Changes.{rows_under, without, with_change, row_rewritten}
 use Rattle.namespace_rows.proofs.Tests.{both, all_kept}
 use Rattle.namespace_rows.proofs.Namespaces.{namespace_tests}
 use Rattle.history.proofs.Counting.{count, bit, count_without}

@@ -9,7 +9,7 @@ use Rattle.file_paths.specs.Path.{is_beneath, is_prefix, parent_of}
 use Rattle.file_paths.specs.PathOrder.{path_cmp, same_path, paths_total}
 use Rattle.hdfs_values.specs.Text.{same}
 use Rattle.hdfs_values.proofs.Texts.{same_is, same_self}
-use Rattle.hdfs_types.specs.declared.reply.ObjectKind.TheVariants.{File}
+use Rattle.file_states.specs.declared.kind.ObjectKind.TheVariants.{File}
 use Rattle.refusals.specs.declared.refusal.Refusal.TheVariants.{IsDirectory}
 use Rattle.acl_entries.specs.Acl.{Acl}
 use Rattle.default_acl.specs.Inheritance.{inherited_acl}
@@ -18,7 +18,7 @@ use Rattle.namespace_rows.specs.declared.row.Row.{Row}
 use Rattle.namespace_rows.specs.First.{first}
 use Rattle.namespace_rows.specs.Rows.{is_directory, is_none, is_missing, row_at, ancestor, with_sub_tree}
 use Rattle.namespace_rows.specs.Namespace.{is_root, is_rooted, is_child, has_parent, have_parents, is_before_all, is_ascending}
-use Rattle.flat_rows.specs.Changes.{last_name}
+use Rattle.namespace_rows.specs.Changes.{last_name}
 use Rattle.flat_rows.specs.FileOutcome.{directory_there}
 use Rattle.flat_rows.specs.Outcome.{new_at, new_rows, with_new}
 use Rattle.namespace_rows.proofs.Tests.{both, and}

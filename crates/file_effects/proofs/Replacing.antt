@@ -6,7 +6,7 @@ use Rattle.principals.specs.Users.{Users}
 use Rattle.namespace_rows.specs.declared.row.Row.{Row}
 use Rattle.namespace_rows.specs.Namespace.{IsNamespace}
 use Rattle.namespace_rows.specs.Rows.{is_none, is_directory, is_missing, is_some_where, has_file, row_at}
-use Rattle.flat_rows.specs.Changes.{rows_under}
+use Rattle.namespace_rows.specs.Changes.{rows_under}
 use Rattle.namespace_rows.specs.Files.{holders}
 use Rattle.flat_rows.specs.FileOutcome.{directory_there, file_there}
 use Rattle.history.proofs.Apart.{missing_apart, none_under}

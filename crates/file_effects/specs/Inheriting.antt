@@ -1,6 +1,6 @@
 -- What a file takes over from the directory that holds its path: one that is put there with it is the one that a creation makes.
 use Rattle.std.specs.Prelude.{◌≡◌, ℕ, true, List, [], ◌∷◌, Some}
-use Rattle.hdfs_types.specs.declared.reply.ObjectKind.TheVariants.{File}
+use Rattle.file_states.specs.declared.kind.ObjectKind.TheVariants.{File}
 use Rattle.namespace_rows.specs.declared.file_row.FileRow.{FileRow}
 use Rattle.namespace_rows.specs.declared.row.Row.{Row}
 use Rattle.namespace_rows.specs.Namespace.{has_parent}

@@ -1,13 +1,13 @@
 ghost use Rattle.std.specs.Prelude.{◌≡◌, ◌≤◌, ℕ, List, Option, None, Some, Bool, true, false, [], map, not, IfOk, OnOk, OnErr};
 ghost use Rattle.flat_rows.specs.FileOutcome.{holder_at, directory_there};
 ghost use Rattle.namespace_rows.specs.Files.{holder_of, holders, blocks_in};
-ghost use Rattle.flat_rows.specs.Changes.{rows_under, row_rewritten};
+ghost use Rattle.namespace_rows.specs.Changes.{rows_under, row_rewritten};
 ghost use Rattle.namespace_rows.specs.declared.row.Change.TheVariants as change;
 ghost use Rattle.namespace_rows.specs.Namespace.{IsNamespace, is_root};
 ghost use Rattle.flat_rows.specs.Facts.{Facts};
 ghost use Rattle.namespace_rows.specs.Rows.{row_at, file_above, is_missing};
 ghost use Rattle.hdfs_types.specs.Verb.{write_op};
-ghost use Rattle.hdfs_types.specs.declared.file.FileState.TheVariants.{Closed};
+ghost use Rattle.file_states.specs.declared.state.FileState.TheVariants.{Closed};
 ghost use Rattle.hdfs_types.specs.declared.op.Op.TheVariants as op;
 ghost use Rattle.lease_manager.specs.Leases as lease;
 ghost use Rattle.principals.specs.Users.{Users};

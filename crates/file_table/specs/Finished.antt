@@ -1,12 +1,12 @@
 -- Files that a client has open, and whose last block isn't unfinished: those are closed at once where the client's lease ends (HDFS
 -- Architecture, the single-writer model).
 use Rattle.std.specs.Prelude.{ℕ, Bool, false, ◌&&◌, not, is_some, List, map, filter, if◌then◌else◌, Option, Some, None}
-use Rattle.hdfs_types.specs.declared.file.FileState.TheVariants.{Closed}
+use Rattle.file_states.specs.declared.state.FileState.TheVariants.{Closed}
 use Rattle.file_blocks.specs.Blocks.{unfinished_block}
 use Rattle.namespace_rows.specs.declared.file_row.FileRow.{FileRow}
 use Rattle.namespace_rows.specs.declared.row.Row.{Row}
 use Rattle.namespace_rows.specs.Files.{with_state, holder_of, is_client}
-use Rattle.flat_rows.specs.Changes.{file_edited}
+use Rattle.namespace_rows.specs.Changes.{file_edited}
 
 abbrev pub is_finished_for : List ℕ → FileRow → Bool
 is_finished_for client file = is_client client (holder_of file.state) && not (is_some (unfinished_block file.blocks))

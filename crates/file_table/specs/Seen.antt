@@ -3,7 +3,7 @@ use Rattle.std.specs.Prelude.{ℕ, List, map, Option, Some, None}
 use Rattle.slab.specs.Slab.{Slab, get}
 use Rattle.namespace_rows.specs.declared.file_row.FileRow.{FileRow}
 use Rattle.namespace_rows.specs.declared.row.Row.{Row}
-use Rattle.flat_rows.specs.Changes.{with_file}
+use Rattle.namespace_rows.specs.Changes.{with_file}
 use Rattle.file_table.specs.Place.{place_in}
 
 -- what the table has of a file, by what its own row tells

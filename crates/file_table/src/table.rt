@@ -6,7 +6,7 @@ ghost use Rattle.file_table.specs.Changed.{file_changed};
 ghost use Rattle.file_table.specs.Finished.{is_finished_for, is_finished_of, closed_for};
 
 use crate::place::FilePlace;
-use hdfs_types::file::FileState;
+use file_states::state::FileState;
 use hdfs_values::ids::BlockId;
 use hdfs_values::who::Who;
 use namespace_rows::file_row::FileRow;

@@ -7,8 +7,8 @@ use Rattle.std.specs.Option.{option_map}
 use Rattle.hdfs_values.specs.Text.{same}
 use Rattle.hdfs_values.proofs.Texts.{same_is, same_symm}
 use Rattle.file_paths.specs.PathOrder.{same_path}
-use Rattle.hdfs_types.specs.declared.file.FileState.{FileState}
-use Rattle.hdfs_types.specs.declared.file.FileState.TheVariants.{Closed, Open, Recovering}
+use Rattle.file_states.specs.declared.state.FileState.{FileState}
+use Rattle.file_states.specs.declared.state.FileState.TheVariants.{Closed, Open, Recovering}
 use Rattle.recovery_queue.specs.declared.begun.BegunRecovery.{BegunRecovery}
 use Rattle.block_map.specs.BlockFacts.{Blocks}
 use Rattle.block_map.specs.BlockEffects.{recoveries_begun, with_recoveries_begun}
@@ -21,7 +21,7 @@ use Rattle.namespace_rows.specs.Namespace.{IsNamespace}
 use Rattle.namespace_rows.specs.Files.{is_client, holder_of, holder_of_file, with_state, open_files}
 use Rattle.namespace_rows.proofs.Namespaces.{namespace_tests}
 use Rattle.namespace_rows.proofs.Tests.{both, or_left, or_right}
-use Rattle.flat_rows.specs.Changes.{with_file, file_edited}
+use Rattle.namespace_rows.specs.Changes.{with_file, file_edited}
 use Rattle.flat_rows.specs.declared.takeover.Sought.{Sought}
 use Rattle.flat_rows.specs.Takeover.{sought_by_state, taken_row}
 use Rattle.history.proofs.Counting.{count, bit, count_head}

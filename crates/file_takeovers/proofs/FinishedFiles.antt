@@ -10,8 +10,8 @@ use Rattle.std.specs.Ordering.{match_ordering}
 use Rattle.hdfs_values.specs.Text.{same}
 use Rattle.hdfs_values.proofs.Texts.{same_is, same_self}
 use Rattle.file_paths.specs.PathOrder.{path_cmp, same_path}
-use Rattle.hdfs_types.specs.declared.file.FileState.{FileState}
-use Rattle.hdfs_types.specs.declared.file.FileState.TheVariants.{Closed, Open, Recovering}
+use Rattle.file_states.specs.declared.state.FileState.{FileState}
+use Rattle.file_states.specs.declared.state.FileState.TheVariants.{Closed, Open, Recovering}
 use Rattle.file_blocks.specs.Blocks.{unfinished_block}
 use Rattle.namespace_rows.specs.declared.file_row.FileRow.{FileRow}
 use Rattle.namespace_rows.specs.declared.row.Row.{Row}
@@ -22,7 +22,7 @@ use Rattle.namespace_rows.specs.Files.{with_state, holder_of, holder_of_file, is
 use Rattle.namespace_rows.proofs.Namespaces.{namespace_tests}
 use Rattle.namespace_rows.proofs.Tests.{both, or_left, or_right}
 use Rattle.block_map.specs.BlockFacts.{Blocks, due_recoveries}
-use Rattle.flat_rows.specs.Changes.{file_edited}
+use Rattle.namespace_rows.specs.Changes.{file_edited}
 use Rattle.flat_rows.specs.declared.takeover.Sought.{Sought}
 use Rattle.flat_rows.specs.Takeover.{sought_by_state}
 use Rattle.flat_rows.proofs.Changes.{edited_namespace}

@@ -15,11 +15,11 @@ use Rattle.namespace_rows.specs.First.{first}
 use Rattle.namespace_rows.specs.Rows.{row_at}
 use Rattle.namespace_rows.specs.Namespace.{is_ascending, is_before_all}
 use Rattle.namespace_rows.specs.Files.{committed_at, recovered_at, state_recovers, with_state}
-use Rattle.hdfs_types.specs.declared.file.FileState.TheVariants.{Closed}
+use Rattle.file_states.specs.declared.state.FileState.TheVariants.{Closed}
 use Rattle.namespace_rows.proofs.PathOrders.{less_is}
 use Rattle.namespace_rows.proofs.Tests.{both}
 use Rattle.std.specs.Ordering.{is_lt}
-use Rattle.flat_rows.specs.Changes.{is_recovered, recovery_ended}
+use Rattle.namespace_rows.specs.Changes.{is_recovered, recovery_ended}
 use Rattle.file_takeovers.specs.Recovered.{recovers_at}
 use Rattle.file_takeovers.proofs.SoughtFiles.{not_same, path_itself}
 

@@ -1,12 +1,12 @@
 -- A closed file that a client opens: his open files and his lease are known behind it.
 use Rattle.std.proofs.Common.{◌≡◌, ℕ, true, List, Option, ap, ◌∙◌}
-use Rattle.hdfs_types.specs.declared.file.FileState.TheVariants.{Open}
+use Rattle.file_states.specs.declared.state.FileState.TheVariants.{Open}
 use Rattle.namespace_rows.specs.declared.row.Row.{Row}
 use Rattle.namespace_rows.specs.declared.row.Change.TheVariants as change
 use Rattle.namespace_rows.specs.Namespace.{IsNamespace}
 use Rattle.namespace_rows.specs.Files.{holder_of, holder_of_file}
 use Rattle.flat_rows.specs.FileOutcome.{holder_at}
-use Rattle.flat_rows.specs.Changes.{row_rewritten}
+use Rattle.namespace_rows.specs.Changes.{row_rewritten}
 use Rattle.lease_manager.specs.declared.writers.Writers.{Writers}
 use Rattle.lease_manager.specs.Writers.{IsLeased, renewed_at}
 use Rattle.file_effects.specs.Effected.{IsExact, renewed_where}

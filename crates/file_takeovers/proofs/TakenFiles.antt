@@ -9,8 +9,8 @@ use Rattle.std.specs.Map.{keys_of, values_of, lookup}
 use Rattle.std.specs.Option.{option_to_list}
 use Rattle.std.specs.Ordering.{is_lt, nat_cmp, ordering_reverse}
 use Rattle.file_paths.specs.PathOrder.{path_cmp, same_path, paths_total}
-use Rattle.hdfs_types.specs.declared.file.FileState.{FileState}
-use Rattle.hdfs_types.specs.declared.file.FileState.TheVariants.{Closed, Recovering}
+use Rattle.file_states.specs.declared.state.FileState.{FileState}
+use Rattle.file_states.specs.declared.state.FileState.TheVariants.{Closed, Recovering}
 use Rattle.recovery_queue.specs.declared.begun.BegunRecovery.{BegunRecovery}
 use Rattle.namespace_rows.specs.declared.row.Row.{Row}
 use Rattle.namespace_rows.specs.declared.row.Change.{Change}
@@ -22,7 +22,7 @@ use Rattle.namespace_rows.specs.Files.{is_client, holder_of, open_files}
 use Rattle.namespace_rows.proofs.Namespaces.{namespace_tests}
 use Rattle.namespace_rows.proofs.PathOrders.{same_path_is, less_is}
 use Rattle.namespace_rows.proofs.Tests.{both}
-use Rattle.flat_rows.specs.Changes.{with_change, row_rewritten, suits_change}
+use Rattle.namespace_rows.specs.Changes.{with_change, row_rewritten, suits_change}
 use Rattle.flat_rows.specs.FileOutcome.{holder_at}
 use Rattle.flat_rows.specs.declared.takeover.Sought.{Sought}
 use Rattle.block_map.specs.BlockFacts.{Blocks}

@@ -9,7 +9,7 @@ use Rattle.block_map.specs.BlockEffects.{with_recovery_ended}
 use Rattle.namespace_rows.specs.declared.row.Row.{Row}
 use Rattle.namespace_rows.specs.Rows.{row_at}
 use Rattle.flat_rows.specs.BlockOutcome.{refused_by}
-use Rattle.flat_rows.specs.Changes.{is_recovered, recovers_nowhere_else, recovery_ended}
+use Rattle.namespace_rows.specs.Changes.{is_recovered, recovers_nowhere_else, recovery_ended}
 use Rattle.flat_rows.specs.declared.verdict.Verdict.{Verdict}
 use Rattle.flat_rows.specs.declared.verdict.Verdict.TheVariants.{Done, Refused}
 use Rattle.file_takeovers.specs.Found.{file_in}

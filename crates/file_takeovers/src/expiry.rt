@@ -6,7 +6,7 @@ ghost use Rattle.namespace_rows.specs.Files.{holder_of};
 ghost use Rattle.namespace_rows.specs.Namespace.{IsNamespace};
 ghost use Rattle.namespace_rows.specs.Rows.{row_at};
 ghost use Rattle.namespace_rows.specs.declared.row.Change.TheVariants as change;
-ghost use Rattle.flat_rows.specs.Changes.{row_rewritten};
+ghost use Rattle.namespace_rows.specs.Changes.{row_rewritten};
 ghost use Rattle.flat_rows.specs.FileOutcome.{holder_at};
 ghost use Rattle.flat_rows.specs.Takeover.{stamp_in};
 ghost use Rattle.lease_manager.specs.Leases as lease;

@@ -3,7 +3,7 @@ ghost use Rattle.std.specs.Option.{IsSome};
 ghost use Rattle.block_map.specs.BlockFacts.{recovering_since};
 ghost use Rattle.namespace_rows.specs.Rows.{row_at};
 ghost use Rattle.namespace_rows.specs.Namespace.{IsNamespace};
-ghost use Rattle.flat_rows.specs.Changes.{is_recovered, recovery_ended};
+ghost use Rattle.namespace_rows.specs.Changes.{is_recovered, recovery_ended};
 ghost use Rattle.flat_rows.specs.Verdicts.{is_done};
 ghost use Rattle.file_takeovers.specs.Recovered as spec;
 

@@ -1,11 +1,11 @@
 ghost use Rattle.std.specs.Prelude.{◌≡◌, ◌≤◌, ℕ, List, Option, None, Some, true, false, IfOk, OnOk, OnErr};
 ghost use Rattle.flat_rows.specs.FileOutcome.{holder_at};
-ghost use Rattle.flat_rows.specs.Changes.{row_rewritten};
+ghost use Rattle.namespace_rows.specs.Changes.{row_rewritten};
 ghost use Rattle.flat_rows.specs.Verdicts.{is_done};
 ghost use Rattle.namespace_rows.specs.declared.row.Change.TheVariants as change;
 ghost use Rattle.namespace_rows.specs.Namespace.{IsNamespace};
 ghost use Rattle.namespace_rows.specs.Rows.{row_at};
-ghost use Rattle.hdfs_types.specs.declared.file.FileState.TheVariants as state;
+ghost use Rattle.file_states.specs.declared.state.FileState.TheVariants as state;
 ghost use Rattle.lease_manager.specs.Leases as lease;
 ghost use Rattle.lease_manager.specs.Writers.{IsAlike};
 ghost use Rattle.file_effects.specs.Effected.{IsExact, renewed_where};

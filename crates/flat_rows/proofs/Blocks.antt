@@ -9,7 +9,7 @@ use Rattle.namespace_rows.specs.declared.row.Row.{Row}
 use Rattle.namespace_rows.specs.declared.row.Change.TheVariants as change
 use Rattle.namespace_rows.specs.Rows.{row_at}
 use Rattle.namespace_rows.specs.Files.{ids_in, with_file_replication}
-use Rattle.flat_rows.specs.Changes.{with_change, row_rewritten}
+use Rattle.namespace_rows.specs.Changes.{with_change, row_rewritten}
 use Rattle.flat_rows.specs.BlockOutcome.{ids_at}
 
 pub row_at_map : (f : Row → Row) → ((row : Row) → (f row).path ≡ row.path) → (path : List (List ℕ)) (rows : List Row) → row_at path (map f rows) ≡ option_map f (row_at path rows)

@@ -21,7 +21,7 @@ use Rattle.namespace_rows.specs.First.{first}
 use Rattle.namespace_rows.specs.Rows.{is_directory, row_at, ancestor, is_before, is_beyond, rows_replaced, with_sub_tree}
 use Rattle.namespace_rows.specs.Namespace.{IsNamespace, is_ascending, is_before_all, is_child, has_parent, is_root, is_rooted, have_parents, suits_parts, suits_kind, fits}
 use Rattle.flat_rows.specs.Outcome.{mode_of_new, file_of_new, new_row, new_rows}
-use Rattle.flat_rows.specs.Changes.{without, file_edited, with_change, row_rewritten, suits_row, suits_change, are_paths}
+use Rattle.namespace_rows.specs.Changes.{without, file_edited, with_change, row_rewritten, suits_row, suits_change, are_paths}
 use Rattle.namespace_rows.proofs.Tests.{both, and, or_left, or_right, all_imp, all_both, all_append, all_filtered, all_kept}
 use Rattle.namespace_rows.proofs.PathOrders.{less_is, child_starts, same_path_is}
 use Rattle.flat_rows.proofs.NewDirectories.{starts_self, beneath_parts, ancestor_above}

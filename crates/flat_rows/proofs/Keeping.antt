@@ -16,7 +16,7 @@ use Rattle.namespace_rows.specs.declared.row.Row.{Row}
 use Rattle.namespace_rows.specs.declared.row.Change.TheVariants as change
 use Rattle.namespace_rows.specs.Rows.{row_at, is_none, directory_of, ancestor}
 use Rattle.namespace_rows.specs.Namespace.{IsNamespace, is_root}
-use Rattle.flat_rows.specs.Changes.{row_rewritten, are_paths}
+use Rattle.namespace_rows.specs.Changes.{row_rewritten, are_paths}
 use Rattle.flat_rows.specs.Denial as denied
 use Rattle.flat_rows.specs.Decision.{decision}
 use Rattle.namespace_rows.specs.Files.{is_open_by, with_file_replication}

@@ -12,7 +12,7 @@ use Rattle.namespace_rows.specs.declared.row.Row.{Row}
 use Rattle.namespace_rows.specs.Rows.{is_missing, ancestor, with_sub_tree}
 use Rattle.namespace_rows.specs.Namespace.{IsNamespace, is_ascending, is_before_all, is_root}
 use Rattle.flat_rows.specs.Outcome.{new_row, new_rows, mode_of_new, file_of_new, with_new}
-use Rattle.flat_rows.specs.Changes.{without}
+use Rattle.namespace_rows.specs.Changes.{without}
 use Rattle.namespace_rows.specs.Files.{is_client, holder_of_file, is_open_by}
 use Rattle.namespace_rows.proofs.Tests.{both, and, or_left, or_right}
 use Rattle.namespace_rows.proofs.PathOrders.{less_is, same_path_is}

@@ -12,7 +12,7 @@ use Rattle.hdfs_values.proofs.Texts.{same_is, same_self}
 use Rattle.namespace_rows.specs.declared.row.Row.{Row}
 use Rattle.namespace_rows.specs.Rows.{is_directory}
 use Rattle.namespace_rows.specs.Namespace.{IsNamespace, is_ascending, is_before_all, is_child, has_parent, is_root, have_parents, suits_kind}
-use Rattle.flat_rows.specs.Changes.{rows_under, without, moved_row, with_rows_moved}
+use Rattle.namespace_rows.specs.Changes.{rows_under, without, moved_row, with_rows_moved}
 use Rattle.namespace_rows.proofs.Tests.{both, and, or_left, or_right, all_filtered, all_kept}
 use Rattle.namespace_rows.proofs.PathOrders.{child_starts}
 use Rattle.namespace_rows.proofs.Namespaces.{namespace_tests, ascending_filter, replaced_rooted, replaced_ascending, replaced_held, replaced_suits}

@@ -7,7 +7,7 @@ use Rattle.hdfs_values.specs.Text.{same, text_cmp}
 use Rattle.file_paths.specs.Path.{is_prefix, is_beneath}
 use Rattle.file_paths.specs.PathOrder.{path_cmp, same_path, paths_total}
 use Rattle.hdfs_values.proofs.Texts.{same_is, same_self}
-use Rattle.hdfs_types.specs.declared.reply.ObjectKind.TheVariants.{File}
+use Rattle.file_states.specs.declared.kind.ObjectKind.TheVariants.{File}
 use Rattle.acl_entries.specs.Acl.{Acl, EntryList, suits_file}
 use Rattle.default_acl.specs.Inheritance.{inherited_acl, acl_from_default}
 use Rattle.namespace_rows.specs.declared.file_row.FileRow.{FileRow}

@@ -1,7 +1,7 @@
 -- A namespace whose files a tick takes is a namespace.
 use Rattle.std.proofs.Common.{◌≡◌, ℕ, true, List, [], ◌∷◌, map, Option, Some, None, refl, ap}
 use Rattle.std.specs.List.{list_all}
-use Rattle.hdfs_types.specs.declared.file.FileState.TheVariants.{Closed, Recovering}
+use Rattle.file_states.specs.declared.state.FileState.TheVariants.{Closed, Recovering}
 use Rattle.recovery_queue.specs.declared.begun.BegunRecovery.{BegunRecovery}
 use Rattle.namespace_rows.specs.declared.row.Row.{Row}
 use Rattle.namespace_rows.specs.declared.row.Change.TheVariants as change

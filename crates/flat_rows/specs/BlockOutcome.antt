@@ -7,7 +7,7 @@ use Rattle.std.specs.Option.{option_map, option_and_then}
 use Rattle.std.specs.List.{filter_map}
 use Rattle.std.specs.Map.{keys_of}
 use Rattle.permission_bits.specs.Modes.{modes}
-use Rattle.hdfs_types.specs.declared.file.FileState.TheVariants.{Closed}
+use Rattle.file_states.specs.declared.state.FileState.TheVariants.{Closed}
 use Rattle.block_records.specs.declared.last_block.LastBlock.{LastBlock}
 use Rattle.block_answers.specs.declared.located.LocatedBlock.{LocatedBlock}
 use Rattle.hdfs_types.specs.declared.reply.Reply.{Reply}
@@ -26,7 +26,7 @@ use Rattle.namespace_rows.specs.declared.row.Row.{Row}
 use Rattle.namespace_rows.specs.declared.row.Change.TheVariants as change
 use Rattle.file_blocks.specs.Blocks.{last_of, length_of}
 use Rattle.namespace_rows.specs.Files.{ids_in, committed_at}
-use Rattle.flat_rows.specs.Changes.{row_rewritten, block_added}
+use Rattle.namespace_rows.specs.Changes.{row_rewritten, block_added}
 use Rattle.flat_rows.specs.NodeOutcome.{Tokens}
 
 -- how many replicas each block of a file is to have

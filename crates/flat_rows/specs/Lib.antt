@@ -3,7 +3,6 @@ pub mod DenialText
 pub mod Decision
 pub mod Laws
 pub mod Kept
-pub mod Changes
 pub mod Verdicts
 pub mod FileOutcome
 pub mod Facts

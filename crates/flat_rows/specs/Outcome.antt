@@ -11,9 +11,9 @@ use Rattle.file_paths.specs.Path.{is_prefix}
 use Rattle.hdfs_types.specs.declared.op.Op.{Op}
 use Rattle.hdfs_types.specs.declared.op.Op.TheVariants as op
 use Rattle.permission_specs.specs.declared.acl_change.AclChange.{AclChange}
-use Rattle.hdfs_types.specs.declared.reply.ObjectKind.{ObjectKind}
-use Rattle.hdfs_types.specs.declared.reply.ObjectKind.TheVariants.{Directory, File}
-use Rattle.hdfs_types.specs.declared.file.FileState.TheVariants.{Closed}
+use Rattle.file_states.specs.declared.kind.ObjectKind.{ObjectKind}
+use Rattle.file_states.specs.declared.kind.ObjectKind.TheVariants.{Directory, File}
+use Rattle.file_states.specs.declared.state.FileState.TheVariants.{Closed}
 use Rattle.hdfs_types.specs.declared.reply.Reply.{Reply}
 use Rattle.hdfs_types.specs.declared.reply.Reply.TheVariants as reply
 use Rattle.refusals.specs.declared.refusal.Refusal.{Refusal}
@@ -32,7 +32,7 @@ use Rattle.namespace_rows.specs.Rows.{is_directory, is_none, row_at, file_above,
 use Rattle.namespace_rows.specs.Namespace.{is_root}
 use Rattle.namespace_rows.specs.declared.file_row.FileRow.{FileRow}
 use Rattle.namespace_rows.specs.declared.row.Change.TheVariants as change
-use Rattle.flat_rows.specs.Changes.{rows_under, child_names, last_name, without, moved_row, with_rows_moved, row_rewritten, recovery_ended, are_paths}
+use Rattle.namespace_rows.specs.Changes.{rows_under, child_names, last_name, without, moved_row, with_rows_moved, row_rewritten, recovery_ended, are_paths}
 use Rattle.namespace_rows.specs.Files.{new_file, has_open_file}
 use Rattle.flat_rows.specs.FileOutcome.{directory_there, file_there, of_file, refused_write, detail_of_row, file_bytes, holder_at}
 use Rattle.block_map.specs.BlockFacts.{refused_recovered}

@@ -6,8 +6,8 @@ use Rattle.std.specs.Prelude.{ℕ, ◌-◌, ◌==◌, Bool, ◌||◌, not, nat_l
 use Rattle.std.specs.List.{filter_map, last_or}
 use Rattle.std.specs.Option.{is_some}
 use Rattle.hdfs_values.specs.Text.{same}
-use Rattle.hdfs_types.specs.declared.file.FileState.{FileState}
-use Rattle.hdfs_types.specs.declared.file.FileState.TheVariants.{Closed, Open, Recovering}
+use Rattle.file_states.specs.declared.state.FileState.{FileState}
+use Rattle.file_states.specs.declared.state.FileState.TheVariants.{Closed, Open, Recovering}
 use Rattle.refusals.specs.declared.refusal.Refusal.{Refusal}
 use Rattle.refusals.specs.declared.refusal.Refusal.TheVariants.{LeaseHeld, RecoveryRunning}
 use Rattle.hdfs_types.specs.declared.reply.Reply.{Reply}
@@ -20,7 +20,7 @@ use Rattle.namespace_rows.specs.declared.row.Row.{Row}
 use Rattle.namespace_rows.specs.declared.row.Change.TheVariants as change
 use Rattle.file_blocks.specs.Blocks.{unfinished_block}
 use Rattle.flat_rows.specs.BlockOutcome.{refused_by}
-use Rattle.flat_rows.specs.Changes.{with_change}
+use Rattle.namespace_rows.specs.Changes.{with_change}
 use Rattle.flat_rows.specs.Facts.{Facts}
 use Rattle.flat_rows.specs.declared.takeover.Sought.{Sought}
 

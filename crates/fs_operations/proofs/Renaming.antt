@@ -12,7 +12,7 @@ use Rattle.namespace_rows.specs.declared.row.Row.{Row}
 use Rattle.namespace_rows.specs.First.{first}
 use Rattle.namespace_rows.specs.Rows.{is_directory, is_none, is_missing, row_at, if_directory, directory_of}
 use Rattle.namespace_rows.specs.Namespace.{is_child, has_parent}
-use Rattle.flat_rows.specs.Changes.{are_paths}
+use Rattle.namespace_rows.specs.Changes.{are_paths}
 use Rattle.flat_rows.specs.Facts.{Facts}
 use Rattle.flat_rows.specs.Outcome.{refused_where, nothing_at, something_at, beneath_file, first_refusal, rows_moved}
 use Rattle.namespace_rows.proofs.Tests.{or_right}

@@ -7,8 +7,8 @@ use Rattle.permission_specs.specs.declared.acl_change.AclChange.TheVariants.{Set
 use Rattle.permission_specs.specs.declared.entry.Scope.TheVariants.{Default}
 use Rattle.hdfs_values.specs.declared.fault.AclFault.{AclFault}
 use Rattle.hdfs_values.specs.declared.fault.AclFault.TheVariants.{DefaultOnFile, NoBase, BaseRemoved, MaskRemoved}
-use Rattle.hdfs_types.specs.declared.reply.ObjectKind.{ObjectKind}
-use Rattle.hdfs_types.specs.declared.reply.ObjectKind.TheVariants.{File, Directory}
+use Rattle.file_states.specs.declared.kind.ObjectKind.{ObjectKind}
+use Rattle.file_states.specs.declared.kind.ObjectKind.TheVariants.{File, Directory}
 use Rattle.refusals.specs.declared.refusal.Refusal.TheVariants.{TooManyEntries}
 use Rattle.acl_entries.specs.Acl.{Acl, EntryList, suits_file}
 use Rattle.partial_acl.specs.AclChange.{acl_change, acl_after, unless_fault, first_acl_fault, lacks_base, removes_base, removes_mask, touches, spec_in, default_after, access_after, with_mode}
@@ -17,7 +17,7 @@ use Rattle.namespace_rows.specs.declared.file_row.FileRow.{FileRow}
 use Rattle.namespace_rows.specs.declared.row.Change.TheVariants as given
 use Rattle.namespace_rows.specs.Rows.{is_directory_kind, row_at}
 use Rattle.namespace_rows.specs.Namespace.{suits_kind, suits_parts}
-use Rattle.flat_rows.specs.Changes.{suits_change}
+use Rattle.namespace_rows.specs.Changes.{suits_change}
 use Rattle.namespace_rows.proofs.Tests.{both, and}
 use Rattle.inode_tree.specs.Tree.{IsTree}
 use Rattle.perm_walk.proofs.Standing.{row_suits}

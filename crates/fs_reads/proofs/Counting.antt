@@ -3,7 +3,7 @@ use Rattle.std.proofs.Common.{◌≡◌, ℕ, suc, ◌-◌, List, [], ◌∷◌,
 use Rattle.std.specs.List.{slice_get}
 use Rattle.std.specs.Option.{option_to_list}
 use Rattle.std.proofs.lemmas.Option.{slice_get-get_or}
-use Rattle.flat_rows.specs.Changes.{last_name}
+use Rattle.namespace_rows.specs.Changes.{last_name}
 use Rattle.flat_rows.specs.Outcome.{own_name}
 
 last_is : (name : List ℕ) (names : List (List ℕ)) → get_or (name ∷ names) (length names) [] ≡ last_name (name ∷ names)

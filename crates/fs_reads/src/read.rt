@@ -5,7 +5,7 @@ ghost use Rattle.principals.specs.Users.{Users};
 ghost use Rattle.required_rights.specs.RequiredRights.{required_rights};
 ghost use Rattle.flat_rows.specs.FileOutcome.{detail_of_row};
 ghost use Rattle.flat_rows.specs.Facts.{Facts};
-ghost use Rattle.flat_rows.specs.Changes as changes;
+ghost use Rattle.namespace_rows.specs.Changes as changes;
 ghost use Rattle.flat_rows.specs.Outcome as spec;
 ghost use Rattle.perm_walk.specs.Walked.{AreOn};
 ghost use Rattle.perm_walk.specs.JudgedStep.{judged_step};

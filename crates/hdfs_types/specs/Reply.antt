@@ -4,8 +4,8 @@ use Rattle.std.specs.Fmt.{decimal}
 use Rattle.std.specs.List.{flat_map}
 use Rattle.permission_bits.specs.Mode.{mode_text}
 use Rattle.hdfs_types.specs.AclStatus.{AclStatus}
-use Rattle.hdfs_types.specs.declared.reply.ObjectKind.{ObjectKind}
-use Rattle.hdfs_types.specs.declared.reply.ObjectKind.TheVariants.{File, Directory}
+use Rattle.file_states.specs.declared.kind.ObjectKind.{ObjectKind}
+use Rattle.file_states.specs.declared.kind.ObjectKind.TheVariants.{File, Directory}
 use Rattle.hdfs_types.specs.File.{detail_text}
 use Rattle.hdfs_types.specs.declared.file.FileDetail.{FileDetail}
 use Rattle.hdfs_types.specs.declared.reply.FileStatus.{FileStatus}

@@ -5,6 +5,7 @@ use crate::file::FileDetail;
 use block_answers::commands::Commands;
 use block_answers::located::{AddedBlock, OpenedFile};
 use file_paths::name::Name;
+pub use file_states::kind::ObjectKind;
 use hdfs_values::ids::{BlockId, Serial, Stamp};
 use hdfs_values::who::Who;
 use permission_bits::mode::Mode;
@@ -12,15 +13,6 @@ pub use refusals::refusal::{Counter, Refusal};
 use std::alloc::{AllocError, Global};
 use std::fmt;
 use std::marker::Model;
-
-/// Whether something is a file or a directory (HDFS Architecture, "The File System Namespace").
-#[derive(Clone, Copy, PartialEq, Eq)]
-pub enum ObjectKind {
-    /// It has blocks, and nothing is beneath it.
-    File,
-    /// It holds files and directories by their names.
-    Directory,
-}
 
 /// What is reported of a file alone, in a box: most looks are at directories, and a history keeps what each reported.
 pub struct BoxedDetail {

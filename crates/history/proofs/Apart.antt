@@ -11,7 +11,7 @@ use Rattle.namespace_rows.specs.declared.row.Row.{Row}
 use Rattle.namespace_rows.specs.First.{first}
 use Rattle.namespace_rows.specs.Rows.{is_missing, is_none, is_directory, row_at, ancestor}
 use Rattle.namespace_rows.specs.Namespace.{IsNamespace, is_ascending, is_before_all, is_root}
-use Rattle.flat_rows.specs.Changes.{rows_under}
+use Rattle.namespace_rows.specs.Changes.{rows_under}
 use Rattle.flat_rows.specs.FileOutcome.{directory_there}
 use Rattle.namespace_rows.proofs.Tests.{both, and, or_left, or_right, all_imp}
 use Rattle.namespace_rows.proofs.PathOrders.{same_path_is, less_is}

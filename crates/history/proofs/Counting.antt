@@ -8,7 +8,7 @@ use Rattle.file_paths.specs.Path.{is_prefix}
 use Rattle.file_paths.specs.PathOrder.{path_cmp}
 use Rattle.namespace_rows.specs.declared.row.Row.{Row}
 use Rattle.namespace_rows.specs.Rows.{is_before, is_beyond, rows_replaced}
-use Rattle.flat_rows.specs.Changes.{rows_under, without}
+use Rattle.namespace_rows.specs.Changes.{rows_under, without}
 use Rattle.namespace_rows.proofs.Tests.{both}
 use Rattle.namespace_rows.proofs.PathOrders.{starts_upto, tied_starts}
 

@@ -7,7 +7,7 @@ use Rattle.std.specs.Ordering.{is_lt, is_eq}
 use Rattle.hdfs_values.specs.Text.{same}
 use Rattle.file_paths.specs.Path.{is_prefix}
 use Rattle.file_paths.specs.PathOrder.{path_cmp, same_path}
-use Rattle.hdfs_types.specs.declared.file.FileState.{FileState}
+use Rattle.file_states.specs.declared.state.FileState.{FileState}
 use Rattle.namespace_rows.specs.declared.file_row.FileRow.{FileRow}
 use Rattle.namespace_rows.specs.declared.row.Row.{Row}
 use Rattle.namespace_rows.specs.declared.row.Change.{Change}
@@ -17,7 +17,7 @@ use Rattle.namespace_rows.specs.Rows.{is_missing, row_at, ancestor, rows_replace
 use Rattle.namespace_rows.specs.Namespace.{IsNamespace, is_ascending, is_before_all}
 use Rattle.namespace_rows.specs.Files.{holder_of, holder_of_file, is_client, is_open_by, has_open_file, holders, with_state, with_file_replication}
 use Rattle.flat_rows.specs.Outcome.{new_rows, new_row, mode_of_new, with_new}
-use Rattle.flat_rows.specs.Changes.{rows_under, without, moved_row, with_rows_moved, with_change, row_rewritten}
+use Rattle.namespace_rows.specs.Changes.{rows_under, without, moved_row, with_rows_moved, with_change, row_rewritten}
 use Rattle.namespace_rows.proofs.Tests.{both, all_kept}
 use Rattle.namespace_rows.proofs.PathOrders.{same_path_is, less_is}
 use Rattle.flat_rows.proofs.NewDirectories.{beneath_parts, ancestor_above}

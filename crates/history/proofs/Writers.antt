@@ -7,8 +7,8 @@ use Rattle.hdfs_values.proofs.Texts.{same_is}
 use Rattle.file_paths.specs.PathOrder.{path_cmp, same_path}
 use Rattle.hdfs_types.specs.declared.op.Op.{Op}
 use Rattle.hdfs_types.specs.declared.op.Op.TheVariants as op
-use Rattle.hdfs_types.specs.declared.file.FileState.{FileState}
-use Rattle.hdfs_types.specs.declared.file.FileState.TheVariants.{Closed, Open, Recovering}
+use Rattle.file_states.specs.declared.state.FileState.{FileState}
+use Rattle.file_states.specs.declared.state.FileState.TheVariants.{Closed, Open, Recovering}
 use Rattle.refusals.specs.declared.refusal.Refusal.{Refusal}
 use Rattle.refusals.specs.declared.refusal.Refusal.TheVariants.{LeaseHeld, NotDirectory, IsDirectory}
 use Rattle.principals.specs.Users.{Users}

@@ -3,11 +3,11 @@ use Rattle.std.proofs.Common.{◌≡◌, ℕ, ◌+◌, ◌≤◌, ◌==◌, Bool
 use Rattle.std.proofs.lemmas.Bool.{lt-ltb, le-ltb, ltb-true}
 use Rattle.std.specs.Option.{option_map}
 use Rattle.slab.specs.Slab.{Slab, get, Updates}
-use Rattle.hdfs_types.specs.declared.file.FileState.TheVariants.{Closed}
+use Rattle.file_states.specs.declared.state.FileState.TheVariants.{Closed}
 use Rattle.namespace_rows.specs.declared.file_row.FileRow.{FileRow}
 use Rattle.namespace_rows.specs.declared.row.Row.{Row}
 use Rattle.namespace_rows.specs.Files.{with_state}
-use Rattle.flat_rows.specs.Changes.{with_file, file_edited}
+use Rattle.namespace_rows.specs.Changes.{with_file, file_edited}
 use Rattle.flat_rows.proofs.Holders.{bit, tally, tally_cons}
 use Rattle.inode_nodes.specs.Node.{Node, flatten, rows, under}
 use Rattle.inode_nodes.proofs.Filters.{Entries}

@@ -11,7 +11,7 @@ use Rattle.namespace_rows.specs.declared.row.Change.{Change}
 use Rattle.namespace_rows.specs.declared.row.Change.TheVariants as change
 use Rattle.namespace_rows.specs.Rows.{is_missing, rows_replaced, with_sub_tree}
 use Rattle.namespace_rows.specs.Namespace.{IsNamespace}
-use Rattle.flat_rows.specs.Changes.{rows_under, without, moved_row, with_rows_moved, with_change, row_rewritten}
+use Rattle.namespace_rows.specs.Changes.{rows_under, without, moved_row, with_rows_moved, with_change, row_rewritten}
 use Rattle.flat_rows.specs.Outcome.{mode_of_new, file_of_new, new_row, new_rows, with_new}
 use Rattle.flat_rows.proofs.Holders.{tally, tally_map, tally_split, tally_replaced, all_apart}
 use Rattle.file_table.specs.Kept.{is_at_place, rows_at_place}

@@ -18,7 +18,7 @@ use Rattle.namespace_rows.specs.Namespace.{IsNamespace, is_ascending, is_before_
 use Rattle.namespace_rows.proofs.Tests.{both, and}
 use Rattle.namespace_rows.proofs.Namespaces.{namespace_tests}
 use Rattle.namespace_rows.proofs.PathOrders.{less_is, starts_upto, same_path_is}
-use Rattle.flat_rows.specs.Changes.{rows_under, without, with_rows_moved, with_file}
+use Rattle.namespace_rows.specs.Changes.{rows_under, without, with_rows_moved, with_file}
 use Rattle.flat_rows.specs.Outcome.{kind_of_new, with_new}
 use Rattle.flat_rows.proofs.Changes.{same_self}
 use Rattle.flat_rows.proofs.Firsts.{first_passes}

@@ -8,7 +8,7 @@ use Rattle.std.proofs.lemmas.List.Folds.{list_all-append}
 use Rattle.file_paths.specs.Name.{is_name}
 use Rattle.file_paths.specs.Path.{IsPath, is_path, path_text, component}
 use Rattle.namespace_rows.specs.declared.row.Row.{Row}
-use Rattle.flat_rows.specs.Changes.{rows_under, moved_row, are_paths}
+use Rattle.namespace_rows.specs.Changes.{rows_under, moved_row, are_paths}
 use Rattle.namespace_rows.proofs.Tests.{both, and, all_imp, all_kept}
 use Rattle.inode_nodes.specs.Node.{Node, flatten, rows, rows_or, under, row_placed}
 use Rattle.inode_nodes.specs.Part.{IsWhole}

@@ -13,7 +13,7 @@ use Rattle.namespace_rows.specs.Rows.{row_at}
 use Rattle.namespace_rows.specs.Namespace.{is_ascending, is_before_all}
 use Rattle.namespace_rows.proofs.Tests.{both}
 use Rattle.namespace_rows.proofs.PathOrders.{less_is, same_path_is}
-use Rattle.flat_rows.specs.Changes.{with_file, file_edited}
+use Rattle.namespace_rows.specs.Changes.{with_file, file_edited}
 use Rattle.flat_rows.proofs.Holders.{bit, tally, tally_cons}
 use Rattle.file_table.specs.Place.{place_in}
 use Rattle.file_table.specs.Seen.{file_held, seen, seen_rows}

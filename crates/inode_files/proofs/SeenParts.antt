@@ -7,7 +7,7 @@ use Rattle.namespace_rows.specs.declared.row.Row.{Row}
 use Rattle.namespace_rows.specs.First.{first}
 use Rattle.namespace_rows.specs.Rows.{row_at}
 use Rattle.namespace_rows.specs.Namespace.{is_ascending}
-use Rattle.flat_rows.specs.Changes.{row_rewritten}
+use Rattle.namespace_rows.specs.Changes.{row_rewritten}
 use Rattle.file_table.specs.Place.{placed}
 use Rattle.file_table.specs.Kept.{AreKept}
 use Rattle.file_table.specs.Seen.{file_held, seen, seen_rows}

@@ -9,7 +9,7 @@ use Rattle.namespace_rows.specs.declared.row.Change.TheVariants as change
 use Rattle.namespace_rows.specs.First.{first}
 use Rattle.namespace_rows.specs.Rows.{is_directory, is_none, row_at, is_missing, file_above, ancestor, is_before, is_beyond, rows_replaced, with_sub_tree}
 use Rattle.namespace_rows.specs.Namespace.{is_before_all, is_root, is_rooted, is_ascending, has_parent, have_parents, suits_parts, suits_kind, is_namespace}
-use Rattle.flat_rows.specs.Changes.{rows_under, children, last_name, child_names, without, moved_row, with_rows_moved, with_file, with_change, row_rewritten, are_paths}
+use Rattle.namespace_rows.specs.Changes.{rows_under, children, last_name, child_names, without, moved_row, with_rows_moved, with_file, with_change, row_rewritten, are_paths}
 use Rattle.flat_rows.specs.Outcome.{is_alone, mode_of_new, file_of_new, kind_of_new, new_row, new_rows, with_new}
 
 abbrev pub shown : (Option FileRow → Option FileRow) → Row → Row

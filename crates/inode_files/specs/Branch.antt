@@ -3,7 +3,7 @@ use Rattle.std.specs.Prelude.{ℕ, List, map, if◌then◌else◌}
 use Rattle.file_paths.specs.PathOrder.{same_path}
 use Rattle.namespace_rows.specs.declared.file_row.FileRow.{FileRow}
 use Rattle.namespace_rows.specs.declared.row.Row.{Row}
-use Rattle.flat_rows.specs.Changes.{file_edited}
+use Rattle.namespace_rows.specs.Changes.{file_edited}
 use Rattle.inode_nodes.specs.Node.{Node}
 use Rattle.inode_visits.specs.SeenNode.{seen_branch}
 use Rattle.inode_files.specs.declared.inode.Inode.{Inode}

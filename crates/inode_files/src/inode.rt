@@ -5,7 +5,7 @@ ghost use Rattle.acl_entries.specs.JudgedEntry.{judged_entry};
 ghost use Rattle.namespace_rows.specs.Files.{holder_of_file, holders, blocks_in};
 ghost use Rattle.namespace_rows.specs.First.{first};
 ghost use Rattle.namespace_rows.specs.Namespace.{is_ascending};
-ghost use Rattle.flat_rows.specs.Changes.{are_paths, child_names};
+ghost use Rattle.namespace_rows.specs.Changes.{are_paths, child_names};
 ghost use Rattle.flat_rows.specs.Outcome.{is_alone};
 ghost use Rattle.inode_nodes.specs.Node.{rows, row_placed};
 ghost use Rattle.inode_nodes.specs.Part.{IsPart};

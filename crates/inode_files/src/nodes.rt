@@ -5,7 +5,7 @@ ghost use Rattle.file_paths.specs.Path.{is_prefix};
 ghost use Rattle.namespace_rows.specs.Namespace.{IsNamespace, has_parent, is_ascending};
 ghost use Rattle.namespace_rows.specs.Rows.{row_at, has_file, is_missing, file_above, ancestor, with_sub_tree};
 ghost use Rattle.flat_rows.specs.Outcome.{kind_of_new, with_new};
-ghost use Rattle.flat_rows.specs.Changes.{without, with_rows_moved, row_rewritten, block_added};
+ghost use Rattle.namespace_rows.specs.Changes.{without, with_rows_moved, row_rewritten, block_added};
 ghost use Rattle.file_table.specs.Changed.{file_changed};
 ghost use Rattle.file_table.specs.Place.{placed};
 ghost use Rattle.inode_nodes.specs.Change.{change_of};

@@ -14,7 +14,7 @@ use Rattle.file_paths.specs.Path.{is_prefix}
 use Rattle.file_paths.specs.PathOrder.{path_cmp}
 use Rattle.namespace_rows.specs.declared.row.Row.{Row}
 use Rattle.namespace_rows.specs.Namespace.{is_ascending, is_before_all, is_child}
-use Rattle.flat_rows.specs.Changes.{last_name, child_names}
+use Rattle.namespace_rows.specs.Changes.{last_name, child_names}
 use Rattle.namespace_rows.proofs.Tests.{both, and}
 use Rattle.flat_rows.proofs.Moves.{front_cmp, front_child}
 use Rattle.namespace_rows.proofs.Namespaces.{ascending_filter}

@@ -13,7 +13,7 @@ use Rattle.namespace_rows.specs.declared.row.Row.{Row}
 use Rattle.namespace_rows.specs.Rows.{is_before, is_beyond, rows_replaced}
 use Rattle.namespace_rows.specs.declared.file_row.FileRow.{FileRow}
 use Rattle.namespace_rows.specs.Files.{with_state, with_file_replication, without_last, committed_at, completed_at, recovered_at}
-use Rattle.flat_rows.specs.Changes.{without, file_edited, with_change}
+use Rattle.namespace_rows.specs.Changes.{without, file_edited, with_change}
 use Rattle.inode_nodes.specs.Node.{Node, Top, flatten, rows, row_of, top_of, under, row_placed}
 use Rattle.inode_nodes.specs.Change.{branch_grafted}
 use Rattle.inode_nodes.proofs.Split.{R, Side, split, at, entry}

@@ -8,7 +8,7 @@ use Rattle.std.specs.BTreeMap.{insert_entry}
 use Rattle.std.specs.Option.{option_map}
 use Rattle.permission_bits.specs.Mode.{for_missing_parent}
 use Rattle.file_paths.specs.Path.{is_beneath}
-use Rattle.hdfs_types.specs.declared.reply.ObjectKind.TheVariants.{Directory}
+use Rattle.file_states.specs.declared.kind.ObjectKind.TheVariants.{Directory}
 use Rattle.acl_entries.specs.Acl.{Acl}
 use Rattle.default_acl.specs.Inheritance.{inherited_acl}
 use Rattle.namespace_rows.specs.declared.file_row.FileRow.{FileRow}

@@ -13,7 +13,7 @@ use Rattle.hdfs_values.proofs.Texts.{same_is, same_symm}
 use Rattle.namespace_rows.specs.declared.row.Row.{Row}
 use Rattle.namespace_rows.specs.First.{first}
 use Rattle.namespace_rows.specs.Rows.{is_before, is_beyond, is_none, is_missing, rows_replaced}
-use Rattle.flat_rows.specs.Changes.{rows_under, without, moved_row, with_rows_moved}
+use Rattle.namespace_rows.specs.Changes.{rows_under, without, moved_row, with_rows_moved}
 use Rattle.namespace_rows.proofs.Tests.{both}
 use Rattle.namespace_rows.proofs.PathOrders.{tied_starts, starts_upto}
 use Rattle.flat_rows.proofs.Moves.{front_at, front_inside}

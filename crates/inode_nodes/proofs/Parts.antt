@@ -7,7 +7,7 @@ use Rattle.std.specs.List.Sorted.{IsStrictlySortedBy}
 use Rattle.std.specs.Map.{keys_of, lookup}
 use Rattle.namespace_rows.specs.declared.file_row.FileRow.{FileRow}
 use Rattle.namespace_rows.specs.declared.row.Row.{Row}
-use Rattle.flat_rows.specs.Changes.{rows_under}
+use Rattle.namespace_rows.specs.Changes.{rows_under}
 use Rattle.inode_nodes.specs.Kept.{branch_of, rows_in, IsSorted}
 use Rattle.inode_nodes.specs.declared.node.Held.TheVariants.{File, Directory}
 use Rattle.inode_nodes.specs.declared.node.Node.TheInside.{Inside}

@@ -15,7 +15,7 @@ use Rattle.namespace_rows.specs.First.{first}
 use Rattle.namespace_rows.specs.Rows.{is_directory, is_none, is_missing}
 use Rattle.namespace_rows.specs.Namespace.{is_child, has_parent}
 use Rattle.namespace_rows.specs.declared.row.Change.{Change}
-use Rattle.flat_rows.specs.Changes.{without, with_change, row_rewritten}
+use Rattle.namespace_rows.specs.Changes.{without, with_change, row_rewritten}
 use Rattle.inode_nodes.specs.Kept.{branch_of, rows_in, IsSorted}
 use Rattle.inode_nodes.specs.declared.node.Held.{Held}
 use Rattle.inode_nodes.specs.declared.node.Held.TheVariants.{File, Directory}

@@ -7,7 +7,7 @@ use Rattle.namespace_rows.specs.declared.row.Change.TheVariants as change
 use Rattle.namespace_rows.specs.declared.row.Row.{Row}
 use Rattle.namespace_rows.specs.Rows.{rows_replaced}
 use Rattle.namespace_rows.specs.Namespace.{has_parent}
-use Rattle.flat_rows.specs.Changes.{with_change}
+use Rattle.namespace_rows.specs.Changes.{with_change}
 use Rattle.flat_rows.specs.Outcome.{mode_of_new, file_of_new, new_at, new_rows}
 use Rattle.inode_nodes.specs.Node.{Top, Node, rows, row_of, top_of, row_placed}
 use Rattle.inode_nodes.specs.declared.change.Given.{Given}

@@ -3,7 +3,7 @@ use Rattle.std.specs.Prelude.{◌≡◌, ℕ, Bool, false, List, map, filter, Op
 use Rattle.std.specs.declared.cmp.Ordering.TheVariants.{Less, Greater}
 use Rattle.hdfs_values.specs.Text.{text_cmp}
 use Rattle.namespace_rows.specs.declared.row.Row.{Row}
-use Rattle.flat_rows.specs.Changes.{rows_under}
+use Rattle.namespace_rows.specs.Changes.{rows_under}
 use Rattle.inode_nodes.specs.Node.{Node, rows_or, under, row_placed}
 
 -- A test p passes the rows at a name as q passes the rows of its branch, and all rows before it or none, and all behind it or none.

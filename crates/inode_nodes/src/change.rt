@@ -6,7 +6,7 @@ ghost use Rattle.hdfs_values.specs.Text.{text_cmp};
 ghost use Rattle.namespace_rows.specs.Rows.{is_missing, file_above, ancestor};
 ghost use Rattle.namespace_rows.specs.Namespace.{has_parent};
 ghost use Rattle.flat_rows.specs.Outcome.{kind_of_new, with_new};
-ghost use Rattle.flat_rows.specs.Changes.{without, with_rows_moved, row_rewritten};
+ghost use Rattle.namespace_rows.specs.Changes.{without, with_rows_moved, row_rewritten};
 ghost use Rattle.inode_nodes.specs.Node.{Top, rows, row_of, under, flatten, with_rows};
 ghost use Rattle.inode_nodes.specs.Part.{IsWhole};
 ghost use Rattle.inode_nodes.specs.Change.{branch_grafted, holds_parent, chain, changed_top, change_of};

@@ -11,7 +11,7 @@ use Rattle.flat_rows.specs.Outcome.{bytes_in}
 use Rattle.namespace_rows.specs.First.{first}
 use Rattle.namespace_rows.specs.Rows.{is_directory}
 use Rattle.namespace_rows.specs.Namespace.{is_ascending}
-use Rattle.flat_rows.specs.Changes.{rows_under, child_names, are_paths}
+use Rattle.namespace_rows.specs.Changes.{rows_under, child_names, are_paths}
 use Rattle.namespace_rows.proofs.Tests.{both, all_kept}
 use Rattle.namespace_rows.proofs.Namespaces.{namespace_tests}
 use Rattle.inode_nodes.specs.Node.{Node, rows, rows_or, row_placed}

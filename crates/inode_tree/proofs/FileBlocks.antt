@@ -4,7 +4,7 @@ use Rattle.std.proofs.Math.Seq.{take-append_seam}
 use Rattle.std.specs.Option.{option_map}
 use Rattle.std.specs.declared.alloc.AllocError.{AllocError}
 use Rattle.file_paths.specs.PathOrder.{same_path}
-use Rattle.hdfs_types.specs.declared.file.FileState.TheVariants.{Closed}
+use Rattle.file_states.specs.declared.state.FileState.TheVariants.{Closed}
 use Rattle.file_blocks.specs.declared.blocks.FileBlock.{FileBlock}
 use Rattle.namespace_rows.specs.declared.file_row.FileRow.{FileRow}
 use Rattle.namespace_rows.specs.declared.row.Row.{Row}
@@ -14,7 +14,7 @@ use Rattle.namespace_rows.specs.Files.{blocks_in, with_block, with_state, withou
 use Rattle.namespace_rows.specs.Namespace.{is_namespace}
 use Rattle.namespace_rows.proofs.Tests.{both}
 use Rattle.file_blocks.proofs.Commits.{committed_before}
-use Rattle.flat_rows.specs.Changes.{with_file, file_edited, row_rewritten, block_added, is_recovered, recovers_nowhere_else, recovery_ended, rows_under, suits_change, are_paths}
+use Rattle.namespace_rows.specs.Changes.{with_file, file_edited, row_rewritten, block_added, is_recovered, recovers_nowhere_else, recovery_ended, rows_under, suits_change, are_paths}
 use Rattle.flat_rows.proofs.Changes.{edited_namespace, edited_paths}
 use Rattle.inode_nodes.specs.Node.{Node, rows_or, row_placed}
 use Rattle.inode_nodes.specs.Part.{IsWhole}

@@ -10,7 +10,7 @@ use Rattle.namespace_rows.specs.declared.row.Row.{Row}
 use Rattle.namespace_rows.specs.Rows.{is_directory_kind, is_missing, row_at, file_above, ancestor, with_sub_tree}
 use Rattle.namespace_rows.specs.Namespace.{has_parent, is_root, suits_parts, suits_kind, fits}
 use Rattle.flat_rows.specs.Outcome.{kind_of_new, with_new}
-use Rattle.flat_rows.specs.Changes.{are_paths, rows_under, without, moved_row, with_rows_moved, row_rewritten, suits_change}
+use Rattle.namespace_rows.specs.Changes.{are_paths, rows_under, without, moved_row, with_rows_moved, row_rewritten, suits_change}
 use Rattle.namespace_rows.proofs.Tests.{and}
 use Rattle.namespace_rows.proofs.Namespaces.{with_sub_tree_namespace}
 use Rattle.flat_rows.proofs.NewDirectories.{missing_fit}

@@ -2,7 +2,7 @@
 use Rattle.std.specs.Prelude.{List, IsTrue}
 use Rattle.namespace_rows.specs.declared.row.Row.{Row}
 use Rattle.namespace_rows.specs.Namespace.{IsNamespace}
-use Rattle.flat_rows.specs.Changes.{are_paths}
+use Rattle.namespace_rows.specs.Changes.{are_paths}
 pub use Rattle.inode_files.specs.Branch.{branch_at}
 
 pub record IsTree (rows : List Row) : Type 0 where

@@ -1,7 +1,7 @@
 ghost use Rattle.std.specs.Prelude.{ℕ, List, ◌≡◌, ◌==◌, true, false, [], ◌∷◌, ◌||◌, ◌≤◌, length, map, filter, not, None, Some, IsTrue, IfOk, IfSome, OnOk, OnErr};
 ghost use Rattle.std.specs.Option.{option_map};
 ghost use Rattle.file_paths.specs.Path.{is_prefix};
-ghost use Rattle.hdfs_types.specs.declared.file.FileState.TheVariants.{Closed};
+ghost use Rattle.file_states.specs.declared.state.FileState.TheVariants.{Closed};
 ghost use Rattle.acl_entries.specs.Acl.{suits_file};
 ghost use Rattle.namespace_rows.specs.Opening.{root_row};
 ghost use Rattle.namespace_rows.specs.Rows.{row_at, has_file, is_directory_kind, is_missing, file_above, ancestor, with_sub_tree};
@@ -10,7 +10,7 @@ ghost use Rattle.namespace_rows.specs.Files.{holders, blocks_in};
 ghost use Rattle.namespace_rows.specs.declared.row.Row.{Row};
 ghost use Rattle.namespace_rows.specs.declared.row.Change.TheVariants as change;
 ghost use Rattle.flat_rows.specs.Outcome.{is_alone, kind_of_new, with_new};
-ghost use Rattle.flat_rows.specs.Changes.{rows_under, without, moved_row, with_rows_moved, row_rewritten, block_added, recovery_ended, recovers_nowhere_else, suits_change, are_paths, child_names};
+ghost use Rattle.namespace_rows.specs.Changes.{rows_under, without, moved_row, with_rows_moved, row_rewritten, block_added, recovery_ended, recovers_nowhere_else, suits_change, are_paths, child_names};
 ghost use Rattle.namespace_rows.specs.First.{first};
 ghost use Rattle.inode_visits.specs.Visits.{counts_of, is_closed};
 ghost use Rattle.inode_nodes.specs.Node.{rows, row_of};

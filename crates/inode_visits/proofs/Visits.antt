@@ -16,7 +16,7 @@ use Rattle.flat_rows.specs.FileOutcome.{file_bytes}
 use Rattle.flat_rows.specs.Outcome.{bytes_in}
 use Rattle.namespace_rows.specs.First.{first}
 use Rattle.namespace_rows.specs.Rows.{is_directory}
-use Rattle.flat_rows.specs.Changes.{are_paths}
+use Rattle.namespace_rows.specs.Changes.{are_paths}
 use Rattle.namespace_rows.proofs.Tests.{both}
 use Rattle.inode_nodes.specs.Node.{Node, flatten, rows, row_of, top_of, under, row_placed}
 use Rattle.file_table.specs.Seen.{seen, seen_rows}

@@ -2,7 +2,7 @@
 use Rattle.std.specs.Prelude.{ℕ, ◌+◌, Bool, ◌&&◌, ◌^◌, ◌-◌, not, min, List, length, filter, reverse, Option, None}
 use Rattle.std.specs.Option.{option_and_then}
 use Rattle.permission_bits.specs.declared.rights.Rights.{Rights}
-use Rattle.hdfs_types.specs.declared.reply.ObjectKind.TheVariants.{Directory}
+use Rattle.file_states.specs.declared.kind.ObjectKind.TheVariants.{Directory}
 use Rattle.namespace_rows.specs.declared.row.Row.{Row}
 use Rattle.namespace_rows.specs.Rows.{is_directory}
 use Rattle.file_blocks.specs.Blocks.{told_length}

@@ -6,7 +6,7 @@ ghost use Rattle.file_paths.specs.Path.{IsPath};
 ghost use Rattle.namespace_rows.specs.Files as spec;
 ghost use Rattle.namespace_rows.specs.First.{first};
 ghost use Rattle.namespace_rows.specs.Namespace.{is_ascending};
-ghost use Rattle.flat_rows.specs.Changes.{are_paths, child_names};
+ghost use Rattle.namespace_rows.specs.Changes.{are_paths, child_names};
 ghost use Rattle.flat_rows.specs.FileOutcome.{file_bytes};
 ghost use Rattle.inode_nodes.specs.Node.{rows, row_of, flatten, under, row_placed};
 ghost use Rattle.file_table.specs.Place.{placed};

@@ -32,7 +32,7 @@ use Rattle.namespace_rows.specs.declared.row.Row.{Row}
 use Rattle.namespace_rows.specs.Files.{blocks_in}
 use Rattle.namespace_rows.specs.Rows.{row_at}
 use Rattle.flat_rows.specs.BlockOutcome.{replication_at, ids_at}
-use Rattle.flat_rows.specs.Changes.{rows_under}
+use Rattle.namespace_rows.specs.Changes.{rows_under}
 use Rattle.flat_rows.specs.Facts.{Facts}
 use Rattle.flat_rows.specs.FileOutcome.{holder_at}
 use Rattle.flat_rows.specs.Takeover.{unfinished_at, sought_blocks}

@@ -33,7 +33,7 @@ use Rattle.namespace_rows.specs.Files.{blocks_in}
 use Rattle.namespace_rows.specs.Namespace.{IsNamespace}
 use Rattle.namespace_rows.specs.Rows.{row_at}
 use Rattle.flat_rows.specs.BlockOutcome.{replication_at, replication_of, ids_at}
-use Rattle.flat_rows.specs.Changes.{rows_under}
+use Rattle.namespace_rows.specs.Changes.{rows_under}
 use Rattle.flat_rows.specs.Facts.{Facts}
 use Rattle.flat_rows.specs.FileOutcome.{holder_at}
 use Rattle.flat_rows.specs.Outcome.{first_refusal}

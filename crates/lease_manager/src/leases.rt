@@ -7,10 +7,10 @@ ghost use Rattle.refusals.specs.declared.refusal.Refusal.TheVariants.{NoLease};
 ghost use Rattle.lease_manager.specs.Leases as spec;
 ghost use Rattle.lease_manager.specs.Shown.{renewals_of};
 
-use hdfs_types::reply::Refusal;
 use hdfs_values::moment::Moment;
 use hdfs_values::who::Who;
 use lru::LruCache;
+use refusals::refusal::Refusal;
 use std::alloc::{AllocError, Global};
 use std::marker::Model;
 

@@ -2,7 +2,7 @@
 use Rattle.std.proofs.Common.{◌≡◌, ◌≤◌, ℕ, true, List, Option, Some, None, arith, refl, sym, subst}
 use Rattle.namespace_rows.specs.declared.row.Row.{Row}
 use Rattle.namespace_rows.specs.Rows.{row_at}
-use Rattle.flat_rows.specs.Changes.{recovers_nowhere_else}
+use Rattle.namespace_rows.specs.Changes.{recovers_nowhere_else}
 use Rattle.history.specs.State.{rows_of}
 use Rattle.block_laws.proofs.Overdue.{one_file_recovers, overdue_are_due}
 use Rattle.namesystem.specs.Performed.{KnowsRecoveries, recovers_at}

@@ -4,3 +4,4 @@ pub mod Namespace
 pub mod Files
 pub mod Opening
 pub mod Judgement
+pub mod Changes

@@ -1,6 +1,6 @@
 -- The namespace that a core opens with: the root alone, of mode 0755, owned by the superuser and the supergroup.
 use Rattle.std.specs.Prelude.{ℕ, List, [], None}
-use Rattle.hdfs_types.specs.declared.reply.ObjectKind.TheVariants.{Directory}
+use Rattle.file_states.specs.declared.kind.ObjectKind.TheVariants.{Directory}
 use Rattle.acl_entries.specs.Acl.{acl_of_mode}
 use Rattle.namespace_rows.specs.declared.row.Row.{Row}
 

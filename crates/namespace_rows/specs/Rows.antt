@@ -7,8 +7,8 @@ use Rattle.std.specs.Ordering.{is_gt, is_lt}
 use Rattle.hdfs_values.specs.Text.{same}
 use Rattle.file_paths.specs.Path.{is_beneath, is_prefix, parent_of}
 use Rattle.file_paths.specs.PathOrder.{path_cmp, same_path}
-use Rattle.hdfs_types.specs.declared.reply.ObjectKind.{ObjectKind}
-use Rattle.hdfs_types.specs.declared.reply.ObjectKind.TheVariants.{File, Directory}
+use Rattle.file_states.specs.declared.kind.ObjectKind.{ObjectKind}
+use Rattle.file_states.specs.declared.kind.ObjectKind.TheVariants.{File, Directory}
 use Rattle.namespace_rows.specs.declared.row.Row.{Row}
 use Rattle.namespace_rows.specs.First.{first}
 

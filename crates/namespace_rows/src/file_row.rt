@@ -2,7 +2,7 @@ ghost use Rattle.std.specs.Prelude.{◌≡◌, IfOk};
 ghost use Rattle.namespace_rows.specs.Files as spec;
 
 use file_blocks::blocks::{FileBlocks, ShownBlocks};
-use hdfs_types::file::FileState;
+use file_states::state::FileState;
 use hdfs_values::ids::BlockId;
 use hdfs_values::replication::Repl;
 use hdfs_values::who::Who;

@@ -8,7 +8,7 @@ use crate::row::Row;
 use acl_entries::acl::Acl;
 use file_paths::name::Name;
 use file_paths::path::{Path, is_proper_prefix, is_same};
-use hdfs_types::reply::ObjectKind;
+use file_states::kind::ObjectKind;
 use hdfs_values::who::Who;
 use permission_bits::mode::Mode;
 use std::alloc::{AllocError, Global};

@@ -5,7 +5,7 @@ use Rattle.hdfs_types.specs.declared.op.Op.TheVariants as op
 use Rattle.hdfs_types.specs.declared.reply.Reply.TheVariants as reply
 use Rattle.refusals.specs.declared.refusal.Refusal.{Refusal}
 use Rattle.refusals.specs.declared.refusal.Refusal.TheVariants.{LeaseHeld}
-use Rattle.hdfs_types.specs.declared.file.FileState.TheVariants as state
+use Rattle.file_states.specs.declared.state.FileState.TheVariants as state
 use Rattle.block_map.specs.BlockFacts.{Blocks}
 use Rattle.namespace_rows.specs.declared.file_row.FileRow.{FileRow}
 use Rattle.namespace_rows.specs.declared.row.Row.{Row}
@@ -13,7 +13,7 @@ use Rattle.namespace_rows.specs.declared.row.Change.TheVariants as change
 use Rattle.namespace_rows.specs.Rows.{row_at}
 use Rattle.file_blocks.specs.Blocks.{unfinished_block}
 use Rattle.namespace_rows.specs.Files.{holder_of, holder_of_file}
-use Rattle.flat_rows.specs.Changes.{row_rewritten}
+use Rattle.namespace_rows.specs.Changes.{row_rewritten}
 use Rattle.flat_rows.specs.Facts.{Facts}
 use Rattle.flat_rows.specs.FileOutcome.{holder_at}
 use Rattle.flat_rows.specs.Takeover.{unfinished_of, unfinished_at, refused_taking, taken_state, taken_reply, appended_reply, state_after_append}

@@ -1,8 +1,8 @@
 -- What the end of a recovery leaves.
 use Rattle.std.proofs.Common.{◌≡◌, ℕ, ◌==◌, Bool, true, false, List, length, Option, Some, None, refl, sym, ap, ◌∙◌, subst, cond}
 use Rattle.std.specs.Option.{option_map}
-use Rattle.hdfs_types.specs.declared.file.FileState.{FileState}
-use Rattle.hdfs_types.specs.declared.file.FileState.TheVariants.{Closed, Open, Recovering}
+use Rattle.file_states.specs.declared.state.FileState.{FileState}
+use Rattle.file_states.specs.declared.state.FileState.TheVariants.{Closed, Open, Recovering}
 use Rattle.hdfs_types.specs.declared.op.Op.TheVariants as op
 use Rattle.hdfs_types.specs.declared.replica.RecoveredBlock.{RecoveredBlock}
 use Rattle.refusals.specs.declared.refusal.Refusal.{Refusal}
@@ -12,7 +12,7 @@ use Rattle.namespace_rows.specs.declared.file_row.FileRow.{FileRow}
 use Rattle.namespace_rows.specs.declared.row.Row.{Row}
 use Rattle.namespace_rows.specs.Files.{committed_at, recovered_at, state_recovers, with_state, holder_of, holder_of_file, is_client, open_files}
 use Rattle.flat_rows.specs.BlockOutcome.{refused_by}
-use Rattle.flat_rows.specs.Changes.{file_edited, recovery_ended}
+use Rattle.namespace_rows.specs.Changes.{file_edited, recovery_ended}
 use Rattle.flat_rows.specs.Decision.{decision}
 use Rattle.flat_rows.specs.Outcome.{step, denied_or_outcome, refused_or_done}
 use Rattle.flat_rows.specs.Verdicts.{is_done}

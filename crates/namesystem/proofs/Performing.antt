@@ -24,7 +24,7 @@ use Rattle.namespace_rows.specs.Files.{open_files, has_open_file}
 use Rattle.namespace_rows.specs.Rows.{row_at}
 use Rattle.namespace_rows.specs.Namespace.{IsNamespace}
 use Rattle.flat_rows.specs.Facts.{Facts}
-use Rattle.flat_rows.specs.Changes.{row_rewritten}
+use Rattle.namespace_rows.specs.Changes.{row_rewritten}
 use Rattle.flat_rows.specs.BlockOutcome.{ids_at}
 use Rattle.flat_rows.specs.Outcome.{Step, step, first_refusal, denied_or_outcome, refused_or_done, refused_where, reply_of, rows_after, users_after}
 use Rattle.flat_rows.proofs.Keeping.{kept_replication}

@@ -8,8 +8,8 @@ use crate::fault::AclChangeFault;
 use crate::partial::PartialList;
 use acl_entries::entry_list::{Bases, EntryList, NamedEntry};
 use bitflags::Flags;
-use hdfs_types::reply::Refusal;
 use permission_bits::rights::Rights;
+use refusals::refusal::Refusal;
 use std::alloc::{AllocError, Global};
 
 /// The most named entries that stand in a scope beside the four others: of owner, owning group, mask and all others.

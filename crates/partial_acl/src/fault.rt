@@ -1,7 +1,7 @@
 ghost use Rattle.std.specs.Prelude.{◌≡◌};
 ghost use Rattle.partial_acl.specs.declared.fault.AclChangeFault.TheVariants.{OutOfMemory};
 
-use hdfs_types::reply::Refusal;
+use refusals::refusal::Refusal;
 use std::alloc::{AllocError, AllocFailed};
 use thiserror::Error;
 

@@ -9,9 +9,9 @@ ghost use Rattle.partial_acl.specs.Answers.{IfChangeRefused};
 use crate::fault::AclChangeFault;
 use crate::scope::{granted_by, is_for};
 use acl_entries::entry_list::NamedEntry;
-use hdfs_types::reply::Refusal;
 use hdfs_values::who::Who;
 use permission_specs::entry::{Entry, EntryKind, Scope};
+use refusals::refusal::Refusal;
 use std::alloc::{AllocError, Global};
 
 /// The most entries that a scope has.

@@ -7,9 +7,9 @@ use crate::fault::AclChangeFault;
 use crate::named::{copies, put_each, without};
 use crate::scope::{given, has_base};
 use acl_entries::entry_list::{EntryList, NamedEntry};
-use hdfs_types::reply::Refusal;
 use permission_bits::rights::Rights;
 use permission_specs::entry::{Entry, EntryKind, Scope};
+use refusals::refusal::Refusal;
 use std::alloc::{AllocError, Global};
 use std::marker::Model;
 

@@ -7,7 +7,7 @@ use Rattle.hdfs_types.specs.declared.reply.Refusal.{Refusal}
 use Rattle.hdfs_types.specs.declared.reply.Refusal.TheVariants.{UnderItself, NotFound, BadPath}
 use Rattle.namespace_rows.specs.declared.row.Row.{Row}
 use Rattle.namespace_rows.specs.Rows.{is_none, row_at, directory_of}
-use Rattle.flat_rows.specs.Changes.{are_paths}
+use Rattle.namespace_rows.specs.Changes.{are_paths}
 use Rattle.flat_rows.specs.Outcome.{first_some, beneath_file, refused_where, something_at, rows_moved}
 
 abbrev pub refusal_of_target : List (List ℕ) → List (List ℕ) → List Row → Option Refusal

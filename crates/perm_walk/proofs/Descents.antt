@@ -7,7 +7,7 @@ use Rattle.std.proofs.Math.Seq.{take-append-add}
 use Rattle.std.proofs.lemmas.Bool.Decides.{nat_tests}
 use Rattle.std.proofs.lemmas.List.{append-nil, drop_more, take_more}
 use Rattle.file_paths.specs.Path.{is_beneath, parent_of}
-use Rattle.hdfs_types.specs.declared.reply.ObjectKind.TheVariants.{Directory}
+use Rattle.file_states.specs.declared.kind.ObjectKind.TheVariants.{Directory}
 use Rattle.namespace_rows.specs.declared.row.Row.{Row}
 use Rattle.namespace_rows.specs.First.{first}
 use Rattle.namespace_rows.specs.Rows.{is_directory, if_directory, row_at, directory_of, ancestor, file_above}

@@ -2,8 +2,8 @@
 use Rattle.std.proofs.Common.{◌≡◌, ℕ, true, false, List, cond, Option, Some, None, refl, ap, ◌∙◌}
 use Rattle.std.specs.Option.{option_or}
 use Rattle.file_paths.specs.PathOrder.{same_path}
-use Rattle.hdfs_types.specs.declared.reply.ObjectKind.{ObjectKind}
-use Rattle.hdfs_types.specs.declared.reply.ObjectKind.TheVariants.{File, Directory}
+use Rattle.file_states.specs.declared.kind.ObjectKind.{ObjectKind}
+use Rattle.file_states.specs.declared.kind.ObjectKind.TheVariants.{File, Directory}
 use Rattle.refusals.specs.declared.refusal.Refusal.{Refusal}
 use Rattle.refusals.specs.declared.refusal.Refusal.TheVariants.{IsDirectory}
 use Rattle.namespace_rows.specs.declared.file_row.FileRow.{FileRow}

@@ -1,6 +1,6 @@
 ghost use Rattle.std.specs.Prelude.{◌≡◌, ℕ, List, IfOk, length, filter, not};
 ghost use Rattle.namespace_rows.specs.declared.row.Row.{Row};
-ghost use Rattle.flat_rows.specs.Changes as changes;
+ghost use Rattle.namespace_rows.specs.Changes as changes;
 ghost use Rattle.file_blocks.specs.Blocks.{length_of, told_length};
 ghost use Rattle.flat_rows.specs.Outcome as spec;
 ghost use Rattle.namespace_rows.specs.Rows as rows_spec;

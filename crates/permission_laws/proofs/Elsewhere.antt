@@ -9,7 +9,7 @@ use Rattle.file_paths.specs.Path.{is_prefix, is_beneath}
 use Rattle.file_paths.specs.PathOrder.{same_path}
 use Rattle.hdfs_types.specs.declared.op.Op.{Op}
 use Rattle.hdfs_types.specs.declared.op.Op.TheVariants as op
-use Rattle.hdfs_types.specs.declared.file.FileState.TheVariants.{Closed}
+use Rattle.file_states.specs.declared.state.FileState.TheVariants.{Closed}
 use Rattle.block_records.specs.declared.last_block.LastBlock.{LastBlock}
 use Rattle.refusals.specs.declared.refusal.Refusal.{Refusal}
 use Rattle.refusals.specs.declared.refusal.Refusal.TheVariants.{IsDirectory}
@@ -27,7 +27,7 @@ use Rattle.namespace_rows.proofs.Namespaces.{namespace_tests, ascending_filter}
 use Rattle.namespace_rows.proofs.PathOrders.{same_path_is}
 use Rattle.namespace_rows.proofs.Tests.{both, and}
 use Rattle.flat_rows.specs.BlockOutcome.{last_committed, with_block_at, ended_at}
-use Rattle.flat_rows.specs.Changes.{without, with_rows_moved, moved_row, rows_under, with_change, file_edited, row_rewritten, block_added}
+use Rattle.namespace_rows.specs.Changes.{without, with_rows_moved, moved_row, rows_under, with_change, file_edited, row_rewritten, block_added}
 use Rattle.flat_rows.specs.FileOutcome.{directory_there, file_there, holder_at}
 use Rattle.flat_rows.specs.Takeover.{unfinished_at, state_after_append}
 use Rattle.flat_rows.specs.Facts.{Facts}

@@ -5,7 +5,7 @@ use Rattle.std.specs.Option.{option_map}
 use Rattle.file_paths.specs.PathOrder.{same_path}
 use Rattle.hdfs_types.specs.declared.op.Op.{Op}
 use Rattle.hdfs_types.specs.declared.op.Op.TheVariants as op
-use Rattle.hdfs_types.specs.declared.file.FileState.TheVariants.{Closed}
+use Rattle.file_states.specs.declared.state.FileState.TheVariants.{Closed}
 use Rattle.block_records.specs.declared.last_block.LastBlock.{LastBlock}
 use Rattle.refusals.specs.declared.refusal.Refusal.{Refusal}
 use Rattle.acl_entries.specs.Acl.{Acl}
@@ -16,7 +16,7 @@ use Rattle.namespace_rows.specs.declared.row.Change.TheVariants as change
 use Rattle.namespace_rows.specs.Rows.{row_at}
 use Rattle.namespace_rows.specs.Files.{with_block, recovered_at}
 use Rattle.flat_rows.specs.BlockOutcome.{last_committed, with_block_at, ended_at}
-use Rattle.flat_rows.specs.Changes.{with_change, file_edited, row_rewritten, block_added}
+use Rattle.namespace_rows.specs.Changes.{with_change, file_edited, row_rewritten, block_added}
 use Rattle.flat_rows.specs.FileOutcome.{holder_at}
 use Rattle.flat_rows.specs.Takeover.{unfinished_at, state_after_append, sought_in, begun_in, row_ticked}
 use Rattle.flat_rows.proofs.Takeovers.{taken_edits}

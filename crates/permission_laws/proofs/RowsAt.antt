@@ -14,7 +14,7 @@ use Rattle.namespace_rows.specs.Rows.{row_at, is_before, is_beyond, rows_replace
 use Rattle.namespace_rows.specs.Namespace.{is_ascending, is_before_all}
 use Rattle.namespace_rows.proofs.Tests.{both, and, and_false}
 use Rattle.namespace_rows.proofs.PathOrders.{less_is, starts_upto, tied_starts, same_path_is}
-use Rattle.flat_rows.specs.Changes.{rows_under, moved_row}
+use Rattle.namespace_rows.specs.Changes.{rows_under, moved_row}
 use Rattle.flat_rows.proofs.Changes.{same_self}
 use Rattle.flat_rows.proofs.Moves.{front_itself, front_cmp, front_inside, front_and_rest}
 use Rattle.flat_rows.proofs.Firsts.{first_found}

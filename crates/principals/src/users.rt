@@ -4,11 +4,11 @@ ghost use Rattle.principals.specs.declared.users.UserFault.TheVariants.{OutOfMem
 ghost use Rattle.principals.specs.Users as spec;
 
 use crate::caller::Caller;
-use hdfs_types::reply::Refusal;
 use hdfs_values::groups::{Groups, has_group};
 use hdfs_values::who::Who;
 use indexmap::IndexMap;
 use node_ids::node_id::node_of;
+use refusals::refusal::Refusal;
 use std::alloc::{AllocError, AllocFailed, Global};
 use std::marker::Model;
 use thiserror::Error;

@@ -12,7 +12,7 @@ use Rattle.namespace_rows.specs.declared.row.Row.{Row}
 use Rattle.namespace_rows.specs.First.{first}
 use Rattle.namespace_rows.specs.Rows.{row_at, is_missing, is_none}
 use Rattle.namespace_rows.specs.Namespace.{is_root}
-use Rattle.flat_rows.specs.Changes.{rows_under}
+use Rattle.namespace_rows.specs.Changes.{rows_under}
 use Rattle.flat_rows.specs.Facts.{Facts}
 use Rattle.flat_rows.specs.Outcome.{beneath_file, nothing_at, refusal_of_missing, first_refusal, is_alone}
 use Rattle.namespace_rows.proofs.PathOrders.{same_path_is}

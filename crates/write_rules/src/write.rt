@@ -7,7 +7,7 @@ ghost use Rattle.flat_rows.specs.Decision.{decision};
 ghost use Rattle.flat_rows.specs.Facts.{Facts};
 ghost use Rattle.flat_rows.specs.Outcome as spec;
 ghost use Rattle.flat_rows.specs.Outcome.{is_alone};
-ghost use Rattle.flat_rows.specs.Changes.{rows_under};
+ghost use Rattle.namespace_rows.specs.Changes.{rows_under};
 ghost use Rattle.namespace_rows.specs.Rows.{is_missing};
 ghost use Rattle.perm_walk.specs.Reached.{IsReach};
 ghost use Rattle.perm_walk.specs.Walked.{AreOn};

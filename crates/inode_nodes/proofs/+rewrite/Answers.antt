@@ -2,7 +2,7 @@ use Rattle.std.proofs.Common.{arith, ap, ◌∙◌, BTreeMap, List, ℕ}
 use Rattle.inode_nodes.specs.Node.{flatten, Node}
 use Rattle.inode_nodes.specs.Change.{change_of}
 use Rattle.inode_nodes.proofs.Through.{found_mut, missed_mut, no_names, held_sorted, rewrite_top, rewrite_through, rewrite_none}
-use Rattle.flat_rows.specs.Changes.{with_change}
+use Rattle.namespace_rows.specs.Changes.{with_change}
 use Rattle.inode_nodes.proofs.Levels.{changed_pathless}
 use Rattle.inode_nodes.proofs.+rewrite.Goals as goal
 

@@ -1,5 +1,5 @@
 use Rattle.std.proofs.Common.{arith, ap, ◌∙◌, ◌∷◌, List, ℕ, BTreeMap, sym}
-use Rattle.flat_rows.specs.Changes.{without}
+use Rattle.namespace_rows.specs.Changes.{without}
 use Rattle.inode_nodes.specs.Node.{flatten, Node}
 use Rattle.inode_nodes.proofs.Levels.{missing_entry, without-kept}
 use Rattle.inode_nodes.proofs.Through.{found_mut, missed_mut, no_names, held_sorted, take_here, take_through, taken_here, taken_none, taken_through}

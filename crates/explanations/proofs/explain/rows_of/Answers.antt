@@ -1,5 +1,5 @@
 use Rattle.std.proofs.Common.{◌∙◌, sym, ap, subst}
-use Rattle.flat_rows.specs.Changes.{rows_under}
+use Rattle.namespace_rows.specs.Changes.{rows_under}
 use Rattle.namespace_rows.specs.Namespace.{IsNamespace}
 use Rattle.explanations.proofs.Fronts.{all_under}
 use Rattle.explanations.proofs.explain.rows_of.Goals as goal

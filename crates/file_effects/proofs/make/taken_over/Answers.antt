@@ -1,5 +1,5 @@
 use Rattle.std.proofs.Common.{◌≡◌, ◌∙◌, true, false, refl, sym, ap}
-use Rattle.hdfs_types.specs.declared.reply.ObjectKind.TheVariants.{File}
+use Rattle.file_states.specs.declared.kind.ObjectKind.TheVariants.{File}
 use Rattle.default_acl.specs.Inheritance.{inherited_acl}
 use Rattle.file_effects.proofs.Replacement.{below_root, held_by, parent_stands, replaced_file, some_got, none_got}
 use Rattle.file_effects.proofs.make.taken_over.Goals as goal

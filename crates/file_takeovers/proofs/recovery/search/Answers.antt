@@ -4,7 +4,7 @@ use Rattle.std.specs.List.{list_any}
 use Rattle.namespace_rows.specs.Namespace.{is_ascending}
 use Rattle.namespace_rows.specs.Rows.{row_at}
 use Rattle.namespace_rows.proofs.Namespaces.{namespace_tests}
-use Rattle.flat_rows.specs.Changes.{rows_under}
+use Rattle.namespace_rows.specs.Changes.{rows_under}
 use Rattle.file_takeovers.specs.Recovered.{recovers_at}
 use Rattle.file_takeovers.proofs.SoughtFiles.{rows_of_root}
 use Rattle.file_takeovers.proofs.Recovering.{recovers_row, none_more, found_row}

@@ -1,6 +1,6 @@
 use Rattle.std.proofs.Common.{◌≡◌, false, take}
 use Rattle.std.specs.List.{list_any}
-use Rattle.flat_rows.specs.Changes.{is_recovered}
+use Rattle.namespace_rows.specs.Changes.{is_recovered}
 use Rattle.file_takeovers.proofs.recovery.search.Given as goal
 
 abbrev pub invariant-loop-row : goal.invariant-loop-row

@@ -2,7 +2,7 @@ use Rattle.std.proofs.Common.{◌≡◌, ◌+◌, ◌++◌, ◌∷◌, [], take,
 use Rattle.std.proofs.lemmas.List.{take_more, take_all, take-append-drop}
 use Rattle.namespace_rows.specs.Namespace.{is_ascending}
 use Rattle.namespace_rows.proofs.Namespaces.{namespace_tests}
-use Rattle.flat_rows.specs.Changes.{rows_under}
+use Rattle.namespace_rows.specs.Changes.{rows_under}
 use Rattle.file_takeovers.specs.Expiry.{Expiry, AreAll, sought_entries}
 use Rattle.file_takeovers.proofs.SoughtFiles.{ascending_take, rows_of_root}
 use Rattle.file_takeovers.proofs.sought.all_sought.Goals as goal

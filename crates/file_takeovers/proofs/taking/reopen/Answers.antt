@@ -1,7 +1,7 @@
 use Rattle.std.proofs.Common.{◌∙◌, ap}
-use Rattle.hdfs_types.specs.declared.file.FileState.TheVariants as state
+use Rattle.file_states.specs.declared.state.FileState.TheVariants as state
 use Rattle.namespace_rows.specs.declared.row.Change.TheVariants as change
-use Rattle.flat_rows.specs.Changes.{row_rewritten}
+use Rattle.namespace_rows.specs.Changes.{row_rewritten}
 use Rattle.file_takeovers.proofs.Reopening.{exact_reopen}
 use Rattle.file_takeovers.proofs.taking.reopen.Goals as goal
 

@@ -1,6 +1,6 @@
 use Rattle.std.proofs.Common.{◌≡◌, ◌++◌, ◌+◌, ◌*◌, ◌≤◌, length, map}
 use Rattle.std.specs.Prelude.{IsTrue}
-use Rattle.flat_rows.specs.Changes.{are_paths}
+use Rattle.namespace_rows.specs.Changes.{are_paths}
 use Rattle.inode_nodes.specs.Node.{flatten, row_placed}
 use Rattle.inode_visits.proofs.Visits.{seen_entries}
 use Rattle.inode_visits.proofs.visit.+rows.Given as goal

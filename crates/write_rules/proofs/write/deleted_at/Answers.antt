@@ -1,6 +1,6 @@
 use Rattle.std.proofs.Common.{arith}
 use Rattle.namespace_rows.specs.Rows.{is_directory}
-use Rattle.flat_rows.specs.Changes.{rows_under}
+use Rattle.namespace_rows.specs.Changes.{rows_under}
 use Rattle.write_rules.proofs.Deleting.{alone_is_one, parted}
 use Rattle.write_rules.proofs.write.deleted_at.Goals as goal
 

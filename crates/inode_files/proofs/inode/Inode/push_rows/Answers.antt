@@ -1,5 +1,5 @@
 use Rattle.std.proofs.Common.{◌∙◌, ap, sym, map}
-use Rattle.flat_rows.specs.Changes.{are_paths}
+use Rattle.namespace_rows.specs.Changes.{are_paths}
 use Rattle.file_table.specs.Seen.{file_held}
 use Rattle.inode_nodes.specs.Node.{rows, row_placed}
 use Rattle.inode_visits.proofs.Visits.{seen_placed}

@@ -1,5 +1,5 @@
 use Rattle.std.proofs.Common.{◌∙◌, ap, sym, subst}
-use Rattle.flat_rows.specs.Changes.{row_rewritten}
+use Rattle.namespace_rows.specs.Changes.{row_rewritten}
 use Rattle.file_table.specs.Kept.{AreKept}
 use Rattle.file_table.specs.Seen.{seen_rows}
 use Rattle.inode_nodes.specs.Change.{change_of}

@@ -1,7 +1,7 @@
 use Rattle.std.proofs.Common.{◌∙◌, ap}
 use Rattle.std.specs.Option.{option_map}
 use Rattle.file_table.specs.Place.{placed}
-use Rattle.hdfs_types.specs.declared.reply.ObjectKind.TheVariants.{Directory}
+use Rattle.file_states.specs.declared.kind.ObjectKind.TheVariants.{Directory}
 use Rattle.default_acl.specs.Inheritance.{inherited_acl}
 use Rattle.inode_nodes.proofs.Through.{if_ok}
 use Rattle.inode_nodes.proofs.Makes.{chain_on}

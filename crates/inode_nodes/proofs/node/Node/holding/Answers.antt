@@ -1,5 +1,5 @@
 use Rattle.std.proofs.Common.{◌∙◌, None}
-use Rattle.hdfs_types.specs.declared.reply.ObjectKind.TheVariants.{Directory}
+use Rattle.file_states.specs.declared.kind.ObjectKind.TheVariants.{Directory}
 use Rattle.inode_nodes.proofs.Through.{if_ok}
 use Rattle.inode_nodes.proofs.Makes.{held_one}
 use Rattle.inode_nodes.proofs.node.Node.holding.Goals as goal

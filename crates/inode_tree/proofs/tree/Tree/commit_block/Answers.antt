@@ -1,7 +1,7 @@
 use Rattle.std.proofs.Common.{ap, ◌∙◌}
 use Rattle.namespace_rows.specs.declared.row.Change.TheVariants as change
 use Rattle.namespace_rows.specs.Rows.{row_at}
-use Rattle.flat_rows.specs.Changes.{row_rewritten}
+use Rattle.namespace_rows.specs.Changes.{row_rewritten}
 use Rattle.inode_tree.proofs.FileBlocks.{committing_suits, committed_as_before}
 use Rattle.inode_tree.proofs.Trees.{rewrite_keeps}
 use Rattle.inode_tree.proofs.tree.Tree.commit_block.Goals as goal

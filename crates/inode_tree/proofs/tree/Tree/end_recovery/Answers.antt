@@ -1,6 +1,6 @@
 use Rattle.std.proofs.Common.{ap, ◌∙◌}
 use Rattle.namespace_rows.specs.declared.row.Change.TheVariants as change
-use Rattle.flat_rows.specs.Changes.{row_rewritten}
+use Rattle.namespace_rows.specs.Changes.{row_rewritten}
 use Rattle.file_table.specs.Changed.{file_changed}
 use Rattle.inode_tree.proofs.FileBlocks.{edited_tree, all_ended}
 use Rattle.inode_tree.proofs.tree.Tree.end_recovery.Goals as goal

@@ -1,7 +1,7 @@
 use Rattle.std.proofs.Common.{◌≡◌, true, subst}
 use Rattle.namespace_rows.specs.declared.row.Change.TheVariants as change
 use Rattle.namespace_rows.specs.Rows.{row_at}
-use Rattle.flat_rows.specs.Changes.{suits_change}
+use Rattle.namespace_rows.specs.Changes.{suits_change}
 use Rattle.file_table.specs.Changed.{file_changed}
 use Rattle.inode_tree.proofs.FileBlocks.{edited_tree}
 use Rattle.inode_tree.proofs.Trees.{rewrite_keeps}

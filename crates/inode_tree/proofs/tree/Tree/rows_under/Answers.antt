@@ -1,7 +1,7 @@
 use Rattle.std.proofs.Common.{ap, subst, sym}
 use Rattle.std.specs.Option.{option_map}
 use Rattle.std.specs.Prelude.{map, IsTrue}
-use Rattle.flat_rows.specs.Changes.{are_paths}
+use Rattle.namespace_rows.specs.Changes.{are_paths}
 use Rattle.inode_nodes.specs.Node.{rows, row_placed}
 use Rattle.inode_tree.specs.Tree.{branch_at}
 use Rattle.inode_tree.proofs.Asked.{rows_there}
