@@ -11,6 +11,8 @@ mod namespaces;
 #[cfg(test)]
 mod node_tests;
 #[cfg(test)]
+mod place_tests;
+#[cfg(test)]
 mod recovery_tests;
 #[cfg(test)]
 mod steps;
