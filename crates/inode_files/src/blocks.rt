@@ -130,13 +130,7 @@ fn push_files<'a>(
             push_ids_at(files, *place, blocks)?;
             push_open(files, *place, clients, places)
         }
-        Held::Directory(nodes) => {
-            // Most directories hold nothing, and are told at once.
-            if nodes.is_empty() {
-                return Ok(());
-            }
-            push_files_in(files, nodes, clients, places, blocks)
-        }
+        Held::Directory(nodes) => push_files_in(files, nodes, clients, places, blocks),
     }
 }
 
@@ -152,7 +146,10 @@ fn push_files_in<'a>(
     ensures blocks { OnOk result (blocks.new.items ≡ blocks.old.items ++ blocks_in (seen_rows files.now (flatten nodes.now.entries))) }
 {
     for (_name, child) in nodes {
-        push_files(files, child, clients, places, blocks)?;
+        // Most directories hold nothing, and are passed over without a call.
+        if !child.is_bare() {
+            push_files(files, child, clients, places, blocks)?;
+        }
     }
     Ok(())
 }
@@ -182,12 +179,7 @@ pub fn forget(files: &mut FileTable, node: &Node)
 {
     match &node.held {
         Held::File(place) => files.remove(*place),
-        Held::Directory(nodes) => {
-            // Most directories hold nothing, and are told at once.
-            if !nodes.is_empty() {
-                forget_in(files, nodes);
-            }
-        }
+        Held::Directory(nodes) => forget_in(files, nodes),
     }
 }
 
@@ -196,6 +188,9 @@ fn forget_in(files: &mut FileTable, nodes: &BTreeMap<Name, Node>)
     ensures { (place : ℕ) → get files.new place ≡ get_unless (are_at_place place (flatten nodes.now.entries)) files.old place }
 {
     for (_name, child) in nodes {
-        forget(files, child);
+        // Most directories hold nothing, and are passed over without a call.
+        if !child.is_bare() {
+            forget(files, child);
+        }
     }
 }

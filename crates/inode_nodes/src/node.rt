@@ -1,4 +1,4 @@
-ghost use Rattle.std.specs.Prelude.{◌≡◌, [], IfSome};
+ghost use Rattle.std.specs.Prelude.{◌≡◌, [], true, None, IfSome};
 ghost use Rattle.std.specs.Option.{option_copied, option_map};
 ghost use Rattle.acl_entries.specs.JudgedEntry.{judged_entry};
 ghost use Rattle.flat_rows.specs.Outcome.{is_alone, kind_of_new};
@@ -111,6 +111,18 @@ impl Node {
         match &self.held {
             Held::File(place) => Some(*place),
             Held::Directory(_) => None,
+        }
+    }
+
+    /// Whether it is a directory that holds nothing, as most are.
+    pub fn is_bare(&self) -> bool
+        ensures file { result ≡ true → self.now.top.file ≡ None }
+        ensures kind { result ≡ true → self.now.top.kind ≡ ObjectKind.Directory }
+        ensures beneath { result ≡ true → self.now.beneath ≡ [] }
+    {
+        match &self.held {
+            Held::File(_) => false,
+            Held::Directory(map) => map.is_empty(),
         }
     }
 

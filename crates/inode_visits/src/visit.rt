@@ -53,14 +53,6 @@ pub fn count(files: &FileTable, node: &Node) -> Counts
             bytes: length_at(files, *place),
         },
         Held::Directory(map) => {
-            // Most directories hold nothing, and are told at once.
-            if map.is_empty() {
-                return Counts {
-                    directories: 1,
-                    files: 0,
-                    bytes: Some(0),
-                };
-            }
             let beneath = count_in(files, map);
             Counts {
                 directories: beneath.directories.saturating_add(1),
@@ -79,10 +71,15 @@ fn count_in(files: &FileTable, map: &BTreeMap<Name, Node>) -> Counts
     let mut others = 0u64;
     let mut bytes = Some(0u64);
     for (_name, child) in map {
-        let counts = count(files, child);
-        directories = directories.saturating_add(counts.directories);
-        others = others.saturating_add(counts.files);
-        bytes = sum(bytes, counts.bytes);
+        // Most directories hold nothing, and are counted without a call.
+        if child.is_bare() {
+            directories = directories.saturating_add(1);
+        } else {
+            let counts = count(files, child);
+            directories = directories.saturating_add(counts.directories);
+            others = others.saturating_add(counts.files);
+            bytes = sum(bytes, counts.bytes);
+        }
     }
     Counts {
         directories,

@@ -8,8 +8,8 @@ use Rattle.inode_visits.proofs.Visits.{shorter, held_next, seen_entries, seen_fl
 use Rattle.inode_files.proofs.FileBlocks.{blocks_next}
 use Rattle.inode_files.proofs.blocks.+files.Goals as goal
 
-pub push_files_in-loop-name-preserved : goal.push_files_in-loop-name-preserved
-push_files_in-loop-name-preserved t c =
+pub push_files_in-loop-name-preserved-in-Continue-1 : goal.push_files_in-loop-name-preserved-in-Continue-1
+push_files_in-loop-name-preserved-in-Continue-1 t c =
     let less = shorter c.loop-name._name-iterator c.next.new.self c.in-Some._name.now c.in-Some.child.now c.in-Some.ensures.steps in
     let entries = seen_entries c.args.files.now in
     record {

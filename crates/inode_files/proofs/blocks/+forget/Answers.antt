@@ -3,8 +3,8 @@ use Rattle.inode_visits.proofs.Visits.{shorter}
 use Rattle.inode_files.proofs.FileBlocks.{forgotten_next}
 use Rattle.inode_files.proofs.blocks.+forget.Goals as goal
 
-pub forget_in-loop-name-preserved : goal.forget_in-loop-name-preserved
-forget_in-loop-name-preserved t c =
+pub forget_in-loop-name-preserved-then-not-is_bare : goal.forget_in-loop-name-preserved-then-not-is_bare
+forget_in-loop-name-preserved-then-not-is_bare t c =
     let less = shorter c.loop-name._name-iterator c.next.new.self c.in-Some._name.now c.in-Some.child.now c.in-Some.ensures.steps in
     record {
       can_next = tt;

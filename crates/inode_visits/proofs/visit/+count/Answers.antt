@@ -18,15 +18,15 @@ count_in-loop-name-preserved t c =
       can_next = tt;
       is_finite = tt;
       directories =
-          directories_step (entries c.loop-name._name-iterator) (entries c.next.new.self) c.in-Some._name.now child steps c.loop-name.directories c.count-counts.result.directories c.saturating_add-directories.result
-          (told_number (directories (flatten (entries c.args.map.now.entries)))) (ap (λ n. n.directories) c.count-counts.ensures) c.saturating_add-directories.ensures c.loop-name.invariant.directories;
+          directories_step (entries c.loop-name._name-iterator) (entries c.next.new.self) c.in-Some._name.now child steps c.loop-name.directories c.count-counts.result.directories c.saturating_add-directories-else-is_bare.result
+          (told_number (directories (flatten (entries c.args.map.now.entries)))) (ap (λ n. n.directories) c.count-counts.ensures) c.saturating_add-directories-else-is_bare.ensures c.loop-name.invariant.directories;
       files =
           files_step (entries c.loop-name._name-iterator) (entries c.next.new.self) c.in-Some._name.now child steps c.loop-name.others c.count-counts.result.files c.saturating_add-others.result
           (told_number (files (flatten (entries c.args.map.now.entries)))) (ap (λ n. n.files) c.count-counts.ensures) c.saturating_add-others.ensures c.loop-name.invariant.files;
       bytes =
           counted_next (flatten (entries c.args.map.now.entries)) (entries c.loop-name._name-iterator) (entries c.next.new.self) c.in-Some._name.now child c.loop-name.bytes c.count-counts.result.bytes c.sum-bytes.result steps
           (ap (λ n. n.bytes) c.count-counts.ensures) c.sum-bytes.ensures c.loop-name.invariant.bytes;
-      few_directories = omega (arith, c.saturating_add-directories.ensures);
+      few_directories = omega (arith, c.saturating_add-directories-else-is_bare.ensures);
       few_files = omega (arith, c.saturating_add-others.ensures);
       left = omega (arith, less, c.loop-name.invariant.left);
     }
