@@ -22,7 +22,7 @@ fn two_files(alloc: Global) -> Option<Tree> {
     Some(tree)
 }
 
-fn push(alloc: Global, tree: &mut Tree, path: &str, block: u64) -> bool {
+pub fn push(alloc: Global, tree: &mut Tree, path: &str, block: u64) -> bool {
     match path_of(alloc, path) {
         Some(path) => tree.push_block(&path, BlockId::new(block)).is_ok(),
         None => false,

@@ -1,3 +1,4 @@
+use crate::blocks::push;
 use crate::namespaces::{opening_tree, path_of, put_file, who_of};
 use file_table::place::FilePlace;
 use hdfs_types::file::FileState;
@@ -28,18 +29,11 @@ fn are_put(alloc: Global, tree: &mut Tree) -> bool {
         && push(alloc, tree, "/g", 8)
 }
 
-fn push(alloc: Global, tree: &mut Tree, path: &str, block: u64) -> bool {
-    match path_of(alloc, path) {
-        Some(path) => tree.push_block(&path, BlockId::new(block)).is_ok(),
-        None => false,
-    }
-}
-
 fn place_of(alloc: Global, tree: &Tree, path: &str) -> Option<FilePlace> {
     tree.place_of(&path_of(alloc, path)?)
 }
 
-/// Whether this is an open file whose first block is this one.
+/// Whether this file's first block is this one.
 fn has_block(file: &FileRow, block: u64) -> bool {
     match file.blocks.as_slice() {
         [first, ..] => first.id.get() == block,
