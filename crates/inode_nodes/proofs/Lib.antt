@@ -7,3 +7,4 @@ pub mod Moves
 pub mod Through
 pub mod Wholes
 pub mod Children
+pub mod Alone

@@ -119,6 +119,7 @@ impl Node {
         ensures file { result ≡ true → self.now.top.file ≡ None }
         ensures kind { result ≡ true → self.now.top.kind ≡ ObjectKind.Directory }
         ensures beneath { result ≡ true → self.now.beneath ≡ [] }
+        ensures told { self.now.top.kind ≡ ObjectKind.Directory → result ≡ is_alone (rows self.now) }
     {
         match &self.held {
             Held::File(_) => false,

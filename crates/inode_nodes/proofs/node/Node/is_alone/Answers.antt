@@ -1,18 +1,9 @@
-use Rattle.std.proofs.Common.{◌≡◌, Bool, true, false, [], ◌∷◌, length, refl, sym, subst}
-use Rattle.namespace_rows.specs.declared.row.Row.{Row}
+use Rattle.std.proofs.Common.{◌≡◌, [], ◌∷◌, sym, subst}
 use Rattle.flat_rows.specs.Outcome.{is_alone}
-use Rattle.inode_nodes.specs.Node.{rows, row_of, flatten}
+use Rattle.inode_nodes.specs.Node.{rows, row_of}
 use Rattle.inode_nodes.specs.Kept.{branch_of, rows_in}
-use Rattle.inode_nodes.proofs.Filters.{Entries}
+use Rattle.inode_nodes.proofs.Alone.{by_entries}
 use Rattle.inode_nodes.proofs.node.Node.is_alone.Goals as goal
-
-by_entries : (top : Row) (es : Entries) (r : Bool) → (r ≡ true → length es ≡ 0) → (length es ≡ 0 → r ≡ true) → r ≡ is_alone (top ∷ flatten es)
-by_entries top [] r f g = g refl
-by_entries top (e ∷ es) true f g = absurd (no (f refl))
-  where
-    no : length (e ∷ es) ≡ 0 → ⊥
-    no h = cc
-by_entries top (e ∷ es) false f g = refl
 
 pub returns-in-Directory : goal.returns-in-Directory
 returns-in-Directory c =
