@@ -14,6 +14,7 @@ ghost use Rattle.principals.specs.Users.{Users};
 ghost use Rattle.block_map.specs.BlockEffects.{with_blocks_removed};
 ghost use Rattle.flat_rows.specs.BlockOutcome.{refused_end, ended_at};
 ghost use Rattle.history.specs.Blocks.{file_ended, blocks_after};
+ghost use Rattle.inode_tree.specs.Tree.{has_files};
 ghost use Rattle.file_effects.specs.Effected.{IsCreated, IsExact, IsFree, IsEffected, refused_end_of};
 ghost use Rattle.lease_manager.specs.Writers.{renewal_moment_of, CanCountOneMore, IsAlike};
 
@@ -60,21 +61,36 @@ fn holders_at(alloc: Global, tree: &Tree, path: &Path) -> Result<Vec<Who>, Alloc
     copies(alloc, &clients)
 }
 
-/// The clients who have open the files at a path and beneath it, one for each open file, the places of these, and the blocks of all files.
-fn files_at(
-    alloc: Global,
-    tree: &Tree,
-    path: &Path,
-) -> Result<(Vec<Who>, Vec<FilePlace>, Vec<BlockId>), AllocError>
-    ensures clients { IfOk result (λ found. found.0.items ≡ holders (rows_under path.now tree.now)) }
-    ensures blocks { IfOk result (λ found. found.2.items ≡ blocks_in (rows_under path.now tree.now)) }
+/// What ends with the files of a sub-tree that is deleted.
+struct FilesAt {
+    /// Those who have files of it open, one for each open file.
+    clients: Vec<Who>,
+    /// The places of these open files.
+    places: Vec<FilePlace>,
+    /// The blocks of all its files.
+    blocks: Vec<BlockId>,
+    /// Whether it has files, open or not.
+    has_files: bool,
+}
+
+/// What ends with the files at a path and beneath it.
+fn files_at(alloc: Global, tree: &Tree, path: &Path) -> Result<FilesAt, AllocError>
+    ensures clients { IfOk result (λ found. found.clients.items ≡ holders (rows_under path.now tree.now)) }
+    ensures blocks { IfOk result (λ found. found.blocks.items ≡ blocks_in (rows_under path.now tree.now)) }
+    ensures any { IfOk result (λ found. found.has_files ≡ has_files (rows_under path.now tree.now)) }
 {
     let FilesUnder {
         clients,
         places,
         blocks,
+        has_files,
     } = tree.files_under(path)?;
-    Ok((copies(alloc, &clients)?, places, blocks))
+    Ok(FilesAt {
+        clients: copies(alloc, &clients)?,
+        places,
+        blocks,
+        has_files,
+    })
 }
 
 // ---- files that are opened
@@ -364,10 +380,15 @@ fn delete(
     ensures latest { lease.latest_moment writers.new.leases.renewals ≤ lease.latest_moment writers.old.leases.renewals }
     ensures err { OnErr result ((tree.new ≡ tree.old) × IsAlike writers.old writers.new) }
 {
-    let (clients, places, deleted) = files_at(alloc, tree, path)?;
+    let FilesAt {
+        clients,
+        places,
+        blocks: deleted,
+        has_files,
+    } = files_at(alloc, tree, path)?;
     blocks.remove_all(&deleted)?;
     writers.close_each(&clients);
-    tree.remove(path);
+    tree.remove(path, has_files);
     open_paths.delete(&clients, &places, &deleted);
     Ok(())
 }

@@ -1,11 +1,12 @@
 -- What visits tell of files: their blocks, and which are left where some are forgotten.
-use Rattle.std.proofs.Common.{◌≡◌, ℕ, List, [], ◌∷◌, ◌++◌, map, append_assoc, Bool, true, false, Option, refl, sym, ap, ◌∙◌}
+use Rattle.std.proofs.Common.{◌≡◌, ℕ, List, [], ◌∷◌, ◌++◌, map, append_assoc, Bool, true, false, ◌||◌, is_some, Option, refl, sym, ap, ◌∙◌}
 use Rattle.slab.specs.Slab.{Slab, get}
 use Rattle.namespace_rows.specs.declared.file_row.FileRow.{FileRow}
 use Rattle.namespace_rows.specs.declared.row.Row.{Row}
 use Rattle.namespace_rows.specs.Files.{ids_in, blocks_in}
 use Rattle.inode_nodes.specs.Node.{Node, flatten, rows, under}
 use Rattle.inode_nodes.proofs.Filters.{Entries}
+use Rattle.inode_files.specs.Holding.{has_files}
 use Rattle.file_table.specs.Kept.{is_at_place, are_at_place, get_unless}
 use Rattle.inode_visits.proofs.Visits.{any_here, any_next}
 
@@ -23,6 +24,22 @@ pub blocks_next : (it new : Entries) (n : List ℕ) (b : Node) (before after all
 blocks_next it new n b before after all is a h =
     ap (λ l. l ++ blocks_in (flatten new)) a ∙ append_assoc before (blocks_in (rows b)) (blocks_in (flatten new))
     ∙ ap (λ l. before ++ l) (sym (ap (λ (x : Entries). blocks_in (flatten x)) is ∙ blocks_append (map (under n) (rows b)) (flatten new) ∙ ap (λ l. l ++ blocks_in (flatten new)) (blocks_map (under n) (λ row. refl) (rows b)))) ∙ h
+
+-- whether there is a file in one entry is told, and what of the entries behind it is left
+pub any_step : (it new : Entries) (n : List ℕ) (b : Node) (before after all : Bool) → it ≡ (n, b) ∷ new → after ≡ (before || has_files (rows b)) → (before || has_files (flatten it)) ≡ all → (after || has_files (flatten new)) ≡ all
+any_step it new n b before after all is a h = by before (has_files (rows b)) refl a h
+  where
+    test : Row → Bool
+    test row = is_some row.file
+
+    by : (x y : Bool) → has_files (rows b) ≡ y → after ≡ (x || y) → (x || has_files (flatten it)) ≡ all → (after || has_files (flatten new)) ≡ all
+    by true y e f g = ap (λ c. c || has_files (flatten new)) f ∙ g
+    by false true e f g = ap (λ c. c || has_files (flatten new)) f ∙ sym (any_here test (λ m row. refl) it new n b is e) ∙ g
+    by false false e f g = ap (λ c. c || has_files (flatten new)) f ∙ any_next test (λ m row. refl) it new n b is e ∙ g
+
+pub or_false : (b : Bool) → (b || false) ≡ b
+or_false true = refl
+or_false false = refl
 
 -- files of entries that are forgotten one behind the other
 

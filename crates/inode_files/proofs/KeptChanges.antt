@@ -35,9 +35,10 @@ use Rattle.inode_nodes.specs.Part.{IsWhole}
 use Rattle.inode_nodes.specs.Change.{branch_grafted}
 use Rattle.inode_nodes.proofs.Through.{put_top, there_within}
 use Rattle.inode_nodes.proofs.Wholes.{filter_within, row_at_whole}
+use Rattle.inode_files.specs.Holding.{has_files}
 use Rattle.inode_files.specs.Rooms.{IsRoomFor, IsPut}
 use Rattle.inode_files.proofs.SeenRows.{shown, shown_all, shown_at, shown_ascending, shown_under, shown_missing, shown_parent, shown_file_above, shown_ancestor, shown_without, shown_replaced, shown_moved, shown_new}
-use Rattle.inode_files.proofs.Places.{seen_same, kept_same, seen_elsewhere, seen_put, kept_put, kept_changed, seen_forgotten, kept_forgotten}
+use Rattle.inode_files.proofs.Places.{seen_same, kept_same, seen_elsewhere, seen_put, kept_put, kept_changed, seen_forgotten, kept_forgotten, none_at}
 use Rattle.inode_files.proofs.Counts.{count_without, count_replaced, count_moved, count_new, none_under}
 
 abbrev told_at : ℕ → Option FileRow → ℕ
@@ -188,6 +189,25 @@ module _ (old new : Slab FileRow) (node left : Node) (taken : Option Node) (path
   pub seen_removed : (all : List Row) → seen_rows old (rows node) ≡ all → seen_rows new (rows left) ≡ without path all
   seen_removed all view =
       seen_forgotten old new (rows left) (rows_or taken) forgotten count_left ∙ ap (seen_rows old) done ∙ sym (shown_without (file_held old) path (rows node)) ∙ ap (without path) view
+
+-- what is removed where none of it is a file
+
+module _ (files : Slab FileRow) (path : List (List ℕ)) where
+  placed_files : (rs : List Row) → has_files (seen_rows files (map (row_placed path) rs)) ≡ has_files (seen_rows files rs)
+  placed_files [] = refl
+  placed_files (r ∷ rs) = ap (λ b. is_some (file_held files r.file) || b) (placed_files rs)
+
+  pub none_taken : (node : Node) (taken : Option Node) → IsWhole path (rows node) taken → AreKept files (rows node) → (all : List Row) → seen_rows files (rows node) ≡ all → has_files (rows_under path all) ≡ false
+      → (k : ℕ) → are_at_place k (rows_or taken) ≡ false
+  none_taken node taken whole kept all view none =
+      none_at files (rows_or taken) fewer
+      (sym (placed_files (rows_or taken)) ∙ ap (λ rs. has_files (seen_rows files rs)) (sym whole) ∙ ap has_files (sym (shown_under (file_held files) path (rows node)) ∙ ap (rows_under path) view) ∙ none)
+    where
+      fewer : (k : ℕ) → length (rows_at_place k (rows_or taken)) ≤ held_count files k
+      fewer k =
+          let gone : length (rows_at_place k (rows_under path (rows node))) ≡ length (rows_at_place k (rows_or taken)) =
+          ap (λ rs. length (rows_at_place k rs)) whole ∙ tally_map (λ row. is_at_place k row.file) (row_placed path) (λ row. refl) (rows_or taken) in
+          omega (arith, gone, kept k, count_without k path (rows node))
 
 -- what is moved
 

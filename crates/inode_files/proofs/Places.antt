@@ -15,6 +15,7 @@ use Rattle.namespace_rows.proofs.Tests.{both}
 use Rattle.namespace_rows.proofs.PathOrders.{less_is, same_path_is}
 use Rattle.namespace_rows.specs.Changes.{with_file, file_edited}
 use Rattle.flat_rows.proofs.Holders.{bit, tally, tally_cons}
+use Rattle.inode_files.specs.Holding.{has_files}
 use Rattle.file_table.specs.Place.{place_in}
 use Rattle.file_table.specs.Seen.{file_held, seen, seen_rows}
 use Rattle.file_table.specs.Kept.{is_at_place, rows_at_place, are_at_place, held_count, AreKept, get_unless}
@@ -240,3 +241,33 @@ module _ (old new : Slab FileRow) (rows gone : List Row) (left : (k : ℕ) → g
       by false e =
           let now : held_count new k ≡ held_count old k = ap slot_count (untouched k e) in
           omega (arith, now, counts k, none_counted (tells k) gone e)
+
+-- ---- rows of which none is seen to be a file tell no place
+
+or_true : (a b : Bool) → b ≡ true → (a || b) ≡ true
+or_true true b h = refl
+or_true false b h = h
+
+held_some : (slot : Option FileRow) → 1 ≤ slot_count slot → is_some slot ≡ true
+held_some None h = absurd (omega (arith, h))
+held_some (Some file) h = refl
+
+module _ (files : Slab FileRow) where
+  some_seen : (rows : List Row) (k : ℕ) → is_some (get files k) ≡ true → are_at_place k rows ≡ true → has_files (seen_rows files rows) ≡ true
+  some_seen [] k some h = absurd (true≢false (sym h))
+  some_seen (row ∷ rows) k some h = by (is_at_place k row.file) refl h (some_seen rows k some)
+    where
+      here : (file : Option FileRow) → is_at_place k file ≡ true → is_some (file_held files file) ≡ true
+      here None e = absurd (true≢false (sym e))
+      here (Some own) e = ap (λ place. is_some (get files place)) (eqb-true (place_in own) k e) ∙ some
+
+      by : (b : Bool) → is_at_place k row.file ≡ b → (b || are_at_place k rows) ≡ true → (are_at_place k rows ≡ true → has_files (seen_rows files rows) ≡ true) → (is_some (file_held files row.file) || has_files (seen_rows files rows)) ≡ true
+      by true e g rest = ap (λ c. c || has_files (seen_rows files rows)) (here row.file e)
+      by false e g rest = or_true (is_some (file_held files row.file)) (has_files (seen_rows files rows)) (rest g)
+
+  pub none_at : (gone : List Row) → ((k : ℕ) → length (rows_at_place k gone) ≤ held_count files k) → has_files (seen_rows files gone) ≡ false → (k : ℕ) → are_at_place k gone ≡ false
+  none_at gone counts none k = by (are_at_place k gone) refl
+    where
+      by : (b : Bool) → are_at_place k gone ≡ b → b ≡ false
+      by false e = refl
+      by true e = absurd (true≢false (sym (some_seen gone k (held_some (get files k) (omega (arith, counts k, any_counted (tells k) gone e))) e) ∙ none))

@@ -1,3 +1,4 @@
 pub mod Limits
+pub mod Holding
 pub mod Branch
 pub mod Rooms

@@ -1,4 +1,4 @@
-ghost use Rattle.std.specs.Prelude.{◌≡◌, ◌++◌, ℕ, map, Some, IfOk, OnOk};
+ghost use Rattle.std.specs.Prelude.{◌≡◌, ◌++◌, ◌||◌, ℕ, map, is_some, false, Some, IfOk, OnOk};
 ghost use Rattle.slab.specs.Slab.{get};
 ghost use Rattle.std.specs.Option.{option_to_list};
 ghost use Rattle.namespace_rows.specs.Files.{blocks_in, holders, holder_of_file, ids_in};
@@ -6,6 +6,7 @@ ghost use Rattle.file_table.specs.Place.{placed};
 ghost use Rattle.file_table.specs.Seen.{file_held, seen_rows};
 ghost use Rattle.file_table.specs.Kept.{get_unless, are_at_place};
 ghost use Rattle.inode_nodes.specs.Node.{rows, flatten};
+ghost use Rattle.inode_files.specs.Holding.{has_files};
 
 use file_blocks::blocks::FileBlock;
 use file_paths::name::Name;
@@ -88,6 +89,8 @@ pub struct FilesUnder<'a> {
     pub places: Vec<FilePlace>,
     /// In path order, and those of a file in its order.
     pub blocks: Vec<BlockId>,
+    /// Whether there is any file, open or not.
+    pub has_files: bool,
 }
 
 /// The clients who have open the files of the node and of all beneath it, and the blocks of these files.
@@ -101,19 +104,30 @@ pub fn files_of<'a>(
 ) -> Result<FilesUnder<'a>, AllocError>
     ensures clients { IfOk result (λ found. map (λ who. who.now) found.clients.items ≡ holders (seen_rows files.now (rows node.now))) }
     ensures blocks { IfOk result (λ found. found.blocks.items ≡ blocks_in (seen_rows files.now (rows node.now))) }
+    ensures any { IfOk result (λ found. found.has_files ≡ has_files (seen_rows files.now (rows node.now))) }
 {
     let mut clients = Vec::new(alloc);
     let mut places = Vec::new(alloc);
     let mut blocks = Vec::new(alloc);
-    push_files(files, node, &mut clients, &mut places, &mut blocks)?;
+    let mut has_files = false;
+    push_files(
+        files,
+        node,
+        &mut clients,
+        &mut places,
+        &mut blocks,
+        &mut has_files,
+    )?;
     Ok(FilesUnder {
         clients,
         places,
         blocks,
+        has_files,
     })
 }
 
-/// Adds the clients who have open the files of the node and of all beneath it, one for each open file, and the blocks of these files.
+/// Adds the clients who have open the files of the node and of all beneath it, one for each open file, and the blocks of these files, and
+/// notes whether there is any file.
 #[cycle(files)]
 fn push_files<'a>(
     files: &'a FileTable,
@@ -121,16 +135,19 @@ fn push_files<'a>(
     clients: &mut Vec<&'a Who>,
     places: &mut Vec<FilePlace>,
     blocks: &mut Vec<BlockId>,
+    any: &mut bool,
 ) -> Result<(), AllocError>
     ensures clients { OnOk result (map (λ who. who.now) clients.new.items ≡ map (λ who. who.now) clients.old.items ++ holders (seen_rows files.now (rows node.now))) }
     ensures blocks { OnOk result (blocks.new.items ≡ blocks.old.items ++ blocks_in (seen_rows files.now (rows node.now))) }
+    ensures any { OnOk result (any.new ≡ (any.old || has_files (seen_rows files.now (rows node.now)))) }
 {
     match &node.held {
         Held::File(place) => {
+            *any = *any || is_kept(files, *place);
             push_ids_at(files, *place, blocks)?;
             push_open(files, *place, clients, places)
         }
-        Held::Directory(nodes) => push_files_in(files, nodes, clients, places, blocks),
+        Held::Directory(nodes) => push_files_in(files, nodes, clients, places, blocks, any),
     }
 }
 
@@ -141,17 +158,26 @@ fn push_files_in<'a>(
     clients: &mut Vec<&'a Who>,
     places: &mut Vec<FilePlace>,
     blocks: &mut Vec<BlockId>,
+    any: &mut bool,
 ) -> Result<(), AllocError>
     ensures clients { OnOk result (map (λ who. who.now) clients.new.items ≡ map (λ who. who.now) clients.old.items ++ holders (seen_rows files.now (flatten nodes.now.entries))) }
     ensures blocks { OnOk result (blocks.new.items ≡ blocks.old.items ++ blocks_in (seen_rows files.now (flatten nodes.now.entries))) }
+    ensures any { OnOk result (any.new ≡ (any.old || has_files (seen_rows files.now (flatten nodes.now.entries)))) }
 {
     for (_name, child) in nodes {
         // Most directories hold nothing, and are passed over without a call.
         if !child.is_bare() {
-            push_files(files, child, clients, places, blocks)?;
+            push_files(files, child, clients, places, blocks, any)?;
         }
     }
     Ok(())
+}
+
+/// Whether the table has a file at the place.
+fn is_kept(files: &FileTable, place: FilePlace) -> bool
+    ensures { result ≡ is_some (file_held files.now (Some (placed place))) }
+{
+    files.get(place).is_some()
 }
 
 /// Adds the client who has the file at the place open, where one has, and the place.
@@ -192,5 +218,15 @@ fn forget_in(files: &mut FileTable, nodes: &BTreeMap<Name, Node>)
         if !child.is_bare() {
             forget(files, child);
         }
+    }
+}
+
+/// Takes the files of the node and of all beneath it out of the table, if there may be any.
+pub fn forget_any(files: &mut FileTable, node: &Node, may_have_files: bool)
+    requires { may_have_files ≡ false → (place : ℕ) → are_at_place place (rows node.now) ≡ false }
+    ensures { (place : ℕ) → get files.new place ≡ get_unless (are_at_place place (rows node.now)) files.old place }
+{
+    if may_have_files {
+        forget(files, node);
     }
 }

@@ -13,6 +13,7 @@ ghost use Rattle.inode_visits.specs.Visits.{counts_of, is_closed, row_found};
 ghost use Rattle.inode_files.specs.Limits.{fits_behind};
 ghost use Rattle.inode_visits.specs.SeenNode.{seen_branch};
 ghost use Rattle.inode_files.specs.Branch.{branch_at};
+ghost use Rattle.inode_files.specs.Holding.{has_files};
 
 use crate::blocks::{FilesUnder, blocks_of, files_of};
 use crate::limit::fits;
@@ -185,6 +186,7 @@ impl<'a> Inode<'a> {
     pub fn files(&self, alloc: Global) -> Result<FilesUnder<'a>, AllocError>
         ensures clients { IfOk result (λ found. map (λ who. who.now) found.clients.items ≡ holders (rows (branch_at self.now))) }
         ensures blocks { IfOk result (λ found. found.blocks.items ≡ blocks_in (rows (branch_at self.now))) }
+        ensures any { IfOk result (λ found. found.has_files ≡ has_files (rows (branch_at self.now))) }
     {
         files_of(alloc, self.files, self.node)
     }

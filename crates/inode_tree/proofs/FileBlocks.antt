@@ -1,5 +1,5 @@
 -- The blocks of files: those of a visit, and a block that was added and taken back.
-use Rattle.std.proofs.Common.{◌≡◌, ℕ, ◌+◌, ◌-◌, nat_eq, Bool, true, false, ◌||◌, not, List, [], ◌∷◌, ◌++◌, length, length-append, take, cond, Option, Some, None, is_some, refl, sym, ap, ◌∙◌, arith, Result, Ok, Err, OnOk, OnErr, subst}
+use Rattle.std.proofs.Common.{◌≡◌, ℕ, ◌+◌, ◌-◌, nat_eq, Bool, true, false, ◌||◌, not, List, [], ◌∷◌, ◌++◌, map, length, length-append, take, cond, Option, Some, None, is_some, refl, sym, ap, ◌∙◌, arith, Result, Ok, Err, OnOk, OnErr, subst}
 use Rattle.std.proofs.Math.Seq.{take-append_seam}
 use Rattle.std.specs.Option.{option_map}
 use Rattle.std.specs.declared.alloc.AllocError.{AllocError}
@@ -22,12 +22,20 @@ use Rattle.inode_files.specs.Branch.{file_rewritten}
 use Rattle.file_table.specs.Finished.{closed_for, with_finished_closed}
 use Rattle.inode_files.proofs.FileBlocks.{blocks_map}
 use Rattle.inode_files.proofs.SeenRows.{shown_namespace, shown_paths}
-use Rattle.inode_tree.specs.Tree.{IsTree}
+use Rattle.inode_tree.specs.Tree.{has_files, IsTree}
 
 -- those of the rows at and beneath a path, where these were found there
 pub blocks_there : (names path : List (List ℕ)) → names ≡ path → (own all : List Row) → own ≡ all → (o : Option Node) → IsWhole names own o → blocks_in (rows_or o) ≡ blocks_in (rows_under path all)
 blocks_there names path is own all seen o whole =
     sym (ap blocks_in (sym (ap (λ p. rows_under p all) is) ∙ sym (ap (rows_under names) seen) ∙ whole) ∙ blocks_map (row_placed names) (λ row. refl) (rows_or o))
+
+has_files_map : (f : Row → Row) → ((row : Row) → (f row).file ≡ row.file) → (rs : List Row) → has_files (map f rs) ≡ has_files rs
+has_files_map f same [] = refl
+has_files_map f same (r ∷ rs) = ap (λ file. is_some file || has_files (map f rs)) (same r) ∙ ap (λ b. is_some r.file || b) (has_files_map f same rs)
+
+pub files_there : (names path : List (List ℕ)) → names ≡ path → (own all : List Row) → own ≡ all → (o : Option Node) → IsWhole names own o → has_files (rows_or o) ≡ has_files (rows_under path all)
+files_there names path is own all seen o whole =
+    sym (ap has_files (sym (ap (λ p. rows_under p all) is) ∙ sym (ap (rows_under names) seen) ∙ whole) ∙ has_files_map (row_placed names) (λ row. refl) (rows_or o))
 
 -- a block that was added and taken back
 

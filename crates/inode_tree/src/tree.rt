@@ -16,7 +16,7 @@ ghost use Rattle.inode_visits.specs.Visits.{counts_of, is_closed};
 ghost use Rattle.inode_nodes.specs.Node.{rows, row_of};
 ghost use Rattle.inode_nodes.specs.Part.{IsWhole};
 ghost use Rattle.file_table.specs.Finished.{finished_files, with_finished_closed};
-ghost use Rattle.inode_tree.specs.Tree.{branch_at, IsTree};
+ghost use Rattle.inode_tree.specs.Tree.{branch_at, has_files, IsTree};
 
 use crate::blocks::FilesUnder;
 use crate::inode::Inode;
@@ -206,6 +206,7 @@ impl Tree {
     pub fn files_under(&self, path: &Path) -> Result<FilesUnder<'_>, AllocError>
         ensures clients { IfOk result (λ found. map (λ who. who.now) found.clients.items ≡ holders (rows_under path.now self.now)) }
         ensures blocks { IfOk result (λ found. found.blocks.items ≡ blocks_in (rows_under path.now self.now)) }
+        ensures any { IfOk result (λ found. found.has_files ≡ has_files (rows_under path.now self.now)) }
     {
         match self.nodes.find(path.names()) {
             Some(inode) => inode.files(self.alloc),
@@ -213,6 +214,7 @@ impl Tree {
                 clients: Vec::new(self.alloc),
                 places: Vec::new(self.alloc),
                 blocks: Vec::new(self.alloc),
+                has_files: false,
             }),
         }
     }
@@ -293,16 +295,17 @@ impl Tree {
         self.nodes.make(self.alloc, path.names(), mode, file, owner)
     }
 
-    /// Removes what stands at a path that isn't the root, with all that is beneath it. Costs also what is removed, and takes
-    /// no memory.
-    pub fn remove(&mut self, path: &Path)
-        requires { IsTrue (not (is_root path.now)) }
+    /// Removes what stands at a path that isn't the root, with all that is beneath it. Costs also what is removed, which is gone through once
+    /// more where it may have files, and takes no memory.
+    pub fn remove(&mut self, path: &Path, may_have_files: bool)
+        requires below { IsTrue (not (is_root path.now)) }
+        requires told { may_have_files ≡ false → has_files (rows_under path.now self.old) ≡ false }
         ensures { self.new ≡ without path.now self.old }
     {
         let Some((first, rest)) = path.names().split_first() else {
             unreachable!()
         };
-        self.nodes.remove(first, rest);
+        self.nodes.remove(first, rest, may_have_files);
     }
 
     /// Moves what stands at a path, with all that is beneath it, to another path. Costs the two paths, and not what is moved.

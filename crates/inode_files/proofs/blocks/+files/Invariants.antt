@@ -1,7 +1,8 @@
-use Rattle.std.proofs.Common.{◌≡◌, ◌++◌, ◌+◌, ◌*◌, ◌≤◌, length, map}
+use Rattle.std.proofs.Common.{◌≡◌, ◌++◌, ◌+◌, ◌*◌, ◌≤◌, ◌||◌, length, map}
 use Rattle.namespace_rows.specs.Files.{blocks_in, holders}
 use Rattle.inode_nodes.specs.Node.{flatten}
 use Rattle.inode_visits.proofs.Visits.{seen_entries}
+use Rattle.inode_files.specs.Holding.{has_files}
 use Rattle.inode_files.proofs.blocks.+files.Given as goal
 
 abbrev pub decreases-push_files : goal.decreases-push_files
@@ -16,5 +17,6 @@ invariant-push_files_in-loop-name l = record {
   is_finite : (goal.iterator-push_files_in-loop-name).is_finite l._name-iterator;
   clients : map (λ who. who.now) l.clients.items ++ holders (flatten (seen_entries l.files l._name-iterator)) ≡ map (λ who. who.now) l.initial.clients.items ++ holders (flatten (seen_entries l.files l.nodes.entries));
   blocks : l.blocks.items ++ blocks_in (flatten (seen_entries l.files l._name-iterator)) ≡ l.initial.blocks.items ++ blocks_in (flatten (seen_entries l.files l.nodes.entries));
+  any : (l.any || has_files (flatten (seen_entries l.files l._name-iterator))) ≡ (l.initial.any || has_files (flatten (seen_entries l.files l.nodes.entries)));
   left : length (flatten l._name-iterator) ≤ length (flatten l.nodes.entries);
 }
