@@ -35,7 +35,7 @@ use Rattle.inode_nodes.specs.Part.{IsWhole}
 use Rattle.inode_nodes.specs.Change.{branch_grafted}
 use Rattle.inode_nodes.proofs.Through.{put_top, there_within}
 use Rattle.inode_nodes.proofs.Wholes.{filter_within, row_at_whole}
-use Rattle.inode_files.specs.Holding.{has_files}
+use Rattle.inode_visits.specs.Holding.{has_files}
 use Rattle.inode_files.specs.Rooms.{IsRoomFor, IsPut}
 use Rattle.inode_files.proofs.SeenRows.{shown, shown_all, shown_at, shown_ascending, shown_under, shown_missing, shown_parent, shown_file_above, shown_ancestor, shown_without, shown_replaced, shown_moved, shown_new}
 use Rattle.inode_files.proofs.Places.{seen_same, kept_same, seen_elsewhere, seen_put, kept_put, kept_changed, seen_forgotten, kept_forgotten, none_at}

@@ -1,8 +1,6 @@
 pub mod SeenRows
 pub mod Places
 pub mod Counts
-pub mod Limits
-pub mod FileBlocks
 pub mod SeenParts
 pub mod KeptChanges
 pub mod Closings

@@ -15,7 +15,7 @@ use Rattle.namespace_rows.proofs.Tests.{both}
 use Rattle.namespace_rows.proofs.PathOrders.{less_is, same_path_is}
 use Rattle.namespace_rows.specs.Changes.{with_file, file_edited}
 use Rattle.flat_rows.proofs.Holders.{bit, tally, tally_cons}
-use Rattle.inode_files.specs.Holding.{has_files}
+use Rattle.inode_visits.specs.Holding.{has_files}
 use Rattle.file_table.specs.Place.{place_in}
 use Rattle.file_table.specs.Seen.{file_held, seen, seen_rows}
 use Rattle.file_table.specs.Kept.{is_at_place, rows_at_place, are_at_place, held_count, AreKept, get_unless}

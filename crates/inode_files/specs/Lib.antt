@@ -1,4 +1,2 @@
-pub mod Limits
-pub mod Holding
 pub mod Branch
 pub mod Rooms

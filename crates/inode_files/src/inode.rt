@@ -10,13 +10,13 @@ ghost use Rattle.flat_rows.specs.Outcome.{is_alone};
 ghost use Rattle.inode_nodes.specs.Node.{rows, row_placed};
 ghost use Rattle.inode_nodes.specs.Part.{IsPart};
 ghost use Rattle.inode_visits.specs.Visits.{counts_of, is_closed, row_found};
-ghost use Rattle.inode_files.specs.Limits.{fits_behind};
+ghost use Rattle.inode_visits.specs.Limits.{fits_behind};
 ghost use Rattle.inode_visits.specs.SeenNode.{seen_branch};
 ghost use Rattle.inode_files.specs.Branch.{branch_at};
-ghost use Rattle.inode_files.specs.Holding.{has_files};
+ghost use Rattle.inode_visits.specs.Holding.{has_files};
 
-use crate::blocks::{FilesUnder, blocks_of, files_of};
-use crate::limit::fits;
+use inode_visits::blocks::{FilesUnder, blocks_of, files_of};
+use inode_visits::limit::fits;
 use acl_entries::acl::Acl;
 use file_paths::name::Name;
 use file_paths::path::Path;

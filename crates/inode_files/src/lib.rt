@@ -1,8 +1,6 @@
 //! The nodes of a tree with what their files have, as rows of the namespace (HDFS Architecture, "The File System Namespace").
 #![tactic(auto)]
 
-pub mod blocks;
 pub mod closing;
 pub mod inode;
-pub mod limit;
 pub mod nodes;

@@ -6,7 +6,7 @@ ghost use Rattle.namespace_rows.specs.Namespace.{IsNamespace, has_parent, is_asc
 ghost use Rattle.namespace_rows.specs.Rows.{row_at, has_file, is_missing, file_above, ancestor, with_sub_tree};
 ghost use Rattle.flat_rows.specs.Outcome.{kind_of_new, with_new};
 ghost use Rattle.namespace_rows.specs.Changes.{rows_under, without, with_rows_moved, row_rewritten, block_added};
-ghost use Rattle.inode_files.specs.Holding.{has_files};
+ghost use Rattle.inode_visits.specs.Holding.{has_files};
 ghost use Rattle.file_table.specs.Changed.{file_changed};
 ghost use Rattle.file_table.specs.Place.{placed};
 ghost use Rattle.inode_nodes.specs.Change.{change_of};
@@ -15,7 +15,7 @@ ghost use Rattle.inode_nodes.specs.Part.{IsWhole};
 ghost use Rattle.inode_files.specs.Rooms.{IsRoomFor, HasRoomWhere, IsPut};
 ghost use Rattle.inode_files.specs.Branch.{branch_at, file_rewritten};
 
-use crate::blocks::{forget, forget_any};
+use inode_visits::blocks::{forget, forget_any};
 use crate::inode::Inode;
 use acl_entries::acl::Acl;
 use file_paths::name::Name;

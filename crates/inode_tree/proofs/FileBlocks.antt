@@ -20,7 +20,7 @@ use Rattle.inode_nodes.specs.Node.{Node, rows_or, row_placed}
 use Rattle.inode_nodes.specs.Part.{IsWhole}
 use Rattle.inode_files.specs.Branch.{file_rewritten}
 use Rattle.file_table.specs.Finished.{closed_for, with_finished_closed}
-use Rattle.inode_files.proofs.FileBlocks.{blocks_map}
+use Rattle.inode_visits.proofs.FileBlocks.{blocks_map}
 use Rattle.inode_files.proofs.SeenRows.{shown_namespace, shown_paths}
 use Rattle.inode_tree.specs.Tree.{has_files, IsTree}
 

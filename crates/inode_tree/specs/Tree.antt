@@ -4,7 +4,7 @@ use Rattle.namespace_rows.specs.declared.row.Row.{Row}
 use Rattle.namespace_rows.specs.Namespace.{IsNamespace}
 use Rattle.namespace_rows.specs.Changes.{are_paths}
 pub use Rattle.inode_files.specs.Branch.{branch_at}
-pub use Rattle.inode_files.specs.Holding.{has_files}
+pub use Rattle.inode_visits.specs.Holding.{has_files}
 
 pub record IsTree (rows : List Row) : Type 0 where
   pub namespace : IsNamespace rows

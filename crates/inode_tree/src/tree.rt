@@ -28,7 +28,7 @@ use hdfs_types::file::FileState;
 use hdfs_types::reply::ObjectKind;
 use hdfs_values::ids::BlockId;
 use hdfs_values::who::Who;
-use inode_files::limit;
+use inode_visits::limit;
 use inode_files::nodes::Nodes;
 use inode_nodes::change::Given;
 use inode_visits::visit::Counts;

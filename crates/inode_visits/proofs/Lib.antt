@@ -1,1 +1,3 @@
 pub mod Visits
+pub mod FileBlocks
+pub mod Limits

@@ -1,2 +1,4 @@
 pub mod Visits
 pub mod SeenNode
+pub mod Holding
+pub mod Limits

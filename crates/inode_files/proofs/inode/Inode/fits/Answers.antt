@@ -1,7 +1,7 @@
 use Rattle.std.proofs.Common.{◌∙◌, refl, sym}
 use Rattle.file_table.specs.Seen.{file_held}
 use Rattle.inode_nodes.specs.Node.{rows}
-use Rattle.inode_files.specs.Limits.{fits_behind}
+use Rattle.inode_visits.specs.Limits.{fits_behind}
 use Rattle.inode_files.proofs.SeenRows.{shown_all}
 use Rattle.inode_files.proofs.inode.Inode.fits.Goals as goal
 

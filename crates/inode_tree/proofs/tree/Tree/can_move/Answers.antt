@@ -2,10 +2,10 @@ use Rattle.std.proofs.Common.{Some, ap, arith, subst, sym, ◌∙◌, length}
 use Rattle.std.specs.List.{list_all}
 use Rattle.std.specs.Option.{option_map}
 use Rattle.inode_nodes.specs.Node.{rows}
-use Rattle.inode_files.specs.Limits.{fits_behind}
+use Rattle.inode_visits.specs.Limits.{fits_behind}
 use Rattle.inode_nodes.specs.Part.{IsWhole}
 use Rattle.inode_tree.specs.Tree.{branch_at}
-use Rattle.inode_files.proofs.Limits.{fits_moved, fits_short}
+use Rattle.inode_visits.proofs.Limits.{fits_moved, fits_short}
 use Rattle.inode_tree.proofs.tree.Tree.can_move.Goals as goal
 
 pub returns-then-bytes-text_bytes : goal.returns-then-bytes-text_bytes

@@ -1,7 +1,7 @@
 use Rattle.std.proofs.Common.{◌≡◌, ℕ, ◌+◌, ◌*◌, ◌≤◌, length}
 use Rattle.file_table.specs.Kept.{are_at_place, get_unless}
 use Rattle.inode_nodes.specs.Node.{flatten}
-use Rattle.inode_files.proofs.blocks.+forget.Given as goal
+use Rattle.inode_visits.proofs.blocks.+forget.Given as goal
 
 abbrev pub decreases-forget : goal.decreases-forget
 decreases-forget l = 2 * length l.node.now.beneath + 1

@@ -2,7 +2,7 @@ use Rattle.std.proofs.Common.{◌≡◌, ◌++◌, ◌+◌, ◌*◌, ◌≤◌, 
 use Rattle.namespace_rows.specs.Files.{blocks_in}
 use Rattle.inode_nodes.specs.Node.{flatten}
 use Rattle.inode_visits.proofs.Visits.{seen_entries}
-use Rattle.inode_files.proofs.blocks.+blocks.Given as goal
+use Rattle.inode_visits.proofs.blocks.+blocks.Given as goal
 
 abbrev pub decreases-push_blocks : goal.decreases-push_blocks
 decreases-push_blocks l = 2 * length l.node.now.beneath + 1

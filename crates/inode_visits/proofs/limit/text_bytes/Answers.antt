@@ -1,6 +1,6 @@
 use Rattle.std.proofs.Common.{ap, length, arith}
-use Rattle.inode_files.proofs.Limits.{bytes_fit}
-use Rattle.inode_files.proofs.limit.text_bytes.Goals as goal
+use Rattle.inode_visits.proofs.Limits.{bytes_fit}
+use Rattle.inode_visits.proofs.limit.text_bytes.Goals as goal
 
 pub overflow_add-bytes-in-loop-name : goal.overflow_add-bytes-in-loop-name
 overflow_add-bytes-in-loop-name c =

@@ -2,8 +2,8 @@ use Rattle.std.proofs.Common.{◌≡◌, ◌++◌, ◌+◌, ◌*◌, ◌≤◌, 
 use Rattle.namespace_rows.specs.Files.{blocks_in, holders}
 use Rattle.inode_nodes.specs.Node.{flatten}
 use Rattle.inode_visits.proofs.Visits.{seen_entries}
-use Rattle.inode_files.specs.Holding.{has_files}
-use Rattle.inode_files.proofs.blocks.+files.Given as goal
+use Rattle.inode_visits.specs.Holding.{has_files}
+use Rattle.inode_visits.proofs.blocks.+files.Given as goal
 
 abbrev pub decreases-push_files : goal.decreases-push_files
 decreases-push_files l = 2 * length l.node.now.beneath + 1

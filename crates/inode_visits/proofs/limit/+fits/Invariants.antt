@@ -1,8 +1,8 @@
 use Rattle.std.proofs.Common.{◌≡◌, ◌+◌, ◌*◌, ◌≤◌, length}
 use Rattle.std.specs.List.{list_all}
 use Rattle.inode_nodes.specs.Node.{flatten}
-use Rattle.inode_files.specs.Limits.{fits_behind}
-use Rattle.inode_files.proofs.limit.+fits.Given as goal
+use Rattle.inode_visits.specs.Limits.{fits_behind}
+use Rattle.inode_visits.proofs.limit.+fits.Given as goal
 
 abbrev pub decreases-fits : goal.decreases-fits
 decreases-fits l = 2 * length l.node.now.beneath + 1

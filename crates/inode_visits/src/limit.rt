@@ -2,7 +2,7 @@ ghost use Rattle.std.specs.Prelude.{◌≡◌, ◌≤◌};
 ghost use Rattle.std.specs.List.{list_all};
 ghost use Rattle.file_paths.specs.Path.{IsPath};
 ghost use Rattle.inode_nodes.specs.Node.{rows, flatten};
-ghost use Rattle.inode_files.specs.Limits.{bytes_of, fits_behind};
+ghost use Rattle.inode_visits.specs.Limits.{bytes_of, fits_behind};
 
 use file_paths::name::Name;
 use file_paths::path::Path;

@@ -12,7 +12,7 @@ use Rattle.namespace_rows.specs.Changes.{rows_under, moved_row, are_paths}
 use Rattle.namespace_rows.proofs.Tests.{both, and, all_imp, all_kept}
 use Rattle.inode_nodes.specs.Node.{Node, flatten, rows, rows_or, under, row_placed}
 use Rattle.inode_nodes.specs.Part.{IsWhole}
-use Rattle.inode_files.specs.Limits.{bytes_of, fits_behind}
+use Rattle.inode_visits.specs.Limits.{bytes_of, fits_behind}
 use Rattle.inode_nodes.proofs.Filters.{Entries, inside}
 use Rattle.inode_nodes.proofs.Moves.{moved_placed}
 

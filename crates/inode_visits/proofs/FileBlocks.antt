@@ -6,7 +6,7 @@ use Rattle.namespace_rows.specs.declared.row.Row.{Row}
 use Rattle.namespace_rows.specs.Files.{ids_in, blocks_in}
 use Rattle.inode_nodes.specs.Node.{Node, flatten, rows, under}
 use Rattle.inode_nodes.proofs.Filters.{Entries}
-use Rattle.inode_files.specs.Holding.{has_files}
+use Rattle.inode_visits.specs.Holding.{has_files}
 use Rattle.file_table.specs.Kept.{is_at_place, are_at_place, get_unless}
 use Rattle.inode_visits.proofs.Visits.{any_here, any_next}
 

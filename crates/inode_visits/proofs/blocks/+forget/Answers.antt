@@ -1,7 +1,7 @@
 use Rattle.std.proofs.Common.{arith}
 use Rattle.inode_visits.proofs.Visits.{shorter}
-use Rattle.inode_files.proofs.FileBlocks.{forgotten_next}
-use Rattle.inode_files.proofs.blocks.+forget.Goals as goal
+use Rattle.inode_visits.proofs.FileBlocks.{forgotten_next}
+use Rattle.inode_visits.proofs.blocks.+forget.Goals as goal
 
 pub forget_in-loop-name-preserved-then-not-is_bare : goal.forget_in-loop-name-preserved-then-not-is_bare
 forget_in-loop-name-preserved-then-not-is_bare t c =

@@ -5,8 +5,8 @@ use Rattle.inode_nodes.specs.Node.{flatten}
 use Rattle.inode_nodes.proofs.Filters.{Entries}
 use Rattle.inode_visits.specs.SeenNode.{seen_branch}
 use Rattle.inode_visits.proofs.Visits.{shorter, seen_entries, seen_flatten}
-use Rattle.inode_files.proofs.FileBlocks.{blocks_next}
-use Rattle.inode_files.proofs.blocks.+blocks.Goals as goal
+use Rattle.inode_visits.proofs.FileBlocks.{blocks_next}
+use Rattle.inode_visits.proofs.blocks.+blocks.Goals as goal
 
 pub push_blocks_in-loop-name-preserved : goal.push_blocks_in-loop-name-preserved
 push_blocks_in-loop-name-preserved t c =

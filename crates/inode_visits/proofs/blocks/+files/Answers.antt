@@ -5,9 +5,9 @@ use Rattle.inode_nodes.specs.Node.{flatten}
 use Rattle.inode_nodes.proofs.Filters.{Entries}
 use Rattle.inode_visits.specs.SeenNode.{seen_branch}
 use Rattle.inode_visits.proofs.Visits.{shorter, held_next, seen_entries, seen_flatten}
-use Rattle.inode_files.specs.Holding.{has_files}
-use Rattle.inode_files.proofs.FileBlocks.{blocks_next, any_step, or_false}
-use Rattle.inode_files.proofs.blocks.+files.Goals as goal
+use Rattle.inode_visits.specs.Holding.{has_files}
+use Rattle.inode_visits.proofs.FileBlocks.{blocks_next, any_step, or_false}
+use Rattle.inode_visits.proofs.blocks.+files.Goals as goal
 
 pub push_files_in-loop-name-preserved-in-Continue-1 : goal.push_files_in-loop-name-preserved-in-Continue-1
 push_files_in-loop-name-preserved-in-Continue-1 t c =

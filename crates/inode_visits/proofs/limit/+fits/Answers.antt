@@ -1,7 +1,7 @@
 use Rattle.std.proofs.Common.{◌+◌, ap, refl, arith, length, ◌∙◌}
 use Rattle.inode_visits.proofs.Visits.{shorter}
-use Rattle.inode_files.proofs.Limits.{fits_next, fits_not}
-use Rattle.inode_files.proofs.limit.+fits.Goals as goal
+use Rattle.inode_visits.proofs.Limits.{fits_next, fits_not}
+use Rattle.inode_visits.proofs.limit.+fits.Goals as goal
 
 pub fits_in-returns-then-not-fits : goal.fits_in-returns-then-not-fits
 fits_in-returns-then-not-fits t c =

@@ -6,7 +6,7 @@ ghost use Rattle.file_table.specs.Place.{placed};
 ghost use Rattle.file_table.specs.Seen.{file_held, seen_rows};
 ghost use Rattle.file_table.specs.Kept.{get_unless, are_at_place};
 ghost use Rattle.inode_nodes.specs.Node.{rows, flatten};
-ghost use Rattle.inode_files.specs.Holding.{has_files};
+ghost use Rattle.inode_visits.specs.Holding.{has_files};
 
 use file_blocks::blocks::FileBlock;
 use file_paths::name::Name;
@@ -15,7 +15,7 @@ use file_table::table::FileTable;
 use hdfs_values::ids::BlockId;
 use hdfs_values::who::Who;
 use inode_nodes::node::{Held, Node};
-use inode_visits::visit::holder_of;
+use crate::visit::holder_of;
 use std::alloc::{AllocError, Global};
 use std::collections::BTreeMap;
 
