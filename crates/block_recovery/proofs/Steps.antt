@@ -12,8 +12,8 @@ use Rattle.block_recovery.specs.Laws.{AreRight, IsRight, Extends, Call, Begin, R
 use Rattle.block_recovery.specs.Plans.{plans_of, plan_at, newest, with_entry_changed, with_plan_changed, with_plan_begun, new_plan, refused_after, refused_begin, refused_reply, refused_decide, refused_updated, with_answer, with_decision, with_updated, takes_part, refused_without}
 use Rattle.block_recovery.specs.declared.answer.Answer.{Answer}
 use Rattle.block_recovery.specs.declared.decision.Decision.{Decision}
-use Rattle.block_recovery.specs.declared.fault.PlanRefusal.{PlanRefusal}
-use Rattle.block_recovery.specs.declared.fault.PlanRefusal.TheVariants.{AlreadyBegun, Stranger}
+use Rattle.recovery_updates.specs.declared.fault.PlanRefusal.{PlanRefusal}
+use Rattle.recovery_updates.specs.declared.fault.PlanRefusal.TheVariants.{AlreadyBegun, Stranger}
 use Rattle.block_recovery.specs.declared.plan.Plan.{Plan}
 use Rattle.block_answers.specs.declared.commands.Recover.{Recover}
 use Rattle.block_recovery.proofs.Lookups.{lookup_inserted, lookup_altered, inserted_ascending, has_inserted}

@@ -9,8 +9,8 @@ use Rattle.block_recovery.specs.Decision.{decision_of}
 use Rattle.block_recovery.specs.Plans.{PlanTable, plan_at, with_plan_changed, refused_begin, with_plan_begun, refused_reply, with_answer, refused_decide, with_decision, refused_updated, with_updated, takes_part}
 use Rattle.block_recovery.specs.declared.answer.Answer.{Answer}
 use Rattle.block_recovery.specs.declared.decision.Decision.{Decision}
-use Rattle.block_recovery.specs.declared.fault.PlanRefusal.{PlanRefusal}
-use Rattle.block_recovery.specs.declared.fault.PlanRefusal.TheVariants.{AlreadyBegun}
+use Rattle.recovery_updates.specs.declared.fault.PlanRefusal.{PlanRefusal}
+use Rattle.recovery_updates.specs.declared.fault.PlanRefusal.TheVariants.{AlreadyBegun}
 use Rattle.block_recovery.specs.declared.plan.Plan.{Plan}
 use Rattle.block_answers.specs.declared.commands.Recover.{Recover}
 

@@ -12,10 +12,10 @@ use Rattle.block_recovery.specs.Decision.{decision_of}
 use Rattle.block_recovery.specs.declared.answer.Answer.{Answer}
 use Rattle.block_recovery.specs.declared.decision.Commit.{Commit}
 use Rattle.block_recovery.specs.declared.decision.Decision.{Decision}
-use Rattle.block_recovery.specs.declared.fault.PlanFault.{PlanFault}
-use Rattle.block_recovery.specs.declared.fault.PlanFault.TheVariants.{Refused, OutOfMemory}
-use Rattle.block_recovery.specs.declared.fault.PlanRefusal.{PlanRefusal}
-use Rattle.block_recovery.specs.declared.fault.PlanRefusal.TheVariants.{AlreadyBegun, Stranger, Doubled, NoReplicaAnswered}
+use Rattle.recovery_updates.specs.declared.fault.PlanFault.{PlanFault}
+use Rattle.recovery_updates.specs.declared.fault.PlanFault.TheVariants.{Refused, OutOfMemory}
+use Rattle.recovery_updates.specs.declared.fault.PlanRefusal.{PlanRefusal}
+use Rattle.recovery_updates.specs.declared.fault.PlanRefusal.TheVariants.{AlreadyBegun, Stranger, Doubled, NoReplicaAnswered}
 use Rattle.block_recovery.specs.declared.plan.Plan.{Plan}
 use Rattle.block_answers.specs.declared.commands.Recover.{Recover}
 

@@ -4,10 +4,6 @@
 pub mod answer;
 mod block_plans;
 pub mod decision;
-pub mod fault;
 pub mod laws;
 pub mod plan;
 pub mod plans;
-pub mod recover;
-mod stamps;
-pub mod updated;

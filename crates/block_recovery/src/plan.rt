@@ -5,9 +5,9 @@ ghost use Rattle.block_recovery.specs.Plans.{IsPlanFaultOf};
 
 use crate::answer::{Answer, Answers};
 use crate::decision::{Commit, Decision};
-use crate::fault::{PlanFault, PlanRefusal};
-use crate::recover::Recover;
-use crate::updated::UpdatedNodes;
+use recovery_updates::fault::{PlanFault, PlanRefusal};
+use recovery_updates::recover::Recover;
+use recovery_updates::updated::UpdatedNodes;
 use block_answers::token_bytes::TokenBytes;
 use block_records::node_set::NodeSet;
 use node_ids::node_id::NodeId;

@@ -13,9 +13,9 @@ ghost use Rattle.block_recovery.specs.Plans.{IsPlanFaultOf, with_plan_changed, p
 use crate::answer::Answer;
 use crate::block_plans::BlockPlans;
 use crate::decision::{Commit, Decision};
-use crate::fault::{PlanFault, PlanRefusal};
+use recovery_updates::fault::{PlanFault, PlanRefusal};
 use crate::plan::Plan;
-use crate::recover::Recover;
+use recovery_updates::recover::Recover;
 use block_records::node_set::NodeSet;
 use hdfs_values::ids::{BlockId, Stamp};
 use node_ids::node_id::NodeId;

@@ -4,7 +4,7 @@ ghost use Rattle.cluster_trace.specs.Trace.{with_no_plan};
 ghost use Rattle.cluster_parts.specs.Leaders.{plans_led, answer_led};
 
 use block_recovery::plans::Plans;
-use block_recovery::recover::Recover;
+use recovery_updates::recover::Recover;
 use node_calls::call::PlanCall;
 use node_ids::node_id::NodeId;
 use plan_steps::answered::PlanAnswered;

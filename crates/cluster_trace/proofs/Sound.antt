@@ -23,7 +23,7 @@ use Rattle.replicas.specs.ReplicaStep.{held_at, removal_refusal}
 use Rattle.replicas.specs.declared.held.Held.{Held}
 use Rattle.datanode.specs.NodeStep.{DataNode, node_after, node_answer, presented_answer, told_by, removal_told, clock_with, call_refusal}
 use Rattle.block_recovery.specs.Plans.{PlanTable}
-use Rattle.block_recovery.specs.declared.fault.PlanRefusal.{PlanRefusal}
+use Rattle.recovery_updates.specs.declared.fault.PlanRefusal.{PlanRefusal}
 use Rattle.plan_steps.specs.PlanStep.{plan_refusal, plan_there, decision_there, presented_by_leader, to_each, plan_sends, told_unless, plan_answer}
 use Rattle.cluster_trace.specs.DataCall.{DataCall, as_message, BeginWrite, Packet, Finalize, Read, Decide, Commit}
 use Rattle.cluster_trace.specs.Trace.{Cluster, ClusterOpening, Happened, start, with_new_node, new_node, event_lost, request_named, entry_of, node_called, called_at, leader_called, led_at, message_delivered, message_at, report_request, commit_request, is_from_outside, event_happened, left_by, after}

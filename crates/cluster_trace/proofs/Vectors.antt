@@ -14,7 +14,7 @@ use Rattle.node_calls.specs.declared.message.Message.{Message}
 use Rattle.node_calls.specs.declared.message.Message.TheVariants as message
 use Rattle.node_calls.specs.declared.refusal.NodeRefusal.TheVariants.{Token}
 use Rattle.node_calls.specs.declared.reply.NodeReply.TheVariants as told
-use Rattle.block_recovery.specs.declared.fault.PlanRefusal.TheVariants.{Stranger}
+use Rattle.recovery_updates.specs.declared.fault.PlanRefusal.TheVariants.{Stranger}
 use Rattle.plan_steps.specs.PlanStep.{plan_answer}
 use Rattle.cluster_trace.specs.DataCall.{Read, Decide, Commit}
 use Rattle.cluster_trace.specs.Trace.{ClusterOpening, after, event_outcome}

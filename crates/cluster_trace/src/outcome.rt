@@ -1,6 +1,6 @@
 ghost use Rattle.std.specs.Prelude.{Some};
 
-use block_recovery::fault::PlanRefusal;
+use recovery_updates::fault::PlanRefusal;
 use hdfs_values::at_word::AtWord;
 use node_calls::refusal::NodeRefusal;
 use node_calls::reply::NodeReply;

@@ -8,8 +8,8 @@ use Rattle.block_records.specs.Numbers.{is_number, has_number, entry_at}
 use Rattle.block_recovery.specs.Plans.{PlanTable, plan_at, with_plan_changed, refused_without, refused_plan_commit, decision_for, with_decision}
 use Rattle.block_recovery.specs.declared.decision.Commit.{Commit}
 use Rattle.block_recovery.specs.declared.decision.Decision.{Decision}
-use Rattle.block_recovery.specs.declared.fault.PlanRefusal.{PlanRefusal}
-use Rattle.block_recovery.specs.declared.fault.PlanRefusal.TheVariants.{Stranger}
+use Rattle.recovery_updates.specs.declared.fault.PlanRefusal.{PlanRefusal}
+use Rattle.recovery_updates.specs.declared.fault.PlanRefusal.TheVariants.{Stranger}
 use Rattle.block_recovery.specs.declared.plan.Plan.{Plan}
 use Rattle.block_recovery.proofs.Steps.{plan_changed}
 use Rattle.block_recovery.proofs.Tables.{itself}

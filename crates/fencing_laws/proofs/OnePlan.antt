@@ -9,7 +9,7 @@ use Rattle.block_records.proofs.Numbers.{number_is}
 use Rattle.block_map.specs.BlockFacts.{newest_stamp}
 use Rattle.block_recovery.specs.Plans.{PlanTable, plan_at, with_plan_changed, new_plan, with_answer, with_decision, with_updated}
 use Rattle.block_recovery.specs.declared.decision.Decision.{Decision}
-use Rattle.block_recovery.specs.declared.fault.PlanRefusal.{PlanRefusal}
+use Rattle.recovery_updates.specs.declared.fault.PlanRefusal.{PlanRefusal}
 use Rattle.block_recovery.specs.declared.plan.Plan.{Plan}
 use Rattle.block_recovery.proofs.Steps.{plan_changed, plan_begun}
 use Rattle.hdfs_types.specs.declared.op.Op.{Op}

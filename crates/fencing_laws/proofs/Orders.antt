@@ -11,7 +11,7 @@ use Rattle.block_records.specs.Numbers.{is_number, entry_at}
 use Rattle.block_records.specs.declared.block_record.BlockRecord.{BlockRecord}
 use Rattle.block_records.specs.declared.last_block.LastBlock.{LastBlock}
 use Rattle.block_recovery.specs.Plans.{PlanTable}
-use Rattle.block_recovery.specs.declared.fault.PlanRefusal.{PlanRefusal}
+use Rattle.recovery_updates.specs.declared.fault.PlanRefusal.{PlanRefusal}
 use Rattle.block_recovery.proofs.Tables.{itself}
 use Rattle.node_ids.specs.NodeId.{node_of}
 use Rattle.block_answers.specs.Commands.{Commands}

@@ -9,7 +9,7 @@ use Rattle.block_recovery.specs.Laws.{AreRight, IsRight, Extends}
 use Rattle.block_recovery.specs.Plans.{PlanTable, plan_at}
 use Rattle.block_recovery.specs.declared.answer.Answer.{Answer}
 use Rattle.block_recovery.specs.declared.decision.Decision.{Decision}
-use Rattle.block_recovery.specs.declared.fault.PlanRefusal.{PlanRefusal}
+use Rattle.recovery_updates.specs.declared.fault.PlanRefusal.{PlanRefusal}
 use Rattle.block_recovery.specs.declared.plan.Plan.{Plan}
 use Rattle.block_recovery.proofs.Lookups.{lookup_inserted}
 use Rattle.block_recovery.proofs.Steps.{extends_itself, stay, stay_right, none_right}

@@ -7,7 +7,7 @@ use Rattle.block_records.specs.Numbers.{is_number, entry_at}
 use Rattle.block_records.proofs.Numbers.{number_is}
 use Rattle.block_recovery.specs.Plans.{PlanTable, plan_at, with_plan_changed, new_plan, with_answer, with_decision, with_updated}
 use Rattle.block_recovery.specs.declared.answer.Answer.{Answer}
-use Rattle.block_recovery.specs.declared.fault.PlanRefusal.{PlanRefusal}
+use Rattle.recovery_updates.specs.declared.fault.PlanRefusal.{PlanRefusal}
 use Rattle.block_recovery.specs.declared.plan.Plan.{Plan}
 use Rattle.block_recovery.proofs.Lookups.{lookup_inserted}
 use Rattle.block_recovery.proofs.Steps.{plan_changed, plan_begun}

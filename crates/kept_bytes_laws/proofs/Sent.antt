@@ -3,7 +3,7 @@ use Rattle.std.proofs.Common.{◌≡◌, ℕ, Bool, true, false, ◌⊎◌, inl,
 use Rattle.std.specs.List.{AllByRecursion}
 use Rattle.block_records.specs.Numbers.{entry_at}
 use Rattle.block_recovery.specs.Plans.{PlanTable}
-use Rattle.block_recovery.specs.declared.fault.PlanRefusal.{PlanRefusal}
+use Rattle.recovery_updates.specs.declared.fault.PlanRefusal.{PlanRefusal}
 use Rattle.node_ids.specs.NodeId.{node_of, node_principal}
 use Rattle.block_answers.specs.Commands.{Commands}
 use Rattle.block_answers.specs.declared.commands.CopyOrder.{CopyOrder}

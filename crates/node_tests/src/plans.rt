@@ -1,9 +1,9 @@
 use block_records::node_set::NodeSet;
 use block_recovery::answer::Answer;
 use block_recovery::decision::{Commit, Decision};
-use block_recovery::fault::{PlanFault, PlanRefusal};
+use recovery_updates::fault::{PlanFault, PlanRefusal};
 use block_recovery::plans::Plans;
-use block_recovery::recover::Recover;
+use recovery_updates::recover::Recover;
 use block_tokens::token::{Body, TokenBytes, encode};
 use hdfs_values::ids::{BlockId, Serial, Stamp};
 use node_ids::node_id::NodeId;

@@ -9,8 +9,8 @@ use Rattle.node_calls.specs.declared.call.ReplicaState.TheVariants.{Writing, Fin
 use Rattle.node_calls.specs.declared.refusal.NodeRefusal.{NodeRefusal}
 use Rattle.node_calls.specs.declared.reply.NodeReply.{NodeReply}
 use Rattle.node_calls.specs.declared.reply.NodeReply.TheVariants as reply
-use Rattle.block_recovery.specs.Refusals.{plan_refusal_text}
-use Rattle.block_recovery.specs.declared.fault.PlanRefusal.{PlanRefusal}
+use Rattle.recovery_updates.specs.Refusals.{plan_refusal_text}
+use Rattle.recovery_updates.specs.declared.fault.PlanRefusal.{PlanRefusal}
 use Rattle.plan_steps.specs.declared.answered.PlanReply.{PlanReply}
 use Rattle.plan_steps.specs.declared.answered.PlanReply.TheVariants as plan_reply
 

@@ -10,9 +10,9 @@ use Rattle.node_calls.specs.declared.call.PlanCall.{PlanCall}
 use Rattle.block_recovery.specs.Plans.{PlanTable, IsPlanFaultOf, plan_at, refused_begin, refused_decide, decision_for, refused_plan_commit, commit_of}
 use Rattle.block_recovery.specs.declared.decision.Commit.{Commit}
 use Rattle.block_recovery.specs.declared.decision.Decision.{Decision}
-use Rattle.block_recovery.specs.declared.fault.PlanFault.{PlanFault}
-use Rattle.block_recovery.specs.declared.fault.PlanFault.TheVariants.{Refused}
-use Rattle.block_recovery.specs.declared.fault.PlanRefusal.{PlanRefusal}
+use Rattle.recovery_updates.specs.declared.fault.PlanFault.{PlanFault}
+use Rattle.recovery_updates.specs.declared.fault.PlanFault.TheVariants.{Refused}
+use Rattle.recovery_updates.specs.declared.fault.PlanRefusal.{PlanRefusal}
 use Rattle.block_recovery.specs.declared.plan.Plan.{Plan}
 use Rattle.plan_steps.specs.PlanStep.{plan_refusal, plans_with, left_unless, plans_after, no_plan, no_decision, no_commit, plan_there, decision_there, commit_there, presented_by_leader, to_each, plan_reply, plan_sends, told_unless, plan_answer}
 use Rattle.plan_steps.specs.declared.answered.PlanAnswered.{PlanAnswered}

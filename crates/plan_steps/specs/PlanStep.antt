@@ -19,7 +19,7 @@ use Rattle.block_recovery.specs.Plans.{PlanTable, plan_at, with_plan_changed, re
 use Rattle.block_recovery.specs.declared.answer.Answer.{Answer}
 use Rattle.block_recovery.specs.declared.decision.Commit.{Commit}
 use Rattle.block_recovery.specs.declared.decision.Decision.{Decision}
-use Rattle.block_recovery.specs.declared.fault.PlanRefusal.{PlanRefusal}
+use Rattle.recovery_updates.specs.declared.fault.PlanRefusal.{PlanRefusal}
 use Rattle.block_recovery.specs.declared.plan.Plan.{Plan}
 use Rattle.plan_steps.specs.declared.answered.PlanAnswered.{PlanAnswered}
 use Rattle.plan_steps.specs.declared.answered.PlanReply.{PlanReply}

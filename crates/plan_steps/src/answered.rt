@@ -1,5 +1,5 @@
 use block_recovery::decision::Decision;
-use block_recovery::fault::PlanRefusal;
+use recovery_updates::fault::PlanRefusal;
 use node_calls::message::Messages;
 
 /// What a DataNode answers that leads recoveries, to a call that it doesn't refuse.

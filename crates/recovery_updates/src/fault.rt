@@ -1,5 +1,5 @@
 ghost use Rattle.std.specs.Prelude.{◌≡◌, Some};
-ghost use Rattle.block_recovery.specs.declared.fault.PlanFault.TheVariants.{OutOfMemory};
+ghost use Rattle.recovery_updates.specs.declared.fault.PlanFault.TheVariants.{OutOfMemory};
 
 use hdfs_values::ids::Stamp;
 use std::alloc::AllocError;
@@ -21,7 +21,7 @@ pub enum PlanRefusal {
 
 /// Prints the code, the name, and the stamp that is told with it, as `P1 AlreadyBegun 1002`.
 impl fmt::Display for PlanRefusal {
-    ghost use Rattle.block_recovery.specs.Refusals.{plan_refusal_text};
+    ghost use Rattle.recovery_updates.specs.Refusals.{plan_refusal_text};
 
     ghost output = { λ refusal. Some (plan_refusal_text refusal) };
 

@@ -1,7 +1,7 @@
 use Rattle.std.proofs.Common.{rules}
 use Rattle.std.proofs.lemmas.List.Sorted.{answers_always}
 use Rattle.block_records.proofs.Standing.{searched, is_known}
-use Rattle.block_recovery.proofs.stamps.place_of.Goals as goal
+use Rattle.recovery_updates.proofs.stamps.place_of.Goals as goal
 
 pub returns-clause-known : goal.returns-clause-known
 returns-clause-known g c =

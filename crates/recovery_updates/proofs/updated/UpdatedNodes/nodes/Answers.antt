@@ -1,7 +1,7 @@
 use Rattle.std.proofs.Common.{◌≡◌, sym, subst, List, ℕ, rules}
 use Rattle.std.proofs.lemmas.Map.Keys.{IsStrictlyIncreasing-from_sorted}
 use Rattle.std.specs.List.Sorted.{IsStrictlyIncreasing}
-use Rattle.block_recovery.proofs.updated.UpdatedNodes.nodes.Goals as goal
+use Rattle.recovery_updates.proofs.updated.UpdatedNodes.nodes.Goals as goal
 
 pub of_ascending-requires : goal.of_ascending-requires
 of_ascending-requires c =
