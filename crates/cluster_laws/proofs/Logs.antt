@@ -7,14 +7,14 @@ use Rattle.grant_ledger.specs.declared.ledger.LedgerRow.{LedgerRow}
 use Rattle.history.specs.ClockAndLease.{clock_of}
 use Rattle.history.specs.Grants.{ledger_of, rows_granted}
 use Rattle.history.specs.Keys.{ring_of}
-use Rattle.node_calls.specs.declared.access_log.AccessRecord.{AccessRecord}
+use Rattle.call_parts.specs.declared.access_log.AccessRecord.{AccessRecord}
 use Rattle.node_calls.specs.declared.call.NodeCall.{NodeCall}
 use Rattle.node_calls.specs.declared.call.NodeCall.TheVariants.{Presenting, Invalidate, Keys}
 use Rattle.node_calls.specs.declared.call.PlanCall.{PlanCall}
 use Rattle.node_calls.specs.declared.call.TokenCall.{TokenCall}
 use Rattle.node_calls.specs.declared.message.Message.{Message}
 use Rattle.node_calls.specs.declared.message.Message.TheVariants as message
-use Rattle.node_calls.specs.declared.presented.Presented.{Presented}
+use Rattle.call_parts.specs.declared.presented.Presented.{Presented}
 use Rattle.node_calls.specs.declared.refusal.NodeRefusal.{NodeRefusal}
 use Rattle.node_calls.specs.declared.refusal.ReplicaRefusal.{ReplicaRefusal}
 use Rattle.node_calls.specs.declared.reply.NodeReply.{NodeReply}

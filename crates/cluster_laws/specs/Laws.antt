@@ -11,13 +11,13 @@ use Rattle.history.specs.Config as name
 use Rattle.history.specs.Grants.{ledger_of}
 use Rattle.history.specs.Keys.{ring_of}
 use Rattle.history.specs.declared.entry.HistoryEntry.{HistoryEntry}
-use Rattle.node_calls.specs.declared.access_log.AccessRecord.{AccessRecord}
+use Rattle.call_parts.specs.declared.access_log.AccessRecord.{AccessRecord}
 use Rattle.node_calls.specs.declared.call.NodeCall.{NodeCall}
 use Rattle.node_calls.specs.declared.call.NodeCall.TheVariants.{Presenting, Invalidate, Keys}
 use Rattle.node_calls.specs.declared.call.TokenCall.{TokenCall}
 use Rattle.node_calls.specs.declared.message.Message.{Message}
 use Rattle.node_calls.specs.declared.message.Message.TheVariants as message
-use Rattle.node_calls.specs.declared.presented.Presented.{Presented}
+use Rattle.call_parts.specs.declared.presented.Presented.{Presented}
 use Rattle.node_calls.specs.declared.reply.NodeReply.{NodeReply}
 use Rattle.node_replies.specs.Asking.{asked_by, record_of}
 use Rattle.replicas.specs.ReplicaStep.{held_at}

@@ -24,7 +24,7 @@ use hdfs_values::ids::{BlockId, Stamp};
 use hdfs_values::moment::Moment;
 use node_calls::call::{NodeCall, PlanCall, TokenCall};
 use node_calls::message::Message;
-use node_calls::presented::{Presented, PresentedToken};
+use call_parts::presented::{Presented, PresentedToken};
 use node_calls::principal::principal_of;
 use node_calls::single::Single;
 use node_ids::node_id::NodeId;

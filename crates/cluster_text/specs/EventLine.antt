@@ -18,7 +18,7 @@ use Rattle.script_words.specs.Values.{◌>>=◌, moment_word, who_word, number_w
 use Rattle.request_lines.specs.Script.{request_of}
 use Rattle.node_words.specs.Calls.{is_call}
 use Rattle.node_words.specs.Words.{node_word, next_word, bytes_word, token_word}
-use Rattle.node_calls.specs.declared.presented.Presented.{Presented}
+use Rattle.call_parts.specs.declared.presented.Presented.{Presented}
 use Rattle.cluster_text.specs.declared.event_line.NodeAsker.{NodeAsker}
 use Rattle.cluster_text.specs.declared.event_line.Place.{Place}
 

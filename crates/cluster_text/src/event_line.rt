@@ -12,7 +12,7 @@ use hdfs_values::fault::{IllFormed, ParseFault};
 use hdfs_values::ids::{BlockId, Stamp};
 use hdfs_values::moment::Moment;
 use hdfs_values::who::Who;
-use node_calls::presented::Presented;
+use call_parts::presented::Presented;
 use node_ids::node_id::{NodeId, node_of};
 use node_words::calls::is_call;
 use node_words::node_words::{next_word, node_word};

@@ -6,7 +6,7 @@ use Rattle.node_calls.specs.declared.call.TokenCall.{TokenCall}
 use Rattle.node_calls.specs.declared.call.TokenCall.TheVariants as call
 use Rattle.node_calls.specs.declared.message.Message.{Message}
 use Rattle.node_calls.specs.declared.message.Message.TheVariants as message
-use Rattle.node_calls.specs.declared.presented.Presented.{Presented}
+use Rattle.call_parts.specs.declared.presented.Presented.{Presented}
 use Rattle.cluster_trace.specs.DataCall as outside
 use Rattle.cluster_trace.specs.declared.data_call.Asked.{Asked}
 use Rattle.cluster_trace.specs.declared.data_call.Asked.TheVariants.{Replica, Plan}

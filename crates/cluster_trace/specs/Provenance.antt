@@ -19,7 +19,7 @@ use Rattle.node_calls.specs.declared.call.NodeCall.TheVariants.{Presenting, Inva
 use Rattle.node_calls.specs.declared.call.TokenCall.{TokenCall}
 use Rattle.node_calls.specs.declared.message.Message.{Message}
 use Rattle.node_calls.specs.declared.message.Message.TheVariants as message
-use Rattle.node_calls.specs.declared.presented.Presented.{Presented}
+use Rattle.call_parts.specs.declared.presented.Presented.{Presented}
 use Rattle.node_replies.specs.Asking.{asked_by, modes_of_call}
 use Rattle.datanode.specs.NodeStep.{DataNode, clock_with}
 use Rattle.cluster_trace.specs.DataCall.{as_message}

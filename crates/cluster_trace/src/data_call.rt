@@ -4,10 +4,10 @@ ghost use Rattle.cluster_trace.specs.DataCall.{as_message};
 ghost use Rattle.cluster_trace.specs.Kept.{asked_of_replica, brought_as, is_asked_of_replica};
 
 use hdfs_values::ids::{BlockId, Stamp};
-use node_calls::block_bytes::BlockBytes;
+use call_parts::block_bytes::BlockBytes;
 use node_calls::call::{NodeCall, PlanCall, TokenCall};
-use node_calls::node_list::NodeList;
-use node_calls::presented::Presented;
+use call_parts::node_list::NodeList;
+use call_parts::presented::Presented;
 use std::alloc::{AllocError, Global};
 use std::marker::Model;
 

@@ -3,10 +3,10 @@ use Rattle.std.proofs.Common.{◌≡◌, ℕ, ◌<◌, List, ◌++◌, [], ◌�
 use Rattle.block_tokens.specs.TokenTest.{token_test}
 use Rattle.block_tokens.specs.declared.refusal.TokenRefusal.{TokenRefusal}
 use Rattle.block_tokens.proofs.Taking.{test_tells}
-use Rattle.node_calls.specs.declared.access_log.AccessRecord.{AccessRecord}
+use Rattle.call_parts.specs.declared.access_log.AccessRecord.{AccessRecord}
 use Rattle.node_calls.specs.declared.refusal.ReplicaRefusal.{ReplicaRefusal}
 use Rattle.node_calls.specs.declared.call.TokenCall.{TokenCall}
-use Rattle.node_calls.specs.declared.presented.Presented.{Presented}
+use Rattle.call_parts.specs.declared.presented.Presented.{Presented}
 use Rattle.node_replies.specs.Asking.{record_of}
 use Rattle.replicas.specs.ReplicaStep.{Replicas, held_at, replica_refusal, replicas_after, with_no_replica, without_replica_of}
 use Rattle.datanode.specs.Kept.{HasFittingToken, AreCovered, AreBelow}

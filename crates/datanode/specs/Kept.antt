@@ -6,7 +6,7 @@ use Rattle.std.specs.List.{AllByRecursion}
 use Rattle.node_ids.specs.NodeId.{node_principal}
 use Rattle.permission_bits.specs.Rights.{covers}
 use Rattle.block_tokens.specs.TokenText.{Body, TokenText}
-use Rattle.node_calls.specs.declared.access_log.AccessRecord.{AccessRecord}
+use Rattle.call_parts.specs.declared.access_log.AccessRecord.{AccessRecord}
 use Rattle.replicas.specs.ReplicaStep.{Replicas, held_at}
 use Rattle.replicas.specs.declared.replica.Replica.{Replica}
 use Rattle.datanode.specs.declared.datanode.DataNode.TheInside.{Inside}

@@ -7,12 +7,12 @@ use Rattle.node_ids.specs.NodeId.{node_principal}
 use Rattle.block_tokens.specs.KeyList.{KeyList, usable_keys, merged_keys}
 use Rattle.block_tokens.specs.TokenTest.{Access, token_test}
 use Rattle.block_tokens.specs.declared.refusal.TokenRefusal.{TokenRefusal}
-use Rattle.node_calls.specs.declared.access_log.AccessRecord.{AccessRecord}
+use Rattle.call_parts.specs.declared.access_log.AccessRecord.{AccessRecord}
 use Rattle.node_calls.specs.declared.call.NodeCall.{NodeCall}
 use Rattle.node_calls.specs.declared.call.NodeCall.TheVariants.{Presenting, Invalidate, Keys}
 use Rattle.node_calls.specs.declared.call.TokenCall.{TokenCall}
 use Rattle.node_calls.specs.declared.call.TokenCall.TheVariants as call
-use Rattle.node_calls.specs.declared.presented.Presented.{Presented}
+use Rattle.call_parts.specs.declared.presented.Presented.{Presented}
 use Rattle.node_calls.specs.declared.refusal.NodeRefusal.{NodeRefusal}
 use Rattle.node_calls.specs.declared.refusal.NodeRefusal.TheVariants.{Token, Replica}
 use Rattle.node_calls.specs.declared.refusal.ReplicaRefusal.{ReplicaRefusal}

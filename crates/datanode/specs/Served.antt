@@ -1,8 +1,8 @@
 -- What a call leaves of what is held of its block and of the log, and what it is told, by what it is refused for.
 use Rattle.std.specs.Prelude.{ℕ, List, [], ◌∷◌, ◌++◌, Option, Some, None, Ok}
-use Rattle.node_calls.specs.declared.access_log.AccessRecord.{AccessRecord}
+use Rattle.call_parts.specs.declared.access_log.AccessRecord.{AccessRecord}
 use Rattle.node_calls.specs.declared.call.TokenCall.{TokenCall}
-use Rattle.node_calls.specs.declared.presented.Presented.{Presented}
+use Rattle.call_parts.specs.declared.presented.Presented.{Presented}
 use Rattle.node_calls.specs.declared.refusal.NodeRefusal.TheVariants.{Replica}
 use Rattle.node_calls.specs.declared.refusal.ReplicaRefusal.{ReplicaRefusal}
 use Rattle.node_replies.specs.Sending.{call_reply, call_sends}

@@ -8,7 +8,7 @@ use Rattle.node_calls.specs.declared.call.NodeCall.TheVariants.{Presenting}
 use Rattle.node_calls.specs.declared.call.TokenCall.{TokenCall}
 use Rattle.node_calls.specs.declared.call.TokenCall.TheVariants as call
 use Rattle.node_calls.specs.declared.message.Message.TheVariants as message
-use Rattle.node_calls.specs.declared.presented.Presented.{Presented}
+use Rattle.call_parts.specs.declared.presented.Presented.{Presented}
 use Rattle.node_calls.specs.declared.reply.NodeReply.{NodeReply}
 use Rattle.replicas.specs.ReplicaStep.{held_at}
 use Rattle.replicas.specs.declared.held.Held.{Held}

@@ -16,7 +16,7 @@ use Rattle.history.specs.declared.entry.HistoryEntry.{HistoryEntry}
 use Rattle.node_calls.specs.declared.call.PlanCall.TheVariants as plan_call
 use Rattle.node_calls.specs.declared.call.TokenCall.TheVariants as call
 use Rattle.node_calls.specs.declared.message.Message.TheVariants as message
-use Rattle.node_calls.specs.declared.presented.Presented.{Presented}
+use Rattle.call_parts.specs.declared.presented.Presented.{Presented}
 use Rattle.cluster_trace.specs.Trace.{ClusterOpening, message_at, after}
 use Rattle.cluster_trace.specs.declared.event.Event.{Event}
 use Rattle.fencing_laws.specs.Fencing.{plan_in, Serves, HasDecided}

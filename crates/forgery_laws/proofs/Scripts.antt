@@ -16,7 +16,7 @@ use Rattle.script_words.specs.Words.{is_skipped, without_return, words_of}
 use Rattle.request_lines.specs.Script.{request_of}
 use Rattle.node_words.specs.Calls.{is_call}
 use Rattle.node_words.specs.Words.{behind, token_at, token_word, next_word, bytes_word}
-use Rattle.node_calls.specs.declared.presented.Presented.{Presented}
+use Rattle.call_parts.specs.declared.presented.Presented.{Presented}
 use Rattle.cluster_trace.specs.DataCall.{DataCall, BeginWrite, Packet, Finalize, Read, Decide, Commit}
 use Rattle.cluster_trace.specs.Provenance.{IsIn}
 use Rattle.cluster_trace.specs.Trace.{ClusterOpening, after}

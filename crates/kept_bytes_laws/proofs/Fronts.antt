@@ -14,7 +14,7 @@ use Rattle.node_calls.specs.declared.call.NodeCall.TheVariants.{Presenting, Inva
 use Rattle.node_calls.specs.declared.call.ReplicaState.TheVariants.{Writing, Finalized}
 use Rattle.node_calls.specs.declared.call.TokenCall.{TokenCall}
 use Rattle.node_calls.specs.declared.call.TokenCall.TheVariants as call
-use Rattle.node_calls.specs.declared.presented.Presented.{Presented}
+use Rattle.call_parts.specs.declared.presented.Presented.{Presented}
 use Rattle.node_calls.specs.declared.refusal.NodeRefusal.{NodeRefusal}
 use Rattle.node_calls.specs.declared.refusal.ReplicaRefusal.{ReplicaRefusal}
 use Rattle.node_calls.specs.declared.refusal.ReplicaRefusal.TheVariants.{StampDiffers, OutOfRange, NotWritable, ReplicaExists}

@@ -17,7 +17,7 @@ use Rattle.node_calls.specs.declared.call.NodeCall.TheVariants.{Presenting}
 use Rattle.node_calls.specs.declared.call.ReplicaState.TheVariants.{Writing}
 use Rattle.node_calls.specs.declared.call.TokenCall.{TokenCall}
 use Rattle.node_calls.specs.declared.call.TokenCall.TheVariants as call
-use Rattle.node_calls.specs.declared.presented.Presented.{Presented}
+use Rattle.call_parts.specs.declared.presented.Presented.{Presented}
 use Rattle.node_replies.specs.Asking.{asked_by}
 use Rattle.node_replies.specs.Sending.{call_reply}
 use Rattle.replicas.specs.ReplicaStep as held

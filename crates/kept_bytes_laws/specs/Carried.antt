@@ -9,7 +9,7 @@ use Rattle.node_calls.specs.declared.call.ReplicaState.{ReplicaState}
 use Rattle.node_calls.specs.declared.call.ReplicaState.TheVariants.{Finalized}
 use Rattle.node_calls.specs.declared.call.TokenCall.TheVariants as call
 use Rattle.node_calls.specs.declared.message.Message.TheVariants as message
-use Rattle.node_calls.specs.declared.presented.Presented.{Presented}
+use Rattle.call_parts.specs.declared.presented.Presented.{Presented}
 use Rattle.replicas.specs.declared.replica.Replica.{Replica}
 use Rattle.cluster_trace.specs.Trace.{Cluster, ClusterOpening, message_at, after}
 use Rattle.cluster_trace.specs.declared.event.Event.{Event}

@@ -10,7 +10,7 @@ use Rattle.block_recovery.specs.declared.decision.Decision.{Decision}
 use Rattle.block_answers.specs.LocatedBlocks.{AddedBlock}
 use Rattle.node_calls.specs.declared.call.NodeCall.TheVariants.{Invalidate}
 use Rattle.node_calls.specs.declared.call.TokenCall.TheVariants as call
-use Rattle.node_calls.specs.declared.presented.Presented.{Presented}
+use Rattle.call_parts.specs.declared.presented.Presented.{Presented}
 use Rattle.node_calls.specs.declared.reply.NodeReply.{NodeReply}
 use Rattle.replicas.specs.declared.held.Held.{Held}
 use Rattle.replicas.specs.declared.replica.Replica.{Replica}

@@ -1,6 +1,6 @@
-use crate::block_bytes::BlockBytes;
-use crate::node_list::NodeList;
-use crate::presented::{Presented, PresentedToken};
+use call_parts::block_bytes::BlockBytes;
+use call_parts::node_list::NodeList;
+use call_parts::presented::{Presented, PresentedToken};
 use block_records::node_set::NodeSet;
 use block_tokens::key::KeyList;
 use hdfs_values::ids::{BlockId, Stamp};

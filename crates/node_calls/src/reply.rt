@@ -1,5 +1,5 @@
 use crate::call::ReplicaState;
-use crate::chunks::Chunks;
+use call_parts::chunks::Chunks;
 use hdfs_values::ids::Stamp;
 
 /// What a DataNode answers to a call that it doesn't refuse.

@@ -4,10 +4,10 @@ use Rattle.std.specs.Prelude.{ℕ, Bool, true, false, length, if◌then◌else�
 use Rattle.node_ids.specs.NodeId.{node_principal}
 use Rattle.permission_bits.specs.Modes.{modes}
 use Rattle.permission_bits.specs.declared.modes.Modes.{Modes}
-use Rattle.node_calls.specs.declared.access_log.AccessRecord.{AccessRecord}
+use Rattle.call_parts.specs.declared.access_log.AccessRecord.{AccessRecord}
 use Rattle.node_calls.specs.declared.call.TokenCall.{TokenCall}
 use Rattle.node_calls.specs.declared.call.TokenCall.TheVariants as call
-use Rattle.node_calls.specs.declared.presented.Presented.{Presented}
+use Rattle.call_parts.specs.declared.presented.Presented.{Presented}
 use Rattle.replicas.specs.ReplicaStep.{own}
 use Rattle.replicas.specs.declared.held.Held.{Held}
 

@@ -3,7 +3,7 @@ use crate::tokens::writes;
 use block_tokens::refusal::TokenRefusal;
 use block_tokens::ring::KeyRing;
 use datanode::datanode::DataNode;
-use node_calls::presented::PresentedToken;
+use call_parts::presented::PresentedToken;
 use permission_bits::modes::Modes;
 use std::alloc::Global;
 

@@ -4,9 +4,9 @@ use crate::asking::{
 use block_tokens::ring::KeyRing;
 use datanode::datanode::DataNode;
 use hdfs_values::ids::Stamp;
-use node_calls::block_bytes::BlockBytes;
+use call_parts::block_bytes::BlockBytes;
 use node_calls::call::ReplicaState;
-use node_calls::presented::Presented;
+use call_parts::presented::Presented;
 use node_calls::refusal::ReplicaRefusal;
 use node_calls::reply::NodeReply;
 use node_calls::single::Single;

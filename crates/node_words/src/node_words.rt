@@ -5,7 +5,7 @@ ghost use Rattle.node_words.specs.Words as spec;
 
 use hdfs_values::fault::{IllFormed, ParseFault};
 use hdfs_values::number::number_of;
-use node_calls::node_list::NodeList;
+use call_parts::node_list::NodeList;
 use node_ids::node_id::NodeId;
 use script_words::words::{is_word, pieces_between};
 use std::alloc::Global;

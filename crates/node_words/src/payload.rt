@@ -9,7 +9,7 @@ ghost use Rattle.node_words.specs.Words as spec;
 
 use hdfs_values::fault::{IllFormed, ParseFault};
 use hdfs_values::number::number_of;
-use node_calls::block_bytes::BlockBytes;
+use call_parts::block_bytes::BlockBytes;
 use std::alloc::Global;
 
 /// The byte that two hexadecimal digits spell.

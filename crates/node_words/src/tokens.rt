@@ -8,7 +8,7 @@ use crate::node_words::behind;
 use grant_ledger::ledger::LedgerRow;
 use hdfs_values::fault::{IllFormed, ParseFault};
 use hdfs_values::number::number_of;
-use node_calls::presented::PresentedToken;
+use call_parts::presented::PresentedToken;
 
 /// The row of the ledger with a number; the first has the number 1.
 fn row_at(ledger: &[LedgerRow], number: u64) -> Option<&LedgerRow>

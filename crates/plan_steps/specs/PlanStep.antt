@@ -14,7 +14,7 @@ use Rattle.node_calls.specs.declared.call.TokenCall.{TokenCall}
 use Rattle.node_calls.specs.declared.call.TokenCall.TheVariants as call
 use Rattle.node_calls.specs.declared.message.Message.{Message}
 use Rattle.node_calls.specs.declared.message.Message.TheVariants as message
-use Rattle.node_calls.specs.declared.presented.Presented.{Presented}
+use Rattle.call_parts.specs.declared.presented.Presented.{Presented}
 use Rattle.block_recovery.specs.Plans.{PlanTable, plan_at, with_plan_changed, refused_begin, with_plan_begun, refused_reply, with_answer, refused_decide, decision_for, with_decision, refused_updated, with_updated, refused_plan_commit, commit_of}
 use Rattle.block_recovery.specs.declared.answer.Answer.{Answer}
 use Rattle.block_recovery.specs.declared.decision.Commit.{Commit}

@@ -16,7 +16,7 @@ use recovery_updates::recover::Recover;
 use hdfs_values::ids::{BlockId, Stamp};
 use node_calls::call::{PlanCall, ReplicaState};
 use node_calls::message::{Message, Messages};
-use node_calls::presented::PresentedToken;
+use call_parts::presented::PresentedToken;
 use node_ids::node_id::NodeId;
 use std::alloc::{AllocError, Global};
 

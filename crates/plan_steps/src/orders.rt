@@ -6,7 +6,7 @@ use block_answers::token_bytes::TokenBytes;
 use hdfs_values::ids::{BlockId, Stamp};
 use node_calls::call::{NodeCall, TokenCall};
 use node_calls::message::{Message, Messages};
-use node_calls::presented::{Presented, PresentedToken};
+use call_parts::presented::{Presented, PresentedToken};
 use node_calls::principal::principal_of;
 use node_ids::node_id::NodeId;
 use std::alloc::{AllocError, Global};

@@ -1,6 +1,6 @@
 use bitflags::Flags;
 use grant_ledger::ledger::LedgerRow;
-use node_calls::access_log::AccessRecord;
+use call_parts::access_log::AccessRecord;
 
 // Whether a grant lets the caller of a record do what he did.
 fn lets(row: &LedgerRow, record: &AccessRecord) -> bool {

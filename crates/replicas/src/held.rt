@@ -4,9 +4,9 @@ ghost use Rattle.replicas.specs.ReplicaStep.{TellsReplicaRefusal, replica_refusa
 use crate::judge;
 use crate::replica::{Replica, ReplicaBytes};
 use hdfs_values::ids::Stamp;
-use node_calls::block_bytes::BlockBytes;
+use call_parts::block_bytes::BlockBytes;
 use node_calls::call::{ReplicaState, TokenCall};
-use node_calls::chunks::Chunks;
+use call_parts::chunks::Chunks;
 use node_calls::refusal::ReplicaRefusal;
 use std::alloc::{AllocError, Global};
 

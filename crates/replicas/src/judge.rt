@@ -4,7 +4,7 @@ ghost use Rattle.node_calls.specs.declared.call.TokenCall.TheVariants as asked;
 
 use crate::replica::Replica;
 use hdfs_values::ids::Stamp;
-use node_calls::block_bytes::BlockBytes;
+use call_parts::block_bytes::BlockBytes;
 use node_calls::refusal::ReplicaRefusal;
 
 /// The most bytes of a packet.

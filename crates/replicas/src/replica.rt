@@ -2,9 +2,9 @@ ghost use Rattle.replicas.specs.ReplicaState.{is_writing};
 ghost use Rattle.std.specs.Prelude.{◌≡◌, ◌++◌, [], length, take, drop, IfOk, OnOk, OnErr};
 
 use hdfs_values::ids::Stamp;
-use node_calls::block_bytes::BlockBytes;
+use call_parts::block_bytes::BlockBytes;
 use node_calls::call::ReplicaState;
-use node_calls::chunks::Chunks;
+use call_parts::chunks::Chunks;
 use std::alloc::{AllocError, Global};
 use std::marker::Model;
 

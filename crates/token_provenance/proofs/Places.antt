@@ -10,7 +10,7 @@ use Rattle.std.specs.BTreeMap.{is_at}
 use Rattle.std.specs.Map.{lookup}
 use Rattle.hdfs_values.specs.Text.{same, text_cmp}
 use Rattle.hdfs_values.proofs.Texts.{same_is}
-use Rattle.node_calls.specs.declared.access_log.AccessRecord.{AccessRecord}
+use Rattle.call_parts.specs.declared.access_log.AccessRecord.{AccessRecord}
 use Rattle.grant_ledger.specs.declared.ledger.LedgerRow.{LedgerRow}
 use Rattle.permission_bits.specs.Rights.{covers}
 use Rattle.token_provenance.specs.Provenance.{allows, supports, lesser, place_of, least_place, records_of}

@@ -1,7 +1,7 @@
 -- What the index of a ledger keeps.
 use Rattle.std.specs.Prelude.{◌≡◌, ℕ, Bool, false, ◌&&◌, ◌==◌, nat_le, if◌then◌else◌, List, [], ◌∷◌, ◌++◌, unwrap_or}
 use denote.Ref.{Bor}
-use Rattle.node_calls.specs.declared.access_log.AccessRecord.{AccessRecord}
+use Rattle.call_parts.specs.declared.access_log.AccessRecord.{AccessRecord}
 use Rattle.grant_ledger.specs.declared.ledger.LedgerRow.{LedgerRow}
 use Rattle.block_tokens.specs.declared.grant.Grant.{Grant}
 use Rattle.token_provenance.specs.Provenance.{least_place, lesser, place_of}

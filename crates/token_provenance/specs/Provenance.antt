@@ -5,7 +5,7 @@
 use Rattle.std.specs.Prelude.{ℕ, Bool, ◌&&◌, ◌==◌, nat_lt, if◌then◌else◌, List, fold, flat_map, min, Option, Some, None}
 use Rattle.hdfs_values.specs.Text.{same}
 use Rattle.permission_bits.specs.Rights.{covers}
-use Rattle.node_calls.specs.declared.access_log.AccessRecord.{AccessRecord}
+use Rattle.call_parts.specs.declared.access_log.AccessRecord.{AccessRecord}
 use Rattle.grant_ledger.specs.declared.ledger.LedgerRow.{LedgerRow}
 use Rattle.token_provenance.specs.declared.source.Source.{Source}
 use Rattle.token_provenance.specs.declared.source.Source.TheVariants.{Grant, Forged}

@@ -6,7 +6,7 @@ ghost use Rattle.grant_ledger.specs.declared.ledger.LedgerRow.{LedgerRow};
 
 use block_tokens::grant::Grant;
 use grant_ledger::ledger::LedgerRow;
-use node_calls::access_log::AccessRecord;
+use call_parts::access_log::AccessRecord;
 use std::alloc::{AllocError, Global};
 use std::collections::BTreeMap;
 use std::marker::Model;

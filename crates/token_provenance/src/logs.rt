@@ -1,6 +1,6 @@
 ghost use Rattle.std.specs.Prelude.{◌≡◌, ◌++◌, [], ◌∷◌, OnOk, OnErr};
 
-use node_calls::access_log::AccessLog;
+use call_parts::access_log::AccessLog;
 use std::alloc::{AllocError, Global};
 use std::marker::Model;
 
@@ -18,7 +18,7 @@ impl Drop for Logs {
 
 impl Model for Logs {
     ghost use Rattle.std.specs.Prelude.{List};
-    ghost use Rattle.node_calls.specs.declared.access_log.AccessRecord.{AccessRecord};
+    ghost use Rattle.call_parts.specs.declared.access_log.AccessRecord.{AccessRecord};
 
     ghost Value = { List (List AccessRecord) };
 

@@ -7,7 +7,7 @@ use crate::index::TokenIndex;
 use crate::logs::Logs;
 use crate::source::Source;
 use grant_ledger::ledger::Ledger;
-use node_calls::access_log::AccessRecord;
+use call_parts::access_log::AccessRecord;
 use std::alloc::{AllocError, Global};
 
 fn source_at(place: Option<u64>) -> Source

@@ -2,7 +2,7 @@ use Rattle.std.proofs.Common.{ℕ, List, length, sym, ap, ◌∙◌}
 use Rattle.node_calls.specs.declared.call.PlanCall.{PlanCall}
 use Rattle.node_calls.specs.declared.call.PlanCall.TheVariants.{Recover}
 use Rattle.node_calls.specs.declared.call.TokenCall.TheVariants.{InitRecovery}
-use Rattle.node_calls.specs.declared.presented.Presented.{Presented}
+use Rattle.call_parts.specs.declared.presented.Presented.{Presented}
 use Rattle.block_recovery.specs.Plans.{refused_begin}
 use Rattle.plan_steps.specs.PlanStep.{presented_by_leader, to_each}
 use Rattle.plan_steps.proofs.Steps.{refused_with, refused_is, allowed_after, refused_after, refused_answer, begun_answer}

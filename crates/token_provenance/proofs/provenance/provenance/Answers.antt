@@ -1,6 +1,6 @@
 use Rattle.std.proofs.Common.{sym, ap, ◌∙◌, ◌++◌, map, arith, subst, List}
 use Rattle.grant_ledger.specs.declared.ledger.LedgerRow.{LedgerRow}
-use Rattle.node_calls.specs.declared.access_log.AccessRecord.{AccessRecord}
+use Rattle.call_parts.specs.declared.access_log.AccessRecord.{AccessRecord}
 use Rattle.token_provenance.specs.declared.source.Source.{Source}
 use Rattle.token_provenance.specs.Provenance.{source_of}
 use Rattle.token_provenance.specs.Index.{IsIndex}

@@ -76,7 +76,7 @@ impl Drop for AccessLog {
 
 impl Model for AccessLog {
     ghost use Rattle.std.specs.Prelude.{List};
-    ghost use Rattle.node_calls.specs.declared.access_log.AccessRecord.{AccessRecord};
+    ghost use Rattle.call_parts.specs.declared.access_log.AccessRecord.{AccessRecord};
 
     ghost Value = { List AccessRecord };
 

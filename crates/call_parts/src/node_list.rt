@@ -1,5 +1,5 @@
 ghost use Rattle.std.specs.Prelude.{◌≡◌, [], IfOk};
-ghost use Rattle.node_calls.specs.Held.{listed_nodes};
+ghost use Rattle.call_parts.specs.Held.{listed_nodes};
 
 use node_ids::node_id::NodeId;
 use std::alloc::{AllocError, Global};
@@ -22,7 +22,7 @@ impl Drop for NodeList {
 
 impl Model for NodeList {
     ghost use Rattle.std.specs.Prelude.{List, ℕ};
-    ghost use Rattle.node_calls.specs.Held.{listed_nodes};
+    ghost use Rattle.call_parts.specs.Held.{listed_nodes};
 
     ghost Value = { List ℕ };
 

@@ -1,8 +1,8 @@
 -- The nodes of a list and the bytes of a block, as their values hold them.
 use Rattle.std.specs.Global.{Box, Vec}
 use Rattle.std.specs.Prelude.{ℕ, List, [], Option, Some, None, replicate}
-use Rattle.node_calls.specs.declared.block_bytes.HeldBytes.{HeldBytes}
-use Rattle.node_calls.specs.declared.block_bytes.HeldBytes.TheVariants.{Listed, Repeated}
+use Rattle.call_parts.specs.declared.block_bytes.HeldBytes.{HeldBytes}
+use Rattle.call_parts.specs.declared.block_bytes.HeldBytes.TheVariants.{Listed, Repeated}
 
 abbrev pub listed_nodes : Option (Box (Vec ℕ)) → List ℕ
 listed_nodes None = []

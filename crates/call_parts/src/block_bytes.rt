@@ -36,7 +36,7 @@ impl Drop for BlockBytes {
 
 impl Model for BlockBytes {
     ghost use Rattle.std.specs.Prelude.{List, ℕ, ◌<◌, ◌^◌, length};
-    ghost use Rattle.node_calls.specs.Held.{held_bytes};
+    ghost use Rattle.call_parts.specs.Held.{held_bytes};
 
     ghost Value = { List ℕ };
 
