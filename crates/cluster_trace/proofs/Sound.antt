@@ -19,8 +19,8 @@ use Rattle.node_calls.specs.declared.refusal.NodeRefusal.{NodeRefusal}
 use Rattle.node_calls.specs.declared.refusal.ReplicaRefusal.{ReplicaRefusal}
 use Rattle.node_replies.specs.Asking.{asked_by}
 use Rattle.node_replies.specs.Sending.{call_sends, forward, to_primary}
-use Rattle.replicas.specs.ReplicaStep.{held_at, removal_refusal}
-use Rattle.replicas.specs.declared.held.Held.{Held}
+use Rattle.replica_steps.specs.ReplicaStep.{held_at, removal_refusal}
+use Rattle.replica_steps.specs.declared.held.Held.{Held}
 use Rattle.datanode.specs.NodeStep.{DataNode, node_after, node_answer, presented_answer, told_by, removal_told, clock_with, call_refusal}
 use Rattle.block_recovery.specs.Plans.{PlanTable}
 use Rattle.recovery_updates.specs.declared.fault.PlanRefusal.{PlanRefusal}

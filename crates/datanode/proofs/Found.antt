@@ -15,8 +15,8 @@ use Rattle.block_records.proofs.Ascending.{lacks_lower, above_lower}
 use Rattle.node_calls.specs.declared.call.ReplicaState.TheVariants.{Writing, Finalized}
 use Rattle.node_calls.specs.declared.call.TokenCall.{TokenCall}
 use Rattle.node_calls.specs.declared.call.TokenCall.TheVariants as call
-use Rattle.replicas.specs.ReplicaStep.{Replicas, newly_held, with_bytes_appended, with_replica_finalized, with_promise, with_replica_recovered, held_changed_by, with_held_changed, held_after, replicas_after}
-use Rattle.replicas.specs.declared.held.Held.{Held}
+use Rattle.replica_steps.specs.ReplicaStep.{Replicas, newly_held, with_bytes_appended, with_replica_finalized, with_promise, with_replica_recovered, held_changed_by, with_held_changed, held_after, replicas_after}
+use Rattle.replica_steps.specs.declared.held.Held.{Held}
 
 -- a number is among the keys where the table has something at it
 has_entry : {X : Type 0} (q : ℕ) (table : List (ℕ × X)) → list_any (is_number q) (keys_of table) ≡ is_some (entry_at q table)

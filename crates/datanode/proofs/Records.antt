@@ -17,9 +17,9 @@ use Rattle.node_calls.specs.declared.reply.NodeReply.TheVariants as reply
 use Rattle.node_ids.specs.NodeId.{node_principal}
 use Rattle.node_replies.specs.Asking.{asked_by, sends_copy}
 use Rattle.node_replies.specs.Sending.{call_reply}
-use Rattle.replicas.specs.ReplicaState.{is_writing}
-use Rattle.replicas.specs.ReplicaStep.{held_at, refused_or_later, replica_refusal, removal_refusal, packet_limit}
-use Rattle.replicas.specs.declared.replica.Replica.{Replica}
+use Rattle.replica_steps.specs.ReplicaState.{is_writing}
+use Rattle.replica_steps.specs.ReplicaStep.{held_at, refused_or_later, replica_refusal, removal_refusal, packet_limit}
+use Rattle.replica_steps.specs.declared.replica.Replica.{Replica}
 use Rattle.datanode.specs.NodeStep.{DataNode, node_after, node_answer, presented_after, presented_answer, presented_by, told_by, removed_by, removal_told, clock_with, call_refusal, access_of}
 use Rattle.datanode.specs.Kept.{AreCovered}
 use Rattle.datanode.specs.Laws.{IsPresented}

@@ -13,8 +13,8 @@ use Rattle.node_calls.specs.declared.refusal.NodeRefusal.{NodeRefusal}
 use Rattle.node_calls.specs.declared.refusal.NodeRefusal.TheVariants.{Replica}
 use Rattle.node_calls.specs.declared.refusal.ReplicaRefusal.{ReplicaRefusal}
 use Rattle.node_replies.specs.Asking.{record_of}
-use Rattle.replicas.specs.ReplicaStep.{held_at, nothing, replica_refusal, replicas_after}
-use Rattle.replicas.specs.declared.held.Held.{Held}
+use Rattle.replica_steps.specs.ReplicaStep.{held_at, nothing, replica_refusal, replicas_after}
+use Rattle.replica_steps.specs.declared.held.Held.{Held}
 use Rattle.datanode.specs.Kept.{AreCovered, AreBelow}
 use Rattle.datanode.specs.NodeStep.{DataNode, call_refusal, token_or_replica, access_of, presented_by, told_by}
 use Rattle.datanode.specs.Served.{held_by, log_by, told_of, told_unless}

@@ -7,8 +7,8 @@ use Rattle.node_ids.specs.NodeId.{node_principal}
 use Rattle.permission_bits.specs.Rights.{covers}
 use Rattle.block_tokens.specs.TokenText.{Body, TokenText}
 use Rattle.call_parts.specs.declared.access_log.AccessRecord.{AccessRecord}
-use Rattle.replicas.specs.ReplicaStep.{Replicas, held_at}
-use Rattle.replicas.specs.declared.replica.Replica.{Replica}
+use Rattle.replica_steps.specs.ReplicaStep.{Replicas, held_at}
+use Rattle.replica_steps.specs.declared.replica.Replica.{Replica}
 use Rattle.datanode.specs.declared.datanode.DataNode.TheInside.{Inside}
 
 -- what is noted down presented a token of its caller, for its block and its access, before the token's expiry

@@ -9,8 +9,8 @@ use Rattle.node_calls.specs.declared.call.TokenCall.TheVariants as call
 use Rattle.call_parts.specs.declared.presented.Presented.{Presented}
 use Rattle.node_calls.specs.declared.refusal.NodeRefusal.{NodeRefusal}
 use Rattle.node_calls.specs.declared.reply.NodeReply.{NodeReply}
-use Rattle.replicas.specs.ReplicaStep.{held_at}
-use Rattle.replicas.specs.declared.replica.Replica.{Replica}
+use Rattle.replica_steps.specs.ReplicaStep.{held_at}
+use Rattle.replica_steps.specs.declared.replica.Replica.{Replica}
 use Rattle.datanode.specs.Kept.{AreBelow, AreCovered}
 use Rattle.datanode.specs.NodeStep.{DataNode, node_after, node_answer}
 

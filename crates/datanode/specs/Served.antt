@@ -6,8 +6,8 @@ use Rattle.call_parts.specs.declared.presented.Presented.{Presented}
 use Rattle.node_calls.specs.declared.refusal.NodeRefusal.TheVariants.{Replica}
 use Rattle.node_calls.specs.declared.refusal.ReplicaRefusal.{ReplicaRefusal}
 use Rattle.node_replies.specs.Sending.{call_reply, call_sends}
-use Rattle.replicas.specs.ReplicaStep.{held_after}
-use Rattle.replicas.specs.declared.held.Held.{Held}
+use Rattle.replica_steps.specs.ReplicaStep.{held_after}
+use Rattle.replica_steps.specs.declared.held.Held.{Held}
 use Rattle.datanode.specs.NodeStep.{call_refused}
 use Rattle.datanode.specs.declared.answered.Answered.{Answered}
 

@@ -3,9 +3,9 @@ use Rattle.std.proofs.Common.{◌≡◌, ℕ, ◌≤◌, List, [], ◌∷◌, �
 use Rattle.std.specs.Prelude.{option_map}
 use Rattle.block_records.specs.Numbers.{entry_at}
 use Rattle.node_calls.specs.declared.call.NodeCall.{NodeCall}
-use Rattle.replicas.specs.ReplicaStep.{held_at}
-use Rattle.replicas.specs.declared.held.Held.{Held}
-use Rattle.replicas.specs.declared.replica.Replica.{Replica}
+use Rattle.replica_steps.specs.ReplicaStep.{held_at}
+use Rattle.replica_steps.specs.declared.held.Held.{Held}
+use Rattle.replica_steps.specs.declared.replica.Replica.{Replica}
 use Rattle.datanode.specs.NodeStep.{DataNode, node_after}
 use Rattle.datanode.specs.Kept.{IsBelow}
 use Rattle.datanode.specs.Laws.{StandBelow}

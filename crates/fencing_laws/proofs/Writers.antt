@@ -13,8 +13,8 @@ use Rattle.call_parts.specs.declared.presented.Presented.{Presented}
 use Rattle.node_calls.specs.declared.refusal.NodeRefusal.{NodeRefusal}
 use Rattle.node_calls.specs.declared.refusal.ReplicaRefusal.TheVariants.{NoReplica}
 use Rattle.node_calls.specs.declared.reply.NodeReply.{NodeReply}
-use Rattle.replicas.specs.ReplicaStep.{Replicas, nothing, held_at, replica_refusal, with_promise, held_changed_by}
-use Rattle.replicas.specs.declared.held.Held.{Held}
+use Rattle.replica_steps.specs.ReplicaStep.{Replicas, nothing, held_at, replica_refusal, with_promise, held_changed_by}
+use Rattle.replica_steps.specs.declared.held.Held.{Held}
 use Rattle.datanode.specs.NodeStep.{DataNode, node_after, node_answer, presented_after, presented_answer, presented_by, told_by, clock_with, call_refusal, access_of}
 use Rattle.datanode.proofs.Nodes.{replica_passes}
 use Rattle.datanode.proofs.Records.{fenced}

@@ -10,9 +10,9 @@ use Rattle.node_calls.specs.declared.call.TokenCall.TheVariants as call
 use Rattle.node_calls.specs.declared.message.Message.TheVariants as message
 use Rattle.call_parts.specs.declared.presented.Presented.{Presented}
 use Rattle.node_calls.specs.declared.reply.NodeReply.{NodeReply}
-use Rattle.replicas.specs.ReplicaStep.{held_at}
-use Rattle.replicas.specs.declared.held.Held.{Held}
-use Rattle.replicas.specs.declared.replica.Replica.{Replica}
+use Rattle.replica_steps.specs.ReplicaStep.{held_at}
+use Rattle.replica_steps.specs.declared.held.Held.{Held}
+use Rattle.replica_steps.specs.declared.replica.Replica.{Replica}
 use Rattle.datanode.specs.NodeStep.{DataNode}
 use Rattle.block_recovery.specs.Laws.{Extends, IsRight}
 use Rattle.block_recovery.specs.Plans.{plan_at}

@@ -26,10 +26,10 @@ use Rattle.node_calls.specs.declared.refusal.ReplicaRefusal.TheVariants.{NoRepli
 use Rattle.node_calls.specs.declared.reply.NodeReply.{NodeReply}
 use Rattle.node_replies.specs.Asking.{asked_by}
 use Rattle.node_replies.specs.Sending.{call_reply}
-use Rattle.replicas.specs.ReplicaStep as step
-use Rattle.replicas.specs.ReplicaStep.{held_at, replica_refusal, replicas_after}
-use Rattle.replicas.specs.declared.held.Held.{Held}
-use Rattle.replicas.specs.declared.replica.Replica.{Replica}
+use Rattle.replica_steps.specs.ReplicaStep as step
+use Rattle.replica_steps.specs.ReplicaStep.{held_at, replica_refusal, replicas_after}
+use Rattle.replica_steps.specs.declared.held.Held.{Held}
+use Rattle.replica_steps.specs.declared.replica.Replica.{Replica}
 use Rattle.datanode.specs.NodeStep.{DataNode, node_after, node_answer, presented_answer, told_by, clock_with, call_refusal, access_of}
 use Rattle.cluster_trace.specs.Provenance.{call_of}
 use Rattle.cluster_trace.specs.Trace.{ClusterOpening, Happened, called_at, event_happened, after}

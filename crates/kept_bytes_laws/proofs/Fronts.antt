@@ -22,9 +22,9 @@ use Rattle.node_calls.specs.declared.reply.NodeReply.{NodeReply}
 use Rattle.node_calls.specs.declared.reply.NodeReply.TheVariants as reply
 use Rattle.node_replies.specs.Asking.{asked_by, sends_copy}
 use Rattle.node_replies.specs.Sending.{call_reply}
-use Rattle.replicas.specs.ReplicaStep.{Replicas, nothing, held_at, refused_new_replica, refused_or_later, replica_refusal, removal_refusal, newly_held, with_bytes_appended, with_replica_finalized, with_promise, with_replica_recovered, with_no_replica, with_held_changed, held_changed_by, replicas_after}
-use Rattle.replicas.specs.declared.held.Held.{Held}
-use Rattle.replicas.specs.declared.replica.Replica.{Replica}
+use Rattle.replica_steps.specs.ReplicaStep.{Replicas, nothing, held_at, refused_new_replica, refused_or_later, replica_refusal, removal_refusal, newly_held, with_bytes_appended, with_replica_finalized, with_promise, with_replica_recovered, with_no_replica, with_held_changed, held_changed_by, replicas_after}
+use Rattle.replica_steps.specs.declared.held.Held.{Held}
+use Rattle.replica_steps.specs.declared.replica.Replica.{Replica}
 use Rattle.datanode.specs.NodeStep.{DataNode, node_after, node_answer, presented_after, presented_answer, presented_by, told_by, removed_by, removal_told, clock_with, call_refusal, access_of}
 use Rattle.datanode.proofs.Nodes.{replica_passes}
 use Rattle.datanode.proofs.Steps.{never, passed}

@@ -12,10 +12,10 @@ use Rattle.datanode.proofs.Steps.{never, passed, not_so}
 use Rattle.node_calls.specs.declared.call.ReplicaState.TheVariants.{Finalized}
 use Rattle.node_calls.specs.declared.call.TokenCall.TheVariants as call
 use Rattle.node_calls.specs.declared.refusal.ReplicaRefusal.TheVariants.{NoReplica, StampDiffers, OutOfRange, NotWritable, OffsetGap}
-use Rattle.replicas.specs.ReplicaState.{is_writing}
-use Rattle.replicas.specs.ReplicaStep.{Replicas, nothing, held_at, refused_or_later, replica_refusal, newly_held, with_replica_finalized, with_replica_recovered, with_held_changed, held_changed_by, replicas_after}
-use Rattle.replicas.specs.declared.held.Held.{Held}
-use Rattle.replicas.specs.declared.replica.Replica.{Replica}
+use Rattle.replica_steps.specs.ReplicaState.{is_writing}
+use Rattle.replica_steps.specs.ReplicaStep.{Replicas, nothing, held_at, refused_or_later, replica_refusal, newly_held, with_replica_finalized, with_replica_recovered, with_held_changed, held_changed_by, replicas_after}
+use Rattle.replica_steps.specs.declared.held.Held.{Held}
+use Rattle.replica_steps.specs.declared.replica.Replica.{Replica}
 use Rattle.fencing_laws.proofs.Behind.{set_there}
 
 -- a finalized replica of this stamp, with so many bytes

@@ -20,9 +20,9 @@ use Rattle.node_calls.specs.declared.call.TokenCall.TheVariants as call
 use Rattle.call_parts.specs.declared.presented.Presented.{Presented}
 use Rattle.node_replies.specs.Asking.{asked_by}
 use Rattle.node_replies.specs.Sending.{call_reply}
-use Rattle.replicas.specs.ReplicaStep as held
-use Rattle.replicas.specs.ReplicaStep.{held_at}
-use Rattle.replicas.specs.declared.replica.Replica.{Replica}
+use Rattle.replica_steps.specs.ReplicaStep as held
+use Rattle.replica_steps.specs.ReplicaStep.{held_at}
+use Rattle.replica_steps.specs.declared.replica.Replica.{Replica}
 use Rattle.datanode.specs.NodeStep.{DataNode, node_answer, clock_with, call_refusal}
 use Rattle.cluster_trace.specs.Provenance.{IsIn, call_of}
 use Rattle.cluster_trace.specs.Trace.{Cluster, ClusterOpening, Happened, entry_of, event_happened, after}

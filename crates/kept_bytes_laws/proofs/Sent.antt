@@ -30,8 +30,8 @@ use Rattle.node_calls.specs.declared.refusal.NodeRefusal.{NodeRefusal}
 use Rattle.node_calls.specs.declared.refusal.ReplicaRefusal.{ReplicaRefusal}
 use Rattle.node_replies.specs.Asking.{asked_by}
 use Rattle.node_replies.specs.Sending.{call_sends, forward, report, to_primary}
-use Rattle.replicas.specs.ReplicaStep.{own, held_at, removal_refusal}
-use Rattle.replicas.specs.declared.held.Held.{Held}
+use Rattle.replica_steps.specs.ReplicaStep.{own, held_at, removal_refusal}
+use Rattle.replica_steps.specs.declared.held.Held.{Held}
 use Rattle.datanode.specs.NodeStep.{DataNode, node_answer, presented_answer, told_by, removal_told, clock_with, call_refusal, copy_call}
 use Rattle.plan_steps.specs.PlanStep.{plan_refusal, plan_there, decision_there, commit_there, presented_by_leader, to_each, plan_sends, told_unless, plan_answer}
 use Rattle.cluster_trace.specs.DataCall.{DataCall, as_message}

@@ -14,9 +14,9 @@ use Rattle.node_calls.specs.declared.refusal.NodeRefusal.{NodeRefusal}
 use Rattle.node_calls.specs.declared.refusal.ReplicaRefusal.{ReplicaRefusal}
 use Rattle.node_calls.specs.declared.reply.NodeReply.{NodeReply}
 use Rattle.node_replies.specs.Asking.{asked_by}
-use Rattle.replicas.specs.ReplicaStep.{held_at, removal_refusal}
-use Rattle.replicas.specs.declared.held.Held.{Held}
-use Rattle.replicas.specs.declared.replica.Replica.{Replica}
+use Rattle.replica_steps.specs.ReplicaStep.{held_at, removal_refusal}
+use Rattle.replica_steps.specs.declared.held.Held.{Held}
+use Rattle.replica_steps.specs.declared.replica.Replica.{Replica}
 use Rattle.datanode.specs.NodeStep.{DataNode, node_after, node_answer, presented_after, presented_by, removed_by, clock_with, call_refusal}
 use Rattle.cluster_trace.specs.Provenance.{call_of}
 use Rattle.cluster_trace.specs.Trace.{Cluster, ClusterOpening, Happened, new_node, with_new_node, event_happened, after}

@@ -29,8 +29,8 @@ use Rattle.node_calls.specs.declared.refusal.NodeRefusal.{NodeRefusal}
 use Rattle.node_replies.specs.Asking.{asked_by, sends_copy}
 use Rattle.node_replies.specs.Sending.{call_reply}
 use Rattle.node_ids.specs.NodeId.{node_principal}
-use Rattle.replicas.specs.ReplicaStep.{held_at, replica_refusal, replicas_after}
-use Rattle.replicas.specs.declared.held.Held.{Held}
+use Rattle.replica_steps.specs.ReplicaStep.{held_at, replica_refusal, replicas_after}
+use Rattle.replica_steps.specs.declared.held.Held.{Held}
 use Rattle.datanode.specs.NodeStep.{DataNode, node_after, node_answer, presented_after, presented_by, clock_with, call_refusal, access_of}
 use Rattle.plan_steps.specs.PlanStep.{recover_of, answer_of, plan_refusal, left_unless, plans_after}
 use Rattle.cluster_trace.specs.Provenance.{call_of}

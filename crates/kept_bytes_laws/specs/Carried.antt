@@ -10,7 +10,7 @@ use Rattle.node_calls.specs.declared.call.ReplicaState.TheVariants.{Finalized}
 use Rattle.node_calls.specs.declared.call.TokenCall.TheVariants as call
 use Rattle.node_calls.specs.declared.message.Message.TheVariants as message
 use Rattle.call_parts.specs.declared.presented.Presented.{Presented}
-use Rattle.replicas.specs.declared.replica.Replica.{Replica}
+use Rattle.replica_steps.specs.declared.replica.Replica.{Replica}
 use Rattle.cluster_trace.specs.Trace.{Cluster, ClusterOpening, message_at, after}
 use Rattle.cluster_trace.specs.declared.event.Event.{Event}
 use Rattle.fencing_laws.specs.Fencing.{Serves}

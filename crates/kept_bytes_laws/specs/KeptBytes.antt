@@ -12,8 +12,8 @@ use Rattle.node_calls.specs.declared.call.NodeCall.TheVariants.{Invalidate}
 use Rattle.node_calls.specs.declared.call.TokenCall.TheVariants as call
 use Rattle.call_parts.specs.declared.presented.Presented.{Presented}
 use Rattle.node_calls.specs.declared.reply.NodeReply.{NodeReply}
-use Rattle.replicas.specs.declared.held.Held.{Held}
-use Rattle.replicas.specs.declared.replica.Replica.{Replica}
+use Rattle.replica_steps.specs.declared.held.Held.{Held}
+use Rattle.replica_steps.specs.declared.replica.Replica.{Replica}
 use Rattle.cluster_trace.specs.Provenance.{IsIn, call_of}
 use Rattle.cluster_trace.specs.Trace.{Cluster, ClusterOpening, event_happened, after}
 use Rattle.cluster_trace.specs.declared.event.Event.{Event}

@@ -9,7 +9,7 @@ use Rattle.hdfs_types.specs.declared.reply.Reply.TheVariants as reply
 use Rattle.flat_rows.specs.declared.verdict.Verdict.TheVariants.{Done}
 use Rattle.history.specs.declared.entry.HistoryEntry.{HistoryEntry}
 use Rattle.node_calls.specs.declared.call.ReplicaState.TheVariants.{Finalized}
-use Rattle.replicas.specs.declared.replica.Replica.{Replica}
+use Rattle.replica_steps.specs.declared.replica.Replica.{Replica}
 use Rattle.cluster_trace.specs.Provenance.{IsIn}
 use Rattle.cluster_trace.specs.Trace.{ClusterOpening, event_happened, after}
 use Rattle.cluster_trace.specs.declared.event.Event.{Event}

@@ -8,8 +8,8 @@ use Rattle.call_parts.specs.declared.access_log.AccessRecord.{AccessRecord}
 use Rattle.node_calls.specs.declared.call.TokenCall.{TokenCall}
 use Rattle.node_calls.specs.declared.call.TokenCall.TheVariants as call
 use Rattle.call_parts.specs.declared.presented.Presented.{Presented}
-use Rattle.replicas.specs.ReplicaStep.{own}
-use Rattle.replicas.specs.declared.held.Held.{Held}
+use Rattle.replica_steps.specs.ReplicaStep.{own}
+use Rattle.replica_steps.specs.declared.held.Held.{Held}
 
 abbrev pub sends_copy : TokenCall → Bool
 sends_copy (call.Begin next) = false

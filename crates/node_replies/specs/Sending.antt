@@ -12,8 +12,8 @@ use Rattle.node_calls.specs.declared.message.Message.TheVariants as message
 use Rattle.call_parts.specs.declared.presented.Presented.{Presented}
 use Rattle.node_calls.specs.declared.reply.NodeReply.{NodeReply}
 use Rattle.node_calls.specs.declared.reply.NodeReply.TheVariants as reply
-use Rattle.replicas.specs.ReplicaStep.{own}
-use Rattle.replicas.specs.declared.held.Held.{Held}
+use Rattle.replica_steps.specs.ReplicaStep.{own}
+use Rattle.replica_steps.specs.declared.held.Held.{Held}
 
 abbrev pub call_reply : TokenCall → Held → NodeReply
 call_reply (call.Begin next) held = reply.Begun

@@ -3,7 +3,7 @@ ghost use Rattle.node_replies.specs.Asking as spec;
 
 use node_calls::call::TokenCall;
 use permission_bits::modes::Modes;
-use replicas::held::Held;
+use replica_steps::held::Held;
 
 /// Whether the call is one that a node makes in its own name: to send a copy. Takes no memory.
 pub fn sends_copy(call: &TokenCall) -> bool

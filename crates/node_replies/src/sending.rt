@@ -5,7 +5,7 @@ ghost use Rattle.node_calls.specs.declared.call.TokenCall.TheVariants as made;
 ghost use Rattle.node_calls.specs.declared.call.PlanCall.TheVariants as plan;
 ghost use Rattle.node_calls.specs.declared.message.Message.TheVariants as message;
 ghost use Rattle.node_calls.specs.declared.reply.NodeReply.TheVariants as reply;
-ghost use Rattle.replicas.specs.ReplicaStep.{own};
+ghost use Rattle.replica_steps.specs.ReplicaStep.{own};
 ghost use Rattle.node_replies.specs.Sending as spec;
 
 use hdfs_values::ids::Stamp;
@@ -17,7 +17,7 @@ use call_parts::presented::Presented;
 use node_calls::reply::NodeReply;
 use node_calls::single::Update;
 use node_ids::node_id::{NodeId, node_of};
-use replicas::held::Held;
+use replica_steps::held::Held;
 use std::alloc::{AllocError, Global};
 
 // ---- replies

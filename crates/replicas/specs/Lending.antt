@@ -3,10 +3,10 @@ use Rattle.std.specs.Prelude.{ℕ, Option}
 use Rattle.std.specs.Borrow.{LendsIf, MutBor, Fml}
 use Rattle.std.specs.Map.{set_value}
 use Rattle.block_records.specs.Numbers.{is_number}
-use Rattle.replicas.specs.ReplicaStep.{Replicas}
-use Rattle.replicas.specs.contracts.held.Held as held
+use Rattle.replica_steps.specs.ReplicaStep.{Replicas}
+use Rattle.replica_steps.specs.contracts.held.Held as held
 use Rattle.replicas.specs.contracts.replicas.Replicas as all
-use Rattle.replicas.specs.declared.held.Held.{Held}
+use Rattle.replica_steps.specs.declared.held.Held.{Held}
 
 -- of the block is held what was left behind the reference, and of all others what was
 abbrev pub LendsHeld : ℕ → MutBor Replicas → Option (MutBor Held) → Fml

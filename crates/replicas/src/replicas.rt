@@ -8,11 +8,11 @@ ghost use Rattle.std.specs.Ordering.{nat_cmp};
 ghost use Rattle.block_records.specs.Numbers.{entry_at};
 ghost use Rattle.node_calls.specs.declared.call.ReplicaState.TheVariants.{Writing, Finalized};
 ghost use Rattle.replicas.specs.Lending.{LendsHeld};
-ghost use Rattle.replicas.specs.ReplicaStep.{TellsReplicaRefusal, replica_refusal, removal_refusal, held_at, own, newly_held, with_held_changed, with_bytes_appended, with_replica_finalized, with_promise, with_replica_recovered, without_replica_of, replicas_after};
+ghost use Rattle.replica_steps.specs.ReplicaStep.{TellsReplicaRefusal, replica_refusal, removal_refusal, held_at, own, newly_held, with_held_changed, with_bytes_appended, with_replica_finalized, with_promise, with_replica_recovered, without_replica_of, replicas_after};
 
-use crate::held::Held;
-use crate::judge;
-use crate::replica::{Replica, ReplicaBytes};
+use replica_steps::held::Held;
+use replica_steps::judge;
+use replica_steps::replica::{Replica, ReplicaBytes};
 use hdfs_values::ids::{BlockId, Stamp};
 use call_parts::block_bytes::BlockBytes;
 use node_calls::call::{ReplicaState, TokenCall};
@@ -37,7 +37,7 @@ impl Drop for Replicas {
 }
 
 impl Model for Replicas {
-    ghost use Rattle.replicas.specs.ReplicaStep.{Replicas};
+    ghost use Rattle.replica_steps.specs.ReplicaStep.{Replicas};
 
     ghost Value = { Replicas };
 

@@ -1,5 +1,5 @@
 use Rattle.std.proofs.Common.{◌≡◌, ◌<◌, ◌++◌, ◌∷◌, [], None, slice_index, sym, ap, subst, ◌∙◌}
-use Rattle.replicas.specs.ReplicaStep.{held_at}
+use Rattle.replica_steps.specs.ReplicaStep.{held_at}
 use Rattle.node_replies.specs.Asking.{record_of}
 use Rattle.datanode.specs.Kept.{AreBelow, AreCovered}
 use Rattle.datanode.specs.NodeStep.{DataNode, call_refusal}

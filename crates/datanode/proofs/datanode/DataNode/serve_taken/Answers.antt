@@ -3,8 +3,8 @@ use Rattle.std.proofs.lemmas.Map.Steps.{set_value_same}
 use Rattle.std.specs.Map.{set_value}
 use Rattle.block_records.specs.Numbers.{is_number}
 use Rattle.block_tokens.specs.TokenTest.{token_test}
-use Rattle.replicas.specs.ReplicaStep.{Replicas, replica_refusal}
-use Rattle.replicas.specs.declared.held.Held.{Held}
+use Rattle.replica_steps.specs.ReplicaStep.{Replicas, replica_refusal}
+use Rattle.replica_steps.specs.declared.held.Held.{Held}
 use Rattle.datanode.specs.Kept.{AreBelow, AreCovered}
 use Rattle.datanode.specs.NodeStep.{DataNode, access_of, call_refusal, presented_by, told_by}
 use Rattle.datanode.specs.Served.{held_by}

@@ -1,4 +1,4 @@
-ghost use Rattle.replicas.specs.ReplicaState.{is_writing};
+ghost use Rattle.replica_steps.specs.ReplicaState.{is_writing};
 ghost use Rattle.std.specs.Prelude.{◌≡◌, ◌++◌, [], length, take, drop, IfOk, OnOk, OnErr};
 
 use hdfs_values::ids::Stamp;

@@ -1,5 +1,5 @@
 use Rattle.std.proofs.Common.{rules}
-use Rattle.replicas.proofs.judge.judge_update.Goals as goal
+use Rattle.replica_steps.proofs.judge.judge_update.Goals as goal
 
 pub returns-then-count-len : goal.returns-then-count-len
 returns-then-count-len c = search rules

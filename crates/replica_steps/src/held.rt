@@ -1,5 +1,5 @@
 ghost use Rattle.std.specs.Prelude.{◌≡◌, take, drop, length, IfOk, OnOk, OnErr};
-ghost use Rattle.replicas.specs.ReplicaStep.{TellsReplicaRefusal, replica_refusal, nothing, own, newly_held, held_after, with_bytes_appended, with_replica_finalized, with_promise, with_replica_recovered, with_no_replica};
+ghost use Rattle.replica_steps.specs.ReplicaStep.{TellsReplicaRefusal, replica_refusal, nothing, own, newly_held, held_after, with_bytes_appended, with_replica_finalized, with_promise, with_replica_recovered, with_no_replica};
 
 use crate::judge;
 use crate::replica::{Replica, ReplicaBytes};

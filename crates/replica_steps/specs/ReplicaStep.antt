@@ -13,9 +13,9 @@ use Rattle.node_calls.specs.declared.call.TokenCall.{TokenCall}
 use Rattle.node_calls.specs.declared.call.TokenCall.TheVariants as call
 use Rattle.node_calls.specs.declared.refusal.ReplicaRefusal.{ReplicaRefusal}
 use Rattle.node_calls.specs.declared.refusal.ReplicaRefusal.TheVariants.{NoReplica, StampDiffers, OutOfRange, NotWritable, OffsetGap, ReplicaExists}
-use Rattle.replicas.specs.ReplicaState.{is_writing}
-use Rattle.replicas.specs.declared.held.Held.{Held}
-use Rattle.replicas.specs.declared.replica.Replica.{Replica}
+use Rattle.replica_steps.specs.ReplicaState.{is_writing}
+use Rattle.replica_steps.specs.declared.held.Held.{Held}
+use Rattle.replica_steps.specs.declared.replica.Replica.{Replica}
 
 -- ---- refusals
 

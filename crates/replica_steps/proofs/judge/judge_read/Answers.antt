@@ -1,5 +1,5 @@
 use Rattle.std.proofs.Common.{rules}
-use Rattle.replicas.proofs.held.Held.remove.Goals as goal
+use Rattle.replica_steps.proofs.judge.judge_read.Goals as goal
 
 pub returns : goal.returns
 returns c = search rules

@@ -1,5 +1,5 @@
 use Rattle.std.proofs.Common.{rules}
-use Rattle.replicas.proofs.judge.judge_take.Goals as goal
+use Rattle.replica_steps.proofs.judge.judge_take.Goals as goal
 
 pub returns-then-len-limit : goal.returns-then-len-limit
 returns-then-len-limit c = search rules

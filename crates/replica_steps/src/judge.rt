@@ -1,5 +1,5 @@
 ghost use Rattle.std.specs.Prelude.{◌≡◌, ◌+◌, [], nat_lt, option_copied};
-ghost use Rattle.replicas.specs.ReplicaStep.{TellsReplicaRefusal, replica_refusal, removal_refusal};
+ghost use Rattle.replica_steps.specs.ReplicaStep.{TellsReplicaRefusal, replica_refusal, removal_refusal};
 ghost use Rattle.node_calls.specs.declared.call.TokenCall.TheVariants as asked;
 
 use crate::replica::Replica;

@@ -1,0 +1,2 @@
+pub mod ReplicaState
+pub mod ReplicaStep
