@@ -2,6 +2,5 @@ pub mod Gets
 pub mod Laying
 pub mod Finding
 pub mod Commands
-pub mod Tables
 pub mod Rows
 pub mod Keeping

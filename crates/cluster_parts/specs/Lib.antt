@@ -1,5 +1,3 @@
-pub mod Nodes
-pub mod Leaders
 pub mod Sent
 pub mod Carried
 pub mod Kept
