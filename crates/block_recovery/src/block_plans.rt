@@ -9,11 +9,11 @@ ghost use Rattle.block_recovery.specs.Plans.{IsPlanFaultOf, with_entry_changed};
 
 use crate::answer::Answer;
 use crate::decision::Decision;
-use recovery_updates::fault::{PlanFault, PlanRefusal};
 use crate::plan::Plan;
-use recovery_updates::stamps::place_of;
 use hdfs_values::ids::Stamp;
 use node_ids::node_id::NodeId;
+use recovery_updates::fault::{PlanFault, PlanRefusal};
+use recovery_updates::stamps::place_of;
 use std::alloc::{AllocError, Global};
 use std::marker::Model;
 

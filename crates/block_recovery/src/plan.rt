@@ -5,12 +5,12 @@ ghost use Rattle.block_recovery.specs.Plans.{IsPlanFaultOf};
 
 use crate::answer::{Answer, Answers};
 use crate::decision::{Commit, Decision};
-use recovery_updates::fault::{PlanFault, PlanRefusal};
-use recovery_updates::recover::Recover;
-use recovery_updates::updated::UpdatedNodes;
 use block_answers::token_bytes::TokenBytes;
 use block_records::node_set::NodeSet;
 use node_ids::node_id::NodeId;
+use recovery_updates::fault::{PlanFault, PlanRefusal};
+use recovery_updates::recover::Recover;
+use recovery_updates::updated::UpdatedNodes;
 use std::alloc::{AllocError, Global};
 use std::marker::Model;
 

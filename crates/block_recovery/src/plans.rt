@@ -13,12 +13,12 @@ ghost use Rattle.block_recovery.specs.Plans.{IsPlanFaultOf, with_plan_changed, p
 use crate::answer::Answer;
 use crate::block_plans::BlockPlans;
 use crate::decision::{Commit, Decision};
-use recovery_updates::fault::{PlanFault, PlanRefusal};
 use crate::plan::Plan;
-use recovery_updates::recover::Recover;
 use block_records::node_set::NodeSet;
 use hdfs_values::ids::{BlockId, Stamp};
 use node_ids::node_id::NodeId;
+use recovery_updates::fault::{PlanFault, PlanRefusal};
+use recovery_updates::recover::Recover;
 use std::alloc::{AllocError, Global};
 use std::cmp::Reverse;
 use std::collections::BTreeMap;

@@ -11,12 +11,10 @@ ghost use Rattle.node_tables.specs.Nodes.{nodes_after, answer_at};
 ghost use Rattle.node_calls.specs.Single.{message_of_single};
 
 use crate::found::Found;
-use node_tables::leaders::Leaders;
-use node_tables::nodes::Nodes;
-use node_tables::ranges::read_call;
 use block_answers::commands::{CopyOrder, Recover, Removal};
 use block_answers::key_list::KeyList;
 use block_records::node_set::NodeSet;
+use call_parts::presented::{Presented, PresentedToken};
 use datanode::answered::Answered;
 use hdfs_types::op::{Op, Request};
 use hdfs_types::replica::{RecoveredBlock, ReportedReplica};
@@ -24,10 +22,12 @@ use hdfs_values::ids::{BlockId, Stamp};
 use hdfs_values::moment::Moment;
 use node_calls::call::{NodeCall, PlanCall, TokenCall};
 use node_calls::message::Message;
-use call_parts::presented::{Presented, PresentedToken};
 use node_calls::principal::principal_of;
 use node_calls::single::Single;
 use node_ids::node_id::NodeId;
+use node_tables::leaders::Leaders;
+use node_tables::nodes::Nodes;
+use node_tables::ranges::read_call;
 use plan_steps::answered::PlanAnswered;
 use std::alloc::{AllocError, Global};
 

@@ -8,10 +8,7 @@ ghost use Rattle.cluster_trace.specs.Typed.{GrantsFit, PresentsBytes, CallFits};
 
 use cluster_parts::carried::{Carried, carry_out};
 use cluster_parts::found::{entry_count, find};
-use node_tables::leaders::Leaders;
-use node_tables::nodes::Nodes;
 use cluster_parts::noted::{note_answer, note_led, note_nothing};
-use node_tables::ranges::{read_call, read_rows};
 use cluster_parts::sent::{Sent, Source};
 use cluster_trace::data_call::{Asked, DataCall};
 use cluster_trace::outcome::{ClusterRefusal, EventAnswer, Outcome};
@@ -23,6 +20,9 @@ use history::config::Config;
 pub use name_core::namenode::NameCore;
 use node_calls::call::{NodeCall, PlanCall};
 use node_ids::node_id::NodeId;
+use node_tables::leaders::Leaders;
+use node_tables::nodes::Nodes;
+use node_tables::ranges::{read_call, read_rows};
 use std::alloc::{AllocError, Global};
 use std::marker::Model;
 

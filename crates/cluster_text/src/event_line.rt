@@ -5,6 +5,7 @@ ghost use Rattle.script_words.specs.LineForms.{Forms};
 ghost use Rattle.script_words.specs.Words.{words_of};
 ghost use Rattle.cluster_text.specs.EventLine as spec;
 
+use call_parts::presented::Presented;
 use cluster_trace::data_call::DataCall;
 use cluster_trace::event::Event;
 use grant_ledger::ledger::LedgerRow;
@@ -12,7 +13,6 @@ use hdfs_values::fault::{IllFormed, ParseFault};
 use hdfs_values::ids::{BlockId, Stamp};
 use hdfs_values::moment::Moment;
 use hdfs_values::who::Who;
-use call_parts::presented::Presented;
 use node_ids::node_id::{NodeId, node_of};
 use node_words::calls::is_call;
 use node_words::node_words::{next_word, node_word};

@@ -3,11 +3,11 @@ ghost use Rattle.cluster_trace.specs.DataCall as asked;
 ghost use Rattle.cluster_trace.specs.DataCall.{as_message};
 ghost use Rattle.cluster_trace.specs.Kept.{asked_of_replica, brought_as, is_asked_of_replica};
 
-use hdfs_values::ids::{BlockId, Stamp};
 use call_parts::block_bytes::BlockBytes;
-use node_calls::call::{NodeCall, PlanCall, TokenCall};
 use call_parts::node_list::NodeList;
 use call_parts::presented::Presented;
+use hdfs_values::ids::{BlockId, Stamp};
+use node_calls::call::{NodeCall, PlanCall, TokenCall};
 use std::alloc::{AllocError, Global};
 use std::marker::Model;
 

@@ -1,10 +1,10 @@
 ghost use Rattle.std.specs.Prelude.{Some};
 
-use recovery_updates::fault::PlanRefusal;
 use hdfs_values::at_word::AtWord;
 use node_calls::refusal::NodeRefusal;
 use node_calls::reply::NodeReply;
 use plan_steps::answered::PlanReply;
+use recovery_updates::fault::PlanRefusal;
 use std::fmt;
 
 /// Why an event does nothing. It stays in the list of events all the same, and no clock moves on.

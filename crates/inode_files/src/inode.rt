@@ -15,8 +15,6 @@ ghost use Rattle.inode_visits.specs.SeenNode.{seen_branch};
 ghost use Rattle.inode_files.specs.Branch.{branch_at};
 ghost use Rattle.inode_visits.specs.Holding.{has_files};
 
-use inode_visits::blocks::{FilesUnder, blocks_of, files_of};
-use inode_visits::limit::fits;
 use acl_entries::acl::Acl;
 use file_paths::name::Name;
 use file_paths::path::Path;
@@ -25,6 +23,8 @@ use hdfs_types::reply::ObjectKind;
 use hdfs_values::ids::BlockId;
 use hdfs_values::who::Who;
 use inode_nodes::node::Node;
+use inode_visits::blocks::{FilesUnder, blocks_of, files_of};
+use inode_visits::limit::fits;
 use inode_visits::visit::{self, Counts, Found, file_of, holder_of};
 use namespace_rows::file_row::{FileRow, ShownFile};
 use namespace_rows::row::Row;

@@ -15,7 +15,6 @@ ghost use Rattle.inode_nodes.specs.Part.{IsWhole};
 ghost use Rattle.inode_files.specs.Rooms.{IsRoomFor, HasRoomWhere, IsPut};
 ghost use Rattle.inode_files.specs.Branch.{branch_at, file_rewritten};
 
-use inode_visits::blocks::{forget, forget_any};
 use crate::inode::Inode;
 use acl_entries::acl::Acl;
 use file_paths::name::Name;
@@ -26,6 +25,7 @@ use hdfs_values::ids::BlockId;
 use hdfs_values::who::Who;
 use inode_nodes::change::Given;
 use inode_nodes::node::Node;
+use inode_visits::blocks::{forget, forget_any};
 use namespace_rows::file_row::FileRow;
 use namespace_rows::row::Change;
 use permission_bits::mode::Mode;

@@ -8,6 +8,7 @@ ghost use Rattle.file_table.specs.Kept.{get_unless, are_at_place};
 ghost use Rattle.inode_nodes.specs.Node.{rows, flatten};
 ghost use Rattle.inode_visits.specs.Holding.{has_files};
 
+use crate::visit::holder_of;
 use file_blocks::blocks::FileBlock;
 use file_paths::name::Name;
 use file_table::place::FilePlace;
@@ -15,7 +16,6 @@ use file_table::table::FileTable;
 use hdfs_values::ids::BlockId;
 use hdfs_values::who::Who;
 use inode_nodes::node::{Held, Node};
-use crate::visit::holder_of;
 use std::alloc::{AllocError, Global};
 use std::collections::BTreeMap;
 

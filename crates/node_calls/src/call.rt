@@ -1,8 +1,8 @@
+use block_records::node_set::NodeSet;
+use block_tokens::key::KeyList;
 use call_parts::block_bytes::BlockBytes;
 use call_parts::node_list::NodeList;
 use call_parts::presented::{Presented, PresentedToken};
-use block_records::node_set::NodeSet;
-use block_tokens::key::KeyList;
 use hdfs_values::ids::{BlockId, Stamp};
 use node_ids::node_id::NodeId;
 

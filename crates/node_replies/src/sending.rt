@@ -8,12 +8,12 @@ ghost use Rattle.node_calls.specs.declared.reply.NodeReply.TheVariants as reply;
 ghost use Rattle.replica_steps.specs.ReplicaStep.{own};
 ghost use Rattle.node_replies.specs.Sending as spec;
 
-use hdfs_values::ids::Stamp;
 use call_parts::block_bytes::BlockBytes;
-use node_calls::call::{NodeCall, ReplicaState, TokenCall};
-use node_calls::message::{Message, Messages};
 use call_parts::node_list::NodeList;
 use call_parts::presented::Presented;
+use hdfs_values::ids::Stamp;
+use node_calls::call::{NodeCall, ReplicaState, TokenCall};
+use node_calls::message::{Message, Messages};
 use node_calls::reply::NodeReply;
 use node_calls::single::Update;
 use node_ids::node_id::{NodeId, node_of};

@@ -4,11 +4,11 @@ ghost use Rattle.cluster_trace.specs.Trace.{with_no_plan};
 ghost use Rattle.node_tables.specs.Leaders.{plans_led, answer_led};
 
 use block_recovery::plans::Plans;
-use recovery_updates::recover::Recover;
 use node_calls::call::PlanCall;
 use node_ids::node_id::NodeId;
 use plan_steps::answered::PlanAnswered;
 use plan_steps::lead::{begin, lead};
+use recovery_updates::recover::Recover;
 use std::alloc::{AllocError, Global};
 use std::collections::BTreeMap;
 use std::marker::Model;

@@ -2,8 +2,8 @@ use crate::asking::{at, is_barred, is_read, learns, node, presents, ring, token}
 use crate::tokens::writes;
 use block_tokens::refusal::TokenRefusal;
 use block_tokens::ring::KeyRing;
-use datanode::datanode::DataNode;
 use call_parts::presented::PresentedToken;
+use datanode::datanode::DataNode;
 use permission_bits::modes::Modes;
 use std::alloc::Global;
 

@@ -1,7 +1,7 @@
-use hdfs_values::ids::{BlockId, Stamp};
 use call_parts::block_bytes::BlockBytes;
-use node_calls::call::TokenCall;
 use call_parts::node_list::NodeList;
+use hdfs_values::ids::{BlockId, Stamp};
+use node_calls::call::TokenCall;
 use node_calls::refusal::ReplicaRefusal;
 use replicas::replicas::Replicas;
 use std::alloc::Global;

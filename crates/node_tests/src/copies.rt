@@ -4,13 +4,13 @@ use crate::asking::{
 };
 use block_tokens::refusal::TokenRefusal;
 use block_tokens::ring::KeyRing;
-use datanode::datanode::DataNode;
-use hdfs_values::ids::{BlockId, Stamp};
 use call_parts::block_bytes::BlockBytes;
-use node_calls::call::NodeCall;
-use node_calls::message::Message;
 use call_parts::node_list::NodeList;
 use call_parts::presented::{Presented, PresentedToken};
+use datanode::datanode::DataNode;
+use hdfs_values::ids::{BlockId, Stamp};
+use node_calls::call::NodeCall;
+use node_calls::message::Message;
 use node_calls::refusal::ReplicaRefusal;
 use node_ids::node_id::NodeId;
 use permission_bits::modes::Modes;

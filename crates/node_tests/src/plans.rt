@@ -1,13 +1,13 @@
 use block_records::node_set::NodeSet;
 use block_recovery::answer::Answer;
 use block_recovery::decision::{Commit, Decision};
-use recovery_updates::fault::{PlanFault, PlanRefusal};
 use block_recovery::plans::Plans;
-use recovery_updates::recover::Recover;
 use block_tokens::token::{Body, TokenBytes, encode};
 use hdfs_values::ids::{BlockId, Serial, Stamp};
 use node_ids::node_id::NodeId;
 use permission_bits::modes::Modes;
+use recovery_updates::fault::{PlanFault, PlanRefusal};
+use recovery_updates::recover::Recover;
 use std::alloc::{AllocError, Global};
 
 // A test is one assertion on what a helper answers of a table of calls, each with what it is to answer. The helpers say nothing of what

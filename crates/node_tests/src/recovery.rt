@@ -2,11 +2,11 @@ use crate::asking::{
     at, is_done, is_refused, learns, nobody, node, presents, ring, sent, single, token, told,
 };
 use block_tokens::ring::KeyRing;
+use call_parts::block_bytes::BlockBytes;
+use call_parts::presented::Presented;
 use datanode::datanode::DataNode;
 use hdfs_values::ids::Stamp;
-use call_parts::block_bytes::BlockBytes;
 use node_calls::call::ReplicaState;
-use call_parts::presented::Presented;
 use node_calls::refusal::ReplicaRefusal;
 use node_calls::reply::NodeReply;
 use node_calls::single::Single;

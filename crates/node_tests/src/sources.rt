@@ -1,11 +1,11 @@
 use block_tokens::key::Key;
 use block_tokens::ring::KeyRing;
+use call_parts::access_log::{AccessLog, AccessRecord};
+use call_parts::presented::PresentedToken;
 use grant_ledger::ledger::{Ledger, LedgerRow};
 use hdfs_values::ids::{BlockId, Serial};
 use hdfs_values::moment::Moment;
 use hdfs_values::who::Who;
-use call_parts::access_log::{AccessLog, AccessRecord};
-use call_parts::presented::PresentedToken;
 use node_ids::node_id::NodeId;
 use permission_bits::modes::Modes;
 use std::alloc::Global;

@@ -2,10 +2,10 @@
 
 use block_records::node_set::NodeSet;
 use block_recovery::plans::Plans;
+use call_parts::presented::{Presented, PresentedToken};
 use hdfs_values::ids::{BlockId, Stamp};
 use node_calls::call::{NodeCall, PlanCall, ReplicaState, TokenCall};
 use node_calls::message::{Message, MessageSeen, Messages};
-use call_parts::presented::{Presented, PresentedToken};
 use node_ids::node_id::NodeId;
 use plan_steps::answered::{PlanAnswered, PlanReply};
 use plan_steps::lead::lead;

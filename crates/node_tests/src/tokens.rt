@@ -4,10 +4,10 @@ use crate::asking::{
 use block_tokens::key::Key;
 use block_tokens::refusal::TokenRefusal;
 use block_tokens::ring::KeyRing;
-use datanode::datanode::DataNode;
 use call_parts::access_log::{AccessLog, AccessRecord};
 use call_parts::block_bytes::BlockBytes;
 use call_parts::presented::Presented;
+use datanode::datanode::DataNode;
 use node_calls::refusal::ReplicaRefusal;
 use node_calls::reply::NodeReply;
 use node_calls::single::Single;

@@ -7,9 +7,9 @@ ghost use Rattle.node_calls.specs.declared.reply.NodeReply.TheVariants as reply;
 ghost use Rattle.node_text.specs.ReplyText as spec;
 
 use bytes::Bytes;
+use call_parts::chunks::Chunks;
 use hdfs_values::ids::Stamp;
 use node_calls::call::ReplicaState;
-use call_parts::chunks::Chunks;
 use node_calls::refusal::NodeRefusal;
 use node_calls::reply::NodeReply;
 use script_text::numbers::{print_number, push_number};

@@ -4,8 +4,8 @@ ghost use Rattle.plan_steps.specs.declared.answered.PlanReply.TheVariants as rep
 ghost use Rattle.node_text.specs.ReplyText as spec;
 
 use block_recovery::decision::Decision;
-use recovery_updates::fault::PlanRefusal;
 use plan_steps::answered::PlanReply;
+use recovery_updates::fault::PlanRefusal;
 use script_text::blocks::print_nodes;
 use script_text::numbers::{print_number, push_number};
 use std::alloc::AllocError;

@@ -3,9 +3,9 @@ ghost use Rattle.hdfs_values.specs.Parsed.{ParsesInParts};
 ghost use Rattle.script_words.specs.LineForms.{Forms};
 ghost use Rattle.node_words.specs.Words as spec;
 
+use call_parts::node_list::NodeList;
 use hdfs_values::fault::{IllFormed, ParseFault};
 use hdfs_values::number::number_of;
-use call_parts::node_list::NodeList;
 use node_ids::node_id::NodeId;
 use script_words::words::{is_word, pieces_between};
 use std::alloc::Global;

@@ -7,9 +7,9 @@ ghost use Rattle.script_words.specs.LineForms.{Forms};
 ghost use Rattle.script_words.specs.Words.{pieces_at};
 ghost use Rattle.node_words.specs.Words as spec;
 
+use call_parts::block_bytes::BlockBytes;
 use hdfs_values::fault::{IllFormed, ParseFault};
 use hdfs_values::number::number_of;
-use call_parts::block_bytes::BlockBytes;
 use std::alloc::Global;
 
 /// The byte that two hexadecimal digits spell.

@@ -5,10 +5,10 @@ ghost use Rattle.script_words.specs.LineForms.{Forms};
 ghost use Rattle.node_words.specs.Words as spec;
 
 use crate::node_words::behind;
+use call_parts::presented::PresentedToken;
 use grant_ledger::ledger::LedgerRow;
 use hdfs_values::fault::{IllFormed, ParseFault};
 use hdfs_values::number::number_of;
-use call_parts::presented::PresentedToken;
 
 /// The row of the ledger with a number; the first has the number 1.
 fn row_at(ledger: &[LedgerRow], number: u64) -> Option<&LedgerRow>

@@ -1,6 +1,6 @@
 use block_recovery::decision::Decision;
-use recovery_updates::fault::PlanRefusal;
 use node_calls::message::Messages;
+use recovery_updates::fault::PlanRefusal;
 
 /// What a DataNode answers that leads recoveries, to a call that it doesn't refuse.
 #[derive(Drop)]

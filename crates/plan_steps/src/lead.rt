@@ -9,15 +9,15 @@ use crate::orders::{inits, presenting, updates};
 use block_records::node_set::NodeSet;
 use block_recovery::answer::Answer;
 use block_recovery::decision::Decision;
-use recovery_updates::fault::{PlanFault, PlanRefusal};
 use block_recovery::plan::Plan;
 use block_recovery::plans::Plans;
-use recovery_updates::recover::Recover;
+use call_parts::presented::PresentedToken;
 use hdfs_values::ids::{BlockId, Stamp};
 use node_calls::call::{PlanCall, ReplicaState};
 use node_calls::message::{Message, Messages};
-use call_parts::presented::PresentedToken;
 use node_ids::node_id::NodeId;
+use recovery_updates::fault::{PlanFault, PlanRefusal};
+use recovery_updates::recover::Recover;
 use std::alloc::{AllocError, Global};
 
 fn refuse(alloc: Global, refusal: PlanRefusal) -> PlanAnswered

@@ -3,10 +3,10 @@ ghost use Rattle.node_calls.specs.declared.call.TokenCall.TheVariants as made;
 ghost use Rattle.plan_steps.specs.PlanStep as spec;
 
 use block_answers::token_bytes::TokenBytes;
+use call_parts::presented::{Presented, PresentedToken};
 use hdfs_values::ids::{BlockId, Stamp};
 use node_calls::call::{NodeCall, TokenCall};
 use node_calls::message::{Message, Messages};
-use call_parts::presented::{Presented, PresentedToken};
 use node_calls::principal::principal_of;
 use node_ids::node_id::NodeId;
 use std::alloc::{AllocError, Global};

@@ -1,6 +1,6 @@
 use bitflags::Flags;
-use grant_ledger::ledger::LedgerRow;
 use call_parts::access_log::AccessRecord;
+use grant_ledger::ledger::LedgerRow;
 
 // Whether a grant lets the caller of a record do what he did.
 fn lets(row: &LedgerRow, record: &AccessRecord) -> bool {

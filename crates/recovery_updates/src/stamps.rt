@@ -8,7 +8,7 @@ ghost use Rattle.block_records.specs.Places.{IsPlace, IsGap};
 use hdfs_values::ids::Stamp;
 
 // Where a stamp stands in a table by ascending stamps; else where it would stand.
-pub(crate) fn place_of<X>(table: &[(Stamp, X)], stamp: Stamp) -> Result<usize, usize>
+pub fn place_of<X>(table: &[(Stamp, X)], stamp: Stamp) -> Result<usize, usize>
     requires { IsStrictlySortedBy nat_cmp (keys_of table.now) }
     ensures bound { IsSearchInRange result (length table.now) }
     ensures known { is_ok result ≡ is_some (entry_at stamp table.now) }

@@ -32,7 +32,7 @@ impl Model for UpdatedNodes {
 
 impl UpdatedNodes {
     // No node.
-    pub(crate) fn new(alloc: Global) -> UpdatedNodes
+    pub fn new(alloc: Global) -> UpdatedNodes
         ensures { result ≡ [] }
     {
         UpdatedNodes {
@@ -41,21 +41,21 @@ impl UpdatedNodes {
     }
 
     // Whether there is none.
-    pub(crate) fn is_empty(&self) -> bool
+    pub fn is_empty(&self) -> bool
         ensures { IsTrue result ↔ (self.now ≡ []) }
     {
         self.nodes.is_empty()
     }
 
     // Whether a node is among them.
-    pub(crate) fn contains(&self, node: NodeId) -> bool
+    pub fn contains(&self, node: NodeId) -> bool
         ensures { result ≡ list_any (is_number node) self.now }
     {
         self.nodes.contains(&node)
     }
 
     // Adds a node.
-    pub(crate) fn insert(&mut self, node: NodeId) -> Result<(), AllocError>
+    pub fn insert(&mut self, node: NodeId) -> Result<(), AllocError>
         ensures ok { OnOk result (self.new ≡ insert_key nat_cmp self.old node) }
         ensures err { OnErr result (self.new ≡ self.old) }
     {
@@ -64,7 +64,7 @@ impl UpdatedNodes {
     }
 
     // These nodes by their ids.
-    pub(crate) fn nodes(&self, alloc: Global) -> Result<NodeSet, AllocError>
+    pub fn nodes(&self, alloc: Global) -> Result<NodeSet, AllocError>
         ensures { IfOk result (λ nodes. nodes ≡ self.now) }
     {
         // its contract tells that the keys ascend

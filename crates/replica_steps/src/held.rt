@@ -3,10 +3,10 @@ ghost use Rattle.replica_steps.specs.ReplicaStep.{TellsReplicaRefusal, replica_r
 
 use crate::judge;
 use crate::replica::{Replica, ReplicaBytes};
-use hdfs_values::ids::Stamp;
 use call_parts::block_bytes::BlockBytes;
-use node_calls::call::{ReplicaState, TokenCall};
 use call_parts::chunks::Chunks;
+use hdfs_values::ids::Stamp;
+use node_calls::call::{ReplicaState, TokenCall};
 use node_calls::refusal::ReplicaRefusal;
 use std::alloc::{AllocError, Global};
 

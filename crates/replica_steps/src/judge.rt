@@ -3,8 +3,8 @@ ghost use Rattle.replica_steps.specs.ReplicaStep.{TellsReplicaRefusal, replica_r
 ghost use Rattle.node_calls.specs.declared.call.TokenCall.TheVariants as asked;
 
 use crate::replica::Replica;
-use hdfs_values::ids::Stamp;
 use call_parts::block_bytes::BlockBytes;
+use hdfs_values::ids::Stamp;
 use node_calls::refusal::ReplicaRefusal;
 
 /// The most bytes of a packet.
@@ -20,7 +20,7 @@ fn exceed(limit: u64, number: u64, more: u64) -> bool
 // No refusal depends on the nodes that come next in the pipeline, and some not on a limit or on what was promised: where a contract names
 // none of these, it holds with any.
 
-pub(crate) fn judge_begin(
+pub fn judge_begin(
     replica: Option<&Replica>,
     promised: Stamp,
     stamp: Stamp,
@@ -36,7 +36,7 @@ pub(crate) fn judge_begin(
     Ok(())
 }
 
-pub(crate) fn judge_packet(
+pub fn judge_packet(
     limit: u64,
     replica: Option<&Replica>,
     promised: Stamp,
@@ -65,7 +65,7 @@ pub(crate) fn judge_packet(
     Ok(())
 }
 
-pub(crate) fn judge_finalize(
+pub fn judge_finalize(
     replica: Option<&Replica>,
     promised: Stamp,
     stamp: Stamp,
@@ -89,7 +89,7 @@ pub(crate) fn judge_finalize(
     Ok(())
 }
 
-pub(crate) fn judge_read(
+pub fn judge_read(
     replica: Option<&Replica>,
     stamp: Stamp,
     offset: u64,
@@ -112,7 +112,7 @@ pub(crate) fn judge_read(
     Ok(())
 }
 
-pub(crate) fn judge_init(
+pub fn judge_init(
     replica: Option<&Replica>,
     promised: Stamp,
     stamp: Stamp,
@@ -128,7 +128,7 @@ pub(crate) fn judge_init(
     Ok(())
 }
 
-pub(crate) fn judge_update(
+pub fn judge_update(
     replica: Option<&Replica>,
     promised: Stamp,
     stamp: Stamp,
@@ -151,7 +151,7 @@ pub(crate) fn judge_update(
     Ok(())
 }
 
-pub(crate) fn judge_copy(replica: Option<&Replica>, stamp: Stamp) -> Result<(), ReplicaRefusal>
+pub fn judge_copy(replica: Option<&Replica>, stamp: Stamp) -> Result<(), ReplicaRefusal>
     ensures { TellsReplicaRefusal result (replica_refusal 0 (asked.SendCopy 0) stamp (record { replica = option_copied replica.entry; promised = 0 })) }
 {
     let Some(replica) = replica else {
@@ -166,7 +166,7 @@ pub(crate) fn judge_copy(replica: Option<&Replica>, stamp: Stamp) -> Result<(), 
     Ok(())
 }
 
-pub(crate) fn judge_take(
+pub fn judge_take(
     limit: u64,
     replica: Option<&Replica>,
     promised: Stamp,
@@ -187,7 +187,7 @@ pub(crate) fn judge_take(
     Ok(())
 }
 
-pub(crate) fn judge_removal(replica: Option<&Replica>, stamp: Stamp) -> Result<(), ReplicaRefusal>
+pub fn judge_removal(replica: Option<&Replica>, stamp: Stamp) -> Result<(), ReplicaRefusal>
     ensures { TellsReplicaRefusal result (removal_refusal stamp (option_copied replica.entry)) }
 {
     let Some(replica) = replica else {

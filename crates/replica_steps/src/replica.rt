@@ -1,10 +1,10 @@
 ghost use Rattle.replica_steps.specs.ReplicaState.{is_writing};
 ghost use Rattle.std.specs.Prelude.{◌≡◌, ◌++◌, [], length, take, drop, IfOk, OnOk, OnErr};
 
-use hdfs_values::ids::Stamp;
 use call_parts::block_bytes::BlockBytes;
-use node_calls::call::ReplicaState;
 use call_parts::chunks::Chunks;
+use hdfs_values::ids::Stamp;
+use node_calls::call::ReplicaState;
 use std::alloc::{AllocError, Global};
 use std::marker::Model;
 

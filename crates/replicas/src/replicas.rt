@@ -10,14 +10,14 @@ ghost use Rattle.node_calls.specs.declared.call.ReplicaState.TheVariants.{Writin
 ghost use Rattle.replicas.specs.Lending.{LendsHeld};
 ghost use Rattle.replica_steps.specs.ReplicaStep.{TellsReplicaRefusal, replica_refusal, removal_refusal, held_at, own, newly_held, with_held_changed, with_bytes_appended, with_replica_finalized, with_promise, with_replica_recovered, without_replica_of, replicas_after};
 
+use call_parts::block_bytes::BlockBytes;
+use call_parts::chunks::Chunks;
+use hdfs_values::ids::{BlockId, Stamp};
+use node_calls::call::{ReplicaState, TokenCall};
+use node_calls::refusal::ReplicaRefusal;
 use replica_steps::held::Held;
 use replica_steps::judge;
 use replica_steps::replica::{Replica, ReplicaBytes};
-use hdfs_values::ids::{BlockId, Stamp};
-use call_parts::block_bytes::BlockBytes;
-use node_calls::call::{ReplicaState, TokenCall};
-use call_parts::chunks::Chunks;
-use node_calls::refusal::ReplicaRefusal;
 use std::alloc::{AllocError, Global};
 use std::collections::BTreeMap;
 use std::marker::Model;

@@ -5,8 +5,8 @@ ghost use Rattle.token_provenance.specs.Index.{IsIndex, grants_the_same, repeats
 ghost use Rattle.grant_ledger.specs.declared.ledger.LedgerRow.{LedgerRow};
 
 use block_tokens::grant::Grant;
-use grant_ledger::ledger::LedgerRow;
 use call_parts::access_log::AccessRecord;
+use grant_ledger::ledger::LedgerRow;
 use std::alloc::{AllocError, Global};
 use std::collections::BTreeMap;
 use std::marker::Model;

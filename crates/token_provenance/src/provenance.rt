@@ -6,8 +6,8 @@ ghost use Rattle.token_provenance.specs.Index.{IsIndex};
 use crate::index::TokenIndex;
 use crate::logs::Logs;
 use crate::source::Source;
-use grant_ledger::ledger::Ledger;
 use call_parts::access_log::AccessRecord;
+use grant_ledger::ledger::Ledger;
 use std::alloc::{AllocError, Global};
 
 fn source_at(place: Option<u64>) -> Source
