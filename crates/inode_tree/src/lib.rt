@@ -2,6 +2,7 @@
 //! File System Namespace").
 #![tactic(auto)]
 
-pub use inode_files::{blocks, inode};
+pub use inode_files::inode;
+pub use inode_visits::blocks;
 
 pub mod tree;
