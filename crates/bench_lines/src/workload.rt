@@ -41,6 +41,8 @@ pub struct Block {
 /// - `rename_dir`: a directory is moved back and forth with a tree beneath it. An operation is one move.
 /// - `delete_recursive`: a tree is deleted by one line. An operation is one of its directories at the lowest depth; those above, one
 ///   in a hundred or so, aren't counted.
+/// - `delete_each`: the directories of a tree are deleted by lines, of which each deletes one at depth 4 with the hundred that it holds. An
+///   operation is a line.
 /// - `create_complete`: files are made, and then closed. An operation is a line: each renews a lease that isn't the last renewed one,
 ///   or counts an open file less.
 /// - `append_takeover`: files that other clients have open are taken over, and opened to append. An operation is one append.
@@ -75,6 +77,7 @@ setfacl lines open tree lists lists_at_4 lists_at_3 lists_at_2 lists_at_1 list_o
 ls lines open tree | listings
 rename_dir lines open here_and_away moved_tree | moves
 delete_recursive size open doomed doomed_tree | deletion
+delete_each lines open tree | deletions
 create_complete lines open writers | creations completions
 append_takeover lines open writers creations | takeovers
 tick_idle lines open writers creations | idle_ticks
@@ -160,6 +163,9 @@ through as the owner, and by the named group where the superuser is the owner.
 =- It is deleted, with all beneath it.
 =deletion 1
 0 alice delete /doomed recursive
+=- The directories at depth 4 are deleted one after the other, each with the hundred that it holds (the last may hold fewer).
+=deletions /100
+0 alice delete {level4} recursive
 =- As many files as the size says, at the paths of the tree, which their writers open, and all may write.
 =creations size
 0 {writer} create {path} 777 3

@@ -29,7 +29,7 @@ const BAD_COMMAND_LINE: u8 = 2;
 const USAGE: &str = "usage: hdfs_bench NAME N [script|answers]
   does a workload of size N and prints NAME N OPS_PER_SECOND, or prints its lines, or what these are answered
   timed: to read the lines, to step what they say and to print the answers into memory; check_token_uncached is no script
-  NAME: check_token_uncached mkdirs stat acl_stat setfacl ls rename_dir delete_recursive create_complete append_takeover tick_idle tick_expired addblock addblock_complete open open_granted report heartbeat_idle step_stat script packet_64k packet_512 packet_passed_on read_64k pipeline recovery";
+  NAME: check_token_uncached mkdirs stat acl_stat setfacl ls rename_dir delete_recursive delete_each create_complete append_takeover tick_idle tick_expired addblock addblock_complete open open_granted report heartbeat_idle step_stat script packet_64k packet_512 packet_passed_on read_64k pipeline recovery";
 
 /// The workload that is no script.
 const CHECK_TOKEN: &str = "check_token_uncached";
