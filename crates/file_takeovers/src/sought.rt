@@ -181,20 +181,34 @@ fn add_held(
     Ok(())
 }
 
+// Whether a client has more files open than so many finished ones.
+fn has_more(writers: &Writers, client: &Who, finished: Option<&u64>) -> bool {
+    match finished {
+        Some(number) => writers.files.count(client) != *number,
+        None => true,
+    }
+}
+
 /// Adds the unfinished files of these clients that are known, the last client first: where clients opened files by turns, the paths of an earlier
-/// one come before those that are in the map by then.
+/// one come before those that are in the map by then. A client all of whose files are finished, of which he has so many, is passed over.
 fn add_each_held(
     alloc: Global,
     tree: &Tree,
+    writers: &Writers,
     open_paths: &mut OpenPaths,
     past: &[Who],
+    finished: &[u64],
     files: &mut BTreeMap<Path, Sought>,
 ) -> Result<(), AllocError>
     ensures unfinished { spec.AreToRecover files.old → OnOk result (spec.AreToRecover files.new) }
     ensures some { (retry now : ℕ) → spec.AreSome (record { past = past.now; retry = retry; now = now }) tree.now files.old → OnOk result (spec.AreSome (record { past = past.now; retry = retry; now = now }) tree.now files.new) }
 {
+    let mut place = past.len();
     for client in past.iter().rev() {
-        add_held(alloc, tree, open_paths, client, files)?;
+        place = place.saturating_sub(1);
+        if has_more(writers, client, finished.get(place)) {
+            add_held(alloc, tree, open_paths, client, files)?;
+        }
     }
     Ok(())
 }
@@ -407,11 +421,13 @@ pub(crate) fn known_files(
     let retry = blocks.retry();
     let overdue = blocks.due_recoveries(now)?;
     let mut files = BTreeMap::new(alloc);
-    add_each_held(alloc, tree, open_paths, past, &mut files)?;
-    add_each_overdue(tree, open_paths, &overdue, retry, now, &mut files)?;
     let Some(finished) = count_each_finished(alloc, tree, open_paths, past)? else {
         return Ok(None);
     };
+    add_each_held(
+        alloc, tree, writers, open_paths, past, &finished, &mut files,
+    )?;
+    add_each_overdue(tree, open_paths, &overdue, retry, now, &mut files)?;
     if sum_of(&finished).is_some()
         && have_open(writers, past, &finished, files.len(), overdue.len())
     {
