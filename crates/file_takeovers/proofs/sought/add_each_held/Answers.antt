@@ -4,8 +4,8 @@ use Rattle.std.proofs.lemmas.Iterator.Consumers.{YieldsList-turn}
 use Rattle.file_takeovers.proofs.Expiring.{among_reversed}
 use Rattle.file_takeovers.proofs.sought.add_each_held.Goals as goal
 
-pub loop-client-preserved : goal.loop-client-preserved
-loop-client-preserved c =
+pub loop-client-preserved-in-Continue-1 : goal.loop-client-preserved-in-Continue-1
+loop-client-preserved-in-Continue-1 c =
     let past = c.args.past.now in
     let turn = YieldsList-turn (YieldsList-from_rev_slice {s = c.into_iter-client-iterator.result} past (search rules))
     c.loop-client.yielded c.loop-client.client-iterator c.loop-client.yielded_by c.next.result c.next.new.self c.in-Some.client c.in-Some.is c.next.ensures.steps in
