@@ -10,7 +10,7 @@ for l in $(ls $RUN/crates); do [ -d $RUN/crates/$l/out/rlib/$l.rlib ] && X="$X -
 root=src/lib.rt; [ -f src/main.rt ] && root=src/main.rt
 V=check; O=""; P="--progress --stage-times /tmp/stages_$C.txt"
 if [ -n "$BUILD" ]; then V=build; P=""; mkdir -p /work/look/rlib/$C; rm -rf /work/look/rlib/$C/$C.rlib; O="--statements -o /work/look/rlib/$C/$C.rlib --empty-contracts"; fi
-/opt/rattle/bin/rattle $V --crate-name $C $root --extern std=/opt/rattle/rlibs/std.rlib -L dependency=/opt/rattle/rlibs $X --antt-project /opt/rattle/rattle/logic/antt-project.json --logic-built /opt/rattle/logic_built --links $C= --jobs 1 $P $O "$@" 2>&1 | python3 -u -c "
+/opt/rattle/bin/rattle $V --crate-name $C $root --extern std=/opt/rattle/rlibs/std.rlib -L dependency=/opt/rattle/rlibs $X --antt-project /opt/rattle/rattle/logic/antt-project.json --logic-built /opt/rattle/logic_built --links $C= --jobs ${JOBS:-1} $P $O "$@" 2>&1 | python3 -u -c "
 import sys,time
 t0=time.time()
 for l in sys.stdin:
