@@ -1,4 +1,4 @@
-//! The parts of what is asked of a DataNode and of what it notes down: blocks of bytes, lists of nodes, tokens that are presented, records of what was done.
+//! What calls of a DataNode and its records are made of: blocks of bytes, lists of nodes, tokens that are presented, the log of accesses.
 #![tactic(auto)]
 
 pub mod access_log;

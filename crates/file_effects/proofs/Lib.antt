@@ -3,3 +3,4 @@ pub mod Effected
 pub mod Replacing
 pub mod Replacement
 pub mod BlockChanges
+pub mod Fileless

@@ -14,7 +14,7 @@ ghost use Rattle.principals.specs.Users.{Users};
 ghost use Rattle.block_map.specs.BlockEffects.{with_blocks_removed};
 ghost use Rattle.flat_rows.specs.BlockOutcome.{refused_end, ended_at};
 ghost use Rattle.history.specs.Blocks.{file_ended, blocks_after};
-ghost use Rattle.inode_tree.specs.Tree.{has_files};
+ghost use Rattle.inode_tree.specs.Tree as spec_tree;
 ghost use Rattle.file_effects.specs.Effected.{IsCreated, IsExact, IsFree, IsEffected, refused_end_of};
 ghost use Rattle.lease_manager.specs.Writers.{renewal_moment_of, CanCountOneMore, IsAlike};
 
@@ -73,12 +73,21 @@ struct FilesAt {
     has_files: bool,
 }
 
-/// What ends with the files at a path and beneath it.
-fn files_at(alloc: Global, tree: &Tree, path: &Path) -> Result<FilesAt, AllocError>
+/// What ends with the files at a path and beneath it. Where it is known that there are none, what stands there isn't gone through.
+fn files_at(alloc: Global, tree: &Tree, path: &Path, has_files: bool) -> Result<FilesAt, AllocError>
+    requires { has_files ≡ false → spec_tree.has_files (rows_under path.now tree.now) ≡ false }
     ensures clients { IfOk result (λ found. found.clients.items ≡ holders (rows_under path.now tree.now)) }
     ensures blocks { IfOk result (λ found. found.blocks.items ≡ blocks_in (rows_under path.now tree.now)) }
-    ensures any { IfOk result (λ found. found.has_files ≡ has_files (rows_under path.now tree.now)) }
+    ensures any { IfOk result (λ found. found.has_files ≡ spec_tree.has_files (rows_under path.now tree.now)) }
 {
+    if !has_files {
+        return Ok(FilesAt {
+            clients: Vec::new(alloc),
+            places: Vec::new(alloc),
+            blocks: Vec::new(alloc),
+            has_files: false,
+        });
+    }
     let FilesUnder {
         clients,
         places,
@@ -363,7 +372,7 @@ fn close_with_last(
     open_paths.end_block(last.block);
 }
 
-/// Deletes what has a path, with all that is beneath it: its blocks are known no more.
+/// Deletes what has a path, with all that is beneath it, which is known where it has no files: its blocks are known no more.
 fn delete(
     alloc: Global,
     tree: &mut Tree,
@@ -371,8 +380,10 @@ fn delete(
     writers: &mut Writers,
     open_paths: &mut OpenPaths,
     path: &Path,
+    has_files: bool,
 ) -> Result<(), AllocError>
-    requires { not (is_root path.now) ≡ true }
+    requires beneath { not (is_root path.now) ≡ true }
+    requires files { has_files ≡ false → spec_tree.has_files (rows_under path.now tree.old) ≡ false }
     ensures blocks { OnOk result (blocks.new ≡ with_blocks_removed blocks.old (blocks_in (rows_under path.now tree.old))) }
     ensures err_blocks { OnErr result (blocks.new ≡ blocks.old) }
     ensures ok { (recursive : Bool) (caller : List ℕ) (now : ℕ) → OnOk result (IsEffected (op.Delete path.now recursive) caller now tree.old writers.old tree.new writers.new) }
@@ -385,7 +396,7 @@ fn delete(
         places,
         blocks: deleted,
         has_files,
-    } = files_at(alloc, tree, path)?;
+    } = files_at(alloc, tree, path, has_files)?;
     blocks.remove_all(&deleted)?;
     writers.close_each(&clients);
     tree.remove(path, has_files);
@@ -428,7 +439,7 @@ fn complete(
     }
 }
 
-/// Does a verb that makes or closes a file, or a deletion, where nothing refuses it.
+/// Does a verb that makes or closes a file, or a deletion, where nothing refuses it; `has_files` may be false where what is deleted has none.
 ///
 /// # Errors
 /// Out of memory, and nothing has changed.
@@ -439,9 +450,11 @@ pub fn effect(
     writers: &mut Writers,
     open_paths: &mut OpenPaths,
     write: &Write<'_>,
+    has_files: bool,
     caller: &Who,
     now: Moment,
 ) -> Result<(), AllocError>
+    requires files { has_files ≡ false → spec_tree.has_files (spec_tree.rows_deleted (write_op write.now) tree.old) ≡ false }
     requires latest { lease.latest_moment writers.old.leases.renewals ≤ now }
     requires free { (users : Users) × IsFree (write_op write.now) caller.now tree.old users }
     requires reported { refused_end_of (write_op write.now) blocks.old ≡ None }
@@ -470,6 +483,8 @@ pub fn effect(
         Write::Complete(path, last) => {
             complete(tree, blocks, writers, open_paths, path, *last, caller)
         }
-        Write::Delete(path, _) => delete(alloc, tree, blocks, writers, open_paths, path),
+        Write::Delete(path, _) => {
+            delete(alloc, tree, blocks, writers, open_paths, path, has_files)
+        }
     }
 }

@@ -9,7 +9,7 @@ ghost use Rattle.namespace_rows.specs.Changes.{are_paths, child_names};
 ghost use Rattle.flat_rows.specs.Outcome.{is_alone};
 ghost use Rattle.inode_nodes.specs.Node.{rows, row_placed};
 ghost use Rattle.inode_nodes.specs.Part.{IsPart};
-ghost use Rattle.inode_visits.specs.Visits.{counts_of, is_closed, row_found};
+ghost use Rattle.inode_visits.specs.Visits.{counted_open, counts_of, is_closed, row_found};
 ghost use Rattle.inode_visits.specs.Limits.{fits_behind};
 ghost use Rattle.inode_visits.specs.SeenNode.{seen_branch};
 ghost use Rattle.inode_files.specs.Branch.{branch_at};
@@ -25,7 +25,7 @@ use hdfs_values::who::Who;
 use inode_nodes::node::Node;
 use inode_visits::blocks::{FilesUnder, blocks_of, files_of};
 use inode_visits::limit::fits;
-use inode_visits::visit::{self, Counts, Found, file_of, holder_of};
+use inode_visits::visit::{self, Counted, Counts, Found, file_of, holder_of};
 use namespace_rows::file_row::{FileRow, ShownFile};
 use namespace_rows::row::Row;
 use permission_bits::rights::Rights;
@@ -113,6 +113,14 @@ impl<'a> Inode<'a> {
         ensures { result ≡ is_alone (rows (branch_at self.now)) }
     {
         self.node.is_alone()
+    }
+
+    /// What stands there and beneath, where each directory of these grants a caller with these groups what is needed; `None` where one
+    /// doesn't. Costs what stands up to the first that doesn't, and takes no memory.
+    pub fn count_open(&self, caller: &Who, groups: &[Who], need: Rights) -> Option<Counted>
+        ensures { result ≡ counted_open caller.now groups.now need (rows (branch_at self.now)) }
+    {
+        visit::count_open(self.files, self.node, caller, groups, need)
     }
 
     /// The first directory, of it and all beneath it, that doesn't grant a caller with these groups what is needed. Costs what stands up

@@ -1,8 +1,10 @@
 -- What is asked of the rows at and beneath a path, where a branch stands there.
-use Rattle.std.proofs.Common.{◌≡◌, ℕ, Bool, true, not, List, [], ◌∷◌, ◌++◌, map, length, IsTrue, Option, Some, refl, sym, ap, ◌∙◌, subst}
+use Rattle.std.proofs.Common.{◌≡◌, ℕ, Bool, true, not, ◌||◌, cond, List, [], ◌∷◌, ◌++◌, map, length, IsTrue, Option, Some, None, refl, sym, ap, ◌∙◌, subst}
+use Rattle.std.specs.Prelude.{is_some}
 use Rattle.std.proofs.lemmas.List.{length-map}
-use Rattle.std.specs.List.{filter, list_all}
+use Rattle.std.specs.List.{filter, list_all, list_any}
 use Rattle.std.specs.Option.{option_map}
+use Rattle.permission_bits.specs.declared.rights.Rights.{Rights}
 use Rattle.file_paths.specs.Path.{is_path, IsPath}
 use Rattle.namespace_rows.specs.declared.row.Row.{Row}
 use Rattle.file_blocks.specs.Blocks.{told_length}
@@ -16,8 +18,9 @@ use Rattle.namespace_rows.proofs.Tests.{both, all_kept}
 use Rattle.namespace_rows.proofs.Namespaces.{namespace_tests}
 use Rattle.inode_nodes.specs.Node.{Node, rows, rows_or, row_placed}
 use Rattle.inode_nodes.specs.Part.{IsWhole}
-use Rattle.inode_tree.specs.Tree.{IsTree}
-use Rattle.inode_visits.specs.Visits.{told_number, counts_of}
+use Rattle.inode_tree.specs.Tree.{IsTree, has_files}
+use Rattle.inode_visits.specs.Visits.{told_number, counted_open, counts_of, is_closed}
+use Rattle.inode_visits.specs.declared.visit.Counted.{Counted}
 use Rattle.inode_visits.specs.declared.visit.Counts.{Counts}
 use Rattle.inode_nodes.proofs.Filters.{filter-map, inside}
 use Rattle.inode_visits.proofs.Visits.{bytes_map, holders_map}
@@ -40,6 +43,14 @@ first_passes p q rs row h found = by (filter p rs) (all_kept p q rs h) found
         one : (x : Row) → Some x ≡ Some row → x ≡ row
         one x e = cc
 
+any_placed : (path : List (List ℕ)) (p : Row → Bool) → ((row : Row) → p (row_placed path row) ≡ p row) → (rs : List Row) → list_any p (map (row_placed path) rs) ≡ list_any p rs
+any_placed path p same [] = refl
+any_placed path p same (r ∷ rs) = ap (λ b. b || list_any p (map (row_placed path) rs)) (same r) ∙ ap (λ b. p r || b) (any_placed path p same rs)
+
+-- what is counted of so many rows, where none of them is closed
+abbrev counted : ℕ → Bool → Bool → Option Counted
+counted number files closed = cond closed None (Some (record { number = told_number number; has_files = files }))
+
 -- what was found at these names, among rows of a tree that are all of these
 module _ (names path : List (List ℕ)) (is : names ≡ path) (own all : List Row) (seen : own ≡ all) (tree : IsTree own) (o : Option Node) (whole : IsWhole names own o) where
   under : rows_under path all ≡ map (row_placed path) (rows_or o)
@@ -60,6 +71,12 @@ module _ (names path : List (List ℕ)) (is : names ≡ path) (own all : List Ro
       ap (λ n. made n (length (filter (λ row. not (is_directory row)) (rows_or o))) (bytes_in (rows_or o))) (number is_directory (λ row. refl))
       ∙ ap (λ n. made (length (filter is_directory (rows_under path all))) n (bytes_in (rows_or o))) (number (λ row. not (is_directory row)) (λ row. refl))
       ∙ ap (made (length (filter is_directory (rows_under path all))) (length (filter (λ row. not (is_directory row)) (rows_under path all)))) (sym (ap bytes_in under ∙ bytes_map (row_placed path) (λ row. refl) (rows_or o)))
+
+  pub counted_there : (caller : List ℕ) (groups : List (List ℕ)) (need : Rights) → counted_open caller groups need (rows_or o) ≡ counted_open caller groups need (rows_under path all)
+  counted_there caller groups need =
+      ap (counted (length (rows_or o)) (has_files (rows_or o))) (sym (ap (list_any (is_closed caller groups need)) under ∙ any_placed path (is_closed caller groups need) (λ row. refl) (rows_or o)))
+      ∙ ap (λ n. counted n (has_files (rows_or o)) (list_any (is_closed caller groups need) (rows_under path all))) (sym (ap length under ∙ length-map (rows_or o) (row_placed path)))
+      ∙ ap (λ b. counted (length (rows_under path all)) b (list_any (is_closed caller groups need) (rows_under path all))) (sym (ap has_files under ∙ any_placed path (λ row. is_some row.file) (λ row. refl) (rows_or o)))
 
   pub holders_there : holders (rows_or o) ≡ holders (rows_under path all)
   holders_there = sym (ap holders under ∙ holders_map (row_placed path) (λ row. refl) (rows_or o))

@@ -12,7 +12,7 @@ ghost use Rattle.namespace_rows.specs.declared.row.Change.TheVariants as change;
 ghost use Rattle.flat_rows.specs.Outcome.{is_alone, kind_of_new, with_new};
 ghost use Rattle.namespace_rows.specs.Changes.{rows_under, without, moved_row, with_rows_moved, row_rewritten, block_added, recovery_ended, recovers_nowhere_else, suits_change, are_paths, child_names};
 ghost use Rattle.namespace_rows.specs.First.{first};
-ghost use Rattle.inode_visits.specs.Visits.{counts_of, is_closed};
+ghost use Rattle.inode_visits.specs.Visits.{counted_open, counts_of, is_closed};
 ghost use Rattle.inode_nodes.specs.Node.{rows, row_of};
 ghost use Rattle.inode_nodes.specs.Part.{IsWhole};
 ghost use Rattle.file_table.specs.Finished.{finished_files, with_finished_closed};
@@ -31,7 +31,7 @@ use hdfs_values::who::Who;
 use inode_files::nodes::Nodes;
 use inode_nodes::change::Given;
 use inode_visits::limit;
-use inode_visits::visit::Counts;
+use inode_visits::visit::{Counted, Counts};
 use namespace_rows::file_row::FileRow;
 use namespace_rows::row::{Change, Row};
 use permission_bits::mode::Mode;
@@ -117,6 +117,26 @@ impl Tree {
         match self.nodes.find(path.names()) {
             Some(inode) => inode.is_alone(),
             None => true,
+        }
+    }
+
+    /// What stands at a path and beneath it, where each directory of these grants a caller with these groups what is needed; `None`
+    /// where one doesn't. Costs also what stands there, up to the first that doesn't, and takes no memory.
+    pub fn count_open(
+        &self,
+        path: &[Name],
+        caller: &Who,
+        groups: &[Who],
+        need: Rights,
+    ) -> Option<Counted>
+        ensures { result ≡ counted_open caller.now groups.now need (rows_under path.now self.now) }
+    {
+        match self.nodes.find(path) {
+            Some(inode) => inode.count_open(caller, groups, need),
+            None => Some(Counted {
+                number: 0,
+                has_files: false,
+            }),
         }
     }
 

@@ -7,6 +7,7 @@ use Rattle.std.proofs.lemmas.List.Folds.{list_all-append}
 use Rattle.std.specs.List.{filter, list_any}
 use Rattle.slab.specs.Slab.{Slab}
 use Rattle.std.specs.Option.{option_map, option_to_list}
+use Rattle.permission_bits.specs.declared.rights.Rights.{Rights}
 use Rattle.file_paths.specs.Path.{is_path}
 use Rattle.namespace_rows.specs.declared.file_row.FileRow.{FileRow}
 use Rattle.namespace_rows.specs.declared.row.Row.{Row}
@@ -21,7 +22,9 @@ use Rattle.namespace_rows.proofs.Tests.{both}
 use Rattle.inode_nodes.specs.Node.{Node, flatten, rows, row_of, top_of, under, row_placed}
 use Rattle.file_table.specs.Seen.{seen, seen_rows}
 use Rattle.inode_visits.specs.SeenNode.{seen_branch}
-use Rattle.inode_visits.specs.Visits.{told_number, directories, files, sum_told, row_found}
+use Rattle.inode_visits.specs.Holding.{has_files}
+use Rattle.inode_visits.specs.Visits.{told_number, directories, files, sum_told, is_closed, counted_open, row_found}
+use Rattle.inode_visits.specs.declared.visit.Counted.{Counted}
 use Rattle.inode_visits.specs.declared.visit.Found.{Found}
 use Rattle.inode_nodes.proofs.Filters.{Entries, filter-map, append_rows}
 
@@ -117,6 +120,9 @@ module _ (p : Row → Bool) (same : (n : List ℕ) (row : Row) → p (under n ro
 told_sum : (before here left : ℕ) → told_number (told_number (before + told_number here) + left) ≡ told_number (before + (here + left))
 told_sum before here left = omega arith
 
+length_entry : (it new : Entries) (n : List ℕ) (b : Node) → it ≡ (n, b) ∷ new → length (flatten it) ≡ length (rows b) + length (flatten new)
+length_entry it new n b is = ap (λ (x : Entries). length (flatten x)) is ∙ length-append (map (under n) (rows b)) (flatten new) ∙ ap (λ k. k + length (flatten new)) (length-map (rows b) (under n))
+
 pub told_few : (n : ℕ) → told_number n < 2 ^ 64
 told_few n = omega arith
 
@@ -133,6 +139,11 @@ module _ (it new : Entries) (n : List ℕ) (b : Node) (is : it ≡ (n, b) ∷ ne
   files_step before here after all h a k =
       ap (λ x. told_number (x + files (flatten new))) (a ∙ ap (λ x. told_number (before + x)) h) ∙ told_sum before (files (rows b)) (files (flatten new))
       ∙ ap (λ x. told_number (before + x)) (sym (count_entry (λ row. not (is_directory row)) (λ m row. refl) it new n b is)) ∙ k
+
+  pub length_step : (before here after all : ℕ) → here ≡ told_number (length (rows b)) → after ≡ told_number (before + here) → told_number (before + length (flatten it)) ≡ all → told_number (after + length (flatten new)) ≡ all
+  length_step before here after all h a k =
+      ap (λ x. told_number (x + length (flatten new))) (a ∙ ap (λ x. told_number (before + x)) h) ∙ told_sum before (length (rows b)) (length (flatten new))
+      ∙ ap (λ x. told_number (before + x)) (sym (length_entry it new n b is)) ∙ k
 
 -- the bytes of files
 
@@ -168,26 +179,66 @@ sum_is m n = by (nat_lt m (2 ^ 64)) (nat_lt n (2 ^ 64)) refl refl
     by false b e f = rw (e, none_beyond (m + n) (less m n (2 ^ 64) (ltb-false m (2 ^ 64) e))) refl
 
 -- the files of some rows have so many bytes together, behind those of the rows before
-pub record Counted (all : List Row) (left : List Row) (bytes : Option ℕ) : Type 0 where
+pub record CountedBytes (all : List Row) (left : List Row) (bytes : Option ℕ) : Type 0 where
   pub before : ℕ
   pub told : bytes ≡ told_length before
   pub whole : before + bytes_in left ≡ bytes_in all
 
-pub counted_none : (all : List Row) → Counted all all (Some 0)
+pub counted_none : (all : List Row) → CountedBytes all all (Some 0)
 counted_none all = record { before = 0; told = refl; whole = omega arith }
 
-pub counted_next : (all : List Row) (it new : Entries) (n : List ℕ) (b : Node) (bytes here after : Option ℕ) → it ≡ (n, b) ∷ new → here ≡ told_length (bytes_in (rows b)) → after ≡ sum_told bytes here → Counted all (flatten it) bytes → Counted all (flatten new) after
+pub counted_next : (all : List Row) (it new : Entries) (n : List ℕ) (b : Node) (bytes here after : Option ℕ) → it ≡ (n, b) ∷ new → here ≡ told_length (bytes_in (rows b)) → after ≡ sum_told bytes here → CountedBytes all (flatten it) bytes → CountedBytes all (flatten new) after
 counted_next all it new n b bytes here after is h a counted = record {
   before = counted.before + bytes_in (rows b);
   told = a ∙ ap (sum_told bytes) h ∙ ap (λ x. sum_told x (told_length (bytes_in (rows b)))) counted.told ∙ sum_is counted.before (bytes_in (rows b));
   whole = omega (arith, counted.whole, bytes_entry it new n b is);
 }
 
-pub counted_all : (all left : List Row) (bytes : Option ℕ) → left ≡ [] → Counted all left bytes → bytes ≡ told_length (bytes_in all)
+pub counted_all : (all left : List Row) (bytes : Option ℕ) → left ≡ [] → CountedBytes all left bytes → bytes ≡ told_length (bytes_in all)
 counted_all all left bytes none counted = counted.told ∙ ap told_length (sum_none (ap bytes_in none) counted.whole)
   where
     sum_none : {k m n : ℕ} → m ≡ 0 → k + m ≡ n → k ≡ n
     sum_none e h = omega (arith, e, h)
+
+-- rows that are counted where none of them is closed
+
+module _ (caller : List ℕ) (groups : List (List ℕ)) (need : Rights) where
+  abbrev closed : Row → Bool
+  closed row = is_closed caller groups need row
+
+  abbrev counted : Bool → ℕ → Bool → Option Counted
+  counted shut number files = cond shut None (Some (record { number = told_number number; has_files = files }))
+
+  -- what is counted has none that is closed, and so many rows
+  pub counted_all_open : (rs : List Row) (all : Counted) → counted_open caller groups need rs ≡ Some all → list_any closed rs ≡ false
+  counted_all_open rs all h = by (list_any closed rs) h
+    where
+      by : (b : Bool) → counted b (length rs) (has_files rs) ≡ Some all → b ≡ false
+      by true e = cc
+      by false e = refl
+
+  pub counted_is : (rs : List Row) (all : Counted) → counted_open caller groups need rs ≡ Some all → all ≡ record { number = told_number (length rs); has_files = has_files rs }
+  counted_is rs all h = by (list_any closed rs) h
+    where
+      one : {x y : Counted} → Some x ≡ Some y → x ≡ y
+      one e = cc
+
+      by : (b : Bool) → counted b (length rs) (has_files rs) ≡ Some all → all ≡ record { number = told_number (length rs); has_files = has_files rs }
+      by true e = cc
+      by false e = sym (one e)
+
+  pub not_counted : (rs : List Row) → counted_open caller groups need rs ≡ None → list_any closed rs ≡ true
+  not_counted rs h = by (list_any closed rs) h
+    where
+      by : (b : Bool) → counted b (length rs) (has_files rs) ≡ None → b ≡ true
+      by true e = refl
+      by false e = cc
+
+  pub is_counted : (rs : List Row) (all : Counted) → list_any closed rs ≡ false → all.number ≡ told_number (length rs) → all.has_files ≡ has_files rs → Some all ≡ counted_open caller groups need rs
+  is_counted rs all none number files = rw (none, number, files) refl
+
+  pub is_not_counted : (rs : List Row) → list_any closed rs ≡ true → None ≡ counted_open caller groups need rs
+  is_not_counted rs some = rw some refl
 
 -- the holders of files
 

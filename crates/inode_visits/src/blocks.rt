@@ -1,4 +1,4 @@
-ghost use Rattle.std.specs.Prelude.{◌≡◌, ◌++◌, ◌||◌, ℕ, map, is_some, false, Some, IfOk, OnOk};
+ghost use Rattle.std.specs.Prelude.{◌≡◌, ◌++◌, ◌||◌, ℕ, map, false, Some, IfOk, OnOk};
 ghost use Rattle.slab.specs.Slab.{get};
 ghost use Rattle.std.specs.Option.{option_to_list};
 ghost use Rattle.namespace_rows.specs.Files.{blocks_in, holders, holder_of_file, ids_in};
@@ -8,7 +8,7 @@ ghost use Rattle.file_table.specs.Kept.{get_unless, are_at_place};
 ghost use Rattle.inode_nodes.specs.Node.{rows, flatten};
 ghost use Rattle.inode_visits.specs.Holding.{has_files};
 
-use crate::visit::holder_of;
+use crate::visit::{holder_of, is_kept};
 use file_blocks::blocks::FileBlock;
 use file_paths::name::Name;
 use file_table::place::FilePlace;
@@ -171,13 +171,6 @@ fn push_files_in<'a>(
         }
     }
     Ok(())
-}
-
-/// Whether the table has a file at the place.
-fn is_kept(files: &FileTable, place: FilePlace) -> bool
-    ensures { result ≡ is_some (file_held files.now (Some (placed place))) }
-{
-    files.get(place).is_some()
 }
 
 /// Adds the client who has the file at the place open, where one has, and the place.

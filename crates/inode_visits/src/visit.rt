@@ -1,5 +1,4 @@
-ghost use Rattle.std.specs.Prelude.{◌≡◌, ◌++◌, ◌∷◌, [], map, filter, reverse, true, Some, IsTrue, IfOk, OnOk};
-ghost use Rattle.std.specs.List.{list_any};
+ghost use Rattle.std.specs.Prelude.{◌≡◌, ◌++◌, ◌∷◌, [], map, filter, is_some, reverse, true, Some, IsTrue, IfOk, OnOk};
 ghost use Rattle.std.specs.Option.{option_copied, option_map, option_to_list};
 ghost use Rattle.std.specs.Map.{keys_of};
 ghost use Rattle.file_paths.specs.Path.{IsPath};
@@ -12,7 +11,7 @@ ghost use Rattle.inode_nodes.specs.Node.{rows, row_of, flatten, under, row_place
 ghost use Rattle.file_table.specs.Place.{placed};
 ghost use Rattle.file_table.specs.Seen.{file_held, seen_rows};
 ghost use Rattle.file_blocks.specs.Blocks.{told_length};
-ghost use Rattle.inode_visits.specs.Visits.{counts_of, sum_told, is_closed, row_found};
+ghost use Rattle.inode_visits.specs.Visits.{counted_open, counts_of, sum_told, is_closed, row_found};
 ghost use Rattle.inode_visits.specs.SeenNode.{seen_top};
 
 use acl_entries::acl::Acl;
@@ -39,6 +38,15 @@ pub struct Counts {
     pub files: u64,
     /// The committed bytes of the files; `None` where their sum doesn't fit in 64 bits.
     pub bytes: Option<u64>,
+}
+
+/// What was counted where each directory was looked at.
+#[derive(Clone, Copy, PartialEq, Eq)]
+pub struct Counted {
+    /// How many directories and files there are; at most the greatest number, which stands for all above it.
+    pub number: u64,
+    /// Whether there is any file.
+    pub has_files: bool,
 }
 
 /// The counts of what stands at the node and beneath it.
@@ -115,59 +123,69 @@ pub struct Found {
     acl: Acl,
 }
 
-/// The first directory, of the node and all beneath it, that doesn't grant the caller what is needed. Where there is one, what
-/// stands up to it is looked at twice.
-///
-/// # Errors
-/// Out of memory.
-pub fn first_closed(
-    alloc: Global,
+/// What stands at the node and beneath it, where each directory of these grants the caller what is needed; `None` where one doesn't. One
+/// pass, which ends at the first that doesn't.
+#[cycle(open)]
+pub fn count_open(
+    files: &FileTable,
     node: &Node,
     caller: &Who,
     groups: &[Who],
     need: Rights,
-) -> Result<Option<Found>, AllocError>
-    ensures { IfOk result (λ found. option_map row_found found ≡ first (filter (is_closed caller.now groups.now need) (rows node.now))) }
-{
-    // Mostly there is none, and then no answer with names and an owner is moved up from each directory.
-    if has_closed(node, caller, groups, need) {
-        return find_closed(alloc, node, caller, groups, need);
-    }
-    Ok(None)
-}
-
-/// Whether a directory, of the node and all beneath it, doesn't grant the caller what is needed.
-#[cycle(open)]
-fn has_closed(node: &Node, caller: &Who, groups: &[Who], need: Rights) -> bool
-    ensures { result ≡ list_any (is_closed caller.now groups.now need) (rows node.now) }
+) -> Option<Counted>
+    ensures { result ≡ counted_open caller.now groups.now need (seen_rows files.now (rows node.now)) }
 {
     match &node.held {
-        Held::File(_) => false,
+        Held::File(place) => Some(Counted {
+            number: 1,
+            has_files: is_kept(files, *place),
+        }),
         Held::Directory(map) => {
             if !node.grants(caller, groups, need) {
-                return true;
+                return None;
             }
-            // Most directories hold nothing, and are told at once.
-            !map.is_empty() && has_closed_in(map, caller, groups, need)
+            // Most directories hold nothing, and are counted at once.
+            if map.is_empty() {
+                return Some(Counted {
+                    number: 1,
+                    has_files: false,
+                });
+            }
+            let beneath = count_open_in(files, map, caller, groups, need)?;
+            Some(Counted {
+                number: beneath.number.saturating_add(1),
+                has_files: beneath.has_files,
+            })
         }
     }
 }
 
 #[cycle(open)]
-fn has_closed_in(map: &BTreeMap<Name, Node>, caller: &Who, groups: &[Who], need: Rights) -> bool
-    ensures { result ≡ list_any (is_closed caller.now groups.now need) (flatten map.now.entries) }
+fn count_open_in(
+    files: &FileTable,
+    map: &BTreeMap<Name, Node>,
+    caller: &Who,
+    groups: &[Who],
+    need: Rights,
+) -> Option<Counted>
+    ensures { result ≡ counted_open caller.now groups.now need (seen_rows files.now (flatten map.now.entries)) }
 {
+    let mut number = 0u64;
+    let mut has_files = false;
     for (_name, child) in map {
-        if has_closed(child, caller, groups, need) {
-            return true;
-        }
+        let counted = count_open(files, child, caller, groups, need)?;
+        number = number.saturating_add(counted.number);
+        has_files |= counted.has_files;
     }
-    false
+    Some(Counted { number, has_files })
 }
 
-/// As `first_closed`, in one pass.
+/// The first directory, of the node and all beneath it, that doesn't grant the caller what is needed. One pass, which ends there.
+///
+/// # Errors
+/// Out of memory.
 #[cycle(closed)]
-fn find_closed(
+pub fn first_closed(
     alloc: Global,
     node: &Node,
     caller: &Who,
@@ -180,7 +198,7 @@ fn find_closed(
         Held::File(_) => Ok(None),
         Held::Directory(map) => {
             if node.grants(caller, groups, need) {
-                return find_closed_in(alloc, map, caller, groups, need);
+                return first_closed_in(alloc, map, caller, groups, need);
             }
             Ok(Some(Found {
                 names: Vec::new(alloc),
@@ -193,7 +211,7 @@ fn find_closed(
 }
 
 #[cycle(closed)]
-fn find_closed_in(
+fn first_closed_in(
     alloc: Global,
     map: &BTreeMap<Name, Node>,
     caller: &Who,
@@ -203,7 +221,7 @@ fn find_closed_in(
     ensures { IfOk result (λ found. option_map row_found found ≡ first (filter (is_closed caller.now groups.now need) (flatten map.now.entries))) }
 {
     for (name, child) in map {
-        if let Some(found) = find_closed(alloc, child, caller, groups, need)? {
+        if let Some(found) = first_closed(alloc, child, caller, groups, need)? {
             return Ok(Some(beneath(name, found)?));
         }
     }
@@ -349,6 +367,13 @@ fn push_reversed(names: &mut Vec<Name>, mut last_first: Vec<Name>) -> Result<(),
         names.push(last)?;
     }
     Ok(())
+}
+
+/// Whether the table has a file at the place.
+pub(crate) fn is_kept(files: &FileTable, place: FilePlace) -> bool
+    ensures { result ≡ is_some (file_held files.now (Some (placed place))) }
+{
+    files.get(place).is_some()
 }
 
 /// What the node has as a file. Takes no memory.

@@ -1,4 +1,4 @@
-ghost use Rattle.std.specs.Prelude.{◌≡◌, ◌≤◌, ◌++◌, ℕ, List, Option, None, true, IfOk, OnOk, OnErr};
+ghost use Rattle.std.specs.Prelude.{◌≡◌, ◌≤◌, ◌++◌, ℕ, List, Option, None, true, false, IfOk, OnOk, OnErr};
 ghost use Rattle.hdfs_types.specs.Verb.{read_op, update_op, write_op, grant_op};
 ghost use Rattle.hdfs_types.specs.declared.op.Op.TheVariants as op;
 ghost use Rattle.hdfs_types.specs.declared.reply.Reply.TheVariants as reply;
@@ -13,6 +13,7 @@ ghost use Rattle.lease_manager.specs.Leases as lease;
 ghost use Rattle.lease_manager.specs.Leases.{latest_moment};
 ghost use Rattle.lease_manager.specs.Writers.{renewal_moment_of};
 ghost use Rattle.file_effects.specs.Effected.{IsExact, IsFree, refused_end_of};
+ghost use Rattle.inode_tree.specs.Tree as spec_tree;
 ghost use Rattle.file_takeovers.specs.Recovered.{RecoversOnce};
 ghost use Rattle.namesystem.specs.Performed.{IsPerformed, IsUndone, KnowsRecoveries, facts_in};
 
@@ -273,15 +274,18 @@ fn perform_append(
     }
 }
 
-/// The verdict on a verb that writes a file, or on a deletion.
+/// The verdict on a verb that writes a file, or on a deletion. `has_files` is cleared where what is deleted has been found to have no files.
 fn decide(
     alloc: Global,
     system: &Namesystem,
     caller: &Who,
     needs: &Needs,
     write: &Write<'_>,
+    has_files: &mut bool,
 ) -> Result<Verdict, AllocError>
-    requires { needs.now ≡ required_rights (write_op write.now) }
+    requires needs { needs.now ≡ required_rights (write_op write.now) }
+    requires unknown { has_files.old ≡ true }
+    ensures files { has_files.new ≡ false → spec_tree.has_files (spec_tree.rows_deleted (write_op write.now) system.now.tree) ≡ false }
     ensures reported { IfOk result (λ verdict. is_done verdict ≡ true → refused_end_of (write_op write.now) system.now.blocks ≡ None) }
     ensures free { IfOk result (λ verdict. is_done verdict ≡ true → IsFree (write_op write.now) caller.now system.now.tree system.now.users) }
     ensures verdict { (last : List ℕ → Option ℕ) (now : ℕ) → IfOk result (λ verdict. verdict ≡ (step (facts_in last now system.now) system.now.tree system.now.users caller.now (write_op write.now)).verdict) }
@@ -294,6 +298,7 @@ fn decide(
         caller,
         needs,
         write,
+        has_files,
     )
 }
 
@@ -315,7 +320,8 @@ fn perform_write(
     ensures latest { OnOk result (latest_moment system.new.writers.leases.renewals ≤ now) }
     ensures err { OnErr result (IsUndone system.old system.new) }
 {
-    let verdict = decide(alloc, system, caller, needs, write)?;
+    let mut has_files = true;
+    let verdict = decide(alloc, system, caller, needs, write, &mut has_files)?;
     if !is_done(&verdict) {
         return Ok(verdict);
     }
@@ -326,6 +332,7 @@ fn perform_write(
         &mut system.writers,
         open_paths,
         write,
+        has_files,
         caller,
         now,
     ) else {

@@ -3,3 +3,4 @@ pub mod Traversals
 pub mod Denials
 pub mod Standing
 pub mod Steps
+pub mod Opened

@@ -7,11 +7,11 @@ ghost use Rattle.namespace_rows.specs.First.{first_answer};
 ghost use Rattle.namespace_rows.specs.Rows as rows_spec;
 ghost use Rattle.flat_rows.specs.Decision as spec;
 ghost use Rattle.perm_walk.specs.Closed.{first_closed};
-ghost use Rattle.perm_walk.specs.Reached.{IsReach};
+ghost use Rattle.perm_walk.specs.Reached.{IsCounted, IsReach};
 ghost use Rattle.perm_walk.specs.Walked.{IsTraversal, IsDescent};
 
 use crate::component::Component;
-use crate::reach::{Entered, Reach, enter};
+use crate::reach::{Counted, Entered, Reach, enter};
 use file_paths::name::Name;
 use flat_rows::denial::Denial;
 use hdfs_types::reply::ObjectKind;
@@ -61,15 +61,24 @@ fn closed_above(
     }
 }
 
-/// The first directory at a path and beneath it, in path order, that doesn't grant the rights.
+/// The first directory at a path and beneath it, in path order, that doesn't grant the rights. Where all do, what stands there is
+/// counted on the way, so that a deletion need not go over it once more.
 fn closed_beneath(
     tree: &Tree,
     path: &[Name],
     caller: &Caller,
     asked: Rights,
+    counted: &mut Option<Counted>,
 ) -> Result<Option<Row>, AllocError>
-    ensures { IfOk result (λ row. row ≡ first_closed asked caller.now (rows_spec.directories_beneath path.now tree.now)) }
+    requires counted { IfSome counted.old (IsCounted path.now tree.now) }
+    ensures row { IfOk result (λ row. row ≡ first_closed asked caller.now (rows_spec.directories_beneath path.now tree.now)) }
+    ensures counted { IfSome counted.new (IsCounted path.now tree.now) }
 {
+    // Mostly all do.
+    if let Some(all) = tree.count_open(path, caller.name(), caller.groups(), asked) {
+        *counted = Some(all);
+        return Ok(None);
+    }
     tree.first_closed(path, caller.name(), caller.groups(), asked)
 }
 
@@ -123,19 +132,20 @@ fn first_closed_in_role(
     alloc: Global,
     tree: &Tree,
     demand: &Demand,
-    reach: &Reach<'_>,
+    reach: &mut Reach<'_>,
     caller: &Caller,
     asked: Rights,
 ) -> Result<Option<Row>, AllocError>
-    requires { IsReach demand.now.path tree.now reach.now }
-    ensures { IfOk result (λ row. row ≡ first_closed asked caller.now (spec.rows_in_role demand.now.role demand.now.path tree.now)) }
+    requires { IsReach demand.now.path tree.now reach.old }
+    ensures row { IfOk result (λ row. row ≡ first_closed asked caller.now (spec.rows_in_role demand.now.role demand.now.path tree.now)) }
+    ensures reach { IsReach demand.now.path tree.now reach.new }
 {
     match demand.role() {
         Role::Traversed => closed_above(alloc, tree, demand.path(), caller, asked),
         Role::Ancestor => if_closed(alloc, &reach.ancestor, caller, asked),
         Role::Parent => if_closed(alloc, &reach.parent, caller, asked),
         Role::Final => if_closed(alloc, &reach.at, caller, asked),
-        Role::SubTree => closed_beneath(tree, demand.path(), caller, asked),
+        Role::SubTree => closed_beneath(tree, demand.path(), caller, asked, &mut reach.counted),
     }
 }
 
@@ -190,14 +200,15 @@ fn denial_of_rights(
     alloc: Global,
     tree: &Tree,
     demand: &Demand,
-    reach: &Reach<'_>,
+    reach: &mut Reach<'_>,
     caller: &Caller,
     asked: Rights,
 ) -> Result<Option<Denial>, AllocError>
     requires need { demand.now.need ≡ Need.Rights asked }
     requires judged { caller.now.is_superuser ≡ false }
-    requires reach { IsReach demand.now.path tree.now reach.now }
-    ensures { IfOk result (λ denial. denial ≡ first_answer (spec.denial_of caller.now) (map (spec.ask_at tree.now demand.now.need) (spec.rows_in_role demand.now.role demand.now.path tree.now))) }
+    requires reach { IsReach demand.now.path tree.now reach.old }
+    ensures reach { IsReach demand.now.path tree.now reach.new }
+    ensures denial { IfOk result (λ denial. denial ≡ first_answer (spec.denial_of caller.now) (map (spec.ask_at tree.now demand.now.need) (spec.rows_in_role demand.now.role demand.now.path tree.now))) }
 {
     match first_closed_in_role(alloc, tree, demand, reach, caller, asked)? {
         Some(row) => Denial::at(
@@ -217,12 +228,13 @@ fn denial_on(
     alloc: Global,
     tree: &Tree,
     demand: &Demand,
-    reach: &Reach<'_>,
+    reach: &mut Reach<'_>,
     caller: &Caller,
 ) -> Result<Option<Denial>, AllocError>
     requires judged { caller.now.is_superuser ≡ false }
-    requires reach { IsReach demand.now.path tree.now reach.now }
-    ensures { IfOk result (λ denial. denial ≡ first_answer (spec.denial_of caller.now) (spec.asks_of tree.now demand.now)) }
+    requires reach { IsReach demand.now.path tree.now reach.old }
+    ensures reach { IsReach demand.now.path tree.now reach.new }
+    ensures denial { IfOk result (λ denial. denial ≡ first_answer (spec.denial_of caller.now) (spec.asks_of tree.now demand.now)) }
 {
     // It says that what isn't a need of rights is of what has the path.
     let _path = demand.path();
@@ -298,11 +310,11 @@ pub(crate) fn denial_by<'a>(
     if let Some(asked) = asked_above(demand) {
         return denial_on_the_way(alloc, tree, demand, caller, asked, descent);
     }
-    if let Some(reach) = &descent.reach {
+    if let Some(reach) = &mut descent.reach {
         return denial_on(alloc, tree, demand, reach, caller);
     }
-    let reach = follow(tree, descent.path, caller);
-    let denial = denial_on(alloc, tree, demand, &reach, caller);
+    let mut reach = follow(tree, descent.path, caller);
+    let denial = denial_on(alloc, tree, demand, &mut reach, caller);
     descent.reach = Some(reach);
     denial
 }

@@ -11,6 +11,7 @@ use file_paths::name::Name;
 use hdfs_types::reply::ObjectKind;
 use inode_tree::inode::Inode;
 use inode_tree::tree::Tree;
+pub use inode_visits::visit::Counted;
 use permission_bits::rights::Rights;
 use principals::caller::Caller;
 
@@ -26,6 +27,8 @@ pub struct Reach<'a> {
     pub ancestor: Option<Component<'a>>,
     /// The file above the path.
     pub file: Option<Component<'a>>,
+    /// What stands at the path and beneath it, where a need has gone over that.
+    pub counted: Option<Counted>,
 }
 
 /// Where a descent along a path ends.
@@ -55,6 +58,7 @@ fn stopped<'a>(path: &'a [Name], depth: usize, last: Inode<'a>) -> Reach<'a>
     ensures parent { result.parent ≡ (if length path.now - depth == 1 then if_directory (Some (row_of (take depth path.now) (branch_at last.entry).top)) else None) }
     ensures ancestor { result.ancestor ≡ Some (row_of (take depth path.now) (branch_at last.entry).top) }
     ensures file { result.file ≡ if_file (row_of (take depth path.now) (branch_at last.entry).top) }
+    ensures counted { result.counted ≡ None }
 {
     let front = &path[..depth];
     let (file, directory) = match last.kind() {
@@ -67,6 +71,7 @@ fn stopped<'a>(path: &'a [Name], depth: usize, last: Inode<'a>) -> Reach<'a>
         parent: if is_parent { directory } else { None },
         ancestor: Some(Component::new(front, last)),
         file,
+        counted: None,
     }
 }
 
@@ -77,6 +82,7 @@ fn ended<'a>(path: &'a [Name], last: Inode<'a>, above: Option<Component<'a>>) ->
     ensures parent { result.parent ≡ above.entry }
     ensures ancestor { result.ancestor ≡ above.entry }
     ensures file { result.file ≡ None }
+    ensures counted { result.counted ≡ None }
 {
     let parent = match &above {
         Some(component) => Some(component.lent()),
@@ -87,6 +93,7 @@ fn ended<'a>(path: &'a [Name], last: Inode<'a>, above: Option<Component<'a>>) ->
         parent,
         ancestor: above,
         file: None,
+        counted: None,
     }
 }
 

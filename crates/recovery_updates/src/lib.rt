@@ -1,4 +1,4 @@
-//! What of the recoveries of blocks stands by itself: the nodes that have updated a replica, why an answer is refused, and where a table has a stamp.
+//! What stands by itself of recoveries of blocks: which nodes have updated a replica, why an answer is refused, where a stamp is.
 #![tactic(auto)]
 
 pub mod fault;

@@ -1,5 +1,5 @@
 -- What is judged of an append before anything changes.
-use Rattle.std.specs.Prelude.{◌≡◌, ℕ, false, List, if◌then◌else◌, Option, Some, None}
+use Rattle.std.specs.Prelude.{◌≡◌, ℕ, false, List, if◌then◌else◌, Option, Some}
 use Rattle.file_states.specs.declared.state.FileState.TheVariants as state
 use Rattle.refusals.specs.declared.refusal.Refusal.{Refusal}
 use Rattle.refusals.specs.declared.refusal.Refusal.TheVariants.{LeaseHeld}

@@ -1,4 +1,4 @@
-ghost use Rattle.std.specs.Prelude.{◌≡◌, ℕ, List, true, false, length, IfOk};
+ghost use Rattle.std.specs.Prelude.{◌≡◌, ℕ, List, true, false, length, IfOk, IfSome};
 ghost use Rattle.hdfs_types.specs.Request.{is_for_nodes};
 ghost use Rattle.principals.specs.Users.{Users};
 ghost use Rattle.namespace_rows.specs.declared.row.Row.{Row};
@@ -9,7 +9,8 @@ ghost use Rattle.flat_rows.specs.Outcome as spec;
 ghost use Rattle.flat_rows.specs.Outcome.{is_alone};
 ghost use Rattle.namespace_rows.specs.Changes.{rows_under};
 ghost use Rattle.namespace_rows.specs.Rows.{is_missing};
-ghost use Rattle.perm_walk.specs.Reached.{IsReach};
+ghost use Rattle.inode_tree.specs.Tree as spec_tree;
+ghost use Rattle.perm_walk.specs.Reached.{IsCounted, IsReach};
 ghost use Rattle.perm_walk.specs.Walked.{AreOn};
 ghost use Rattle.perm_walk.specs.JudgedStep.{judged_step};
 ghost use Rattle.hdfs_types.specs.Verb.{write_op};
@@ -27,7 +28,7 @@ use hdfs_values::who::Who;
 use inode_tree::tree::Tree;
 use node_ids::node_id::node_of;
 use perm_walk::found::{Found, counts_at, standing};
-use perm_walk::reach::Reach;
+use perm_walk::reach::{Counted, Reach};
 use perm_walk::target::{TargetFile, walk_to_file};
 use perm_walk::walk::{Walked, walk, walk_along};
 use principals::caller::Caller;
@@ -113,15 +114,44 @@ pub fn judge_complete(
 
 // ---- deleting
 
-/// How many files and directories a deletion takes away: one where it isn't recursive, since nothing is beneath then. A number
-/// that doesn't fit in 64 bits counts as out of memory.
-fn deleted_at(tree: &Tree, path: &Path, recursive: bool) -> Result<u64, AllocError>
+/// How many files and directories have been counted. A number that isn't below the greatest one of 64 bits counts as out of memory.
+fn number_in(counted: Counted) -> Result<u64, AllocError>
+    ensures { (path : List (List ℕ)) (rows : List Row) → IsCounted path rows counted → IfOk result (λ number. number ≡ length (rows_under path rows)) }
+{
+    if counted.number == u64::MAX {
+        return Err(AllocError);
+    }
+    Ok(counted.number)
+}
+
+/// Whether what has been counted may have files: `false` only where it was looked at.
+fn may_have_files(counted: Option<Counted>) -> bool
+    ensures { (path : List (List ℕ)) (rows : List Row) → IfSome counted (IsCounted path rows) → result ≡ false → spec_tree.has_files (rows_under path rows) ≡ false }
+{
+    match counted {
+        Some(counted) => counted.has_files,
+        None => true,
+    }
+}
+
+/// How many files and directories a deletion takes away: one where it isn't recursive, since nothing is beneath then, or else what its need
+/// of the sub-tree has counted; a superuser has none. A number that doesn't fit in 64 bits counts as out of memory.
+fn deleted_at(
+    tree: &Tree,
+    path: &Path,
+    recursive: bool,
+    counted: Option<Counted>,
+) -> Result<u64, AllocError>
     requires there { is_missing path.now tree.now ≡ false }
+    requires counted { IfSome counted (IsCounted path.now tree.now) }
     requires alone { recursive ≡ false → is_alone (rows_under path.now tree.now) ≡ true }
     ensures { IfOk result (λ deleted. deleted ≡ length (rows_under path.now tree.now)) }
 {
     if !recursive {
         return Ok(1);
+    }
+    if let Some(counted) = counted {
+        return number_in(counted);
     }
     let counts = counts_at(tree, path)?;
     match counts.directories.checked_add(counts.files) {
@@ -131,8 +161,8 @@ fn deleted_at(tree: &Tree, path: &Path, recursive: bool) -> Result<u64, AllocErr
 }
 
 /// Judges by its needs whether what has a path can be deleted with all that is beneath it, over what is lent. One descent along the
-/// path, and for its need of the sub-tree the directories there; where it is recursive also all that stands there. Takes memory only for a
-/// denial and a refusal.
+/// path, and for its need of the sub-tree what stands there; a recursive one by a superuser also all that stands there. Takes memory only for a
+/// denial and a refusal. `has_files` is cleared where that need has found no file there.
 ///
 /// # Errors
 /// Out of memory.
@@ -143,9 +173,12 @@ pub fn judge_delete(
     needs: &Needs,
     path: &Path,
     recursive: bool,
+    has_files: &mut bool,
 ) -> Result<Verdict, AllocError>
-    requires { AreOn path.now needs.now }
-    ensures { (facts : Facts) (users : Users) → IfOk result (λ verdict. verdict ≡ (judged_step facts tree.now users caller.now needs.now (Op.Delete path.now recursive)).verdict) }
+    requires needs { AreOn path.now needs.now }
+    requires unknown { has_files.old ≡ true }
+    ensures verdict { (facts : Facts) (users : Users) → IfOk result (λ verdict. verdict ≡ (judged_step facts tree.now users caller.now needs.now (Op.Delete path.now recursive)).verdict) }
+    ensures files { has_files.new ≡ false → spec_tree.has_files (rows_under path.now tree.now) ≡ false }
 {
     let reach = match walk_along(alloc, tree, caller, needs, path)? {
         Walked::Denied(denial) => return Ok(Verdict::Denied(denial)),
@@ -154,13 +187,16 @@ pub fn judge_delete(
     if path.depth() == 0 {
         return Ok(Verdict::Refused(Refusal::IsRoot));
     }
+    let counted = reach.counted;
     if let Found::Refused(refusal) = standing(alloc, reach)? {
         return Ok(Verdict::Refused(refusal));
     }
     if !recursive && !tree.is_alone(path) {
         return Ok(Verdict::Refused(Refusal::NotEmpty));
     }
-    Ok(Verdict::Done(Reply::Deleted(deleted_at(tree, path, recursive)?)))
+    let deleted = deleted_at(tree, path, recursive, counted)?;
+    *has_files = may_have_files(counted);
+    Ok(Verdict::Done(Reply::Deleted(deleted)))
 }
 
 // ---- all
@@ -168,7 +204,8 @@ pub fn judge_delete(
 /// Judges with its needs a verb that makes or closes a file, or a deletion, and changes nothing: the first need that fails, or else the
 /// first refusal of the operation's list that applies, or else done. Costs the path, one
 /// look-up in a map for each name; `complete` also the reports of the last block and the blocks of the file, and a recursive `delete` the sub-tree (HDFS
-/// Architecture, "The File System Namespace"; HDFS Permissions Guide, "Permission Checks").
+/// Architecture, "The File System Namespace"; HDFS Permissions Guide, "Permission Checks"). `has_files`, which is set before, is cleared where what
+/// is deleted has been found to have no files.
 ///
 /// # Errors
 /// Out of memory.
@@ -180,9 +217,12 @@ pub fn judge(
     caller: &Who,
     needs: &Needs,
     write: &Write<'_>,
+    has_files: &mut bool,
 ) -> Result<Verdict, AllocError>
-    requires { needs.now ≡ required_rights (write_op write.now) }
-    ensures { (facts : Facts) → facts.blocks ≡ blocks.now → IfOk result (λ verdict. verdict ≡ (spec.step facts tree.now users.now caller.now (write_op write.now)).verdict) }
+    requires needs { needs.now ≡ required_rights (write_op write.now) }
+    requires unknown { has_files.old ≡ true }
+    ensures files { has_files.new ≡ false → spec_tree.has_files (spec_tree.rows_deleted (write_op write.now) tree.now) ≡ false }
+    ensures verdict { (facts : Facts) → facts.blocks ≡ blocks.now → IfOk result (λ verdict. verdict ≡ (spec.step facts tree.now users.now caller.now (write_op write.now)).verdict) }
 {
     let asking = users.caller(caller);
     match write {
@@ -193,7 +233,7 @@ pub fn judge(
             judge_complete(alloc, tree, blocks, &asking, needs, path, *last)
         }
         Write::Delete(path, recursive) => {
-            judge_delete(alloc, tree, &asking, needs, path, *recursive)
+            judge_delete(alloc, tree, &asking, needs, path, *recursive, has_files)
         }
     }
 }

@@ -1,7 +1,7 @@
 use Rattle.std.proofs.Common.{◌≡◌, ◌+◌, ◌*◌, ◌≤◌, ◌<◌, ◌^◌, length}
 use Rattle.inode_nodes.specs.Node.{flatten}
 use Rattle.inode_visits.specs.Visits.{told_number, directories, files}
-use Rattle.inode_visits.proofs.Visits.{Counted, seen_entries}
+use Rattle.inode_visits.proofs.Visits.{CountedBytes, seen_entries}
 use Rattle.inode_visits.proofs.visit.+count.Given as goal
 
 abbrev pub decreases-count : goal.decreases-count
@@ -18,6 +18,6 @@ invariant-count_in-loop-name l = record {
   files : told_number (l.others + files (flatten (seen_entries l.files l._name-iterator))) ≡ told_number (files (flatten (seen_entries l.files l.map.entries)));
   few_directories : l.directories < 2 ^ 64;
   few_files : l.others < 2 ^ 64;
-  bytes : Counted (flatten (seen_entries l.files l.map.entries)) (flatten (seen_entries l.files l._name-iterator)) l.bytes;
+  bytes : CountedBytes (flatten (seen_entries l.files l.map.entries)) (flatten (seen_entries l.files l._name-iterator)) l.bytes;
   left : length (flatten l._name-iterator) ≤ length (flatten l.map.entries);
 }

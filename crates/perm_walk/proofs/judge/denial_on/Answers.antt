@@ -5,8 +5,8 @@ use Rattle.namespace_rows.specs.First.{first_answer}
 use Rattle.perm_walk.proofs.Denials.{denied_final, is_of_final, asks_of_final}
 use Rattle.perm_walk.proofs.judge.denial_on.Goals as goal
 
-pub returns-in_default : goal.returns-in_default
-returns-in_default c =
+pub returns-in_default-clause-denial : goal.returns-in_default-clause-denial
+returns-in_default-clause-denial c =
     let role = is_of_final c.args.demand.now c.path-path.ensures.demand (λ asked is. c.in_default.not-Rights asked (c.need.ensures ∙ is)) in
     let held = sym (ap (λ k. condition_holds k c.args.demand.now.path c.args.tree.now) c.condition.ensures) ∙ sym (c.holds.ensures c.args.demand.now.path c.args.tree.now c.requires.reach) ∙ c.if-not-holds.false in
     subst (λ denial. IfOk c.denial_at_final.result (λ found. found ≡ denial))

@@ -42,6 +42,7 @@ returns-in-None c =
         ancestor = c.stopped.ensures.ancestor ∙ stops_beneath c.args.path.now c.args.tree.now (take c.loop-depth.depth c.args.path.now) (branch_at c.loop-depth.last) c.loop-depth.above c.index-path-depth.result ns passed c.in-None.ensures.part;
         file = c.stopped.ensures.file ∙ stops_at_file c.args.path.now c.args.tree.now (take c.loop-depth.depth c.args.path.now) (branch_at c.loop-depth.last) c.loop-depth.above c.index-path-depth.result ns passed c.in-None.ensures.part;
         tree = c.root-last.ensures.tree;
+        counted = rw c.stopped.ensures.counted tt;
       };
     }
 
@@ -69,5 +70,6 @@ returns c =
         ancestor = c.ended.ensures.ancestor ∙ ends_beneath c.args.path.now c.args.tree.now (take c.loop-depth.depth c.args.path.now) (branch_at c.loop-depth.last) c.loop-depth.above passed;
         file = c.ended.ensures.file ∙ ends_clear c.args.path.now c.args.tree.now (take c.loop-depth.depth c.args.path.now) (branch_at c.loop-depth.last) c.loop-depth.above passed;
         tree = c.root-last.ensures.tree;
+        counted = rw c.ended.ensures.counted tt;
       };
     }

@@ -1,4 +1,4 @@
-use Rattle.std.proofs.Common.{◌∙◌, true, sym, ap}
+use Rattle.std.proofs.Common.{◌∙◌, sym, ap}
 use Rattle.flat_rows.specs.BlockOutcome.{is_last, with_last}
 use Rattle.file_blocks.specs.Blocks.{length_of}
 use Rattle.write_rules.proofs.LastLength.{told_is, length_committed}

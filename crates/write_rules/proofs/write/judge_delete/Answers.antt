@@ -6,8 +6,8 @@ use Rattle.perm_walk.specs.Found.{IsFound}
 use Rattle.write_rules.proofs.Deleting.{below_root, missing_refused}
 use Rattle.write_rules.proofs.write.judge_delete.Goals as goal
 
-pub returns-in-Refused : goal.returns-in-Refused
-returns-in-Refused c = λ facts users.
+pub returns-in-Refused-clause-verdict : goal.returns-in-Refused-clause-verdict
+returns-in-Refused-clause-verdict c = λ facts users.
     let granted = subst (IsWalked c.args.path.now c.args.tree.now c.args.caller.now c.args.needs.now) c.in-Reached.is c.in_ok-denial.ensures in
     let missing = subst (IsFound c.args.path.now c.args.tree.now) c.in-Refused.is (c.in_ok-refusal.ensures c.args.path.now c.args.tree.now granted.leads) in
     ap (λ (s : Step). s.verdict) (ap (refused_or_done facts c.args.tree.now users c.args.caller.now.name (Delete c.args.path.now c.args.recursive))
