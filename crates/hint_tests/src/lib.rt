@@ -7,3 +7,5 @@ mod open_path_tests;
 mod open_place_tests;
 #[cfg(test)]
 mod random_moves;
+#[cfg(test)]
+mod texts;

@@ -1,5 +1,6 @@
 //! Where the files are whose last block is unfinished or recovered.
 
+use crate::texts::are_texts;
 use file_paths::path::Path;
 use hdfs_values::ids::BlockId;
 use open_file_paths::open_paths::OpenPaths;
@@ -21,19 +22,29 @@ enum Noted {
     DirectoryMoved(&'static str, &'static str),
 }
 
+fn note_at(alloc: Global, paths: &mut OpenPaths, block: u64, path: &str) -> Result<(), Fail> {
+    paths.note_block(&Path::parse(alloc, path)?, BlockId::new(block));
+    Ok(())
+}
+
+fn keep_at(alloc: Global, paths: &mut OpenPaths, block: u64, path: &str) -> Result<(), Fail> {
+    paths.keep_block(&Path::parse(alloc, path)?, BlockId::new(block));
+    Ok(())
+}
+
+fn move_to(alloc: Global, paths: &mut OpenPaths, from: &str, to: &str) -> Result<(), Fail> {
+    paths.move_directory(&Path::parse(alloc, from)?, &Path::parse(alloc, to)?);
+    Ok(())
+}
+
 fn note(alloc: Global, paths: &mut OpenPaths, noted: Noted) -> Result<(), Fail> {
     match noted {
-        Noted::At(block, path) => paths.note_block(&Path::parse(alloc, path)?, BlockId::new(block)),
-        Noted::Kept(block, path) => {
-            paths.keep_block(&Path::parse(alloc, path)?, BlockId::new(block))
-        }
-        Noted::Ended(block) => paths.end_block(BlockId::new(block)),
-        Noted::Deleted(block) => paths.delete(&[], &[], &[BlockId::new(block)]),
-        Noted::DirectoryMoved(from, to) => {
-            paths.move_directory(&Path::parse(alloc, from)?, &Path::parse(alloc, to)?)
-        }
+        Noted::At(block, path) => note_at(alloc, paths, block, path),
+        Noted::Kept(block, path) => keep_at(alloc, paths, block, path),
+        Noted::Ended(block) => Ok(paths.end_block(BlockId::new(block))),
+        Noted::Deleted(block) => Ok(paths.delete(&[], &[], &[BlockId::new(block)])),
+        Noted::DirectoryMoved(from, to) => move_to(alloc, paths, from, to),
     }
-    Ok(())
 }
 
 // Writes where the blocks below a number are, each with a blank behind it, and a stop behind all.
@@ -79,13 +90,20 @@ fn told_late(alloc: Global, table: &[(Noted, &str)]) -> Result<String, Fail> {
     Ok(text)
 }
 
-// Where the blocks are to be behind each thing that happens.
-fn wanted(alloc: Global, table: &[(Noted, &str)]) -> Result<String, Fail> {
-    let mut text = String::new(alloc);
-    for (_, known) in table {
-        text.push_str(known)?;
-    }
-    Ok(text)
+// Whether the blocks are told where they are to be, where paths are brought up to date behind each thing that happens.
+fn are_known_at_once(alloc: Global, table: &[(Noted, &str)]) -> Result<bool, Fail> {
+    let text = told(alloc, table)?;
+    Ok(are_texts(table, text.as_str()))
+}
+
+// The same where they are brought up to date behind all that happens.
+fn are_known_late(alloc: Global, table: &[(Noted, &str)]) -> Result<bool, Fail> {
+    let text = told_late(alloc, table)?;
+    Ok(are_texts(table, text.as_str()))
+}
+
+fn are_known(alloc: Global, table: &[(Noted, &str)]) -> Result<bool, Fail> {
+    Ok(are_known_at_once(alloc, table)? && are_known_late(alloc, table)?)
 }
 
 // A directory is moved with what is beneath it, and not with what has a name that begins alike; and a file is moved.
@@ -113,10 +131,7 @@ const MOVED: [(Noted, &str); 7] = [
 
 #[test]
 fn blocks_are_known_where_they_are_moved_to(rt: HostRuntime) -> Result<(), Fail> {
-    let alloc = rt.alloc();
-    let wanted = wanted(alloc, &MOVED)?;
-    assert_eq!(rt; told(alloc, &MOVED)?.as_str(), wanted.as_str());
-    assert_eq!(rt; told_late(alloc, &MOVED)?.as_str(), wanted.as_str());
+    assert!(rt; are_known(rt.alloc(), &MOVED)?);
     Ok(())
 }
 
@@ -145,13 +160,7 @@ const BEFORE_AND_BEHIND: [(Noted, &str); 10] = [
 
 #[test]
 fn blocks_are_known_before_and_behind_a_move(rt: HostRuntime) -> Result<(), Fail> {
-    let alloc = rt.alloc();
-    let wanted = wanted(alloc, &BEFORE_AND_BEHIND)?;
-    assert_eq!(rt; told(alloc, &BEFORE_AND_BEHIND)?.as_str(), wanted.as_str());
-    assert_eq!(rt;
-        told_late(alloc, &BEFORE_AND_BEHIND)?.as_str(),
-        wanted.as_str()
-    );
+    assert!(rt; are_known(rt.alloc(), &BEFORE_AND_BEHIND)?);
     Ok(())
 }
 
@@ -181,10 +190,7 @@ const MOVED_OFTEN: [(Noted, &str); 11] = [
 
 #[test]
 fn blocks_are_known_behind_all_moves(rt: HostRuntime) -> Result<(), Fail> {
-    let alloc = rt.alloc();
-    let wanted = wanted(alloc, &MOVED_OFTEN)?;
-    assert_eq!(rt; told(alloc, &MOVED_OFTEN)?.as_str(), wanted.as_str());
-    assert_eq!(rt; told_late(alloc, &MOVED_OFTEN)?.as_str(), wanted.as_str());
+    assert!(rt; are_known(rt.alloc(), &MOVED_OFTEN)?);
     Ok(())
 }
 
@@ -225,10 +231,7 @@ const MOVED_BACK: [(Noted, &str); 12] = [
 
 #[test]
 fn blocks_are_known_behind_a_move_back(rt: HostRuntime) -> Result<(), Fail> {
-    let alloc = rt.alloc();
-    let wanted = wanted(alloc, &MOVED_BACK)?;
-    assert_eq!(rt; told(alloc, &MOVED_BACK)?.as_str(), wanted.as_str());
-    assert_eq!(rt; told_late(alloc, &MOVED_BACK)?.as_str(), wanted.as_str());
+    assert!(rt; are_known(rt.alloc(), &MOVED_BACK)?);
     Ok(())
 }
 
@@ -252,10 +255,7 @@ const KEPT: [(Noted, &str); 13] = [
 
 #[test]
 fn blocks_are_kept_where_they_are(rt: HostRuntime) -> Result<(), Fail> {
-    let alloc = rt.alloc();
-    let wanted = wanted(alloc, &KEPT)?;
-    assert_eq!(rt; told(alloc, &KEPT)?.as_str(), wanted.as_str());
-    assert_eq!(rt; told_late(alloc, &KEPT)?.as_str(), wanted.as_str());
+    assert!(rt; are_known(rt.alloc(), &KEPT)?);
     Ok(())
 }
 
@@ -277,10 +277,7 @@ const ENDED: [(Noted, &str); 12] = [
 
 #[test]
 fn blocks_are_known_until_they_end_or_are_deleted(rt: HostRuntime) -> Result<(), Fail> {
-    let alloc = rt.alloc();
-    let wanted = wanted(alloc, &ENDED)?;
-    assert_eq!(rt; told(alloc, &ENDED)?.as_str(), wanted.as_str());
-    assert_eq!(rt; told_late(alloc, &ENDED)?.as_str(), wanted.as_str());
+    assert!(rt; are_known(rt.alloc(), &ENDED)?);
     Ok(())
 }
 
@@ -302,35 +299,39 @@ const NONE_NOTED: [(Noted, &str); 12] = [
 
 #[test]
 fn blocks_are_known_behind_moves_where_none_was_noted(rt: HostRuntime) -> Result<(), Fail> {
-    let alloc = rt.alloc();
-    let wanted = wanted(alloc, &NONE_NOTED)?;
-    assert_eq!(rt; told(alloc, &NONE_NOTED)?.as_str(), wanted.as_str());
-    assert_eq!(rt; told_late(alloc, &NONE_NOTED)?.as_str(), wanted.as_str());
+    assert!(rt; are_known(rt.alloc(), &NONE_NOTED)?);
     Ok(())
 }
 
-// One path is brought up to date before the other one is, and stays so.
-#[test]
-fn a_path_is_brought_up_to_date_once_it_is_asked_for(rt: HostRuntime) -> Result<(), Fail> {
-    let alloc = rt.alloc();
-    let mut paths = OpenPaths::new(alloc);
-    let mut text = String::new(alloc);
-    note(alloc, &mut paths, Noted::At(1, "/a/b"))?;
-    note(alloc, &mut paths, Noted::At(2, "/a/c"))?;
-    note(alloc, &mut paths, Noted::DirectoryMoved("/a", "/x"))?;
-    tell(&paths, 9, &mut text)?;
+// Tells where two blocks are, of which one path is brought up to date before the other one is, and stays so.
+fn tell_in_turn(alloc: Global, paths: &mut OpenPaths, text: &mut String) -> Result<(), Fail> {
+    note_at(alloc, paths, 1, "/a/b")?;
+    note_at(alloc, paths, 2, "/a/c")?;
+    move_to(alloc, paths, "/a", "/x")?;
+    tell(paths, 9, text)?;
     paths.update_block(BlockId::new(1));
     paths.update_block(BlockId::new(3));
-    tell(&paths, 9, &mut text)?;
-    note(alloc, &mut paths, Noted::DirectoryMoved("/x", "/y"))?;
+    tell(paths, 9, text)?;
+    move_to(alloc, paths, "/x", "/y")?;
     paths.update_block(BlockId::new(2));
-    tell(&paths, 9, &mut text)?;
+    tell(paths, 9, text)?;
     paths.update_blocks();
-    tell(&paths, 9, &mut text)?;
-    assert_eq!(rt;
-        text.as_str(),
-        "1 at /a/b 2 at /a/c .1 at /x/b 2 at /a/c .1 at /x/b 2 at /y/c .1 at /y/b 2 at /y/c ."
-    );
+    tell(paths, 9, text)
+}
+
+fn is_told_in_turn(alloc: Global, wanted: &str) -> Result<bool, Fail> {
+    let mut paths = OpenPaths::new(alloc);
+    let mut text = String::new(alloc);
+    tell_in_turn(alloc, &mut paths, &mut text)?;
+    Ok(text.as_str() == wanted)
+}
+
+const IN_TURN: &str =
+    "1 at /a/b 2 at /a/c .1 at /x/b 2 at /a/c .1 at /x/b 2 at /y/c .1 at /y/b 2 at /y/c .";
+
+#[test]
+fn a_path_is_brought_up_to_date_once_it_is_asked_for(rt: HostRuntime) -> Result<(), Fail> {
+    assert!(rt; is_told_in_turn(rt.alloc(), IN_TURN)?);
     Ok(())
 }
 
@@ -363,24 +364,31 @@ fn move_often(alloc: Global, paths: &mut OpenPaths, times: u32) -> Result<(), Fa
 }
 
 // More moves than are kept: all blocks learn of them on the way. Others are noted before those moves and behind them, and one file is moved.
-#[test]
-fn blocks_are_known_behind_more_moves_than_are_kept(rt: HostRuntime) -> Result<(), Fail> {
-    let alloc = rt.alloc();
+fn note_many_moves(alloc: Global, paths: &mut OpenPaths) -> Result<(), Fail> {
+    note_forty(alloc, paths)?;
+    note_at(alloc, paths, 44, "/b/f77")?;
+    note_at(alloc, paths, 5, "/b/c/g")?;
+    move_often(alloc, paths, 700)?;
+    note_at(alloc, paths, 41, "/c/f1")?;
+    note_at(alloc, paths, 42, "/b/f2")?;
+    note_at(alloc, paths, 43, "/a/f3")?;
+    move_to(alloc, paths, "/b", "/d/e")
+}
+
+fn is_told_behind_many_moves(alloc: Global, wanted: &str) -> Result<bool, Fail> {
     let mut paths = OpenPaths::new(alloc);
-    note_forty(alloc, &mut paths)?;
-    note(alloc, &mut paths, Noted::At(44, "/b/f77"))?;
-    note(alloc, &mut paths, Noted::At(5, "/b/c/g"))?;
-    move_often(alloc, &mut paths, 700)?;
-    note(alloc, &mut paths, Noted::At(41, "/c/f1"))?;
-    note(alloc, &mut paths, Noted::At(42, "/b/f2"))?;
-    note(alloc, &mut paths, Noted::At(43, "/a/f3"))?;
-    note(alloc, &mut paths, Noted::DirectoryMoved("/b", "/d/e"))?;
+    note_many_moves(alloc, &mut paths)?;
     paths.update_blocks();
     let mut text = String::new(alloc);
     tell(&paths, 50, &mut text)?;
-    assert_eq!(rt;
-        text.as_str(),
-        "0 at /d/e/f0 1 at /d/e/f1 2 at /d/e/f2 3 at /d/e/f3 4 at /d/e/f4 5 at /d/e/c/g 6 at /d/e/f6 7 at /d/e/f7 8 at /d/e/f8 9 at /d/e/f9 10 at /d/e/f10 11 at /d/e/f11 12 at /d/e/f12 13 at /d/e/f13 14 at /d/e/f14 15 at /d/e/f15 16 at /d/e/f16 17 at /d/e/f17 18 at /d/e/f18 19 at /d/e/f19 22 at /d/e/f22 23 at /d/e/f23 24 at /d/e/f24 25 at /d/e/f25 26 at /d/e/f26 27 at /d/e/f27 28 at /d/e/f28 29 at /d/e/f29 30 at /d/e/f30 31 at /d/e/f31 32 at /d/e/f32 33 at /d/e/f33 34 at /d/e/f34 35 at /d/e/f35 36 at /d/e/f36 37 at /d/e/f37 38 at /d/e/f38 39 at /d/e/f39 41 at /c/f1 42 at /d/e/f2 43 at /a/f3 44 at /d/e/f77 ."
-    );
+    Ok(text.as_str() == wanted)
+}
+
+const BEHIND_MANY_MOVES: &str =
+    "0 at /d/e/f0 1 at /d/e/f1 2 at /d/e/f2 3 at /d/e/f3 4 at /d/e/f4 5 at /d/e/c/g 6 at /d/e/f6 7 at /d/e/f7 8 at /d/e/f8 9 at /d/e/f9 10 at /d/e/f10 11 at /d/e/f11 12 at /d/e/f12 13 at /d/e/f13 14 at /d/e/f14 15 at /d/e/f15 16 at /d/e/f16 17 at /d/e/f17 18 at /d/e/f18 19 at /d/e/f19 22 at /d/e/f22 23 at /d/e/f23 24 at /d/e/f24 25 at /d/e/f25 26 at /d/e/f26 27 at /d/e/f27 28 at /d/e/f28 29 at /d/e/f29 30 at /d/e/f30 31 at /d/e/f31 32 at /d/e/f32 33 at /d/e/f33 34 at /d/e/f34 35 at /d/e/f35 36 at /d/e/f36 37 at /d/e/f37 38 at /d/e/f38 39 at /d/e/f39 41 at /c/f1 42 at /d/e/f2 43 at /a/f3 44 at /d/e/f77 .";
+
+#[test]
+fn blocks_are_known_behind_more_moves_than_are_kept(rt: HostRuntime) -> Result<(), Fail> {
+    assert!(rt; is_told_behind_many_moves(rt.alloc(), BEHIND_MANY_MOVES)?);
     Ok(())
 }

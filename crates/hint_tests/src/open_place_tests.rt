@@ -1,5 +1,6 @@
 //! The places of the files that clients have open.
 
+use crate::texts::are_texts;
 use file_paths::path::Path;
 use file_table::place::FilePlace;
 use hdfs_values::ids::BlockId;
@@ -79,13 +80,10 @@ fn told(alloc: Global, table: &[(Noted, &str)]) -> Result<String, Fail> {
     Ok(text)
 }
 
-// What the clients are to have open behind each thing that happens.
-fn wanted(alloc: Global, table: &[(Noted, &str)]) -> Result<String, Fail> {
-    let mut text = String::new(alloc);
-    for (_, open) in table {
-        text.push_str(open)?;
-    }
-    Ok(text)
+// Whether the clients have open what they are to have, behind each thing that happens.
+fn are_told(alloc: Global, table: &[(Noted, &str)]) -> Result<bool, Fail> {
+    let text = told(alloc, table)?;
+    Ok(are_texts(table, text.as_str()))
 }
 
 // Opened last, first and between; again last, first and between; and at no place.
@@ -104,11 +102,7 @@ const OPENED: [(Noted, &str); 10] = [
 
 #[test]
 fn places_are_told_in_ascending_order_once_each(rt: HostRuntime) -> Result<(), Fail> {
-    let alloc = rt.alloc();
-    assert_eq!(rt;
-        told(alloc, &OPENED)?.as_str(),
-        wanted(alloc, &OPENED)?.as_str()
-    );
+    assert!(rt; are_told(rt.alloc(), &OPENED)?);
     Ok(())
 }
 
@@ -136,11 +130,7 @@ const CLOSED: [(Noted, &str); 18] = [
 
 #[test]
 fn places_are_closed_in_any_order(rt: HostRuntime) -> Result<(), Fail> {
-    let alloc = rt.alloc();
-    assert_eq!(rt;
-        told(alloc, &CLOSED)?.as_str(),
-        wanted(alloc, &CLOSED)?.as_str()
-    );
+    assert!(rt; are_told(rt.alloc(), &CLOSED)?);
     Ok(())
 }
 
@@ -162,11 +152,7 @@ const OF_TWO: [(Noted, &str); 12] = [
 
 #[test]
 fn each_client_has_places_of_its_own(rt: HostRuntime) -> Result<(), Fail> {
-    let alloc = rt.alloc();
-    assert_eq!(rt;
-        told(alloc, &OF_TWO)?.as_str(),
-        wanted(alloc, &OF_TWO)?.as_str()
-    );
+    assert!(rt; are_told(rt.alloc(), &OF_TWO)?);
     Ok(())
 }
 
@@ -185,11 +171,7 @@ const FORGOTTEN: [(Noted, &str); 9] = [
 
 #[test]
 fn places_are_forgotten_with_their_client(rt: HostRuntime) -> Result<(), Fail> {
-    let alloc = rt.alloc();
-    assert_eq!(rt;
-        told(alloc, &FORGOTTEN)?.as_str(),
-        wanted(alloc, &FORGOTTEN)?.as_str()
-    );
+    assert!(rt; are_told(rt.alloc(), &FORGOTTEN)?);
     Ok(())
 }
 
@@ -208,11 +190,7 @@ const DELETED: [(Noted, &str); 9] = [
 
 #[test]
 fn places_are_closed_where_their_files_are_deleted(rt: HostRuntime) -> Result<(), Fail> {
-    let alloc = rt.alloc();
-    assert_eq!(rt;
-        told(alloc, &DELETED)?.as_str(),
-        wanted(alloc, &DELETED)?.as_str()
-    );
+    assert!(rt; are_told(rt.alloc(), &DELETED)?);
     Ok(())
 }
 
@@ -228,24 +206,49 @@ fn open_four(alloc: Global, paths: &mut OpenPaths, clients: &[Who; 2]) -> Result
     Ok(())
 }
 
-// Two files of one client are deleted and one of the other, with blocks of which one isn't noted.
-#[test]
-fn places_and_blocks_are_deleted_together(rt: HostRuntime) -> Result<(), Fail> {
-    let alloc = rt.alloc();
-    let clients = two_clients(alloc)?;
-    let mut paths = OpenPaths::new(alloc);
-    open_four(alloc, &mut paths, &clients)?;
-    let [alice, bob] = &clients;
+// Deletes two files of one client and one of the other, with blocks of which one isn't noted.
+fn delete_three(paths: &mut OpenPaths, clients: &[Who; 2]) -> Result<(), Fail> {
+    let [alice, bob] = clients;
     let holders = [alice.clone()?, bob.clone()?, alice.clone()?];
     let places = [FilePlace::new(3), FilePlace::new(4), FilePlace::new(1)];
     let blocks = [BlockId::new(9), BlockId::new(5), BlockId::new(7)];
     paths.delete(&holders, &places, &blocks);
+    Ok(())
+}
+
+// Whether of the three blocks the one between is known, where it was.
+fn is_one_known(alloc: Global, paths: &OpenPaths) -> Result<bool, Fail> {
+    let path = Path::parse(alloc, "/c")?;
+    Ok(
+        paths.of_block(BlockId::new(7)).is_none()
+            && paths.of_block(BlockId::new(8)) == Some(&path)
+            && paths.of_block(BlockId::new(9)).is_none(),
+    )
+}
+
+// Whether the clients have these files open.
+fn have_open(
+    alloc: Global,
+    paths: &mut OpenPaths,
+    clients: &[Who; 2],
+    wanted: &str,
+) -> Result<bool, Fail> {
     let mut text = String::new(alloc);
-    tell(&mut paths, &clients, &mut text)?;
-    assert_eq!(rt; text.as_str(), "alice 2 bob.");
-    assert!(rt; paths.of_block(BlockId::new(7)).is_none());
-    assert!(rt; paths.of_block(BlockId::new(8)) == Some(&Path::parse(alloc, "/c")?));
-    assert!(rt; paths.of_block(BlockId::new(9)).is_none());
+    tell(paths, clients, &mut text)?;
+    Ok(text.as_str() == wanted)
+}
+
+fn are_deleted(alloc: Global) -> Result<bool, Fail> {
+    let clients = two_clients(alloc)?;
+    let mut paths = OpenPaths::new(alloc);
+    open_four(alloc, &mut paths, &clients)?;
+    delete_three(&mut paths, &clients)?;
+    Ok(is_one_known(alloc, &paths)? && have_open(alloc, &mut paths, &clients, "alice 2 bob.")?)
+}
+
+#[test]
+fn places_and_blocks_are_deleted_together(rt: HostRuntime) -> Result<(), Fail> {
+    assert!(rt; are_deleted(rt.alloc())?);
     Ok(())
 }
 
@@ -260,18 +263,28 @@ fn open_in_turn(paths: &mut OpenPaths, client: &Who, bound: usize) {
 }
 
 // The oldest files are closed as others are opened, without a look at them; then files are opened and closed among those that are left.
-#[test]
-fn places_are_known_where_the_oldest_are_closed_each_time(rt: HostRuntime) -> Result<(), Fail> {
-    let alloc = rt.alloc();
+fn open_and_close(paths: &mut OpenPaths, clients: &[Who; 2]) {
+    open_in_turn(paths, &clients[0], 1_003);
+    note(paths, clients, Noted::Closed(1_000));
+    note(paths, clients, Noted::Opened(70));
+    note(paths, clients, Noted::Opened(1_000));
+    note(paths, clients, Noted::Closed(1_001));
+}
+
+fn are_those_left(alloc: Global) -> Result<bool, Fail> {
     let clients = two_clients(alloc)?;
     let mut paths = OpenPaths::new(alloc);
-    open_in_turn(&mut paths, &clients[0], 1_003);
-    note(&mut paths, &clients, Noted::Closed(1_000));
-    note(&mut paths, &clients, Noted::Opened(70));
-    note(&mut paths, &clients, Noted::Opened(1_000));
-    note(&mut paths, &clients, Noted::Closed(1_001));
-    let mut text = String::new(alloc);
-    tell(&mut paths, &clients, &mut text)?;
-    assert_eq!(rt; text.as_str(), "alice 70 998 999 1000 1002 bob.");
+    open_and_close(&mut paths, &clients);
+    have_open(
+        alloc,
+        &mut paths,
+        &clients,
+        "alice 70 998 999 1000 1002 bob.",
+    )
+}
+
+#[test]
+fn places_are_known_where_the_oldest_are_closed_each_time(rt: HostRuntime) -> Result<(), Fail> {
+    assert!(rt; are_those_left(rt.alloc())?);
     Ok(())
 }

@@ -374,36 +374,34 @@ impl Files {
         }
         true
     }
+
+    fn are_all_known(&mut self, alloc: Global) -> Result<bool, Fail> {
+        self.compare_blocks(alloc)?;
+        Ok(self.are_places_known() && self.wrong == 0)
+    }
+}
+
+// Whether all paths and places were known, behind each so many of the things that happen.
+fn are_known(alloc: Global, seed: u64, every: u32) -> Result<bool, Fail> {
+    let mut random = Random { state: seed };
+    let mut files = Files::new(alloc)?;
+    for step in 1..=STEPS {
+        files.step(alloc, &mut random)?;
+        if step.checked_rem(every) == Some(0) && !files.are_all_known(alloc)? {
+            return Ok(false);
+        }
+    }
+    Ok(true)
 }
 
 #[test]
 fn files_are_known_behind_random_moves(rt: HostRuntime) -> Result<(), Fail> {
-    let alloc = rt.alloc();
-    let mut random = Random { state: 29 };
-    let mut files = Files::new(alloc)?;
-    for step in 0..STEPS {
-        files.step(alloc, &mut random)?;
-        if step % OFTEN == 0 {
-            files.compare_blocks(alloc)?;
-            assert!(rt; files.are_places_known());
-            assert_eq!(rt; files.wrong, 0);
-        }
-    }
+    assert!(rt; are_known(rt.alloc(), 29, OFTEN)?);
     Ok(())
 }
 
 #[test]
 fn files_are_known_behind_many_random_moves_at_once(rt: HostRuntime) -> Result<(), Fail> {
-    let alloc = rt.alloc();
-    let mut random = Random { state: 31 };
-    let mut files = Files::new(alloc)?;
-    for step in 0..STEPS {
-        files.step(alloc, &mut random)?;
-        if step % SELDOM == SELDOM - 1 {
-            files.compare_blocks(alloc)?;
-            assert!(rt; files.are_places_known());
-            assert_eq!(rt; files.wrong, 0);
-        }
-    }
+    assert!(rt; are_known(rt.alloc(), 31, SELDOM)?);
     Ok(())
 }
