@@ -19,7 +19,7 @@ use Rattle.script_runs.specs.declared.script.Status.{Status}
 use Rattle.cluster_text.specs.EventLine.{event_of}
 use Rattle.cluster_text.specs.ToldText.{Told, answer_line, is_bad_line}
 
--- what the cluster of a script opens with: a NameNode with the limits that HDFS has by default and a key of twenty bytes 11, and the
+-- what the cluster of a script opens with: a NameNode with this project's limits and a key of twenty bytes 11, and the
 -- DataNodes 1 to 8
 abbrev pub script_opening : ClusterOpening
 script_opening = record { name = record { config = standard; key = replicate 20 11 }; nodes = 1 ∷ 2 ∷ 3 ∷ 4 ∷ 5 ∷ 6 ∷ 7 ∷ 8 ∷ [] }

@@ -236,7 +236,7 @@ impl Session {
         }
     }
 
-    /// Runs lines behind those that were run. Where memory runs out, the session has counted those before, and holds what they print.
+    /// Runs lines behind those that were run. Costs what each line's event does, beside a step for each byte. Where memory runs out, the session has counted those before, and holds what they print.
     ///
     /// # Errors
     /// Out of memory.
@@ -252,8 +252,8 @@ impl Session {
         Ok(())
     }
 
-    /// Runs the lines of a text behind those that were run, each as it is cut from the text. Where memory runs out, the session has
-    /// counted those before, and holds what they print.
+    /// Runs the lines of a text behind those that were run, each as it is cut from the text. Costs what each line's event does, beside a step
+    /// for each byte. Where memory runs out, the session has counted those before, and holds what they print.
     ///
     /// # Errors
     /// Out of memory, or more lines than numbers of 64 bits.

@@ -53,25 +53,53 @@ pub(crate) fn check_nodes(world: &World, seen: [usize; 3]) -> Result<[usize; 3],
     Ok([first, second, third])
 }
 
-// Steps lines that look random, and looks behind each at what the DataNodes have noted down. Tells how many records there are.
+// Where a script stands.
+struct Progress {
+    dice: Dice,
+    line: String,
+    moment: u64,
+    // how many messages were sent
+    sent: u64,
+    // how many records of each DataNode were looked at
+    seen: [usize; 3],
+}
+
+// Steps one more line that looks random, and looks at what the DataNodes have noted down since.
+fn step_next(alloc: Global, world: &mut World, script: &mut Progress, leap: u64) -> Result<(), Fail>
+    requires { 0 < leap }
+{
+    script.moment = script.moment.wrapping_add(pause(&mut script.dice, leap));
+    script.line.clear();
+    write!(script.line, "{} ", script.moment)?;
+    write_line(
+        world.core().ledger().as_slice(),
+        &mut script.dice,
+        script.sent,
+        &mut script.line,
+    )?;
+    let sent = step_line(alloc, world, &script.line)?.sent;
+    script.sent = script.sent.wrapping_add(sent);
+    script.seen = check_nodes(world, script.seen)?;
+    Ok(())
+}
+
+// Steps lines that look random. Tells how many records there are.
 fn step_script(alloc: Global, world: &mut World, seed: u64, leap: u64) -> Result<usize, Fail>
     requires { 0 < leap }
 {
     step_lines(alloc, world, &FIRST_LINES)?;
-    let mut dice = Dice::of(seed);
-    let mut line = String::new(alloc);
-    let mut seen = [0; 3];
-    let mut moment = 0u64;
-    let mut sent = 3u64;
+    let mut script = Progress {
+        dice: Dice::of(seed),
+        line: String::new(alloc),
+        moment: 0,
+        sent: 3,
+        seen: [0; 3],
+    };
     for _ in 0..LINES {
-        moment = moment.wrapping_add(pause(&mut dice, leap));
-        line.clear();
-        write!(line, "{moment} ")?;
-        write_line(world.core().ledger().as_slice(), &mut dice, sent, &mut line)?;
-        sent = sent.wrapping_add(step_line(alloc, world, &line)?.sent);
-        seen = check_nodes(world, seen)?;
+        step_next(alloc, world, &mut script, leap)?;
     }
-    Ok(seen[0].wrapping_add(seen[1]).wrapping_add(seen[2]))
+    let [first, second, third] = script.seen;
+    Ok(first.wrapping_add(second).wrapping_add(third))
 }
 
 // How many records a script leaves.

@@ -1,7 +1,7 @@
 -- A component of a path: 1 to 255 bytes, none of which is a slash, a colon, NUL or a line feed, and neither `.` nor `..`.
 -- That the bytes are UTF-8 is kept by the type of texts, and not said here.
 -- (HDFS Architecture, "The File System Namespace"; the slash, the colon and the dots are those of `DFSUtil.isValidName`, the
--- limit is `dfs.namenode.fs-limits.max-component-length`; NUL and line feed are this project's profile.)
+-- limit is `dfs.namenode.fs-limits.max-component-length`; NUL and line feed are this project's choice.)
 use Rattle.std.specs.Prelude.{ℕ, Bool, false, List, [], ◌∷◌, length, nat_lt, nat_le, ◌==◌, ◌&&◌, not, if◌then◌else◌, Option, Some, None, IsTrue}
 use Rattle.std.specs.List.{list_all}
 

@@ -1,5 +1,5 @@
 -- What the operations on files refuse and answer: who may write a file, one client at a time.
--- (HDFS Architecture, "The File System Namespace" and "Data Replication"; the limits of leases are this project's profile.)
+-- (HDFS Architecture, "The File System Namespace" and "Data Replication"; the limits of leases are this project's choice.)
 use Rattle.std.specs.Prelude.{ℕ, Bool, true, false, ◌&&◌, ◌||◌, List, length, if◌then◌else◌, Option, Some, None}
 use Rattle.hdfs_values.specs.Text.{same}
 use Rattle.file_states.specs.declared.state.FileState.{FileState}

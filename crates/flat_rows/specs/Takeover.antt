@@ -1,7 +1,7 @@
 -- Files that are taken from the clients who have them open: by an append once the holder's lease isn't live, by a tick once it is past the
 -- hard limit. Such a file is closed, but where the length of its last block isn't committed: then this block is recovered first, and a
 -- recovery that lasts too long begins anew.
--- (HDFS Architecture, "The File System Namespace"; HDFS-265, "Lease recovery" and "Block recovery"; the limits are this project's profile.)
+-- (HDFS Architecture, "The File System Namespace"; HDFS-265, "Lease recovery" and "Block recovery"; the limits are this project's choice.)
 use Rattle.std.specs.Prelude.{ℕ, ◌-◌, ◌==◌, Bool, ◌||◌, not, nat_lt, List, map, filter, if◌then◌else◌, Option, Some, None}
 use Rattle.std.specs.List.{filter_map, last_or}
 use Rattle.std.specs.Option.{is_some}

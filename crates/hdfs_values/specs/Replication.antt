@@ -1,5 +1,5 @@
 -- How many replicas each block of a file is to have.
--- (HDFS Architecture, "Data Replication"; the greatest number is this project's profile.)
+-- (HDFS Architecture, "Data Replication"; the greatest number is this project's choice.)
 use Rattle.std.specs.Prelude.{ℕ, Bool, ◌&&◌, nat_le}
 
 abbrev pub is_replication : ℕ → Bool

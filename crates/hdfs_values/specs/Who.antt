@@ -1,5 +1,5 @@
 -- A user or a group: 1 to 255 bytes from 0x21 to 0x7e, none of which is a colon, a comma or a slash.
--- (HDFS Permissions Guide, "User Identity" and "Group Mapping": names are plain strings; these limits are this project's profile.)
+-- (HDFS Permissions Guide, "User Identity" and "Group Mapping": names are plain strings; these limits are this project's choice.)
 use Rattle.std.specs.Prelude.{ℕ, Bool, List, length, nat_lt, nat_le, ◌==◌, ◌&&◌, not, if◌then◌else◌, Option, Some, None, IsTrue}
 use Rattle.std.specs.List.{list_all}
 

@@ -107,7 +107,7 @@ fn are_known(alloc: Global, table: &[(Noted, &str)]) -> Result<bool, Fail> {
 }
 
 // A directory is moved with what is beneath it, and not with what has a name that begins alike; and a file is moved.
-const MOVED: [(Noted, &str); 7] = [
+static MOVED: [(Noted, &str); 7] = [
     (Noted::At(1, "/a/b"), "1 at /a/b ."),
     (Noted::At(2, "/a/c/d"), "1 at /a/b 2 at /a/c/d ."),
     (Noted::At(3, "/a-b"), "1 at /a/b 2 at /a/c/d 3 at /a-b ."),
@@ -136,7 +136,7 @@ fn blocks_are_known_where_they_are_moved_to(rt: HostRuntime) -> Result<(), Fail>
 }
 
 // Blocks are noted before a move and behind it, the latter where the others were; files are moved out of a directory before that is moved.
-const BEFORE_AND_BEHIND: [(Noted, &str); 10] = [
+static BEFORE_AND_BEHIND: [(Noted, &str); 10] = [
     (Noted::At(1, "/a/b"), "1 at /a/b ."),
     (Noted::At(2, "/a/c"), "1 at /a/b 2 at /a/c ."),
     (Noted::DirectoryMoved("/a", "/x"), "1 at /x/b 2 at /x/c ."),
@@ -165,7 +165,7 @@ fn blocks_are_known_before_and_behind_a_move(rt: HostRuntime) -> Result<(), Fail
 }
 
 // Directories are moved into one another, and to where others were; blocks are noted and end between.
-const MOVED_OFTEN: [(Noted, &str); 11] = [
+static MOVED_OFTEN: [(Noted, &str); 11] = [
     (Noted::At(1, "/a/b/f"), "1 at /a/b/f ."),
     (Noted::At(2, "/a/g"), "1 at /a/b/f 2 at /a/g ."),
     (Noted::DirectoryMoved("/a", "/x"), "1 at /x/b/f 2 at /x/g ."),
@@ -196,7 +196,7 @@ fn blocks_are_known_behind_all_moves(rt: HostRuntime) -> Result<(), Fail> {
 
 // A directory is moved and moved back, once as it is and once from above; then to beneath another one, which is moved itself, and back to the
 // place where it was at first; and one is moved to beneath the place where it was.
-const MOVED_BACK: [(Noted, &str); 12] = [
+static MOVED_BACK: [(Noted, &str); 12] = [
     (Noted::At(1, "/a/b/f"), "1 at /a/b/f ."),
     (Noted::At(2, "/d/g"), "1 at /a/b/f 2 at /d/g ."),
     (Noted::DirectoryMoved("/a/b", "/c"), "1 at /c/f 2 at /d/g ."),
@@ -237,7 +237,7 @@ fn blocks_are_known_behind_a_move_back(rt: HostRuntime) -> Result<(), Fail> {
 
 // A block is kept where it is: as it was noted, and behind a move; at another path, also at that where it was before the move; and where it
 // wasn't noted, or not any more.
-const KEPT: [(Noted, &str); 13] = [
+static KEPT: [(Noted, &str); 13] = [
     (Noted::At(1, "/a/b"), "1 at /a/b ."),
     (Noted::Kept(1, "/a/b"), "1 at /a/b ."),
     (Noted::DirectoryMoved("/a", "/x"), "1 at /x/b ."),
@@ -260,7 +260,7 @@ fn blocks_are_kept_where_they_are(rt: HostRuntime) -> Result<(), Fail> {
 }
 
 // A block ends, another one is deleted; also such as aren't noted, or not any more; and both are noted anew.
-const ENDED: [(Noted, &str); 12] = [
+static ENDED: [(Noted, &str); 12] = [
     (Noted::Ended(1), "."),
     (Noted::Deleted(1), "."),
     (Noted::At(1, "/a/b"), "1 at /a/b ."),
@@ -282,7 +282,7 @@ fn blocks_are_known_until_they_end_or_are_deleted(rt: HostRuntime) -> Result<(),
 }
 
 // Directories are moved where no block is noted: one that is noted behind such a move isn't moved by it, nor by those before.
-const NONE_NOTED: [(Noted, &str); 12] = [
+static NONE_NOTED: [(Noted, &str); 12] = [
     (Noted::DirectoryMoved("/a", "/x"), "."),
     (Noted::At(1, "/a/b"), "1 at /a/b ."),
     (Noted::DirectoryMoved("/a", "/x"), "1 at /x/b ."),

@@ -87,7 +87,7 @@ fn are_told(alloc: Global, table: &[(Noted, &str)]) -> Result<bool, Fail> {
 }
 
 // Opened last, first and between; again last, first and between; and at no place.
-const OPENED: [(Noted, &str); 10] = [
+static OPENED: [(Noted, &str); 10] = [
     (Noted::Opened(5), "alice 5 bob."),
     (Noted::Opened(9), "alice 5 9 bob."),
     (Noted::Opened(2), "alice 2 5 9 bob."),
@@ -107,7 +107,7 @@ fn places_are_told_in_ascending_order_once_each(rt: HostRuntime) -> Result<(), F
 }
 
 // The oldest, the newest and any file are closed; then such as aren't open any more, before, behind and between the others; then all.
-const CLOSED: [(Noted, &str); 18] = [
+static CLOSED: [(Noted, &str); 18] = [
     (Noted::Opened(1), "alice 1 bob."),
     (Noted::Opened(2), "alice 1 2 bob."),
     (Noted::Opened(3), "alice 1 2 3 bob."),
@@ -135,7 +135,7 @@ fn places_are_closed_in_any_order(rt: HostRuntime) -> Result<(), Fail> {
 }
 
 // One client closes none of the other's files, also where it has none open, or where both had one at the same place.
-const OF_TWO: [(Noted, &str); 12] = [
+static OF_TWO: [(Noted, &str); 12] = [
     (Noted::OpenedByBob(2), "alice bob 2."),
     (Noted::Closed(2), "alice bob 2."),
     (Noted::Opened(1), "alice 1 bob 2."),
@@ -157,7 +157,7 @@ fn each_client_has_places_of_its_own(rt: HostRuntime) -> Result<(), Fail> {
 }
 
 // A client is forgotten that has no file open, one that has some, and the other one.
-const FORGOTTEN: [(Noted, &str); 9] = [
+static FORGOTTEN: [(Noted, &str); 9] = [
     (Noted::Forgotten, "alice bob."),
     (Noted::Opened(1), "alice 1 bob."),
     (Noted::Opened(2), "alice 1 2 bob."),
@@ -176,7 +176,7 @@ fn places_are_forgotten_with_their_client(rt: HostRuntime) -> Result<(), Fail> {
 }
 
 // A file of each is deleted; then those that the other one has; then each one's last.
-const DELETED: [(Noted, &str); 9] = [
+static DELETED: [(Noted, &str); 9] = [
     (Noted::Opened(1), "alice 1 bob."),
     (Noted::Opened(2), "alice 1 2 bob."),
     (Noted::Opened(4), "alice 1 2 4 bob."),

@@ -1,6 +1,6 @@
 -- The clock and the leases that a history gives. A history is a list of entries, the newest first, so each question is asked of
 -- the last entry first.
--- (HDFS Architecture, the single-writer model; that a client is a user is this project's profile.)
+-- (HDFS Architecture, the single-writer model; that a client is a user is this project's choice.)
 use Rattle.std.specs.Prelude.{ℕ, Bool, true, false, ◌&&◌, max, List, [], ◌∷◌, if◌then◌else◌, Option, Some, None}
 use Rattle.std.specs.Option.{option_map}
 use Rattle.hdfs_values.specs.Text.{same}

@@ -1,5 +1,5 @@
 -- What a NameNode opens with.
--- (The limits of leases and of silent DataNodes are those of HDFS, but that the hard limit is 20 minutes.)
+-- (The limits of leases and of silent DataNodes are this project's choice; the manual lists them.)
 use Rattle.std.specs.Prelude.{ℕ, List, ◌-◌, ◌^◌, Bool, nat_lt, IsTrue}
 use Rattle.lease_manager.specs.Leases.{Limits}
 use Rattle.history.specs.declared.config.Durations.{Durations}

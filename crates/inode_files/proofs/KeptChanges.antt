@@ -37,6 +37,7 @@ use Rattle.inode_nodes.proofs.Through.{put_top, there_within}
 use Rattle.inode_nodes.proofs.Wholes.{filter_within, row_at_whole}
 use Rattle.inode_visits.specs.Holding.{has_files}
 use Rattle.inode_files.specs.Rooms.{IsRoomFor, IsPut}
+use Rattle.inode_files.specs.Exchange.{IsExchanged}
 use Rattle.inode_files.proofs.SeenRows.{shown, shown_all, shown_at, shown_ascending, shown_under, shown_missing, shown_parent, shown_file_above, shown_ancestor, shown_without, shown_replaced, shown_moved, shown_new}
 use Rattle.inode_files.proofs.Places.{seen_same, kept_same, seen_elsewhere, seen_put, kept_put, kept_changed, seen_forgotten, kept_forgotten, none_at}
 use Rattle.inode_files.proofs.Counts.{count_without, count_replaced, count_moved, count_new, none_under}
@@ -234,12 +235,19 @@ module _ (files : Slab FileRow) (node moved : Node) (all : List Row) (view : see
 
 -- a leaf that is put at a path
 
+pub grafted : (path above : List (List ℕ)) (name : List ℕ) (node branch now : Node) → path ≡ above ++ name ∷ [] → now ≡ with_rows node (branch_grafted (above ++ name ∷ []) branch node.beneath)
+    → rows now ≡ branch_grafted path branch (rows node)
+grafted path above name node branch now parted done =
+    ap rows done ∙ sym (put_top above name branch node.top node.beneath) ∙ ap (λ p. branch_grafted p branch (rows node)) (sym parted)
+
+leaf_grafted : (path : List (List ℕ)) (node leaf now : Node) (top : Top) → leaf ≡ record { top = top; beneath = [] } → rows now ≡ branch_grafted path leaf (rows node)
+    → rows now ≡ rows_replaced path (row_of path top ∷ []) (rows node)
+leaf_grafted path node leaf now top leaf_is done =
+    done ∙ ap (λ n. branch_grafted path n (rows node)) leaf_is ∙ ap (λ p. rows_replaced path (row_of p top ∷ []) (rows node)) (append-nil path)
+
 leaf_put : (path above : List (List ℕ)) (name : List ℕ) (node leaf now : Node) (top : Top) → leaf ≡ record { top = top; beneath = [] } → path ≡ above ++ name ∷ []
     → now ≡ with_rows node (branch_grafted (above ++ name ∷ []) leaf node.beneath) → rows now ≡ rows_replaced path (row_of path top ∷ []) (rows node)
-leaf_put path above name node leaf now top leaf_is parted done =
-    ap rows done ∙ sym (put_top above name leaf node.top node.beneath) ∙ ap (λ n. branch_grafted (above ++ name ∷ []) n (rows node)) leaf_is
-    ∙ ap (λ p. rows_replaced (above ++ name ∷ []) (row_of p top ∷ []) (rows node)) (append-nil (above ++ name ∷ []))
-    ∙ ap (λ p. rows_replaced p (row_of p top ∷ []) (rows node)) (sym parted)
+leaf_put path above name node leaf now top leaf_is parted done = leaf_grafted path node leaf now top leaf_is (grafted path above name node leaf now parted done)
 
 count_one : (k : ℕ) (row : Row) → length (rows_at_place k (row ∷ [])) ≡ told_at k row.file
 count_one k row = by (is_at_place k row.file)
@@ -378,43 +386,59 @@ whole_there path own branch whole = ap is_none (sym (row_at_whole path own (Some
 
 -- a leaf is put in, and the files of what stood there are forgotten
 
-module _ (old roomy new last : Slab FileRow) (file : Option FileRow) (place : Option ℕ) (same : SameValues old roomy) (room : IsRoomFor roomy file place) (put : IsPut file roomy new)
-    (node leaf now : Node) (kept : AreKept old (rows node)) (path : List (List ℕ)) (part : Option Node) (whole : IsWhole path (rows node) part)
-    (forgotten : (k : ℕ) → get last k ≡ get_unless (are_at_place k (rows_or part)) new k)
+pub placed_places : (k : ℕ) (path : List (List ℕ)) (rs : List Row) → are_at_place k (map (row_placed path) rs) ≡ are_at_place k rs
+placed_places k path [] = refl
+placed_places k path (r ∷ rs) = ap (λ b. is_at_place k r.file || b) (placed_places k path rs)
+
+pub exchanged : (path : List (List ℕ)) (own : List Row) (part : Option Node) → IsWhole path own part → (file : Option FileRow) (old both new : Slab FileRow) → IsPut file old both
+    → ((k : ℕ) → get new k ≡ get_unless (are_at_place k (rows_or part)) both k) → IsExchanged path own file old new
+exchanged path own part whole file old both new put gone =
+    record {
+      both = both;
+      put = put;
+      gone = λ k. gone k ∙ ap (λ b. get_unless b both k) (sym (ap (are_at_place k) whole ∙ placed_places k path (rows_or part)));
+    }
+
+module _ (old roomy last : Slab FileRow) (file : Option FileRow) (place : Option ℕ) (same : SameValues old roomy) (room : IsRoomFor roomy file place)
+    (node leaf now : Node) (kept : AreKept old (rows node)) (path : List (List ℕ)) (exchange : IsExchanged path (rows node) file roomy last)
     (owner group : List ℕ) (acl : Acl) (leaf_is : leaf ≡ record { top = top_with (option_map placed place) owner group acl; beneath = [] })
-    (above : List (List ℕ)) (name : List ℕ) (parted : path ≡ above ++ name ∷ []) (done : now ≡ with_rows node (branch_grafted (above ++ name ∷ []) leaf node.beneath)) where
+    (done : rows now ≡ branch_grafted path leaf (rows node)) where
+  abbrev new : Slab FileRow
+  new = exchange.both
+
+  abbrev out : List Row
+  out = rows_under path (rows node)
+
   abbrev leaf_row : Row
   leaf_row = row_of path (top_with (option_map placed place) owner group acl)
 
   with_leaf : rows now ≡ rows_replaced path (leaf_row ∷ []) (rows node)
-  with_leaf = leaf_put path above name node leaf now (top_with (option_map placed place) owner group acl) leaf_is parted done
+  with_leaf = leaf_grafted path node leaf now (top_with (option_map placed place) owner group acl) leaf_is done
 
-  count_put : (k : ℕ) → length (rows_at_place k (rows now)) + length (rows_at_place k (rows_or part)) ≡ length (rows_at_place k (rows node)) + told_at k (option_map placed place)
+  count_put : (k : ℕ) → length (rows_at_place k (rows now)) + length (rows_at_place k out) ≡ length (rows_at_place k (rows node)) + told_at k (option_map placed place)
   count_put k =
       let here : length (rows_at_place k (rows now)) ≡ length (rows_at_place k (rows_replaced path (leaf_row ∷ []) (rows node))) = ap (λ rs. length (rows_at_place k rs)) with_leaf in
-      let gone : length (rows_at_place k (rows_under path (rows node))) ≡ length (rows_at_place k (rows_or part)) =
-      ap (λ rs. length (rows_at_place k rs)) whole ∙ tally_map (λ row. is_at_place k row.file) (row_placed path) (λ row. refl) (rows_or part) in
-      omega (arith, here, gone, count_replaced k path (leaf_row ∷ []) (rows node), count_one k leaf_row)
+      omega (arith, here, count_replaced k path (leaf_row ∷ []) (rows node), count_one k leaf_row)
 
-  held_both : (k : ℕ) → length (rows_at_place k (rows now)) + length (rows_at_place k (rows_or part)) ≡ held_count new k
+  held_both : (k : ℕ) → length (rows_at_place k (rows now)) + length (rows_at_place k out) ≡ held_count new k
   held_both k =
-      let apart : (i : ℕ) → length (rows_at_place i (rows now ++ rows_or part)) ≡ length (rows_at_place i (rows now)) + length (rows_at_place i (rows_or part)) =
-      λ i. tally_append (λ row. is_at_place i row.file) (rows now) (rows_or part) in
-      sym (apart k) ∙ kept_with old roomy new file place same room put (rows node) kept (rows now ++ rows_or part) (λ i. apart i ∙ count_put i) k
+      let apart : (i : ℕ) → length (rows_at_place i (rows now ++ out)) ≡ length (rows_at_place i (rows now)) + length (rows_at_place i out) =
+      λ i. tally_append (λ row. is_at_place i row.file) (rows now) out in
+      sym (apart k) ∙ kept_with old roomy new file place same room exchange.put (rows node) kept (rows now ++ out) (λ i. apart i ∙ count_put i) k
 
   pub kept_inserted : AreKept last (rows now)
-  kept_inserted = kept_forgotten new last (rows now) (rows_or part) forgotten held_both
+  kept_inserted = kept_forgotten new last (rows now) out exchange.gone held_both
 
   pub seen_inserted : (all : List Row) → seen_rows old (rows node) ≡ all → seen_rows last (rows now) ≡ rows_replaced path (row_of path (top_with file owner group acl) ∷ []) all
   seen_inserted all view =
-      let kind : kind_of_new (option_map placed place) ≡ kind_of_new file = kind_put old roomy new file place same room put (rows node) kept in
-      let held : file_held new (option_map placed place) ≡ file = held_put old roomy new file place same room put (rows node) kept in
+      let kind : kind_of_new (option_map placed place) ≡ kind_of_new file = kind_put old roomy new file place same room exchange.put (rows node) kept in
+      let held : file_held new (option_map placed place) ≡ file = held_put old roomy new file place same room exchange.put (rows node) kept in
       let row_is : seen new leaf_row ≡ row_of path (top_with file owner group acl) =
       ap (λ k. row_of path (record { kind = k; owner = owner; group = group; acl = acl; file = file_held new (option_map placed place) })) kind
       ∙ ap (λ f. row_of path (record { kind = kind_of_new file; owner = owner; group = group; acl = acl; file = f })) held in
-      seen_forgotten new last (rows now) (rows_or part) forgotten held_both ∙ ap (seen_rows new) with_leaf ∙ seen_leaf new path leaf_row (rows node)
+      seen_forgotten new last (rows now) out exchange.gone held_both ∙ ap (seen_rows new) with_leaf ∙ seen_leaf new path leaf_row (rows node)
       ∙ ap (λ row. rows_replaced path (row ∷ []) (seen_rows new (rows node))) row_is
-      ∙ ap (rows_replaced path (row_of path (top_with file owner group acl) ∷ [])) (seen_kept old roomy new file place same room put (rows node) kept ∙ view)
+      ∙ ap (rows_replaced path (row_of path (top_with file owner group acl) ∷ [])) (seen_kept old roomy new file place same room exchange.put (rows node) kept ∙ view)
 
 -- a file is put in the place of another
 

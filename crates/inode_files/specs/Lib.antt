@@ -1,2 +1,3 @@
 pub mod Branch
+pub mod Exchange
 pub mod Rooms

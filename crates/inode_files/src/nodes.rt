@@ -9,10 +9,11 @@ ghost use Rattle.namespace_rows.specs.Changes.{rows_under, without, with_rows_mo
 ghost use Rattle.inode_visits.specs.Holding.{has_files};
 ghost use Rattle.file_table.specs.Changed.{file_changed};
 ghost use Rattle.file_table.specs.Place.{placed};
-ghost use Rattle.inode_nodes.specs.Change.{change_of};
+ghost use Rattle.inode_nodes.specs.Change.{branch_grafted, change_of};
 ghost use Rattle.inode_nodes.specs.Node.{rows};
 ghost use Rattle.inode_nodes.specs.Part.{IsWhole};
 ghost use Rattle.inode_files.specs.Rooms.{IsRoomFor, HasRoomWhere, IsPut};
+ghost use Rattle.inode_files.specs.Exchange.{IsExchanged};
 ghost use Rattle.inode_files.specs.Branch.{branch_at, file_rewritten};
 
 use crate::inode::Inode;
@@ -96,20 +97,9 @@ impl Nodes {
         ensures ok { OnOk result (self.new ≡ with_sub_tree self.old (record { path = path.now; kind = kind_of_new file; owner = owner; group = group; acl = acl; file = file } ∷ [])) }
         ensures err { OnErr result (self.new ≡ self.old) }
     {
-        let Some((name, above)) = path.split_last() else {
-            unreachable!()
-        };
-        let own_name = name.clone()?;
         let place = room_for(&mut self.files, &file)?;
         let new = Node::new(alloc, owner, group, acl, place);
-        if let Some(node) = self.root.find(path) {
-            keep(&mut self.files, file);
-            forget(&mut self.files, node);
-            self.root.fill(above, name, new);
-            return Ok(());
-        }
-        self.root.put(above, own_name, new)?;
-        keep(&mut self.files, file);
+        set_at(&mut self.files, &mut self.root, path, new, file)?;
         Ok(())
     }
 
@@ -272,4 +262,33 @@ fn keep(files: &mut FileTable, file: Option<FileRow>)
     if let Some(file) = file {
         files.put(file);
     }
+}
+
+/// Puts a node at a path, instead of what stood there, and the file that it is, where it is one, into the table, which has room for it.
+fn set_at(
+    files: &mut FileTable,
+    root: &mut Node,
+    path: &[Name],
+    node: Node,
+    file: Option<FileRow>,
+) -> Result<(), AllocError>
+    requires parent { IsTrue (has_parent path.now (rows root.old)) }
+    requires room { HasRoomWhere file files.old }
+    ensures ok_files { OnOk result (IsExchanged path.now (rows root.old) file files.old files.new) }
+    ensures ok_rows { OnOk result (rows root.new ≡ branch_grafted path.now node (rows root.old)) }
+    ensures err_files { OnErr result (files.new ≡ files.old) }
+    ensures err_root { OnErr result (root.new ≡ root.old) }
+{
+    let Some((name, above)) = path.split_last() else {
+        unreachable!()
+    };
+    if let Some(there) = root.find(path) {
+        keep(files, file);
+        forget(files, there);
+        root.fill(above, name, node);
+        return Ok(());
+    }
+    root.put(above, name.clone()?, node)?;
+    keep(files, file);
+    Ok(())
 }

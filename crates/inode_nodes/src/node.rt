@@ -155,7 +155,7 @@ impl Node {
         }
     }
 
-    /// What stands at the path.
+    /// What stands at the path. Costs a look-up for each of its names.
     pub fn find(&self, path: &[Name]) -> Option<&Node>
         ensures { IsWhole path.now (rows self.now) (option_copied result) }
     {

@@ -236,7 +236,7 @@ fn beneath(name: &Name, mut found: Found) -> Result<Found, AllocError>
     Ok(found)
 }
 
-/// Adds the rows of the node, which stands at the path.
+/// Adds the rows of the node, which stands at the path. Costs all that stands there and beneath it.
 ///
 /// # Errors
 /// Out of memory. Some of the rows may have been added then.

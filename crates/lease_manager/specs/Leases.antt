@@ -1,5 +1,5 @@
 -- Leases by their last renewals, oldest first, and how one stands by its age.
--- (HDFS Architecture, the single-writer model with its soft and hard limits; that a client is a user is this project's profile.)
+-- (HDFS Architecture, the single-writer model with its soft and hard limits; that a client is a user is this project's choice.)
 use Rattle.std.specs.Prelude.{ℕ, ◌-◌, ◌≤◌, max, nat_lt, not, if◌then◌else◌, List, [], ◌∷◌, ◌++◌, filter, map, Option, find}
 use Rattle.std.specs.Bool.{⊤}
 use Rattle.std.specs.List.{AllByRecursion, IsDistinct}

@@ -272,14 +272,9 @@ fn recover(alloc: Global, blocks: &mut Blocks, call: Call, text: &mut String) ->
     }
 }
 
-fn call_once(
-    alloc: Global,
-    blocks: &mut Blocks,
-    call: Call,
-    text: &mut String,
-) -> Result<(), Fail> {
+// Calls that make, change and remove blocks, and those of recoveries.
+fn change(alloc: Global, blocks: &mut Blocks, call: Call, text: &mut String) -> Result<(), Fail> {
     match call {
-        Call::Beat(id, now) => Ok(blocks.heartbeat(node(id)?, moment(now)?)?),
         Call::Add(replication, now) => add(blocks, None, replication, now, text),
         Call::Behind(block, length, replication, now) => {
             let block = BlockId::new(block);
@@ -291,18 +286,31 @@ fn call_once(
                 text,
             )
         }
-        Call::Tell(id, now) => hand_out(blocks, id, now, text),
         Call::Replicate(block, replication) => {
             let replication = Repl::new(replication).ok_or("a replication")?;
             blocks.set_replication(BlockId::new(block), replication);
             Ok(())
         }
-        Call::Report(id, block, stamp, length) => {
-            Ok(blocks.report(node(id)?, BlockId::new(block), Stamp::new(stamp), length)?)
-        }
         Call::Commit(block, length) => tell_done(blocks.commit(BlockId::new(block), length), text),
         Call::Remove(block) => Ok(blocks.remove(BlockId::new(block))?),
         _ => recover(alloc, blocks, call, text),
+    }
+}
+
+// Calls of nodes, and all others.
+fn call_once(
+    alloc: Global,
+    blocks: &mut Blocks,
+    call: Call,
+    text: &mut String,
+) -> Result<(), Fail> {
+    match call {
+        Call::Beat(id, now) => Ok(blocks.heartbeat(node(id)?, moment(now)?)?),
+        Call::Report(id, block, stamp, length) => {
+            Ok(blocks.report(node(id)?, BlockId::new(block), Stamp::new(stamp), length)?)
+        }
+        Call::Tell(id, now) => hand_out(blocks, id, now, text),
+        _ => change(alloc, blocks, call, text),
     }
 }
 

@@ -1,4 +1,5 @@
 pub mod Keeping
 pub mod Looking
+pub mod Opened
 pub mod Recording
 pub mod Recoveries

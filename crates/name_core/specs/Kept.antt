@@ -1,5 +1,5 @@
 -- What a core keeps: its history is legal, and its state is what the history gives.
-use Rattle.std.specs.Prelude.{◌≡◌, ◌≤◌, List, reverse}
+use Rattle.std.specs.Prelude.{◌≡◌, ◌≤◌, List, [], reverse}
 use Rattle.lease_manager.specs.Leases.{latest_moment}
 use Rattle.history.specs.declared.entry.HistoryEntry.{HistoryEntry}
 use Rattle.history.specs.Config.{Opening, limits_of}
@@ -9,6 +9,7 @@ use Rattle.history.specs.State.{blocks_of}
 use Rattle.history.specs.Grants.{ledger_of}
 use Rattle.history.specs.State.{rows_of, users_of}
 use Rattle.history.specs.LegalHistory.{IsLegal}
+use Rattle.namesystem.specs.declared.namesystem.Namesystem.{Namesystem}
 use Rattle.name_core.specs.declared.namenode.NameCore.TheInside.{Inside}
 use Rattle.name_core.specs.NameCore.{NameCore}
 use Rattle.file_effects.specs.Effected.{IsExact}
@@ -34,3 +35,13 @@ pub record IsKept (core : Inside) : Type 0 where
   pub exact : IsExact (last_renewal (entries_of core)) core.system.tree core.system.writers
   pub limits : core.system.writers.leases.limits ≡ limits_of core.config
   pub latest : latest_moment core.system.writers.leases.renewals ≤ core.clock
+
+-- what a core opens with is what a history without entries gives
+pub record IsOpened (opening : Opening) (system : Namesystem) : Type 0 where
+  pub tree : system.tree ≡ rows_of opening []
+  pub users : system.users ≡ users_of []
+  pub ring : system.ring ≡ ring_of opening []
+  pub blocks : system.blocks ≡ blocks_of opening []
+  pub exact : IsExact (last_renewal []) system.tree system.writers
+  pub limits : system.writers.leases.limits ≡ limits_of opening.config
+  pub latest : latest_moment system.writers.leases.renewals ≤ clock_of []

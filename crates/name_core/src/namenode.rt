@@ -3,9 +3,11 @@ ghost use Rattle.std.specs.Option.{option_copied};
 ghost use Rattle.hdfs_types.specs.Request.{is_look};
 ghost use Rattle.hdfs_values.specs.Who.{IsWho};
 ghost use Rattle.history.specs.LegalHistory.{IsLegal};
-ghost use Rattle.history.specs.State.{blocks_of};
+ghost use Rattle.history.specs.State.{superuser, supergroup, blocks_of};
 ghost use Rattle.history.specs.Grants.{ledger_of};
 ghost use Rattle.history.specs.State.{rows_of, users_of};
+ghost use Rattle.namespace_rows.specs.Opening.{root_row};
+ghost use Rattle.name_core.specs.Kept.{IsOpened};
 ghost use Rattle.name_core.specs.NameCore.{Steps, Looks, with_next_entry};
 
 use block_map::blocks::Blocks;
@@ -39,6 +41,44 @@ fn known_who(alloc: Global, text: &str) -> Result<Who, AllocError>
         Err(ParseFault::IllFormed(_)) => unreachable!(),
         Err(ParseFault::OutOfMemory) => Err(AllocError),
     }
+}
+
+// The namespace of the root alone.
+fn first_tree(alloc: Global) -> Result<Tree, AllocError>
+    ensures { IfOk result (λ tree. tree ≡ root_row superuser supergroup ∷ []) }
+{
+    let superuser = known_who(alloc, "hdfs")?;
+    let supergroup = known_who(alloc, "supergroup")?;
+    Ok(Tree::new(alloc, superuser, supergroup))
+}
+
+// The users where none but the superuser is known.
+fn first_users(alloc: Global) -> Result<Users, AllocError>
+    ensures { IfOk result (λ users. users ≡ users_of []) }
+{
+    let superuser = known_who(alloc, "hdfs")?;
+    let supergroup = known_who(alloc, "supergroup")?;
+    Ok(Users::new(alloc, superuser, supergroup))
+}
+
+// What a core opens with, in a function of its own, since one that has all parts of a core over a return takes far longer to prove.
+fn opened(alloc: Global, config: Config, key: Key) -> Result<Namesystem, AllocError>
+    ensures { IfOk result (IsOpened (record { config = config; key = key })) }
+{
+    let (durations, first) = (config.durations(), config.first());
+    let users = first_users(alloc)?;
+    let writers = Writers::new(alloc, durations.soft_limit, durations.hard_limit)?;
+    let tree = first_tree(alloc)?;
+    let serial = Serial::new(first.serial);
+    let (block, stamp) = (BlockId::new(first.block), Stamp::new(first.stamp));
+    let (dead, retry) = (durations.dead_limit, durations.retry_limit);
+    Ok(Namesystem {
+        tree,
+        users,
+        writers,
+        ring: KeyRing::new(alloc, serial, key, durations.token_lifetime),
+        blocks: Blocks::new(alloc, dead, retry, block, stamp),
+    })
 }
 
 // Records a request where there is room for it, and answers it. Takes no memory.
@@ -118,26 +158,11 @@ impl NameCore {
     pub fn open(alloc: Global, config: Config, key: Key) -> Result<NameCore, AllocError>
         ensures { IfOk result (λ core. core ≡ record { opening = record { config = config; key = key }; entries = [] }) }
     {
-        let durations = config.durations();
-        let writers = Writers::new(alloc, durations.soft_limit, durations.hard_limit)?;
-        let superuser = known_who(alloc, "hdfs")?;
-        let supergroup = known_who(alloc, "supergroup")?;
-        let tree = Tree::new(alloc, superuser.clone()?, supergroup.clone()?);
-        let users = Users::new(alloc, superuser, supergroup);
-        let first = config.first();
-        let serial = Serial::new(first.serial);
-        let (block, stamp) = (BlockId::new(first.block), Stamp::new(first.stamp));
-        let (dead, retry) = (durations.dead_limit, durations.retry_limit);
+        let system = opened(alloc, config, key)?;
         Ok(NameCore {
             config,
             first_key: key,
-            system: Namesystem {
-                tree,
-                users,
-                writers,
-                ring: KeyRing::new(alloc, serial, key, durations.token_lifetime),
-                blocks: Blocks::new(alloc, dead, retry, block, stamp),
-            },
+            system,
             open_paths: OpenPaths::new(alloc),
             ledger: Ledger::new(alloc),
             clock: Moment::START,

@@ -97,7 +97,7 @@ impl Rows {
     }
 }
 
-/// The row that has a path, given by its names.
+/// The row that has a path, given by its names. Goes through the rows up to it.
 pub fn row_at<'a>(rows: &'a [Row], path: &[Name]) -> Option<&'a Row>
     ensures { option_copied result ≡ spec.row_at path.now rows.now }
 {
@@ -109,7 +109,7 @@ pub fn row_at<'a>(rows: &'a [Row], path: &[Name]) -> Option<&'a Row>
     None
 }
 
-/// The first file above a path.
+/// The first file above a path. Goes through the rows up to it.
 pub fn file_above<'a>(rows: &'a [Row], path: &[Name]) -> Option<&'a Row>
     ensures { option_copied result ≡ spec.file_above path.now rows.now }
 {
@@ -121,7 +121,7 @@ pub fn file_above<'a>(rows: &'a [Row], path: &[Name]) -> Option<&'a Row>
     None
 }
 
-/// The last existing component above a path.
+/// The last existing component above a path. Goes through all rows.
 pub fn ancestor<'a>(rows: &'a [Row], path: &[Name]) -> Option<&'a Row>
     ensures { option_copied result ≡ spec.ancestor path.now rows.now }
 {
@@ -134,7 +134,7 @@ pub fn ancestor<'a>(rows: &'a [Row], path: &[Name]) -> Option<&'a Row>
     last
 }
 
-/// The directory that holds a path.
+/// The directory that holds a path. Goes through the rows up to it.
 pub fn directory_of<'a>(rows: &'a [Row], path: &[Name]) -> Option<&'a Row>
     ensures { option_copied result ≡ spec.directory_of path.now rows.now }
 {

@@ -1,5 +1,5 @@
 -- The id of a DataNode, and the principal in whose name it acts: `dn-` and the id in decimal without leading zeros.
--- (The name is this project's profile; HDFS Architecture, "NameNode and DataNodes".)
+-- (The name is this project's choice; HDFS Architecture, "NameNode and DataNodes".)
 use Rattle.std.specs.Prelude.{ℕ, ◌^◌, Bool, List, ◌++◌, drop, nat_le, nat_lt, ◌&&◌, if◌then◌else◌, Option, Some, None, codes}
 use Rattle.std.specs.Fmt.{decimal}
 use Rattle.std.specs.Str.Parse.{digits_value}

@@ -97,7 +97,7 @@ module _ (rows : List Row) (namespace : IsNamespace rows) (top : List (List ℕ)
 -- ---- what is made
 
 module _ (owner : List ℕ) (mode : ℕ) (file : Option FileRow) where
-  made_inside : (top : List (List ℕ)) (above : Row) (names : List (List ℕ)) → is_prefix top above.path ≡ true → list_all (λ r. is_prefix top r.path) (new_rows above owner mode file names) ≡ true
+  pub made_inside : (top : List (List ℕ)) (above : Row) (names : List (List ℕ)) → is_prefix top above.path ≡ true → list_all (λ r. is_prefix top r.path) (new_rows above owner mode file names) ≡ true
   made_inside top above [] h = refl
   made_inside top above (name ∷ names) h =
       let longer : is_prefix top (above.path ++ name ∷ []) ≡ true = starts_onward top above.path (above.path ++ name ∷ []) h (starts_longer above.path name) in

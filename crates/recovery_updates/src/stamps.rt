@@ -7,7 +7,7 @@ ghost use Rattle.block_records.specs.Places.{IsPlace, IsGap};
 
 use hdfs_values::ids::Stamp;
 
-// Where a stamp stands in a table by ascending stamps; else where it would stand.
+/// Where a stamp stands in a table by ascending stamps, and, as an error, where it would stand. Costs a binary search.
 pub fn place_of<X>(table: &[(Stamp, X)], stamp: Stamp) -> Result<usize, usize>
     requires { IsStrictlySortedBy nat_cmp (keys_of table.now) }
     ensures bound { IsSearchInRange result (length table.now) }

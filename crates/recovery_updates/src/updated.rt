@@ -31,7 +31,7 @@ impl Model for UpdatedNodes {
 }
 
 impl UpdatedNodes {
-    // No node.
+    /// No node. Takes no memory.
     pub fn new(alloc: Global) -> UpdatedNodes
         ensures { result ≡ [] }
     {
@@ -40,21 +40,24 @@ impl UpdatedNodes {
         }
     }
 
-    // Whether there is none.
+    /// Whether there is none.
     pub fn is_empty(&self) -> bool
         ensures { IsTrue result ↔ (self.now ≡ []) }
     {
         self.nodes.is_empty()
     }
 
-    // Whether a node is among them.
+    /// Whether a node is among them. Costs a look-up.
     pub fn contains(&self, node: NodeId) -> bool
         ensures { result ≡ list_any (is_number node) self.now }
     {
         self.nodes.contains(&node)
     }
 
-    // Adds a node.
+    /// Adds a node. Costs a look-up.
+    ///
+    /// # Errors
+    /// Out of memory, and nothing has changed.
     pub fn insert(&mut self, node: NodeId) -> Result<(), AllocError>
         ensures ok { OnOk result (self.new ≡ insert_key nat_cmp self.old node) }
         ensures err { OnErr result (self.new ≡ self.old) }
@@ -63,7 +66,10 @@ impl UpdatedNodes {
         Ok(())
     }
 
-    // These nodes by their ids.
+    /// These nodes by their ids. Costs a step for each.
+    ///
+    /// # Errors
+    /// Out of memory.
     pub fn nodes(&self, alloc: Global) -> Result<NodeSet, AllocError>
         ensures { IfOk result (λ nodes. nodes ≡ self.now) }
     {

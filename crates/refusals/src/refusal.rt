@@ -52,7 +52,7 @@ pub enum Refusal {
     NotEmpty,
     /// The root can't be deleted or renamed: code 7.
     IsRoot,
-    /// A directory can't be moved to a path beneath itself: code 8.
+    /// Nothing can be moved to its own path, and no directory to a path beneath itself: code 8.
     UnderItself,
     /// The access control list can't be changed so: code 9.
     BadAcl(AtWord<AclFault>),

@@ -1,6 +1,6 @@
 -- What a DataNode refuses of a replica, and what it keeps of it, call by call.
 -- (HDFS Architecture, "Replication Pipelining"; HDFS-265: generation stamps, states of replicas, block recovery. That a node refuses
--- whatever is older than a stamp that it promised, also once the replica is removed, is this project's profile.)
+-- whatever is older than a stamp that it promised, also once the replica is removed, is this project's choice.)
 use Rattle.std.specs.Prelude.{◌≡◌, ℕ, ◌+◌, ◌==◌, Bool, true, false, ◌||◌, not, nat_lt, nat_le, List, [], ◌++◌, length, take, Option, Some, None, unwrap_or, Result, Ok, Err}
 use Rattle.std.specs.BTreeMap.{insert_entry}
 use Rattle.std.specs.Map.{set_value}

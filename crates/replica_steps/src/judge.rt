@@ -20,6 +20,8 @@ fn exceed(limit: u64, number: u64, more: u64) -> bool
 // No refusal depends on the nodes that come next in the pipeline, and some not on a limit or on what was promised: where a contract names
 // none of these, it holds with any.
 
+/// Why a replica isn't begun: `ReplicaExists`, then `StampDiffers` where the stamp isn't above the one that was promised. Takes constant time,
+/// and no memory, as all calls here.
 pub fn judge_begin(
     replica: Option<&Replica>,
     promised: Stamp,
@@ -36,6 +38,8 @@ pub fn judge_begin(
     Ok(())
 }
 
+/// Why a packet isn't taken, in this order: `NoReplica`; `StampDiffers` from the stamp that was promised; `NotWritable`; `OffsetGap` with the length of
+/// the replica; `OutOfRange` where the packet, or the replica behind it, is longer than its limit; `limit` is the replica's, in bytes.
 pub fn judge_packet(
     limit: u64,
     replica: Option<&Replica>,
@@ -65,6 +69,7 @@ pub fn judge_packet(
     Ok(())
 }
 
+/// Why a replica isn't finalized: `NoReplica`, `StampDiffers`, `NotWritable`, `OffsetGap` with its length in bytes, in this order.
 pub fn judge_finalize(
     replica: Option<&Replica>,
     promised: Stamp,
@@ -89,6 +94,8 @@ pub fn judge_finalize(
     Ok(())
 }
 
+/// Why so many bytes aren't read behind so many: `NoReplica` also where it is still being written, `StampDiffers` from its own stamp,
+/// `OutOfRange`, in this order.
 pub fn judge_read(
     replica: Option<&Replica>,
     stamp: Stamp,
@@ -112,6 +119,7 @@ pub fn judge_read(
     Ok(())
 }
 
+/// Why a replica isn't told for a recovery: `NoReplica`, then `StampDiffers` where the stamp isn't above the one that was promised.
 pub fn judge_init(
     replica: Option<&Replica>,
     promised: Stamp,
@@ -128,6 +136,8 @@ pub fn judge_init(
     Ok(())
 }
 
+/// Why a recovery doesn't cut a replica to so many bytes: `NoReplica`; `StampDiffers` from the stamp that was promised; `NotWritable` where it
+/// was cut at that stamp; `OutOfRange` where it is shorter, in this order.
 pub fn judge_update(
     replica: Option<&Replica>,
     promised: Stamp,
@@ -151,6 +161,7 @@ pub fn judge_update(
     Ok(())
 }
 
+/// Why a replica isn't copied: `NoReplica` also where it is still being written, then `StampDiffers` from its own stamp.
 pub fn judge_copy(replica: Option<&Replica>, stamp: Stamp) -> Result<(), ReplicaRefusal>
     ensures { TellsReplicaRefusal result (replica_refusal 0 (asked.SendCopy 0) stamp (record { replica = option_copied replica.entry; promised = 0 })) }
 {
@@ -166,6 +177,8 @@ pub fn judge_copy(replica: Option<&Replica>, stamp: Stamp) -> Result<(), Replica
     Ok(())
 }
 
+/// Why a copy isn't taken: `ReplicaExists`; `StampDiffers` where its stamp is below the one that was promised; `OutOfRange` where it is longer than
+/// the limit, in bytes; in this order.
 pub fn judge_take(
     limit: u64,
     replica: Option<&Replica>,
@@ -187,6 +200,7 @@ pub fn judge_take(
     Ok(())
 }
 
+/// Why a replica isn't removed: `NoReplica`, then `StampDiffers` where it has a newer stamp.
 pub fn judge_removal(replica: Option<&Replica>, stamp: Stamp) -> Result<(), ReplicaRefusal>
     ensures { TellsReplicaRefusal result (removal_refusal stamp (option_copied replica.entry)) }
 {

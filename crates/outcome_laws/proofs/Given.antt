@@ -1,0 +1,74 @@
+-- What a row is given at a path stands there.
+use Rattle.std.proofs.Common.{◌≡◌, ℕ, Bool, true, false, List, Option, Some, None, option_map, refl, sym, ap, ◌∙◌, cond}
+use Rattle.std.specs.Prelude.{unwrap_or}
+use Rattle.file_paths.specs.PathOrder.{same_path}
+use Rattle.namespace_rows.specs.declared.file_row.FileRow.{FileRow}
+use Rattle.namespace_rows.specs.declared.row.Row.{Row}
+use Rattle.namespace_rows.specs.declared.row.Change.{Change}
+use Rattle.namespace_rows.specs.declared.row.Change.TheVariants as change
+use Rattle.namespace_rows.specs.Files.{with_file_replication}
+use Rattle.namespace_rows.specs.Rows.{row_at}
+use Rattle.namespace_rows.specs.Changes.{row_rewritten, with_change}
+use Rattle.flat_rows.specs.Outcome.{with_owner_at}
+use Rattle.flat_rows.proofs.Firsts.{first_found}
+use Rattle.permission_laws.proofs.RowsAt.{at_map}
+
+module _ (path : List (List ℕ)) (rows : List Row) where
+  rewritten_at : (given : Change) → ((row : Row) → (with_change given row).path ≡ row.path) → (row : Row) → row_at path rows ≡ Some row → row_at path (row_rewritten path given rows) ≡ Some (with_change given row)
+  rewritten_at given paths row at =
+      at_map path (λ r. cond (same_path path r.path) (with_change given r) r) keeps rows ∙ ap (option_map (λ r. cond (same_path path r.path) (with_change given r) r)) at
+      ∙ ap (λ b. Some (cond b (with_change given row) row)) (first_found (λ r. same_path path r.path) rows row at)
+    where
+      keeps : (r : Row) → (cond (same_path path r.path) (with_change given r) r).path ≡ r.path
+      keeps r = by (same_path path r.path)
+        where
+          by : (b : Bool) → (cond b (with_change given r) r).path ≡ r.path
+          by true = paths r
+          by false = refl
+
+  none_rewritten : (given : Change) → ((row : Row) → (with_change given row).path ≡ row.path) → row_at path rows ≡ None → row_at path (row_rewritten path given rows) ≡ None
+  none_rewritten given paths at =
+      at_map path (λ r. cond (same_path path r.path) (with_change given r) r) keeps rows ∙ ap (option_map (λ r. cond (same_path path r.path) (with_change given r) r)) at
+    where
+      keeps : (r : Row) → (cond (same_path path r.path) (with_change given r) r).path ≡ r.path
+      keeps r = by (same_path path r.path)
+        where
+          by : (b : Bool) → (cond b (with_change given r) r).path ≡ r.path
+          by true = paths r
+          by false = refl
+
+  pub owner_given : (owner group : Option (List ℕ)) (row later : Row) → row_at path rows ≡ Some row → row_at path (with_owner_at path owner group (row_at path rows) rows) ≡ Some later
+      → (later.owner ≡ unwrap_or owner row.owner) × (later.group ≡ unwrap_or group row.group)
+  owner_given owner group row later at after =
+      let given : Change = change.Owner (unwrap_or owner row.owner) (unwrap_or group row.group) in
+      let is : Some later ≡ Some (with_change given row) = sym after ∙ ap (λ o. row_at path (with_owner_at path owner group o rows)) at ∙ rewritten_at given (λ r. refl) row at in
+      by later is
+    where
+      by : (r : Row) → Some r ≡ Some (with_change (change.Owner (unwrap_or owner row.owner) (unwrap_or group row.group)) row) → (r.owner ≡ unwrap_or owner row.owner) × (r.group ≡ unwrap_or group row.group)
+      by r is = (ap (λ (x : Row). x.owner) (one is), ap (λ (x : Row). x.group) (one is))
+        where
+          one : {x y : Row} → Some x ≡ Some y → x ≡ y
+          one e = cc
+
+  pub replication_given : (replication : ℕ) (later : Row) (file : FileRow) → row_at path (row_rewritten path (change.Replication replication) rows) ≡ Some later → later.file ≡ Some file → file.replication ≡ replication
+  replication_given replication later file after is = by (row_at path rows) refl
+    where
+      given : Change
+      given = change.Replication replication
+
+      one : {x y : Row} → Some x ≡ Some y → x ≡ y
+      one e = cc
+
+      by_file : (own : Option FileRow) → option_map (with_file_replication replication) own ≡ Some file → file.replication ≡ replication
+      by_file None k = cc
+      by_file (Some own) k = ap (λ (x : FileRow). x.replication) (sym (same k))
+        where
+          same : {x y : FileRow} → Some x ≡ Some y → x ≡ y
+          same e = cc
+
+      by : (o : Option Row) → row_at path rows ≡ o → file.replication ≡ replication
+      by None e = absurd (no (sym (none_rewritten given (λ r. refl) e) ∙ after))
+        where
+          no : None ≡ Some later → ⊥
+          no h = cc
+      by (Some row) e = by_file row.file (ap (λ (x : Row). x.file) (one (sym (rewritten_at given (λ r. refl) row e) ∙ after)) ∙ is)

@@ -1,0 +1,107 @@
+-- Laws of what is done: what has to be there before, what stands there after, and what the caller is told. Each holds of every attempt. They
+-- follow from the rules, so a slip in the rules that breaks one is refused, also where code and rule have it together.
+-- (HDFS Architecture, "The File System Namespace" and "Data Replication"; HDFS Permissions Guide, "Overview".)
+use Rattle.std.specs.Prelude.{◌≡◌, ℕ, ◌+◌, Bool, true, false, List, [], ◌∷◌, ◌++◌, length, Option, Some, None, unwrap_or}
+use Rattle.std.specs.List.{list_any}
+use Rattle.std.specs.Option.{is_some, option_map_or}
+use Rattle.hdfs_values.specs.Text.{same}
+use Rattle.file_paths.specs.Path.{is_beneath}
+use Rattle.hdfs_types.specs.declared.op.Op.{Op}
+use Rattle.hdfs_types.specs.declared.op.Op.TheVariants as op
+use Rattle.hdfs_types.specs.declared.reply.ContentSummary.{ContentSummary}
+use Rattle.hdfs_types.specs.declared.reply.Reply.TheVariants.{Summary, Deleted, Names}
+use Rattle.namespace_rows.specs.declared.file_row.FileRow.{FileRow}
+use Rattle.namespace_rows.specs.declared.row.Row.{Row}
+use Rattle.namespace_rows.specs.Namespace.{IsNamespace, is_root}
+use Rattle.namespace_rows.specs.Rows.{is_directory}
+use Rattle.namespace_rows.specs.Files.{is_open_by}
+use Rattle.flat_rows.specs.declared.verdict.Verdict.TheVariants.{Done}
+use Rattle.permission_laws.specs.Attempt.{Attempt, IsLastAbove, attempt_step, IsDone, row_before, row_after, taken_path, made_path}
+
+-- ---- what has to be there before
+
+-- a file that isn't to replace another is made where nothing stands
+abbrev pub CreationsReplaceNothing : Type 0
+CreationsReplaceNothing = (attempt : Attempt) (path : List (List ℕ)) (mode replication : ℕ)
+    → IsDone attempt → attempt.op ≡ op.Create path mode replication false → row_before attempt path ≡ None
+
+-- and one that is to, where no directory stands
+abbrev pub CreationsReplaceNoDirectory : Type 0
+CreationsReplaceNoDirectory = (attempt : Attempt) (path : List (List ℕ)) (mode replication : ℕ) (over : Bool) (row : Row)
+    → IsDone attempt → attempt.op ≡ op.Create path mode replication over → row_before attempt path ≡ Some row → is_directory row ≡ false
+
+-- what is renamed comes to stand where nothing stood
+abbrev pub RenamesReplaceNothing : Type 0
+RenamesReplaceNothing = (attempt : Attempt) (from to : List (List ℕ)) → IsDone attempt → attempt.op ≡ op.Rename from to → row_before attempt to ≡ None
+
+-- where a directory is made and something stands, that is a directory, and stays as it is
+abbrev pub DirectoriesStay : Type 0
+DirectoriesStay = (attempt : Attempt) (path : List (List ℕ)) (mode : ℕ) (row : Row)
+    → IsDone attempt → attempt.op ≡ op.Mkdirs path mode → row_before attempt path ≡ Some row → (is_directory row ≡ true) × (row_after attempt path ≡ Some row)
+
+-- what is deleted without its sub-tree holds nothing
+abbrev pub DeletionsTakeWhatHoldsNothing : Type 0
+DeletionsTakeWhatHoldsNothing = (attempt : Attempt) (path other : List (List ℕ))
+    → IsDone attempt → attempt.op ≡ op.Delete path false → is_beneath other path ≡ true → row_before attempt other ≡ None
+
+-- the root is neither deleted nor renamed
+abbrev pub RootStays : Type 0
+RootStays = (attempt : Attempt) (path : List (List ℕ)) → IsDone attempt → taken_path attempt.op ≡ Some path → is_root path ≡ false
+
+-- ---- what stands there after
+
+abbrev pub is_rename : Op → Bool
+is_rename (op.Rename from to) = true
+is_rename _ = false
+
+-- what appears, but by a rename, is its maker's
+abbrev pub WhatAppearsIsItsMakers : Type 0
+WhatAppearsIsItsMakers = (attempt : Attempt) (path : List (List ℕ)) (row : Row)
+    → is_rename attempt.op ≡ false → row_before attempt path ≡ None → row_after attempt path ≡ Some row → row.owner ≡ attempt.caller
+
+-- and has the group of the last component that stood above the path that is made
+abbrev pub WhatAppearsHasTheGroupAbove : Type 0
+WhatAppearsHasTheGroupAbove = (attempt : Attempt) (made path : List (List ℕ)) (above row : Row)
+    → IsNamespace attempt.rows → is_rename attempt.op ≡ false → made_path attempt.op ≡ Some made → IsLastAbove attempt above made
+    → row_before attempt path ≡ None → row_after attempt path ≡ Some row → row.group ≡ above.group
+
+-- an owner and a group that are given are those of what stands there, and one that isn't given stays
+abbrev pub OwnersAreAsGiven : Type 0
+OwnersAreAsGiven = (attempt : Attempt) (path : List (List ℕ)) (owner group : Option (List ℕ)) (row later : Row)
+    → IsDone attempt → attempt.op ≡ op.SetOwner path owner group → row_before attempt path ≡ Some row → row_after attempt path ≡ Some later
+    → (later.owner ≡ unwrap_or owner row.owner) × (later.group ≡ unwrap_or group row.group)
+
+-- and so is the replication of a file
+abbrev pub ReplicationsAreAsGiven : Type 0
+ReplicationsAreAsGiven = (attempt : Attempt) (path : List (List ℕ)) (replication : ℕ) (later : Row) (file : FileRow)
+    → IsDone attempt → attempt.op ≡ op.SetReplication path replication → row_after attempt path ≡ Some later → later.file ≡ Some file → file.replication ≡ replication
+
+-- ---- who writes
+
+-- the client has open what stands there
+abbrev pub has_open : List ℕ → Option Row → Bool
+has_open client at = option_map_or (is_open_by client) at false
+
+-- who has a file open had it open before, or asks for it himself; a rename moves files as they are
+abbrev pub WritersAskForThemselves : Type 0
+WritersAskForThemselves = (attempt : Attempt) (path : List (List ℕ)) (client : List ℕ)
+    → is_rename attempt.op ≡ false → same client attempt.caller ≡ false → has_open client (row_after attempt path) ≡ true → has_open client (row_before attempt path) ≡ true
+
+-- ---- what is told
+
+-- a deletion tells how many rows there are fewer
+abbrev pub DeletionsTellHowManyGo : Type 0
+DeletionsTellHowManyGo = (attempt : Attempt) (path : List (List ℕ)) (recursive : Bool) (count : ℕ)
+    → attempt.op ≡ op.Delete path recursive → (attempt_step attempt).verdict ≡ Done (Deleted count) → length attempt.rows ≡ length (attempt_step attempt).rows + count
+
+-- which is how many a summary told of the same path over the same rows
+abbrev pub SummariesCountWhatGoes : Type 0
+SummariesCountWhatGoes = (look deletion : Attempt) (path : List (List ℕ)) (recursive : Bool) (summary : ContentSummary) (count : ℕ)
+    → look.rows ≡ deletion.rows → look.op ≡ op.Summary path → deletion.op ≡ op.Delete path recursive
+    → (attempt_step look).verdict ≡ Done (Summary summary) → (attempt_step deletion).verdict ≡ Done (Deleted count) → summary.directories + summary.files ≡ count
+
+-- a listing tells a name where something stands by that name in the directory, and no other
+abbrev pub DirectoriesListWhatTheyHold : Type 0
+DirectoriesListWhatTheyHold = (attempt : Attempt) (path : List (List ℕ)) (directory : Row) (names : List (List ℕ)) (name : List ℕ)
+    → attempt.op ≡ op.List path → row_before attempt path ≡ Some directory → is_directory directory ≡ true → (attempt_step attempt).verdict ≡ Done (Names names)
+    → list_any (same name) names ≡ is_some (row_before attempt (path ++ name ∷ []))
