@@ -6,3 +6,4 @@ pub mod Counting
 pub mod Told
 pub mod Listing
 pub mod Writing
+pub mod Keeping

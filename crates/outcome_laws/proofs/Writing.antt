@@ -37,6 +37,32 @@ use Rattle.outcome_laws.specs.Laws.{is_rename, has_open}
 differ : true ≡ false → ⊥
 differ e = cc
 
+-- ---- the paths of rows that are given anew
+
+pub paths_same : (top : List (List ℕ)) (f : Row → Row) → ((row : Row) → (f row).path ≡ row.path) → (row : Row) → (cond (same_path top row.path) (f row) row).path ≡ row.path
+paths_same top f paths row = by (same_path top row.path)
+  where
+    by : (b : Bool) → (cond b (f row) row).path ≡ row.path
+    by true = paths row
+    by false = refl
+
+pub ticked_path : (facts : Facts) (begun : List BegunRecovery) (row : Row) → (row_ticked facts begun row).path ≡ row.path
+ticked_path facts begun row = by (sought_in facts row)
+  where
+    by_stamp : (block : ℕ) (stamp : Option ℕ) → (recovering_from facts.now block stamp row).path ≡ row.path
+    by_stamp block None = refl
+    by_stamp block (Some stamp) = refl
+
+    by_block : (block : Option ℕ) → (with_begun begun facts.now block row).path ≡ row.path
+    by_block None = refl
+    by_block (Some block) = by_stamp block (stamp_in begun block)
+
+    by : (sought : Option Sought) → (taken_row begun facts.now sought row).path ≡ row.path
+    by None = refl
+    by (Some sought) = by_block sought.block
+
+-- ---- what comes to be open
+
 module _ (client : List ℕ) where
   -- it gives nobody a file who is this client, but who had it
   abbrev Keeps : (Row → Row) → Type 0
@@ -59,13 +85,6 @@ module _ (client : List ℕ) where
       by : (b : Bool) → is_open_by client (cond b (f row) row) ≡ true → is_open_by client row ≡ true
       by true k = keeps row k
       by false k = k
-
-  paths_same : (top : List (List ℕ)) (f : Row → Row) → ((row : Row) → (f row).path ≡ row.path) → (row : Row) → (cond (same_path top row.path) (f row) row).path ≡ row.path
-  paths_same top f paths row = by (same_path top row.path)
-    where
-      by : (b : Bool) → (cond b (f row) row).path ≡ row.path
-      by true = paths row
-      by false = refl
 
   module _ (path : List (List ℕ)) where
     abbrev KeepsRows : List Row → List Row → Type 0
@@ -100,20 +119,8 @@ module _ (client : List ℕ) where
             by false k = k
 
     ticked : (facts : Facts) (begun : List BegunRecovery) (rows : List Row) → KeepsRows rows (map (row_ticked facts begun) rows)
-    ticked facts begun rows = mapped (row_ticked facts begun) (λ row. paths row (sought_in facts row)) (λ row h. keeps row (sought_in facts row) h) rows
+    ticked facts begun rows = mapped (row_ticked facts begun) (ticked_path facts begun) (λ row h. keeps row (sought_in facts row) h) rows
       where
-        from_paths : (row : Row) (block : ℕ) (stamp : Option ℕ) → (recovering_from facts.now block stamp row).path ≡ row.path
-        from_paths row block None = refl
-        from_paths row block (Some stamp) = refl
-
-        begun_paths : (row : Row) (block : Option ℕ) → (with_begun begun facts.now block row).path ≡ row.path
-        begun_paths row None = refl
-        begun_paths row (Some block) = from_paths row block (stamp_in begun block)
-
-        paths : (row : Row) (sought : Option Sought) → (taken_row begun facts.now sought row).path ≡ row.path
-        paths row None = refl
-        paths row (Some sought) = begun_paths row sought.block
-
         from_keeps : (row : Row) (block : ℕ) (stamp : Option ℕ) → is_open_by client (recovering_from facts.now block stamp row) ≡ true → is_open_by client row ≡ true
         from_keeps row block None h = h
         from_keeps row block (Some stamp) h = given_state (Recovering block stamp facts.now) refl row h

@@ -1,11 +1,12 @@
 -- Laws of what is done: what has to be there before, what stands there after, and what the caller is told. Each holds of every attempt. They
 -- follow from the rules, so a slip in the rules that breaks one is refused, also where code and rule have it together.
 -- (HDFS Architecture, "The File System Namespace" and "Data Replication"; HDFS Permissions Guide, "Overview".)
-use Rattle.std.specs.Prelude.{◌≡◌, ℕ, ◌+◌, Bool, true, false, List, [], ◌∷◌, ◌++◌, length, Option, Some, None, unwrap_or}
+use Rattle.std.specs.Prelude.{◌≡◌, ℕ, ◌+◌, Bool, true, false, ◌||◌, List, [], ◌∷◌, ◌++◌, length, Option, Some, None, unwrap_or}
 use Rattle.std.specs.List.{list_any}
 use Rattle.std.specs.Option.{is_some, option_map_or}
 use Rattle.hdfs_values.specs.Text.{same}
-use Rattle.file_paths.specs.Path.{is_beneath}
+use Rattle.file_paths.specs.Path.{is_prefix, is_beneath}
+use Rattle.file_paths.specs.PathOrder.{same_path}
 use Rattle.hdfs_types.specs.declared.op.Op.{Op}
 use Rattle.hdfs_types.specs.declared.op.Op.TheVariants as op
 use Rattle.hdfs_types.specs.declared.reply.ContentSummary.{ContentSummary}
@@ -86,6 +87,19 @@ has_open client at = option_map_or (is_open_by client) at false
 abbrev pub WritersAskForThemselves : Type 0
 WritersAskForThemselves = (attempt : Attempt) (path : List (List ℕ)) (client : List ℕ)
     → is_rename attempt.op ≡ false → same client attempt.caller ≡ false → has_open client (row_after attempt path) ≡ true → has_open client (row_before attempt path) ≡ true
+
+-- the operation takes away what stands at the path: deletes it, moves it, or puts a file or what is moved in its place
+abbrev pub takes_away : Op → List (List ℕ) → Bool
+takes_away (op.Delete top recursive) path = is_prefix top path
+takes_away (op.Rename from to) path = is_prefix from path || is_prefix to path
+takes_away (op.Create top mode replication true) path = same_path path top
+takes_away _ path = false
+
+-- who has a file open and renews his lease keeps it, whatever others ask for, until it is taken away
+abbrev pub LiveWritersKeepTheirFiles : Type 0
+LiveWritersKeepTheirFiles = (attempt : Attempt) (path : List (List ℕ)) (client : List ℕ)
+    → IsNamespace attempt.rows → attempt.facts.leases.is_live client ≡ true → attempt.facts.leases.is_past_hard client ≡ false
+    → same attempt.caller client ≡ false → takes_away attempt.op path ≡ false → has_open client (row_before attempt path) ≡ true → has_open client (row_after attempt path) ≡ true
 
 -- ---- what is told
 

@@ -32,9 +32,11 @@ pub fn what_is_given_stands()
     ensures replications { law.ReplicationsAreAsGiven }
 {}
 
-/// Nobody comes to have a file open but by asking for it himself, whoever asks for what (HDFS Architecture, the single-writer model).
-pub fn writers_ask_for_themselves()
-    ensures { law.WritersAskForThemselves }
+/// Nobody comes to have a file open but by asking for it himself. And who has one open and renews his lease keeps it, whatever others ask
+/// for, until what stands there is taken away (HDFS Architecture, the single-writer model).
+pub fn one_writes_at_a_time()
+    ensures asked { law.WritersAskForThemselves }
+    ensures kept { law.LiveWritersKeepTheirFiles }
 {}
 
 /// A deletion tells how many files and directories there are fewer, which is how many a summary of the path told; and a listing tells
