@@ -1,2 +1,3 @@
 pub mod Finding
 pub mod Legality
+pub mod Owning

@@ -1,9 +1,11 @@
 -- Laws of histories that are checked.
-use Rattle.std.specs.Prelude.{◌≡◌, ℕ, List, length, take, reverse, slice_get, Some}
+use Rattle.std.specs.Prelude.{◌≡◌, ◌≤◌, ℕ, false, List, length, take, reverse, slice_get, Some}
+use Rattle.hdfs_types.specs.Request.{is_look}
 use Rattle.history.specs.declared.entry.HistoryEntry.{HistoryEntry}
+use Rattle.history.specs.declared.entry.Answer.{Answer}
 use Rattle.history.specs.Config.{Opening}
 use Rattle.history.specs.LegalHistory.{IsLegal}
-use Rattle.receipt_checks.specs.Agreement.{Claims, Agrees, IsLegalAt}
+use Rattle.receipt_checks.specs.Agreement.{Claims, Agrees, IsLegalAt, receipt_of}
 
 -- a history is legal where each of its entries is, by the requests before it alone
 abbrev pub LegalEntriesMakeALegalHistory : Type 0
@@ -18,3 +20,20 @@ WhatAgreesIsLegal = (claims : Claims) → ((pass index : ℕ) → Agrees claims 
 -- and it begins with these
 abbrev pub WhatAgreesGoesOnFromTheOpening : Type 0
 WhatAgreesGoesOnFromTheOpening = (claims : Claims) → ((pass index : ℕ) → Agrees claims pass index) → take (length claims.begun) claims.history ≡ claims.begun
+
+-- ---- as many changes were told as there are entries since the passes began
+
+abbrev pub AllAgree : Claims → Type 0
+AllAgree claims = (pass index : ℕ) → Agrees claims pass index
+
+-- nothing was invented: no two of these entries have one receipt
+abbrev pub EntriesHaveReceiptsOfTheirOwn : Type 0
+EntriesHaveReceiptsOfTheirOwn = (claims : Claims) (one other : ℕ) (entry another : HistoryEntry)
+    → AllAgree claims → length claims.begun ≤ one → length claims.begun ≤ other → slice_get claims.history one ≡ Some entry → slice_get claims.history other ≡ Some another
+    → entry.pass ≡ another.pass → entry.index ≡ another.index → one ≡ other
+
+-- and nothing was lost: no two receipts of changes have one entry
+abbrev pub ChangesHaveEntriesOfTheirOwn : Type 0
+ChangesHaveEntriesOfTheirOwn = (claims : Claims) (pass index other_pass other_index : ℕ) (answer another : Answer)
+    → AllAgree claims → receipt_of claims.passes pass index ≡ Some answer → receipt_of claims.passes other_pass other_index ≡ Some another
+    → is_look answer.request.op ≡ false → is_look another.request.op ≡ false → answer.place ≡ another.place → (pass ≡ other_pass) × (index ≡ other_index)

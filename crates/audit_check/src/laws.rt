@@ -16,3 +16,10 @@ pub fn what_agrees_is_legal()
 pub fn what_agrees_goes_on_from_the_opening()
     ensures { law.WhatAgreesGoesOnFromTheOpening }
 {}
+
+/// A history that agrees with the answers that were kept has as many entries since the passes began as changes were told: each of these
+/// entries has a receipt of its own, and each receipt of a change an entry of its own.
+pub fn what_agrees_loses_nothing()
+    ensures entries { law.EntriesHaveReceiptsOfTheirOwn }
+    ensures changes { law.ChangesHaveEntriesOfTheirOwn }
+{}
