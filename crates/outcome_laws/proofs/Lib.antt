@@ -7,3 +7,4 @@ pub mod Told
 pub mod Listing
 pub mod Writing
 pub mod Keeping
+pub mod Modes

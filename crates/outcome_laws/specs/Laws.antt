@@ -1,19 +1,21 @@
 -- Laws of what is done: what has to be there before, what stands there after, and what the caller is told. Each holds of every attempt. They
 -- follow from the rules, so a slip in the rules that breaks one is refused, also where code and rule have it together.
 -- (HDFS Architecture, "The File System Namespace" and "Data Replication"; HDFS Permissions Guide, "Overview".)
-use Rattle.std.specs.Prelude.{◌≡◌, ℕ, ◌+◌, Bool, true, false, ◌||◌, List, [], ◌∷◌, ◌++◌, length, Option, Some, None, unwrap_or}
+use Rattle.std.specs.Prelude.{◌≡◌, ℕ, ◌+◌, Bool, true, false, ◌||◌, List, [], ◌∷◌, ◌++◌, length, Option, Some, None, unwrap_or, IsTrue}
 use Rattle.std.specs.List.{list_any}
 use Rattle.std.specs.Option.{is_some, option_map_or}
 use Rattle.hdfs_values.specs.Text.{same}
+use Rattle.permission_bits.specs.Mode.{is_mode, without_sticky}
 use Rattle.file_paths.specs.Path.{is_prefix, is_beneath}
 use Rattle.file_paths.specs.PathOrder.{same_path}
 use Rattle.hdfs_types.specs.declared.op.Op.{Op}
 use Rattle.hdfs_types.specs.declared.op.Op.TheVariants as op
 use Rattle.hdfs_types.specs.declared.reply.ContentSummary.{ContentSummary}
 use Rattle.hdfs_types.specs.declared.reply.Reply.TheVariants.{Summary, Deleted, Names}
+use Rattle.acl_entries.specs.Acl.{shown_mode}
 use Rattle.namespace_rows.specs.declared.file_row.FileRow.{FileRow}
 use Rattle.namespace_rows.specs.declared.row.Row.{Row}
-use Rattle.namespace_rows.specs.Namespace.{IsNamespace, is_root}
+use Rattle.namespace_rows.specs.Namespace.{IsNamespace, is_child, is_root}
 use Rattle.namespace_rows.specs.Rows.{is_directory}
 use Rattle.namespace_rows.specs.Files.{is_open_by}
 use Rattle.flat_rows.specs.declared.verdict.Verdict.TheVariants.{Done}
@@ -65,6 +67,17 @@ abbrev pub WhatAppearsHasTheGroupAbove : Type 0
 WhatAppearsHasTheGroupAbove = (attempt : Attempt) (made path : List (List ℕ)) (above row : Row)
     → IsNamespace attempt.rows → is_rename attempt.op ≡ false → made_path attempt.op ≡ Some made → IsLastAbove attempt above made
     → row_before attempt path ≡ None → row_after attempt path ≡ Some row → row.group ≡ above.group
+
+-- where the directory that holds it has no default list, what is made shows the mode that was asked for; a file has no sticky bit
+abbrev pub DirectoriesShowTheModeAskedFor : Type 0
+DirectoriesShowTheModeAskedFor = (attempt : Attempt) (path : List (List ℕ)) (mode : ℕ) (above row : Row)
+    → IsNamespace attempt.rows → IsTrue (is_mode mode) → IsDone attempt → attempt.op ≡ op.Mkdirs path mode → row_before attempt path ≡ None
+    → IsLastAbove attempt above path → is_child path above.path ≡ true → above.acl.default ≡ None → row_after attempt path ≡ Some row → shown_mode row.acl ≡ mode
+
+abbrev pub FilesShowTheModeAskedFor : Type 0
+FilesShowTheModeAskedFor = (attempt : Attempt) (path : List (List ℕ)) (mode replication : ℕ) (over : Bool) (above row : Row)
+    → IsNamespace attempt.rows → IsTrue (is_mode mode) → IsDone attempt → attempt.op ≡ op.Create path mode replication over
+    → IsLastAbove attempt above path → is_child path above.path ≡ true → above.acl.default ≡ None → row_after attempt path ≡ Some row → shown_mode row.acl ≡ without_sticky mode
 
 -- an owner and a group that are given are those of what stands there, and one that isn't given stays
 abbrev pub OwnersAreAsGiven : Type 0

@@ -19,10 +19,13 @@ pub fn deletions_are_as_asked()
     ensures root { law.RootStays }
 {}
 
-/// What appears is its maker's, and has the group of the last component above that was there (HDFS Permissions Guide, "Overview").
+/// What appears is its maker's, and has the group of the last component above that was there. Where the directory that holds it has no
+/// default list, it shows the mode that was asked for, a file without the sticky bit (HDFS Permissions Guide, "Overview").
 pub fn new_rows_are_their_makers()
     ensures owner { law.WhatAppearsIsItsMakers }
     ensures group { law.WhatAppearsHasTheGroupAbove }
+    ensures directories { law.DirectoriesShowTheModeAskedFor }
+    ensures files { law.FilesShowTheModeAskedFor }
 {}
 
 /// An owner, a group and a replication are those that were given (HDFS Permissions Guide, "Overview"; HDFS Architecture, "Data
