@@ -8,3 +8,4 @@ pub mod Listing
 pub mod Writing
 pub mod Keeping
 pub mod Modes
+pub mod Codes

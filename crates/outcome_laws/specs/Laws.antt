@@ -1,13 +1,15 @@
 -- Laws of what is done: what has to be there before, what stands there after, and what the caller is told. Each holds of every attempt. They
 -- follow from the rules, so a slip in the rules that breaks one is refused, also where code and rule have it together.
 -- (HDFS Architecture, "The File System Namespace" and "Data Replication"; HDFS Permissions Guide, "Overview".)
-use Rattle.std.specs.Prelude.{◌≡◌, ℕ, ◌+◌, Bool, true, false, ◌||◌, List, [], ◌∷◌, ◌++◌, length, Option, Some, None, unwrap_or, IsTrue}
+use Rattle.std.specs.Prelude.{◌≡◌, ℕ, ◌+◌, ◌/◌, ◌%◌, nat_lt, if◌then◌else◌, Bool, true, false, ◌||◌, List, [], ◌∷◌, ◌++◌, length, Option, Some, None, unwrap_or, IsTrue}
 use Rattle.std.specs.List.{list_any}
 use Rattle.std.specs.Option.{is_some, option_map_or}
 use Rattle.hdfs_values.specs.Text.{same}
 use Rattle.permission_bits.specs.Mode.{is_mode, without_sticky}
 use Rattle.file_paths.specs.Path.{is_prefix, is_beneath}
 use Rattle.file_paths.specs.PathOrder.{same_path}
+use Rattle.refusals.specs.Refusal.{refusal_code, refusal_title}
+use Rattle.refusals.specs.declared.refusal.Refusal.{Refusal}
 use Rattle.hdfs_types.specs.declared.op.Op.{Op}
 use Rattle.hdfs_types.specs.declared.op.Op.TheVariants as op
 use Rattle.hdfs_types.specs.declared.reply.ContentSummary.{ContentSummary}
@@ -132,3 +134,17 @@ abbrev pub DirectoriesListWhatTheyHold : Type 0
 DirectoriesListWhatTheyHold = (attempt : Attempt) (path : List (List ℕ)) (directory : Row) (names : List (List ℕ)) (name : List ℕ)
     → attempt.op ≡ op.List path → row_before attempt path ≡ Some directory → is_directory directory ≡ true → (attempt_step attempt).verdict ≡ Done (Names names)
     → list_any (same name) names ≡ is_some (row_before attempt (path ++ name ∷ []))
+
+-- ---- how a refusal is told
+
+-- two refusals that have one code have one name
+abbrev pub CodesTellNames : Type 0
+CodesTellNames = (one other : Refusal) → refusal_code one ≡ refusal_code other → refusal_title one ≡ refusal_title other
+
+-- a number below 100, in digits
+abbrev pub digits_of : ℕ → List ℕ
+digits_of number = if nat_lt number 10 then (48 + number) ∷ [] else (48 + number / 10) ∷ (48 + number % 10) ∷ []
+
+-- and the code stands before the name, behind it a blank
+abbrev pub CodesStandBeforeNames : Type 0
+CodesStandBeforeNames = (refusal : Refusal) → (name : List ℕ) × (refusal_title refusal ≡ digits_of (refusal_code refusal) ++ 32 ∷ name)

@@ -49,3 +49,9 @@ pub fn numbers_and_names_are_true()
     ensures counted { law.SummariesCountWhatGoes }
     ensures listed { law.DirectoriesListWhatTheyHold }
 {}
+
+/// Each kind of refusal has a code of its own, which stands before its name (this project's own numbers).
+pub fn refusals_have_codes_of_their_own()
+    ensures names { law.CodesTellNames }
+    ensures texts { law.CodesStandBeforeNames }
+{}
