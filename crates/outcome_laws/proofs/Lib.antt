@@ -9,3 +9,4 @@ pub mod Writing
 pub mod Keeping
 pub mod Modes
 pub mod Codes
+pub mod Instructing

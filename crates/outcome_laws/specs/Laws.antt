@@ -1,7 +1,7 @@
 -- Laws of what is done: what has to be there before, what stands there after, and what the caller is told. Each holds of every attempt. They
 -- follow from the rules, so a slip in the rules that breaks one is refused, also where code and rule have it together.
 -- (HDFS Architecture, "The File System Namespace" and "Data Replication"; HDFS Permissions Guide, "Overview".)
-use Rattle.std.specs.Prelude.{◌≡◌, ℕ, ◌+◌, ◌/◌, ◌%◌, nat_lt, if◌then◌else◌, Bool, true, false, ◌||◌, List, [], ◌∷◌, ◌++◌, length, Option, Some, None, unwrap_or, IsTrue}
+use Rattle.std.specs.Prelude.{◌≡◌, ℕ, ◌+◌, ◌==◌, ◌/◌, ◌%◌, nat_lt, if◌then◌else◌, Bool, true, false, ◌||◌, List, [], ◌∷◌, ◌++◌, length, Option, Some, None, unwrap_or, IsTrue}
 use Rattle.std.specs.List.{list_any}
 use Rattle.std.specs.Option.{is_some, option_map_or}
 use Rattle.hdfs_values.specs.Text.{same}
@@ -21,6 +21,10 @@ use Rattle.namespace_rows.specs.Namespace.{IsNamespace, is_child, is_root}
 use Rattle.namespace_rows.specs.Rows.{is_directory}
 use Rattle.namespace_rows.specs.Files.{is_open_by}
 use Rattle.flat_rows.specs.declared.verdict.Verdict.TheVariants.{Done}
+use Rattle.block_records.specs.Marks.{marks_for}
+use Rattle.recovery_queue.specs.Queue.{led_by}
+use Rattle.block_map.specs.BlockFacts.{Blocks}
+use Rattle.block_map.specs.BlockEffects.{instructions_for, with_heartbeat_answered}
 use Rattle.permission_laws.specs.Attempt.{Attempt, IsLastAbove, attempt_step, IsDone, row_before, row_after, taken_path, made_path}
 
 -- ---- what has to be there before
@@ -134,6 +138,18 @@ abbrev pub DirectoriesListWhatTheyHold : Type 0
 DirectoriesListWhatTheyHold = (attempt : Attempt) (path : List (List ℕ)) (directory : Row) (names : List (List ℕ)) (name : List ℕ)
     → attempt.op ≡ op.List path → row_before attempt path ≡ Some directory → is_directory directory ≡ true → (attempt_step attempt).verdict ≡ Done (Names names)
     → list_any (same name) names ≡ is_some (row_before attempt (path ++ name ∷ []))
+
+-- ---- what a DataNode is told with the answer to its heartbeat
+
+-- a DataNode is told once of a replica that it is to remove and of a recovery that it is to lead, and not again at its next heartbeat
+abbrev pub InstructionsAreToldOnce : Type 0
+InstructionsAreToldOnce = (facts : Blocks) (node now later : ℕ)
+    → ((instructions_for (with_heartbeat_answered facts node now) later node).removals ≡ []) × ((instructions_for (with_heartbeat_answered facts node now) later node).recoveries ≡ [])
+
+-- which replicas others are to remove, and which recoveries they are to lead, stays
+abbrev pub InstructionsOfOthersStay : Type 0
+InstructionsOfOthersStay = (facts : Blocks) (node other now : ℕ) → (other == node) ≡ false
+    → (marks_for other (with_heartbeat_answered facts node now).marks ≡ marks_for other facts.marks) × (led_by other (with_heartbeat_answered facts node now).queued ≡ led_by other facts.queued)
 
 -- ---- how a refusal is told
 

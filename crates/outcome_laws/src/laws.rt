@@ -55,3 +55,10 @@ pub fn refusals_have_codes_of_their_own()
     ensures names { law.CodesTellNames }
     ensures texts { law.CodesStandBeforeNames }
 {}
+
+/// A DataNode is told once what it is to remove and which recoveries it is to lead, and what others are to be told stays (HDFS
+/// Architecture, "Data Disk Failure, Heartbeats and Re-Replication").
+pub fn instructions_are_told_once()
+    ensures once { law.InstructionsAreToldOnce }
+    ensures others { law.InstructionsOfOthersStay }
+{}
