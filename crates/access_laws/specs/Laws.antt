@@ -1,5 +1,6 @@
--- Laws of what a token lets its user do at a DataNode. They go by the modes of access that are noted down, so a slip in which of them a call needs is
--- refused, also where code and rule have it together; and by the bytes that are held.
+-- Laws of what a DataNode does for a caller, by the mode of access that it notes down: who is noted as no writer changes nothing, and who is
+-- noted as no reader is told no bytes. That each served call is noted is `ServedCallsAreNoted` in `cluster_laws`, and that its token covers the
+-- noted mode `RecordsAreCovered` in `datanode`. And of the bytes that a reader is told.
 -- (HADOOP-4359: a token allows its user to read or to write a block. HDFS Architecture, "Data Replication".)
 use Rattle.std.specs.Prelude.{◌≡◌, ℕ, Bool, true, false, List, [], ◌∷◌, ◌++◌, length, Option, Some, Result, Ok}
 use Rattle.std.specs.List.{list_any}
@@ -19,7 +20,7 @@ use Rattle.replica_steps.specs.ReplicaStep.{held_at}
 use Rattle.replica_steps.specs.declared.replica.Replica.{Replica}
 use Rattle.datanode.specs.NodeStep.{DataNode, node_after, node_answer}
 
--- ---- what a token allows
+-- ---- what is done for a caller
 
 -- the DataNode notes down the call as this access
 abbrev pub IsNoted : DataNode → ℕ → NodeCall → AccessRecord → Type 0
@@ -54,7 +55,7 @@ WritersAreToldNoBytes = (node : DataNode) (now : ℕ) (asked : NodeCall) (entry 
 
 -- ---- what is told
 
--- these bytes are so many of others, from the offset on
+-- what is told is so many of these bytes, from the offset on
 pub record IsPart (bytes told : List ℕ) (offset count : ℕ) : Type 0 where
   pub before : List ℕ
   pub behind : List ℕ
@@ -62,7 +63,7 @@ pub record IsPart (bytes told : List ℕ) (offset count : ℕ) : Type 0 where
   pub begins : length before ≡ offset
   pub long : length told ≡ count
 
--- a finalized replica of this stamp is held, and these are so many of its bytes, from the offset on
+-- a finalized replica of this stamp is held, and what is told is a part of it
 pub record IsOfReplica (held : Option Replica) (stamp offset count : ℕ) (told : List ℕ) : Type 0 where
   pub replica : Replica
   pub stands : held ≡ Some replica

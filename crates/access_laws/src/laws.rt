@@ -2,9 +2,9 @@
 
 ghost use Rattle.access_laws.specs.Laws as law;
 
-/// Whose noted access isn't one to write changes nothing that the DataNode holds, and whose isn't one to read is told no bytes, nor does
-/// a copy go out in his name (HADOOP-4359: a token allows its user to read or to write a block).
-pub fn tokens_let_read_or_write()
+/// Whose noted access isn't one to write changes nothing that the DataNode holds. Whose isn't one to read is told no bytes, and no copy goes
+/// out (HADOOP-4359: a token allows its user to read or to write a block).
+pub fn accesses_read_or_write()
     ensures readers { law.ReadersChangeNothing }
     ensures writers { law.WritersAreToldNoBytes }
 {}

@@ -17,9 +17,11 @@ pub fn what_agrees_goes_on_from_the_opening()
     ensures { law.WhatAgreesGoesOnFromTheOpening }
 {}
 
-/// A history that agrees with the answers that were kept has as many entries since the passes began as changes were told: each of these
-/// entries has a receipt of its own, and each receipt of a change an entry of its own.
+/// A history that agrees with the answers that were kept pairs its entries since the passes began with the changes that were told: each of
+/// these entries was told, and by a receipt of its own, and each change that was told is one of them, and one of its own.
 pub fn what_agrees_loses_nothing()
+    ensures told { law.EntriesWereTold }
     ensures entries { law.EntriesHaveReceiptsOfTheirOwn }
+    ensures kept { law.ChangesAreEntries }
     ensures changes { law.ChangesHaveEntriesOfTheirOwn }
 {}

@@ -1,17 +1,23 @@
 -- What a row is given at a path stands there.
 use Rattle.std.proofs.Common.{◌≡◌, ℕ, Bool, true, false, List, Option, Some, None, option_map, refl, sym, ap, ◌∙◌, cond}
-use Rattle.std.specs.Prelude.{unwrap_or}
+use Rattle.std.specs.Prelude.{IsTrue, unwrap_or}
+use Rattle.permission_bits.specs.Mode.{is_mode, without_sticky}
 use Rattle.file_paths.specs.PathOrder.{same_path}
+use Rattle.file_states.specs.declared.kind.ObjectKind.{ObjectKind}
+use Rattle.file_states.specs.declared.kind.ObjectKind.TheVariants.{File, Directory}
+use Rattle.acl_entries.specs.Acl.{Acl, shown_mode}
+use Rattle.partial_acl.specs.AclChange.{with_mode}
 use Rattle.namespace_rows.specs.declared.file_row.FileRow.{FileRow}
 use Rattle.namespace_rows.specs.declared.row.Row.{Row}
 use Rattle.namespace_rows.specs.declared.row.Change.{Change}
 use Rattle.namespace_rows.specs.declared.row.Change.TheVariants as change
 use Rattle.namespace_rows.specs.Files.{with_file_replication}
-use Rattle.namespace_rows.specs.Rows.{row_at}
+use Rattle.namespace_rows.specs.Rows.{is_directory, is_directory_kind, row_at}
 use Rattle.namespace_rows.specs.Changes.{row_rewritten, with_change}
-use Rattle.flat_rows.specs.Outcome.{with_owner_at}
+use Rattle.flat_rows.specs.Outcome.{with_mode_at, with_owner_at}
 use Rattle.flat_rows.proofs.Firsts.{first_found}
 use Rattle.permission_laws.proofs.RowsAt.{at_map}
+use Rattle.outcome_laws.proofs.Modes.{changed_directory, changed_file}
 
 module _ (path : List (List ℕ)) (rows : List Row) where
   rewritten_at : (given : Change) → ((row : Row) → (with_change given row).path ≡ row.path) → (row : Row) → row_at path rows ≡ Some row → row_at path (row_rewritten path given rows) ≡ Some (with_change given row)
@@ -72,3 +78,24 @@ module _ (path : List (List ℕ)) (rows : List Row) where
           no : None ≡ Some later → ⊥
           no h = cc
       by (Some row) e = by_file row.file (ap (λ (x : Row). x.file) (one (sym (rewritten_at given (λ r. refl) row e) ∙ after)) ∙ is)
+
+  pub mode_given : (mode : ℕ) (later : Row) → IsTrue (is_mode mode) → row_at path (with_mode_at path mode (row_at path rows) rows) ≡ Some later
+      → shown_mode later.acl ≡ cond (is_directory later) mode (without_sticky mode)
+  mode_given mode later valid after = by (row_at path rows) refl
+    where
+      one : {x y : Row} → Some x ≡ Some y → x ≡ y
+      one e = cc
+
+      by_kind : (kind : ObjectKind) (acl : Acl) → shown_mode (with_mode mode kind acl) ≡ cond (is_directory_kind kind) mode (without_sticky mode)
+      by_kind Directory acl = changed_directory mode acl valid
+      by_kind File acl = changed_file mode acl valid
+
+      by : (o : Option Row) → row_at path rows ≡ o → shown_mode later.acl ≡ cond (is_directory later) mode (without_sticky mode)
+      by None e = absurd (no (sym (ap (λ o. row_at path (with_mode_at path mode o rows)) e ∙ e) ∙ after))
+        where
+          no : None ≡ Some later → ⊥
+          no h = cc
+      by (Some row) e =
+          let is : later ≡ with_change (change.List (with_mode mode row.kind row.acl)) row =
+          one (sym after ∙ ap (λ o. row_at path (with_mode_at path mode o rows)) e ∙ rewritten_at (change.List (with_mode mode row.kind row.acl)) (λ r. refl) row e) in
+          ap (λ (r : Row). shown_mode r.acl) is ∙ by_kind row.kind row.acl ∙ ap (λ (r : Row). cond (is_directory r) mode (without_sticky mode)) (sym is)

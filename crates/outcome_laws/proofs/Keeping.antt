@@ -1,8 +1,9 @@
 -- Who has a file open, and whose lease is live, has it open behind what others ask for.
-use Rattle.std.proofs.Common.{◌≡◌, ℕ, Bool, true, false, ◌||◌, List, [], ◌∷◌, Option, Some, None, option_map, map, refl, sym, ap, ◌∙◌, cond}
+use Rattle.std.proofs.Common.{◌≡◌, ℕ, Bool, true, false, ◌||◌, not, List, [], ◌∷◌, Option, Some, None, option_map, map, refl, sym, ap, ◌∙◌, cond}
 use Rattle.std.specs.Prelude.{unwrap_or, Result, Ok, Err}
 use Rattle.hdfs_values.specs.Text.{same}
 use Rattle.hdfs_values.proofs.Texts.{same_is}
+use Rattle.file_paths.specs.Path.{is_prefix}
 use Rattle.file_paths.specs.PathOrder.{same_path}
 use Rattle.file_states.specs.declared.state.FileState.{FileState}
 use Rattle.file_states.specs.declared.state.FileState.TheVariants.{Closed, Open, Recovering}
@@ -21,7 +22,7 @@ use Rattle.namespace_rows.specs.declared.row.Change.{Change}
 use Rattle.namespace_rows.specs.declared.row.Change.TheVariants as change
 use Rattle.namespace_rows.specs.Files.{with_block, committed_at, completed_at, recovered_at, state_recovers, with_file_replication, holder_of, is_client, holder_of_file, is_open_by}
 use Rattle.namespace_rows.specs.Namespace.{IsNamespace}
-use Rattle.namespace_rows.specs.Rows.{row_at}
+use Rattle.namespace_rows.specs.Rows.{is_none, row_at}
 use Rattle.namespace_rows.specs.Changes.{row_rewritten, block_added, with_change, file_edited}
 use Rattle.namespace_rows.proofs.PathOrders.{same_path_is}
 use Rattle.file_blocks.specs.Blocks.{unfinished_block}
@@ -32,13 +33,15 @@ use Rattle.flat_rows.specs.declared.takeover.Sought.{Sought}
 use Rattle.flat_rows.specs.Facts.{Facts}
 use Rattle.flat_rows.specs.Verdicts.{is_done}
 use Rattle.flat_rows.specs.Outcome.{step, first_refusal, first_some, beneath_file, nothing_at, rows_after, made_at, with_mode_at, with_owner_at, with_acl_at, with_list_at}
+use Rattle.flat_rows.proofs.Firsts.{first_passes}
+use Rattle.flat_rows.proofs.Holders.{all_apart}
 use Rattle.permission_laws.specs.Attempt.{concerns}
-use Rattle.permission_laws.proofs.Deciding.{or_none}
+use Rattle.permission_laws.proofs.Deciding.{or_none, path_of_row}
 use Rattle.permission_laws.proofs.Endings.{done, unchanged}
 use Rattle.permission_laws.proofs.RowsAt.{at_map}
 use Rattle.permission_laws.proofs.Elsewhere.{stays}
 use Rattle.outcome_laws.specs.Laws.{has_open, takes_away}
-use Rattle.outcome_laws.proofs.Unrefused.{no_row_at_creation}
+use Rattle.outcome_laws.proofs.Unrefused.{no_row_at_creation, no_row_at_target}
 use Rattle.outcome_laws.proofs.Writing.{paths_same, ticked_path}
 
 differ : true ≡ false → ⊥
@@ -145,7 +148,7 @@ module _ (client : List ℕ) where
 
       -- ---- of each operation
 
-      module _ (rows : List Row) (users : Users) (held : has_open client (row_at path rows) ≡ true) where
+      module _ (rows : List Row) (users : Users) (namespace : IsNamespace rows) (held : has_open client (row_at path rows) ≡ true) where
         abbrev Kept : List Row → Type 0
         Kept after = has_open client (row_at path after) ≡ true
 
@@ -194,12 +197,19 @@ module _ (client : List ℕ) where
         no_row : None ≡ Some mine.row → ⊥
         no_row e = cc
 
+        -- what is renamed comes to where nothing is
+        none_at_target : (to : List (List ℕ)) → row_at to rows ≡ None → is_prefix to path ≡ true → ⊥
+        none_at_target to free inside =
+            differ (sym (first_passes (λ r. same_path path r.path) (λ r. not (is_prefix to r.path)) rows mine.row (all_apart to rows namespace (ap is_none free)) mine.there)
+            ∙ ap (λ p. not (is_prefix to p)) (sym (path_of_row path rows mine.row mine.there)) ∙ ap not inside)
+
         named : (what : Op) → first_refusal facts caller what rows users ≡ None → takes_away what path ≡ false → concerns what path ≡ true → Kept (rows_after facts what caller rows)
         named (op.Mkdirs top mode) h stands about = ap (λ o. has_open client (row_at path (made_at top mode caller o rows))) (at_top top about) ∙ held
         named (op.Create top mode replication true) h stands about = absurd (differ (sym (left_true (same_path path top) about) ∙ stands))
         named (op.Create top mode replication false) h stands about = absurd (no_row (sym (no_row_at_creation facts caller rows users top mode replication h) ∙ at_top top about))
         named (op.Delete top recursive) h stands about = absurd (differ (sym about ∙ stands))
-        named (op.Rename from to) h stands about = absurd (differ (sym about ∙ stands))
+        named (op.Rename from to) h stands about =
+            absurd (none_at_target to (no_row_at_target facts caller rows users from to h) (ap (λ b. b || is_prefix to path) (sym stands) ∙ about))
         named (op.SetMode top mode) h stands about = by (row_at top rows)
           where
             by : (o : Option Row) → Kept (with_mode_at top mode o rows)
@@ -237,8 +247,8 @@ module _ (client : List ℕ) where
         named (op.GetAcl top) h stands about = held
         named _ h stands about = held
 
-        pub open_behind : IsNamespace rows → (what : Op) → takes_away what path ≡ false → Kept (step facts rows users caller what).rows
-        open_behind namespace what stands = by (is_done (step facts rows users caller what).verdict) refl
+        pub open_behind : (what : Op) → takes_away what path ≡ false → Kept (step facts rows users caller what).rows
+        open_behind what stands = by (is_done (step facts rows users caller what).verdict) refl
           where
             by_concern : (b : Bool) → concerns what path ≡ b → first_refusal facts caller what rows users ≡ None → Kept (rows_after facts what caller rows)
             by_concern true e h = named what h stands e

@@ -10,3 +10,5 @@ pub mod Keeping
 pub mod Modes
 pub mod Codes
 pub mod Instructing
+pub mod Making
+pub mod Made

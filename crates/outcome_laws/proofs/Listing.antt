@@ -13,7 +13,7 @@ use Rattle.namespace_rows.specs.Rows.{row_at}
 use Rattle.namespace_rows.specs.Changes.{children, last_name, child_names}
 
 -- two paths are the same where their names are
-by_names : (n m : List ℕ) (ns ms : List (List ℕ)) → same_path (n ∷ ns) (m ∷ ms) ≡ (same n m && same_path ns ms)
+pub by_names : (n m : List ℕ) (ns ms : List (List ℕ)) → same_path (n ∷ ns) (m ∷ ms) ≡ (same n m && same_path ns ms)
 by_names n m ns ms = by (text_cmp n m)
   where
     by : (o : Ordering) → is_eq (ordering_then o (path_cmp ns ms)) ≡ (is_eq o && is_eq (path_cmp ns ms))
@@ -21,7 +21,7 @@ by_names n m ns ms = by (text_cmp n m)
     by Equal = refl
     by Greater = refl
 
-and_false : (b : Bool) → (b && false) ≡ false
+pub and_false : (b : Bool) → (b && false) ≡ false
 and_false true = refl
 and_false false = refl
 

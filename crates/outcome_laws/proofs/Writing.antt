@@ -1,7 +1,8 @@
 -- Who has a file open behind an attempt had it open before, or asks for it.
-use Rattle.std.proofs.Common.{◌≡◌, ℕ, Bool, true, false, not, List, [], ◌∷◌, ◌++◌, Option, Some, None, option_map, map, length, drop, refl, sym, ap, ◌∙◌, cond}
+use Rattle.std.proofs.Common.{◌≡◌, ℕ, Bool, true, false, ◌&&◌, ◌||◌, not, List, [], ◌∷◌, ◌++◌, Option, Some, None, option_map, map, length, drop, append_assoc, refl, sym, ap, ◌∙◌, cond}
 use Rattle.std.specs.Prelude.{unwrap_or, Result, Ok, Err}
 use Rattle.std.specs.List.{list_all}
+use Rattle.std.proofs.lemmas.List.{take-append-drop}
 use Rattle.hdfs_values.specs.Text.{same}
 use Rattle.file_paths.specs.Path.{is_prefix}
 use Rattle.file_paths.specs.PathOrder.{same_path}
@@ -29,10 +30,12 @@ use Rattle.flat_rows.specs.declared.takeover.Sought.{Sought}
 use Rattle.flat_rows.specs.Facts.{Facts}
 use Rattle.flat_rows.specs.Outcome.{rows_after, with_new, made_at, new_row, new_rows, mode_of_new, file_of_new, with_mode_at, with_owner_at, with_acl_at, with_list_at}
 use Rattle.flat_rows.proofs.Firsts.{first_passes}
-use Rattle.flat_rows.proofs.NewDirectories.{starts_self}
-use Rattle.permission_laws.proofs.RowsAt.{at_map, at_new, at_replaced}
-use Rattle.permission_laws.proofs.Elsewhere.{made_inside, without_elsewhere, without_there}
-use Rattle.outcome_laws.specs.Laws.{is_rename, has_open}
+use Rattle.flat_rows.proofs.Changes.{same_self}
+use Rattle.flat_rows.proofs.NewDirectories.{starts_self, beneath_parts, ancestor_above}
+use Rattle.permission_laws.proofs.Deciding.{path_of_row}
+use Rattle.permission_laws.proofs.RowsAt.{at_map, at_new, at_replaced, same_back}
+use Rattle.permission_laws.proofs.Elsewhere.{made_inside, rewritten_elsewhere, without_elsewhere, without_there}
+use Rattle.outcome_laws.specs.Laws.{is_rename, has_open, asks_to_write}
 
 differ : true ≡ false → ⊥
 differ e = cc
@@ -138,7 +141,7 @@ module _ (client : List ℕ) where
 
     -- ---- what is made
 
-    module _ (caller : List ℕ) (other : same client caller ≡ false) where
+    module _ (caller : List ℕ) where
       unopened : (above : Row) (mode : ℕ) (file : Option FileRow) → is_client client (holder_of_file file) ≡ false → (names : List (List ℕ)) → list_all (λ row. not (is_open_by client row)) (new_rows above caller mode file names) ≡ true
       unopened above mode file none [] = refl
       unopened above mode file none (name ∷ names) =
@@ -173,13 +176,62 @@ module _ (client : List ℕ) where
       made mode file none top None rows h = h
       made mode file none top (Some above) rows h = put above mode file none (drop (length above.path) top) rows h
 
+      -- ---- and what is made on the way to another path
+
+      module _ (mode : ℕ) (file : Option FileRow) (whole : List (List ℕ)) where
+        -- of what is made only the last is open
+        last_alone : (above : Row) (names : List (List ℕ)) → above.path ++ names ≡ whole → list_all (λ row. not (is_open_by client row) || same_path whole row.path) (new_rows above caller mode file names) ≡ true
+        last_alone above [] is = refl
+        last_alone above (name ∷ names) is =
+            let made : Row = new_row above caller (mode_of_new mode names) (file_of_new file names) name in
+            and _ _ (by names is) (last_alone made names (append_assoc above.path (name ∷ []) names ∙ is))
+          where
+            or_true : (b : Bool) → (b || true) ≡ true
+            or_true true = refl
+            or_true false = refl
+
+            by : (names : List (List ℕ)) → above.path ++ name ∷ names ≡ whole
+                → (not (is_client client (holder_of_file (file_of_new file names))) || same_path whole (above.path ++ name ∷ [])) ≡ true
+            by [] e = ap (λ b. not (is_client client (holder_of_file file)) || b) (ap (same_path whole) e ∙ same_self whole) ∙ or_true (not (is_client client (holder_of_file file)))
+            by (n ∷ ns) e = refl
+
+        put_elsewhere : (above : Row) (names : List (List ℕ)) → above.path ++ names ≡ whole → same_path path whole ≡ false → (rows : List Row) → KeepsRows rows (with_sub_tree rows (new_rows above caller mode file names))
+        put_elsewhere above [] is apart rows h = h
+        put_elsewhere above (name ∷ names) is apart rows h = by (is_prefix top path) refl
+          where
+            top : List (List ℕ)
+            top = above.path ++ name ∷ []
+
+            left_true : (a b : Bool) → b ≡ false → (a || b) ≡ true → a ≡ true
+            left_true true b e k = refl
+            left_true false b e k = absurd (differ (sym k ∙ e))
+
+            of_new : (o : Option Row) → row_at path (new_rows above caller mode file (name ∷ names)) ≡ o → has_open client o ≡ true → ⊥
+            of_new None e k = cc
+            of_new (Some row) e k =
+                let here : path ≡ row.path = path_of_row path (new_rows above caller mode file (name ∷ names)) row e in
+                let another : same_path whole row.path ≡ false = ap (same_path whole) (sym here) ∙ same_back path whole apart in
+                let one = first_passes (λ r. same_path path r.path) (λ r. not (is_open_by client r) || same_path whole r.path) (new_rows above caller mode file (name ∷ names)) row (last_alone above (name ∷ names) is) e in
+                differ (sym (left_true (not (is_open_by client row)) (same_path whole row.path) another one) ∙ ap not k)
+
+            by : (b : Bool) → is_prefix top path ≡ b → has_open client (row_at path rows) ≡ true
+            by true e = absurd (of_new (row_at path (new_rows above caller mode file (name ∷ names))) refl (ap (has_open client) (sym (at_new path top (new_rows above caller mode file (name ∷ names)) rows e)) ∙ h))
+            by false e = ap (has_open client) (sym (at_replaced path top (new_rows above caller mode file (name ∷ names)) rows e (inside above mode file name names))) ∙ h
+
+        made_elsewhere : same_path path whole ≡ false → (rows : List Row) (o : Option Row) → ancestor whole rows ≡ o → KeepsRows rows (with_new whole mode file caller o rows)
+        made_elsewhere apart rows None e h = h
+        made_elsewhere apart rows (Some above) e h =
+            let parts = beneath_parts whole above.path (ancestor_above whole rows above e) in
+            put_elsewhere above (drop (length above.path) whole)
+            (ap (λ t. t ++ drop (length above.path) whole) (sym parts.front) ∙ take-append-drop (length above.path) whole) apart rows h
+
       -- ---- of each operation
 
       module _ (facts : Facts) (rows : List Row) where
-        appended : (holder : Option (List ℕ)) (block : Option ℕ) → is_client client (holder_of (state_after_append facts.blocks facts.now caller holder block)) ≡ false
-        appended None block = other
-        appended (Some holder) None = refl
-        appended (Some holder) (Some block) = refl
+        appended : same client caller ≡ false → (holder : Option (List ℕ)) (block : Option ℕ) → is_client client (holder_of (state_after_append facts.blocks facts.now caller holder block)) ≡ false
+        appended other None block = other
+        appended other (Some holder) None = refl
+        appended other (Some holder) (Some block) = refl
 
         taken : (top : List (List ℕ)) → KeepsRows rows (without top rows)
         taken top h = by (is_prefix top path) refl
@@ -188,26 +240,30 @@ module _ (client : List ℕ) where
             by true e = absurd (differ (sym h ∙ ap (has_open client) (without_there rows path top e)))
             by false e = ap (has_open client) (sym (without_elsewhere rows path top e)) ∙ h
 
-        pub open_before : (what : Op) → is_rename what ≡ false → KeepsRows rows (rows_after facts what caller rows)
-        open_before (op.Mkdirs top mode) plain h = by (row_at top rows) h
+        pub open_before : (what : Op) → is_rename what ≡ false → (same client caller && asks_to_write what path) ≡ false → KeepsRows rows (rows_after facts what caller rows)
+        open_before (op.Mkdirs top mode) plain unasked h = by (row_at top rows) h
           where
             by : (o : Option Row) → KeepsRows rows (made_at top mode caller o rows)
             by None k = made mode None refl top (ancestor top rows) rows k
             by (Some row) k = k
-        open_before (op.Create top mode replication over) plain h = made mode (Some (new_file replication caller)) other top (ancestor top rows) rows h
-        open_before (op.Delete top recursive) plain h = taken top h
-        open_before (op.Rename from to) plain h = cc
-        open_before (op.SetMode top mode) plain h = by (row_at top rows) h
+        open_before (op.Create top mode replication over) plain unasked h = by (same client caller) refl unasked
+          where
+            by : (b : Bool) → same client caller ≡ b → (b && same_path path top) ≡ false → has_open client (row_at path rows) ≡ true
+            by false e k = made mode (Some (new_file replication caller)) e top (ancestor top rows) rows h
+            by true e k = made_elsewhere mode (Some (new_file replication caller)) top k rows (ancestor top rows) refl h
+        open_before (op.Delete top recursive) plain unasked h = taken top h
+        open_before (op.Rename from to) plain unasked h = cc
+        open_before (op.SetMode top mode) plain unasked h = by (row_at top rows) h
           where
             by : (o : Option Row) → KeepsRows rows (with_mode_at top mode o rows)
             by None k = k
             by (Some row) k = listed top (with_mode mode row.kind row.acl) rows k
-        open_before (op.SetOwner top owner group) plain h = by (row_at top rows) h
+        open_before (op.SetOwner top owner group) plain unasked h = by (row_at top rows) h
           where
             by : (o : Option Row) → KeepsRows rows (with_owner_at top owner group o rows)
             by None k = k
             by (Some row) k = rewritten top (change.Owner (unwrap_or owner row.owner) (unwrap_or group row.group)) (λ r. refl) (λ r k. k) rows k
-        open_before (op.SetAcl top form) plain h = by (row_at top rows) h
+        open_before (op.SetAcl top form) plain unasked h = by (row_at top rows) h
           where
             by_made : (one : Result Acl Refusal) → KeepsRows rows (with_list_at top one rows)
             by_made (Ok acl) k = listed top acl rows k
@@ -216,13 +272,18 @@ module _ (client : List ℕ) where
             by : (o : Option Row) → KeepsRows rows (with_acl_at top form o rows)
             by None k = k
             by (Some row) k = by_made (acl_change form row.kind row.acl) k
-        open_before (op.Append top) plain h =
-            rewritten top (change.State (state_after_append facts.blocks facts.now caller (holder_at (row_at top rows)) (unfinished_at (row_at top rows)))) (λ row. refl)
-            (given_state (state_after_append facts.blocks facts.now caller (holder_at (row_at top rows)) (unfinished_at (row_at top rows))) (appended (holder_at (row_at top rows)) (unfinished_at (row_at top rows)))) rows h
-        open_before (op.AddBlock top last) plain h = added top facts.blocks.known.next_block rows (committed top last (block_added top facts.blocks.known.next_block rows) h)
-        open_before (op.Complete top last) plain h =
+        open_before (op.Append top) plain unasked h = by (same client caller) refl unasked
+          where
+            state : FileState
+            state = state_after_append facts.blocks facts.now caller (holder_at (row_at top rows)) (unfinished_at (row_at top rows))
+
+            by : (b : Bool) → same client caller ≡ b → (b && same_path path top) ≡ false → has_open client (row_at path rows) ≡ true
+            by false e k = rewritten top (change.State state) (λ row. refl) (given_state state (appended e (holder_at (row_at top rows)) (unfinished_at (row_at top rows)))) rows h
+            by true e k = ap (has_open client) (sym (rewritten_elsewhere rows path top (change.State state) (ap (λ b. b || false) k))) ∙ h
+        open_before (op.AddBlock top last) plain unasked h = added top facts.blocks.known.next_block rows (committed top last (block_added top facts.blocks.known.next_block rows) h)
+        open_before (op.Complete top last) plain unasked h =
             rewritten top (change.State Closed) (λ row. refl) (given_state Closed refl) rows (committed top last (row_rewritten top (change.State Closed) rows) h)
-        open_before (op.SetReplication top replication) plain h = rewritten top (change.Replication replication) (λ row. refl) (edited (with_file_replication replication) (λ file k. k)) rows h
-        open_before op.Tick plain h = ticked facts (begun_in facts rows) rows h
-        open_before (op.CommitRecovery own) plain h = recovered own.block own.length rows h
-        open_before _ plain h = h
+        open_before (op.SetReplication top replication) plain unasked h = rewritten top (change.Replication replication) (λ row. refl) (edited (with_file_replication replication) (λ file k. k)) rows h
+        open_before op.Tick plain unasked h = ticked facts (begun_in facts rows) rows h
+        open_before (op.CommitRecovery own) plain unasked h = recovered own.block own.length rows h
+        open_before _ plain unasked h = h

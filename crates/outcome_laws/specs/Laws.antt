@@ -1,15 +1,18 @@
--- Laws of what is done: what has to be there before, what stands there after, and what the caller is told. Each holds of every attempt. They
--- follow from the rules, so a slip in the rules that breaks one is refused, also where code and rule have it together.
+-- Laws of what is done: what has to be there before, what stands there after, and what the caller is told. Each holds of every attempt on a
+-- namespace. They follow from the rules, so a slip in the rules that breaks one is refused, also where code and rule have it together.
 -- (HDFS Architecture, "The File System Namespace" and "Data Replication"; HDFS Permissions Guide, "Overview".)
-use Rattle.std.specs.Prelude.{◌≡◌, ℕ, ◌+◌, ◌==◌, ◌/◌, ◌%◌, nat_lt, if◌then◌else◌, Bool, true, false, ◌||◌, List, [], ◌∷◌, ◌++◌, length, Option, Some, None, unwrap_or, IsTrue}
+use Rattle.std.specs.Prelude.{◌≡◌, ℕ, ◌+◌, ◌==◌, ◌/◌, ◌%◌, nat_lt, if◌then◌else◌, Bool, true, false, ◌&&◌, List, [], ◌∷◌, ◌++◌, length, Option, Some, None, unwrap_or, IsTrue}
 use Rattle.std.specs.List.{list_any}
-use Rattle.std.specs.Option.{is_some, option_map_or}
+use Rattle.std.specs.Option.{is_some, option_map_or, IsSomeAnd}
 use Rattle.hdfs_values.specs.Text.{same}
 use Rattle.permission_bits.specs.Mode.{is_mode, without_sticky}
 use Rattle.file_paths.specs.Path.{is_prefix, is_beneath}
 use Rattle.file_paths.specs.PathOrder.{same_path}
-use Rattle.refusals.specs.Refusal.{refusal_code, refusal_title}
+use Rattle.refusals.specs.Refusal.{refusal_code, refusal_text}
 use Rattle.refusals.specs.declared.refusal.Refusal.{Refusal}
+use Rattle.refusals.specs.declared.refusal.Refusal.TheVariants.{NotDirectory, BadAcl, LeaseHeld, StaleStamp, Spent}
+use Rattle.refusals.specs.declared.refusal.Counter.TheVariants.{Serial}
+use Rattle.hdfs_values.specs.declared.fault.AclFault.TheVariants.{NoBase}
 use Rattle.hdfs_types.specs.declared.op.Op.{Op}
 use Rattle.hdfs_types.specs.declared.op.Op.TheVariants as op
 use Rattle.hdfs_types.specs.declared.reply.ContentSummary.{ContentSummary}
@@ -17,9 +20,9 @@ use Rattle.hdfs_types.specs.declared.reply.Reply.TheVariants.{Summary, Deleted, 
 use Rattle.acl_entries.specs.Acl.{shown_mode}
 use Rattle.namespace_rows.specs.declared.file_row.FileRow.{FileRow}
 use Rattle.namespace_rows.specs.declared.row.Row.{Row}
-use Rattle.namespace_rows.specs.Namespace.{IsNamespace, is_child, is_root}
+use Rattle.namespace_rows.specs.Namespace.{IsNamespace, is_root}
 use Rattle.namespace_rows.specs.Rows.{is_directory}
-use Rattle.namespace_rows.specs.Files.{is_open_by}
+use Rattle.namespace_rows.specs.Files.{new_file, is_open_by}
 use Rattle.flat_rows.specs.declared.verdict.Verdict.TheVariants.{Done}
 use Rattle.block_records.specs.Marks.{marks_for}
 use Rattle.recovery_queue.specs.Queue.{led_by}
@@ -74,16 +77,34 @@ WhatAppearsHasTheGroupAbove = (attempt : Attempt) (made path : List (List ℕ)) 
     → IsNamespace attempt.rows → is_rename attempt.op ≡ false → made_path attempt.op ≡ Some made → IsLastAbove attempt above made
     → row_before attempt path ≡ None → row_after attempt path ≡ Some row → row.group ≡ above.group
 
--- where the directory that holds it has no default list, what is made shows the mode that was asked for; a file has no sticky bit
+-- what is to be made stands there: a directory
+abbrev pub DirectoriesAreMade : Type 0
+DirectoriesAreMade = (attempt : Attempt) (path : List (List ℕ)) (mode : ℕ)
+    → IsNamespace attempt.rows → IsDone attempt → attempt.op ≡ op.Mkdirs path mode → IsSomeAnd (row_after attempt path) (λ row. is_directory row ≡ true)
+
+-- the row of a new file: its maker's, with the group of what stood above it, empty, open for its maker, and with the replication that was asked for
+pub record IsNewFile (attempt : Attempt) (above : Row) (replication : ℕ) (row : Row) : Type 0 where
+  pub owner : row.owner ≡ attempt.caller
+  pub group : row.group ≡ above.group
+  pub file : row.file ≡ Some (new_file replication attempt.caller)
+
+-- or a file, also where it replaces another
+abbrev pub FilesAreMade : Type 0
+FilesAreMade = (attempt : Attempt) (path : List (List ℕ)) (mode replication : ℕ) (over : Bool) (above : Row)
+    → IsNamespace attempt.rows → IsDone attempt → attempt.op ≡ op.Create path mode replication over → IsLastAbove attempt above path
+    → IsSomeAnd (row_after attempt path) (IsNewFile attempt above replication)
+
+-- where the last component that stood above has no default list, what is made shows the mode that was asked for, also behind missing parents; a file
+-- has no sticky bit
 abbrev pub DirectoriesShowTheModeAskedFor : Type 0
 DirectoriesShowTheModeAskedFor = (attempt : Attempt) (path : List (List ℕ)) (mode : ℕ) (above row : Row)
     → IsNamespace attempt.rows → IsTrue (is_mode mode) → IsDone attempt → attempt.op ≡ op.Mkdirs path mode → row_before attempt path ≡ None
-    → IsLastAbove attempt above path → is_child path above.path ≡ true → above.acl.default ≡ None → row_after attempt path ≡ Some row → shown_mode row.acl ≡ mode
+    → IsLastAbove attempt above path → above.acl.default ≡ None → row_after attempt path ≡ Some row → shown_mode row.acl ≡ mode
 
 abbrev pub FilesShowTheModeAskedFor : Type 0
 FilesShowTheModeAskedFor = (attempt : Attempt) (path : List (List ℕ)) (mode replication : ℕ) (over : Bool) (above row : Row)
     → IsNamespace attempt.rows → IsTrue (is_mode mode) → IsDone attempt → attempt.op ≡ op.Create path mode replication over
-    → IsLastAbove attempt above path → is_child path above.path ≡ true → above.acl.default ≡ None → row_after attempt path ≡ Some row → shown_mode row.acl ≡ without_sticky mode
+    → IsLastAbove attempt above path → above.acl.default ≡ None → row_after attempt path ≡ Some row → shown_mode row.acl ≡ without_sticky mode
 
 -- an owner and a group that are given are those of what stands there, and one that isn't given stays
 abbrev pub OwnersAreAsGiven : Type 0
@@ -91,7 +112,13 @@ OwnersAreAsGiven = (attempt : Attempt) (path : List (List ℕ)) (owner group : O
     → IsDone attempt → attempt.op ≡ op.SetOwner path owner group → row_before attempt path ≡ Some row → row_after attempt path ≡ Some later
     → (later.owner ≡ unwrap_or owner row.owner) × (later.group ≡ unwrap_or group row.group)
 
--- and so is the replication of a file
+-- a mode that is given is then shown, and of a file without the sticky bit
+abbrev pub ModesAreAsGiven : Type 0
+ModesAreAsGiven = (attempt : Attempt) (path : List (List ℕ)) (mode : ℕ) (later : Row)
+    → IsTrue (is_mode mode) → IsDone attempt → attempt.op ≡ op.SetMode path mode → row_after attempt path ≡ Some later
+    → shown_mode later.acl ≡ (if is_directory later then mode else without_sticky mode)
+
+-- a replication that is given is then the file's
 abbrev pub ReplicationsAreAsGiven : Type 0
 ReplicationsAreAsGiven = (attempt : Attempt) (path : List (List ℕ)) (replication : ℕ) (later : Row) (file : FileRow)
     → IsDone attempt → attempt.op ≡ op.SetReplication path replication → row_after attempt path ≡ Some later → later.file ≡ Some file → file.replication ≡ replication
@@ -102,19 +129,27 @@ ReplicationsAreAsGiven = (attempt : Attempt) (path : List (List ℕ)) (replicati
 abbrev pub has_open : List ℕ → Option Row → Bool
 has_open client at = option_map_or (is_open_by client) at false
 
--- who has a file open had it open before, or asks for it himself; a rename moves files as they are
+-- the operation asks to write what stands at the path
+abbrev pub asks_to_write : Op → List (List ℕ) → Bool
+asks_to_write (op.Create top mode replication over) path = same_path path top
+asks_to_write (op.Append top) path = same_path path top
+asks_to_write _ path = false
+
+-- who has a file open had it open before, or asks to write it himself; of a rename see that what it moves is as it was
 abbrev pub WritersAskForThemselves : Type 0
 WritersAskForThemselves = (attempt : Attempt) (path : List (List ℕ)) (client : List ℕ)
-    → is_rename attempt.op ≡ false → same client attempt.caller ≡ false → has_open client (row_after attempt path) ≡ true → has_open client (row_before attempt path) ≡ true
+    → is_rename attempt.op ≡ false → (same client attempt.caller && asks_to_write attempt.op path) ≡ false
+    → has_open client (row_after attempt path) ≡ true → has_open client (row_before attempt path) ≡ true
 
--- the operation takes away what stands at the path: deletes it, moves it, or puts a file or what is moved in its place
+-- the operation takes away what stands at the path: deletes it, moves it, or makes another file in its place
 abbrev pub takes_away : Op → List (List ℕ) → Bool
 takes_away (op.Delete top recursive) path = is_prefix top path
-takes_away (op.Rename from to) path = is_prefix from path || is_prefix to path
+takes_away (op.Rename from to) path = is_prefix from path
 takes_away (op.Create top mode replication true) path = same_path path top
 takes_away _ path = false
 
--- who has a file open and renews his lease keeps it, whatever others ask for, until it is taken away
+-- who has a file open keeps it while his lease is live, whatever others ask for, until it is taken away; that he isn't past the hard limit is a
+-- premise of its own, since both facts are handed in
 abbrev pub LiveWritersKeepTheirFiles : Type 0
 LiveWritersKeepTheirFiles = (attempt : Attempt) (path : List (List ℕ)) (client : List ℕ)
     → IsNamespace attempt.rows → attempt.facts.leases.is_live client ≡ true → attempt.facts.leases.is_past_hard client ≡ false
@@ -153,14 +188,23 @@ InstructionsOfOthersStay = (facts : Blocks) (node other now : ℕ) → (other ==
 
 -- ---- how a refusal is told
 
--- two refusals that have one code have one name
-abbrev pub CodesTellNames : Type 0
-CodesTellNames = (one other : Refusal) → refusal_code one ≡ refusal_code other → refusal_title one ≡ refusal_title other
+-- a refusal with the same behind its name as all others of its kind
+abbrev pub bare : Refusal → Refusal
+bare (NotDirectory file) = NotDirectory []
+bare (BadAcl fault) = BadAcl NoBase
+bare (LeaseHeld client) = LeaseHeld []
+bare (StaleStamp newest) = StaleStamp 0
+bare (Spent counter) = Spent Serial
+bare refusal = refusal
+
+-- refusals of one code are of one kind
+abbrev pub CodesTellKinds : Type 0
+CodesTellKinds = (one other : Refusal) → refusal_code one ≡ refusal_code other → bare one ≡ bare other
 
 -- a number below 100, in digits
 abbrev pub digits_of : ℕ → List ℕ
 digits_of number = if nat_lt number 10 then (48 + number) ∷ [] else (48 + number / 10) ∷ (48 + number % 10) ∷ []
 
--- and the code stands before the name, behind it a blank
-abbrev pub CodesStandBeforeNames : Type 0
-CodesStandBeforeNames = (refusal : Refusal) → (name : List ℕ) × (refusal_title refusal ≡ digits_of (refusal_code refusal) ++ 32 ∷ name)
+-- what is printed begins with the code and a blank
+abbrev pub CodesStandInFront : Type 0
+CodesStandInFront = (refusal : Refusal) → (name : List ℕ) × (refusal_text refusal ≡ digits_of (refusal_code refusal) ++ 32 ∷ name)

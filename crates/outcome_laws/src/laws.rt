@@ -19,25 +19,29 @@ pub fn deletions_are_as_asked()
     ensures root { law.RootStays }
 {}
 
-/// What appears is its maker's, and has the group of the last component above that was there. Where the directory that holds it has no
-/// default list, it shows the mode that was asked for, a file without the sticky bit (HDFS Permissions Guide, "Overview").
-pub fn new_rows_are_their_makers()
+/// What is to be made stands there. What appears, but by a rename, is its maker's, and has the group of the last component above that was
+/// there. Where that has no default list, what is made shows the mode that was asked for, a file without the sticky bit (HDFS Permissions
+/// Guide, "Overview").
+pub fn new_rows_belong_to_their_makers()
+    ensures made { law.DirectoriesAreMade }
+    ensures written { law.FilesAreMade }
     ensures owner { law.WhatAppearsIsItsMakers }
     ensures group { law.WhatAppearsHasTheGroupAbove }
     ensures directories { law.DirectoriesShowTheModeAskedFor }
     ensures files { law.FilesShowTheModeAskedFor }
 {}
 
-/// An owner, a group and a replication are those that were given (HDFS Permissions Guide, "Overview"; HDFS Architecture, "Data
+/// An owner, a group, a mode and a replication are those that were given (HDFS Permissions Guide, "Overview"; HDFS Architecture, "Data
 /// Replication").
 pub fn what_is_given_stands()
     ensures owners { law.OwnersAreAsGiven }
+    ensures modes { law.ModesAreAsGiven }
     ensures replications { law.ReplicationsAreAsGiven }
 {}
 
-/// Nobody comes to have a file open but by asking for it himself. And who has one open and renews his lease keeps it, whatever others ask
-/// for, until what stands there is taken away (HDFS Architecture, the single-writer model).
-pub fn one_writes_at_a_time()
+/// Nobody comes to have a file open but by asking to write it himself. And who has one open keeps it while his lease is live, whatever others
+/// ask for, until what stands there is taken away (HDFS Architecture, the single-writer model).
+pub fn live_writers_keep_their_files()
     ensures asked { law.WritersAskForThemselves }
     ensures kept { law.LiveWritersKeepTheirFiles }
 {}
@@ -50,10 +54,10 @@ pub fn numbers_and_names_are_true()
     ensures listed { law.DirectoriesListWhatTheyHold }
 {}
 
-/// Each kind of refusal has a code of its own, which stands before its name (this project's own numbers).
+/// Each kind of refusal has a code of its own, with which its text begins (this project's own numbers).
 pub fn refusals_have_codes_of_their_own()
-    ensures names { law.CodesTellNames }
-    ensures texts { law.CodesStandBeforeNames }
+    ensures kinds { law.CodesTellKinds }
+    ensures texts { law.CodesStandInFront }
 {}
 
 /// A DataNode is told once what it is to remove and which recoveries it is to lead, and what others are to be told stays (HDFS

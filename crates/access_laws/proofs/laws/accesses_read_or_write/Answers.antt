@@ -1,5 +1,5 @@
 use Rattle.access_laws.proofs.Noted.{readers, writers}
-use Rattle.access_laws.proofs.laws.tokens_let_read_or_write.Goals as goal
+use Rattle.access_laws.proofs.laws.accesses_read_or_write.Goals as goal
 
 pub returns-clause-readers : goal.returns-clause-readers
 returns-clause-readers c = readers
