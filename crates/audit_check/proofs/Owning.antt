@@ -4,7 +4,7 @@ use Rattle.std.specs.Option.{option_and_then, option_map_or, IsSomeAnd}
 use Rattle.hdfs_types.specs.Request.{is_look}
 use Rattle.history.specs.declared.entry.HistoryEntry.{HistoryEntry}
 use Rattle.history.specs.declared.entry.Answer.{Answer}
-use Rattle.receipt_checks.specs.Agreement.{Claims, receipt_of, entry_at_place, bound_of, MatchesReceipt, ChangeStands, IsReceived}
+use Rattle.receipt_checks.specs.Agreement.{Claims, receipt_of, entry_at_place, bound_of, MatchesReceipt}
 use Rattle.audit_check.specs.Laws.{AllAgree}
 
 module _ (claims : Claims) (agree : AllAgree claims) where
@@ -32,15 +32,16 @@ module _ (claims : Claims) (agree : AllAgree claims) where
   -- no receipt is bound to stand before the passes began
   grows : (pass : ℕ) (answers : List Answer) → slice_get claims.passes pass ≡ Some answers → (index : ℕ) → length claims.begun ≤ bound_of (length claims.begun) answers index
   grows pass answers e zero = omega arith
-  grows pass answers e (suc before) = by (slice_get answers before) refl
+  grows pass answers e (suc before) = by (grows pass answers e before) (slice_get answers before) refl
     where
-      by_look : (last : Answer) → slice_get answers before ≡ Some last → (b : Bool) → is_look last.request.op ≡ b → length claims.begun ≤ last.place
-      by_look last at false k = omega (arith, grows pass answers e before, (((agree pass before).placed answers last e at).change k).0)
-      by_look last at true k = omega (arith, grows pass answers e before, (((agree pass before).placed answers last e at).look k).0)
+      by_look : length claims.begun ≤ bound_of (length claims.begun) answers before → (last : Answer) → slice_get answers before ≡ Some last → (b : Bool) → is_look last.request.op ≡ b → length claims.begun ≤ last.place
+      by_look low last at false k = omega (arith, low, (((agree pass before).placed answers last e at).change k).0)
+      by_look low last at true k = omega (arith, low, (((agree pass before).placed answers last e at).look k).0)
 
-      by : (o : Option Answer) → slice_get answers before ≡ o → length claims.begun ≤ option_map_or (λ (answer : Answer). answer.place) o (length claims.begun)
-      by None at = omega arith
-      by (Some last) at = by_look last at (is_look last.request.op) refl
+      by : length claims.begun ≤ bound_of (length claims.begun) answers before → (o : Option Answer) → slice_get answers before ≡ o
+          → length claims.begun ≤ option_map_or (λ (answer : Answer). answer.place) o (length claims.begun)
+      by low None at = omega arith
+      by low (Some last) at = by_look low last at (is_look last.request.op) refl
 
   pub stands : (pass index : ℕ) (answer : Answer) → receipt_of claims.passes pass index ≡ Some answer → is_look answer.request.op ≡ false
       → (length claims.begun < answer.place) × IsSomeAnd (entry_at_place claims.history answer.place) (MatchesReceipt pass index answer)
