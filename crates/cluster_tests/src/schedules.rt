@@ -54,6 +54,7 @@ pub(crate) fn check_nodes(world: &World, seen: [usize; 3]) -> Result<[usize; 3],
 }
 
 // Where a script stands.
+#[derive(Drop)]
 struct Progress {
     dice: Dice,
     line: String,
