@@ -49,17 +49,28 @@ fn push_sides(
     Ok(())
 }
 
-/// The sides of all that a rename is asked for on these rows, in the order of judging.
-fn sides_of(alloc: Global, rows: &[Row], op: &Op) -> Result<Vec<Side>, AllocError> {
-    let needs = needs_of(alloc, op)?;
-    let mut sides = Vec::new(alloc);
-    for (demand, path) in needs.as_slice().iter().zip(&RENAMED) {
+/// Adds the sides of each of these needs of a rename, in their order.
+fn push_all_sides(
+    alloc: Global,
+    rows: &[Row],
+    needs: &[Demand<'_>],
+    sides: &mut Vec<Side>,
+) -> Result<(), AllocError> {
+    for (demand, path) in needs.iter().zip(&RENAMED) {
         let side = Side {
             path: *path,
             role: role_name(demand.role()),
         };
-        push_sides(alloc, rows, slice::from_ref(demand), side, &mut sides)?;
+        push_sides(alloc, rows, slice::from_ref(demand), side, sides)?;
     }
+    Ok(())
+}
+
+/// The sides of all that a rename is asked for on these rows, in the order of judging.
+fn sides_of(alloc: Global, rows: &[Row], op: &Op) -> Result<Vec<Side>, AllocError> {
+    let needs = needs_of(alloc, op)?;
+    let mut sides = Vec::new(alloc);
+    push_all_sides(alloc, rows, needs.as_slice(), &mut sides)?;
     Ok(sides)
 }
 
