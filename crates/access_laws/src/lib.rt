@@ -1,4 +1,4 @@
-//! Laws of what a token lets its user do at a DataNode, and of what he is told there.
+//! Laws of what the access that is noted at a DataNode lets its holder do there, and of what he is told.
 #![tactic(auto)]
 
 pub mod laws;

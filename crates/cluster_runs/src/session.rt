@@ -236,7 +236,8 @@ impl Session {
         }
     }
 
-    /// Runs lines behind those that were run. Costs what each line's event does, beside a step for each byte. Where memory runs out, the session has counted those before, and holds what they print.
+    /// Runs lines behind those that were run. Costs what each line's event does, beside a step for each byte. Where memory runs out, the
+    /// session has counted those before, and holds what they print.
     ///
     /// # Errors
     /// Out of memory.
