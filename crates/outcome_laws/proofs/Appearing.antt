@@ -83,15 +83,15 @@ module _ (path : List (List ℕ)) (rows : List Row) (free : row_at path rows ≡
 
     -- all that is made beneath the last component above the path that is made passes the test
     abbrev pub Makes : Op → Type 0
-    Makes what = (top : List (List ℕ)) (above : Row) (mode : ℕ) (file : Option FileRow) (names : List (List ℕ)) → made_path what ≡ Some top → ancestor top rows ≡ Some above
-        → list_all test (new_rows above caller mode file names) ≡ true
+    Makes what = (top : List (List ℕ)) (above : Row) (mode : ℕ) (file : Option FileRow) (names : List (List ℕ)) → names ≡ drop (length above.path) top
+        → made_path what ≡ Some top → ancestor top rows ≡ Some above → list_all test (new_rows above caller mode file names) ≡ true
 
     made : (what : Op) (top : List (List ℕ)) (mode : ℕ) (file : Option FileRow) → made_path what ≡ Some top → Makes what → row_at path (with_new top mode file caller (ancestor top rows) rows) ≡ Some row → test row ≡ true
     made what top mode file is makes at = by (ancestor top rows) refl at
       where
         by : (o : Option Row) → ancestor top rows ≡ o → row_at path (with_new top mode file caller o rows) ≡ Some row → test row ≡ true
         by None e k = absurd (never row k)
-        by (Some above) e k = new_passes above mode file (drop (length above.path) top) (makes top above mode file (drop (length above.path) top) is e) k
+        by (Some above) e k = new_passes above mode file (drop (length above.path) top) (makes top above mode file (drop (length above.path) top) refl is e) k
 
     stays : (what : Op) → (is_about_files what || (is_about_lists what || is_about_owners what)) ≡ true → row_at path (rows_after facts what caller rows) ≡ Some row → test row ≡ true
     stays what about at = absurd (differ (ap is_some (sym at) ∙ all_alike rows path facts caller what about ∙ ap is_some free))

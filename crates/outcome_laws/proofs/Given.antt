@@ -20,7 +20,7 @@ use Rattle.permission_laws.proofs.RowsAt.{at_map}
 use Rattle.outcome_laws.proofs.Modes.{changed_directory, changed_file}
 
 module _ (path : List (List ℕ)) (rows : List Row) where
-  rewritten_at : (given : Change) → ((row : Row) → (with_change given row).path ≡ row.path) → (row : Row) → row_at path rows ≡ Some row → row_at path (row_rewritten path given rows) ≡ Some (with_change given row)
+  pub rewritten_at : (given : Change) → ((row : Row) → (with_change given row).path ≡ row.path) → (row : Row) → row_at path rows ≡ Some row → row_at path (row_rewritten path given rows) ≡ Some (with_change given row)
   rewritten_at given paths row at =
       at_map path (λ r. cond (same_path path r.path) (with_change given r) r) keeps rows ∙ ap (option_map (λ r. cond (same_path path r.path) (with_change given r) r)) at
       ∙ ap (λ b. Some (cond b (with_change given row) row)) (first_found (λ r. same_path path r.path) rows row at)
@@ -32,7 +32,7 @@ module _ (path : List (List ℕ)) (rows : List Row) where
           by true = paths r
           by false = refl
 
-  none_rewritten : (given : Change) → ((row : Row) → (with_change given row).path ≡ row.path) → row_at path rows ≡ None → row_at path (row_rewritten path given rows) ≡ None
+  pub none_rewritten : (given : Change) → ((row : Row) → (with_change given row).path ≡ row.path) → row_at path rows ≡ None → row_at path (row_rewritten path given rows) ≡ None
   none_rewritten given paths at =
       at_map path (λ r. cond (same_path path r.path) (with_change given r) r) keeps rows ∙ ap (option_map (λ r. cond (same_path path r.path) (with_change given r) r)) at
     where

@@ -12,3 +12,8 @@ pub mod Codes
 pub mod Instructing
 pub mod Making
 pub mod Made
+pub mod Parents
+pub mod Bytes
+pub mod Groups
+pub mod Lengths
+pub mod Copying

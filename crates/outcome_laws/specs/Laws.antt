@@ -1,13 +1,16 @@
 -- Laws of what is done: what has to be there before, what stands there after, and what the caller is told. Each holds of every attempt on a
 -- namespace. They follow from the rules, so a slip in the rules that breaks one is refused, also where code and rule have it together.
 -- (HDFS Architecture, "The File System Namespace" and "Data Replication"; HDFS Permissions Guide, "Overview".)
-use Rattle.std.specs.Prelude.{◌≡◌, ℕ, ◌+◌, ◌==◌, ◌/◌, ◌%◌, nat_lt, if◌then◌else◌, Bool, true, false, ◌&&◌, List, [], ◌∷◌, ◌++◌, length, Option, Some, None, unwrap_or, IsTrue}
-use Rattle.std.specs.List.{list_any}
+use Rattle.std.specs.Prelude.{◌≡◌, ℕ, ◌+◌, ◌-◌, ◌==◌, ◌/◌, ◌%◌, nat_lt, if◌then◌else◌, Bool, true, false, ◌&&◌, not, List, filter, [], ◌∷◌, ◌++◌, length, Option, Some, None, unwrap_or, IsTrue}
+use Rattle.std.specs.List.{list_any, list_all, sum_by}
 use Rattle.std.specs.Option.{is_some, option_map_or, IsSomeAnd}
 use Rattle.hdfs_values.specs.Text.{same}
 use Rattle.permission_bits.specs.Mode.{is_mode, without_sticky}
 use Rattle.file_paths.specs.Path.{is_prefix, is_beneath}
 use Rattle.file_paths.specs.PathOrder.{same_path}
+use Rattle.file_states.specs.declared.state.FileState.TheVariants.{Closed}
+use Rattle.block_records.specs.declared.last_block.LastBlock.{LastBlock}
+use Rattle.block_answers.specs.LocatedBlocks.{OpenedFile}
 use Rattle.refusals.specs.Refusal.{refusal_code, refusal_text}
 use Rattle.refusals.specs.declared.refusal.Refusal.{Refusal}
 use Rattle.refusals.specs.declared.refusal.Refusal.TheVariants.{NotDirectory, BadAcl, LeaseHeld, StaleStamp, Spent}
@@ -15,8 +18,13 @@ use Rattle.refusals.specs.declared.refusal.Counter.TheVariants.{Serial}
 use Rattle.hdfs_values.specs.declared.fault.AclFault.TheVariants.{NoBase}
 use Rattle.hdfs_types.specs.declared.op.Op.{Op}
 use Rattle.hdfs_types.specs.declared.op.Op.TheVariants as op
+use Rattle.hdfs_types.specs.declared.file.FileDetail.{FileDetail}
+use Rattle.hdfs_types.specs.declared.reply.FileStatus.{FileStatus}
 use Rattle.hdfs_types.specs.declared.reply.ContentSummary.{ContentSummary}
-use Rattle.hdfs_types.specs.declared.reply.Reply.TheVariants.{Summary, Deleted, Names}
+use Rattle.hdfs_types.specs.declared.reply.Reply.TheVariants as reply
+use Rattle.hdfs_types.specs.declared.reply.Reply.TheVariants.{Summary, Deleted, Names, Status, Opened}
+use Rattle.principals.specs.Users.{groups_of}
+use Rattle.file_blocks.specs.Blocks.{length_of}
 use Rattle.acl_entries.specs.Acl.{shown_mode}
 use Rattle.namespace_rows.specs.declared.file_row.FileRow.{FileRow}
 use Rattle.namespace_rows.specs.declared.row.Row.{Row}
@@ -26,9 +34,13 @@ use Rattle.namespace_rows.specs.Files.{new_file, is_open_by}
 use Rattle.flat_rows.specs.declared.verdict.Verdict.TheVariants.{Done}
 use Rattle.block_records.specs.Marks.{marks_for}
 use Rattle.recovery_queue.specs.Queue.{led_by}
-use Rattle.block_map.specs.BlockFacts.{Blocks}
-use Rattle.block_map.specs.BlockEffects.{instructions_for, with_heartbeat_answered}
-use Rattle.permission_laws.specs.Attempt.{Attempt, IsLastAbove, attempt_step, IsDone, row_before, row_after, taken_path, made_path}
+use Rattle.block_records.specs.declared.block_record.BlockRecord.{BlockRecord}
+use Rattle.heartbeats.specs.Live.{is_live, live_nodes}
+use Rattle.block_changes.specs.Copies.{reports}
+use Rattle.block_changes.specs.declared.transfer.Transfer.{Transfer}
+use Rattle.block_map.specs.BlockFacts.{Blocks, known_block}
+use Rattle.block_map.specs.BlockEffects.{instructions_for, with_node_heard, with_heartbeat_answered}
+use Rattle.permission_laws.specs.Attempt.{Attempt, IsLastAbove, attempt_step, IsDone, row_before, row_after, taken_path, made_path, may}
 
 -- ---- what has to be there before
 
@@ -106,6 +118,12 @@ FilesShowTheModeAskedFor = (attempt : Attempt) (path : List (List ℕ)) (mode re
     → IsNamespace attempt.rows → IsTrue (is_mode mode) → IsDone attempt → attempt.op ≡ op.Create path mode replication over
     → IsLastAbove attempt above path → above.acl.default ≡ None → row_after attempt path ≡ Some row → shown_mode row.acl ≡ without_sticky mode
 
+-- parents that are made on the way let their maker traverse them and write, where the last component that stood above has no default list
+abbrev pub MissingParentsServeTheirMakers : Type 0
+MissingParentsServeTheirMakers = (attempt : Attempt) (made path : List (List ℕ)) (above row : Row)
+    → IsNamespace attempt.rows → is_rename attempt.op ≡ false → made_path attempt.op ≡ Some made → IsLastAbove attempt above made → above.acl.default ≡ None
+    → is_beneath made path ≡ true → row_before attempt path ≡ None → row_after attempt path ≡ Some row → may 3 attempt row ≡ true
+
 -- an owner and a group that are given are those of what stands there, and one that isn't given stays
 abbrev pub OwnersAreAsGiven : Type 0
 OwnersAreAsGiven = (attempt : Attempt) (path : List (List ℕ)) (owner group : Option (List ℕ)) (row later : Row)
@@ -122,6 +140,22 @@ ModesAreAsGiven = (attempt : Attempt) (path : List (List ℕ)) (mode : ℕ) (lat
 abbrev pub ReplicationsAreAsGiven : Type 0
 ReplicationsAreAsGiven = (attempt : Attempt) (path : List (List ℕ)) (replication : ℕ) (later : Row) (file : FileRow)
     → IsDone attempt → attempt.op ≡ op.SetReplication path replication → row_after attempt path ≡ Some later → later.file ≡ Some file → file.replication ≡ replication
+
+-- a user and the groups that an operation gives him
+abbrev pub given_groups : Op → Option (List ℕ × List (List ℕ))
+given_groups (op.AddUser user groups) = Some (user, groups)
+given_groups (op.SetGroups user groups) = Some (user, groups)
+given_groups _ = None
+
+-- who is given groups then has these and no others
+abbrev pub GroupsAreAsGiven : Type 0
+GroupsAreAsGiven = (attempt : Attempt) (user : List ℕ) (groups : List (List ℕ))
+    → IsDone attempt → given_groups attempt.op ≡ Some (user, groups) → groups_of (attempt_step attempt).users user ≡ groups
+
+-- and those of everybody else stay
+abbrev pub GroupsOfOthersStay : Type 0
+GroupsOfOthersStay = (attempt : Attempt) (user other : List ℕ) (groups : List (List ℕ))
+    → given_groups attempt.op ≡ Some (user, groups) → same other user ≡ false → groups_of (attempt_step attempt).users other ≡ groups_of attempt.users other
 
 -- ---- who writes
 
@@ -168,6 +202,28 @@ SummariesCountWhatGoes = (look deletion : Attempt) (path : List (List ℕ)) (rec
     → look.rows ≡ deletion.rows → look.op ≡ op.Summary path → deletion.op ≡ op.Delete path recursive
     → (attempt_step look).verdict ≡ Done (Summary summary) → (attempt_step deletion).verdict ≡ Done (Deleted count) → summary.directories + summary.files ≡ count
 
+-- the bytes of all files
+abbrev pub bytes_held : List Row → ℕ
+bytes_held rows = sum_by (λ (row : Row). option_map_or (λ (file : FileRow). length_of file.blocks) row.file 0) rows
+
+-- and as many bytes go as the summary told
+abbrev pub SummariesTellTheBytesThatGo : Type 0
+SummariesTellTheBytesThatGo = (look deletion : Attempt) (path : List (List ℕ)) (recursive : Bool) (summary : ContentSummary)
+    → look.rows ≡ deletion.rows → look.op ≡ op.Summary path → deletion.op ≡ op.Delete path recursive
+    → (attempt_step look).verdict ≡ Done (Summary summary) → IsDone deletion → bytes_held deletion.rows ≡ bytes_held (attempt_step deletion).rows + summary.bytes
+
+-- who opens a file to read is told the length that its status tells
+abbrev pub ReadersAreToldTheLength : Type 0
+ReadersAreToldTheLength = (look reading : Attempt) (path : List (List ℕ)) (status : FileStatus) (detail : FileDetail) (opened : OpenedFile)
+    → look.rows ≡ reading.rows → look.op ≡ op.Stat path → reading.op ≡ op.Open path
+    → (attempt_step look).verdict ≡ Done (Status status) → status.file ≡ Some detail → (attempt_step reading).verdict ≡ Done (Opened opened) → opened.length ≡ detail.length
+
+-- who ends a file is told the length that it then has, and it is closed
+abbrev pub WritersAreToldTheLength : Type 0
+WritersAreToldTheLength = (attempt : Attempt) (path : List (List ℕ)) (last : Option LastBlock) (bytes : ℕ) (later : Row) (file : FileRow)
+    → attempt.op ≡ op.Complete path last → (attempt_step attempt).verdict ≡ Done (reply.Closed bytes) → row_after attempt path ≡ Some later → later.file ≡ Some file
+    → (length_of file.blocks ≡ bytes) × (file.state ≡ Closed)
+
 -- a listing tells a name where something stands by that name in the directory, and no other
 abbrev pub DirectoriesListWhatTheyHold : Type 0
 DirectoriesListWhatTheyHold = (attempt : Attempt) (path : List (List ℕ)) (directory : Row) (names : List (List ℕ)) (name : List ℕ)
@@ -185,6 +241,23 @@ InstructionsAreToldOnce = (facts : Blocks) (node now later : ℕ)
 abbrev pub InstructionsOfOthersStay : Type 0
 InstructionsOfOthersStay = (facts : Blocks) (node other now : ℕ) → (other == node) ≡ false
     → (marks_for other (with_heartbeat_answered facts node now).marks ≡ marks_for other facts.marks) × (led_by other (with_heartbeat_answered facts node now).queued ≡ led_by other facts.queued)
+
+-- what is known of a block says that a node is to copy it so: its length is committed, fewer live nodes report it than there are to be replicas, nobody was
+-- told to copy it within the retry limit, the node reports it, and the copy is of its newest stamp and goes to a live node that doesn't report it
+abbrev pub is_to_copy : Blocks → ℕ → ℕ → Transfer → ℕ × BlockRecord → Bool
+is_to_copy facts now node copy entry =
+    (entry.0 == copy.block) && ((entry.1.stamp == copy.stamp) && (is_some entry.1.committed && (nat_lt (length (filter (reports entry.1) (live_nodes facts.nodes now))) entry.1.replication
+    && (option_map_or (λ last. nat_lt facts.retry (now - last)) entry.1.handed_out true && (reports entry.1 node && (is_live facts.nodes now copy.target && not (reports entry.1 copy.target)))))))
+
+-- a DataNode is told to make copies that are needed, and that can be made
+abbrev pub CopiesAreNeeded : Type 0
+CopiesAreNeeded = (facts : Blocks) (node now : ℕ) → list_all (λ copy. list_any (is_to_copy (with_node_heard facts node now) now node copy) facts.known.blocks) (instructions_for facts now node).copies ≡ true
+
+-- and that it was told is noted, from when on the retry limit runs
+abbrev pub CopiesAreNoted : Type 0
+CopiesAreNoted = (facts : Blocks) (node now block : ℕ) (later : BlockRecord)
+    → list_any (λ (copy : Transfer). copy.block == block) (instructions_for facts now node).copies ≡ true → known_block (with_heartbeat_answered facts node now) block ≡ Some later
+    → later.handed_out ≡ Some now
 
 -- ---- how a refusal is told
 

@@ -2,14 +2,21 @@ use Rattle.std.proofs.Common.{◌+◌, length, sym, ap, ◌∙◌, cond}
 use Rattle.std.specs.List.{list_any}
 use Rattle.hdfs_values.specs.Text.{same}
 use Rattle.hdfs_types.specs.declared.op.Op.TheVariants as op
-use Rattle.hdfs_types.specs.declared.reply.Reply.TheVariants.{Summary, Deleted, Names}
+use Rattle.block_answers.specs.LocatedBlocks.{OpenedFile}
+use Rattle.hdfs_types.specs.declared.reply.Reply.TheVariants.{Summary, Deleted, Names, Status, Opened, Closed}
+use Rattle.file_blocks.specs.Blocks.{length_of}
+use Rattle.namespace_rows.specs.Rows.{row_at}
 use Rattle.namespace_rows.specs.Changes.{rows_under, without, child_names}
 use Rattle.flat_rows.specs.Verdicts.{is_done}
-use Rattle.flat_rows.specs.Outcome.{listed_names, own_name}
+use Rattle.flat_rows.specs.Outcome.{listed_names, own_name, bytes_in}
+use Rattle.flat_rows.specs.BlockOutcome.{blocks_of_row}
+use Rattle.outcome_laws.specs.Laws.{bytes_held}
 use Rattle.outcome_laws.proofs.Doing.{left, told}
 use Rattle.outcome_laws.proofs.Counting.{fewer}
 use Rattle.outcome_laws.proofs.Listing.{names_told}
-use Rattle.outcome_laws.proofs.Told.{count_of, summary_is, names_of}
+use Rattle.outcome_laws.proofs.Told.{count_of, summary_is, names_of, opened_is, bytes_of, bytes_told}
+use Rattle.outcome_laws.proofs.Bytes.{bytes_gone}
+use Rattle.outcome_laws.proofs.Lengths.{length_told, ended}
 use Rattle.outcome_laws.proofs.laws.numbers_and_names_are_true.Goals as goal
 
 pub returns-clause-deleted : goal.returns-clause-deleted
@@ -26,3 +33,18 @@ pub returns-clause-listed : goal.returns-clause-listed
 returns-clause-listed c = λ a path directory names name asked at kind verdict.
     ap (list_any (same name)) (sym (names_of (told a (op.List path) asked (Names names) verdict)) ∙ ap (λ o. listed_names path o a.rows) at ∙ ap (λ b. cond b (child_names path a.rows) (own_name path)) kind)
     ∙ names_told name path a.rows
+
+pub returns-clause-bytes : goal.returns-clause-bytes
+returns-clause-bytes c = λ look deletion path recursive summary alike looked asked summed is_done.
+    bytes_gone path deletion.rows ∙ ap (λ n. bytes_held (without path deletion.rows) + n) (ap (λ some. bytes_in (rows_under path some)) (sym alike) ∙ bytes_told (rows_under path look.rows) summary (told look (op.Summary path) looked (Summary summary) summed))
+    ∙ ap (λ some. bytes_held some + summary.bytes) (sym (left deletion (op.Delete path recursive) asked is_done))
+
+pub returns-clause-readers : goal.returns-clause-readers
+returns-clause-readers c = λ look reading path status detail opened alike looked asked stated file read.
+    sym (ap (λ (o : OpenedFile). o.length) (opened_is (told reading (op.Open path) asked (Opened opened) read)))
+    ∙ ap (λ some. length_of (blocks_of_row (row_at path some))) (sym alike) ∙ length_told (row_at path look.rows) status detail (told look (op.Stat path) looked (Status status) stated) file
+
+pub returns-clause-writers : goal.returns-clause-writers
+returns-clause-writers c = λ a path last bytes later file asked verdict after is.
+    let both = ended path a.rows last later file (ap (row_at path) (sym (left a (op.Complete path last) asked (ap is_done verdict))) ∙ after) is in
+    (both.0 ∙ bytes_of (told a (op.Complete path last) asked (Closed bytes) verdict), both.1)

@@ -1,8 +1,11 @@
-use Rattle.std.proofs.Common.{◌∙◌, sym, ap}
+use Rattle.std.proofs.Common.{◌≡◌, ◌∙◌, refl, sym, ap}
 use Rattle.hdfs_types.specs.declared.op.Op.TheVariants as op
 use Rattle.namespace_rows.specs.Rows.{row_at}
 use Rattle.outcome_laws.proofs.Doing.{left}
 use Rattle.outcome_laws.proofs.Given.{owner_given, mode_given, replication_given}
+use Rattle.principals.specs.Users.{groups_of}
+use Rattle.permission_laws.proofs.Endings.{ended, done}
+use Rattle.outcome_laws.proofs.Groups.{given, others_keep, users_either_way}
 use Rattle.outcome_laws.proofs.laws.what_is_given_stands.Goals as goal
 
 pub returns-clause-owners : goal.returns-clause-owners
@@ -16,3 +19,12 @@ returns-clause-replications c = λ a path replication later file is_done asked a
 pub returns-clause-modes : goal.returns-clause-modes
 returns-clause-modes c = λ a path mode later valid is_done asked after.
     mode_given path a.rows mode later valid (ap (row_at path) (sym (left a (op.SetMode path mode) asked is_done)) ∙ after)
+
+pub returns-clause-groups : goal.returns-clause-groups
+returns-clause-groups c = λ a user groups is_done is.
+    ap (λ users. groups_of users user) ((ended a.facts a.rows a.users a.caller a.op).users_left is_done)
+    ∙ given user groups a.facts a.caller a.rows a.users a.op (done a.facts a.rows a.users a.caller a.op is_done).unrefused is
+
+pub returns-clause-others : goal.returns-clause-others
+returns-clause-others c = λ a user other groups is apart.
+    users_either_way a.facts a.rows a.users a.caller a.op (λ users. groups_of users other ≡ groups_of a.users other) refl (others_keep user groups a.users a.op other is apart)

@@ -1,0 +1,102 @@
+-- Which groups users have behind an operation that gives somebody groups.
+use Rattle.std.proofs.Common.{◌≡◌, ℕ, Bool, true, false, List, [], ◌∷◌, ◌++◌, Option, Some, None, is_some, unwrap_or, refl, sym, ap, ◌∙◌, subst, cond}
+use Rattle.std.specs.Map.{lookup, set_value}
+use Rattle.hdfs_values.specs.Text.{same}
+use Rattle.hdfs_values.proofs.Texts.{same_self, same_is}
+use Rattle.node_ids.specs.NodeId.{node_of}
+use Rattle.refusals.specs.declared.refusal.Refusal.TheVariants.{BadName, Exists, NotFound}
+use Rattle.hdfs_types.specs.declared.op.Op.{Op}
+use Rattle.hdfs_types.specs.declared.op.Op.TheVariants as op
+use Rattle.principals.specs.Users.{Users, groups_of, is_known}
+use Rattle.flat_rows.specs.Facts.{Facts}
+use Rattle.flat_rows.specs.Outcome.{step, first_refusal, users_after}
+use Rattle.flat_rows.specs.Verdicts.{is_done}
+use Rattle.permission_laws.proofs.Endings.{ended}
+use Rattle.namespace_rows.specs.declared.row.Row.{Row}
+use Rattle.outcome_laws.specs.Laws.{given_groups}
+
+abbrev Known : Type 0
+Known = List (List ℕ × List (List ℕ))
+
+module _ (user : List ℕ) (groups : List (List ℕ)) where
+  set_own : (known : Known) → is_some (lookup (same user) known) ≡ true → lookup (same user) (set_value (same user) known groups) ≡ Some groups
+  set_own [] h = cc
+  set_own (e ∷ es) h = by (same user e.0) refl h (set_own es)
+    where
+      by : (b : Bool) → same user e.0 ≡ b → is_some (cond b (Some e.1) (lookup (same user) es)) ≡ true
+          → (is_some (lookup (same user) es) ≡ true → lookup (same user) (set_value (same user) es groups) ≡ Some groups)
+          → lookup (same user) (cond b ((e.0, groups) ∷ es) (e ∷ set_value (same user) es groups)) ≡ Some groups
+      by true t k rest = ap (λ b. cond b (Some groups) (lookup (same user) es)) t
+      by false t k rest = ap (λ b. cond b (Some e.1) (lookup (same user) (set_value (same user) es groups))) t ∙ rest k
+
+  added_own : (known : Known) → is_some (lookup (same user) known) ≡ false → lookup (same user) (known ++ (user, groups) ∷ []) ≡ Some groups
+  added_own [] h = ap (λ b. cond b (Some groups) None) (same_self user)
+  added_own (e ∷ es) h = by (same user e.0) h (added_own es)
+    where
+      by : (b : Bool) → is_some (cond b (Some e.1) (lookup (same user) es)) ≡ false
+          → (is_some (lookup (same user) es) ≡ false → lookup (same user) (es ++ (user, groups) ∷ []) ≡ Some groups)
+          → cond b (Some e.1) (lookup (same user) (es ++ (user, groups) ∷ [])) ≡ Some groups
+      by true k rest = cc
+      by false k rest = rest k
+
+  module _ (other : List ℕ) (apart : same other user ≡ false) where
+    set_others : (known : Known) → lookup (same other) (set_value (same user) known groups) ≡ lookup (same other) known
+    set_others [] = refl
+    set_others (e ∷ es) = by (same user e.0) refl (set_others es)
+      where
+        by : (b : Bool) → same user e.0 ≡ b → lookup (same other) (set_value (same user) es groups) ≡ lookup (same other) es
+            → lookup (same other) (cond b ((e.0, groups) ∷ es) (e ∷ set_value (same user) es groups)) ≡ cond (same other e.0) (Some e.1) (lookup (same other) es)
+        by true t rest =
+            let no : same other e.0 ≡ false = ap (same other) (sym (same_is user e.0 t)) ∙ apart in
+            ap (λ b. cond b (Some groups) (lookup (same other) es)) no ∙ sym (ap (λ b. cond b (Some e.1) (lookup (same other) es)) no)
+        by false t rest = ap (cond (same other e.0) (Some e.1)) rest
+
+    added_others : (known : Known) → lookup (same other) (known ++ (user, groups) ∷ []) ≡ lookup (same other) known
+    added_others [] = ap (λ b. cond b (Some groups) None) apart
+    added_others (e ∷ es) = ap (cond (same other e.0) (Some e.1)) (added_others es)
+
+-- who isn't refused to be made known wasn't, and who isn't refused to be given groups was
+new_is_unknown : (b c : Bool) → cond b (Some BadName) (cond c (Some Exists) None) ≡ None → c ≡ false
+new_is_unknown true c h = cc
+new_is_unknown false true h = cc
+new_is_unknown false false h = refl
+
+old_is_known : (c : Bool) → cond c None (Some NotFound) ≡ None → c ≡ true
+old_is_known true h = refl
+old_is_known false h = cc
+
+module _ (user : List ℕ) (groups : List (List ℕ)) where
+  abbrev Given : Type 0
+  Given = List ℕ × List (List ℕ)
+
+  same_pair : {p q : Given} → Some p ≡ Some q → p ≡ q
+  same_pair e = cc
+
+  owner_is : {one : List ℕ} {some : List (List ℕ)} → ◌≡◌ {A = Option Given} (Some (one, some)) (Some (user, groups)) → one ≡ user
+  owner_is e = ap (λ (p : Given). p.0) (same_pair e)
+
+  groups_are : {one : List ℕ} {some : List (List ℕ)} → ◌≡◌ {A = Option Given} (Some (one, some)) (Some (user, groups)) → some ≡ groups
+  groups_are e = ap (λ (p : Given). p.1) (same_pair e)
+
+  pub given : (facts : Facts) (caller : List ℕ) (rows : List Row) (users : Users) (what : Op) → first_refusal facts caller what rows users ≡ None → given_groups what ≡ Some (user, groups)
+      → groups_of (users_after what users) user ≡ groups
+  given facts caller rows users (op.AddUser one some) free is =
+      ap (groups_of (users_after (op.AddUser one some) users)) (sym (owner_is is))
+      ∙ ap (λ o. unwrap_or o []) (added_own one some users.known (new_is_unknown (is_some (node_of one)) (is_known users one) free)) ∙ groups_are is
+  given facts caller rows users (op.SetGroups one some) free is =
+      ap (groups_of (users_after (op.SetGroups one some) users)) (sym (owner_is is))
+      ∙ ap (λ o. unwrap_or o []) (set_own one some users.known (old_is_known (is_known users one) free)) ∙ groups_are is
+  given facts caller rows users _ free is = cc
+
+  pub others_keep : (users : Users) (what : Op) (other : List ℕ) → given_groups what ≡ Some (user, groups) → same other user ≡ false → groups_of (users_after what users) other ≡ groups_of users other
+  others_keep users (op.AddUser one some) other is apart = ap (λ o. unwrap_or o []) (added_others one some other (ap (same other) (owner_is is) ∙ apart) users.known)
+  others_keep users (op.SetGroups one some) other is apart = ap (λ o. unwrap_or o []) (set_others one some other (ap (same other) (owner_is is) ∙ apart) users.known)
+  others_keep users _ other is apart = cc
+
+-- what the users of the operation and the users as they were have alike, those after the attempt have
+pub users_either_way : (facts : Facts) (rows : List Row) (users : Users) (caller : List ℕ) (what : Op) (P : Users → Type 0) → P users → P (users_after what users) → P (step facts rows users caller what).users
+users_either_way facts rows users caller what P as_before as_done = by (is_done (step facts rows users caller what).verdict) refl
+  where
+    by : (b : Bool) → is_done (step facts rows users caller what).verdict ≡ b → P (step facts rows users caller what).users
+    by true e = subst P (sym ((ended facts rows users caller what).users_left e)) as_done
+    by false e = subst P (sym ((ended facts rows users caller what).same_users e)) as_before
