@@ -27,3 +27,10 @@ module _ (a : Attempt) (what : Op) (asked : a.op ≡ what) where
       by_decision : (o : Option Denial) → (denied_or_outcome a.facts a.rows a.users a.caller a.op o).verdict ≡ Done reply → reply_of a.facts a.caller a.op a.rows ≡ reply
       by_decision None k = by_refusal (first_refusal a.facts a.caller a.op a.rows a.users) k
       by_decision (Some denial) k = cc
+
+  -- what an attempt that is done is answered
+  pub answered : IsDone a → (attempt_step a).verdict ≡ Done (reply_of a.facts a.caller what a.rows)
+  answered is_done =
+      let parts = done a.facts a.rows a.users a.caller a.op is_done in
+      ap (λ d. (denied_or_outcome a.facts a.rows a.users a.caller a.op d).verdict) parts.allowed ∙ ap (λ r. (refused_or_done a.facts a.rows a.users a.caller a.op r).verdict) parts.unrefused
+      ∙ ap (λ o. Done (reply_of a.facts a.caller o a.rows)) asked

@@ -1,5 +1,5 @@
 -- Which groups users have behind an operation that gives somebody groups.
-use Rattle.std.proofs.Common.{◌≡◌, ℕ, Bool, true, false, List, [], ◌∷◌, ◌++◌, Option, Some, None, is_some, unwrap_or, refl, sym, ap, ◌∙◌, subst, cond}
+use Rattle.std.proofs.Common.{◌≡◌, ℕ, Bool, true, false, List, [], ◌∷◌, ◌++◌, Option, Some, None, is_some, refl, sym, ap, ◌∙◌, subst, cond}
 use Rattle.std.specs.Map.{lookup, set_value}
 use Rattle.hdfs_values.specs.Text.{same}
 use Rattle.hdfs_values.proofs.Texts.{same_self, same_is}
@@ -7,7 +7,7 @@ use Rattle.node_ids.specs.NodeId.{node_of}
 use Rattle.refusals.specs.declared.refusal.Refusal.TheVariants.{BadName, Exists, NotFound}
 use Rattle.hdfs_types.specs.declared.op.Op.{Op}
 use Rattle.hdfs_types.specs.declared.op.Op.TheVariants as op
-use Rattle.principals.specs.Users.{Users, groups_of, is_known}
+use Rattle.principals.specs.Users.{Users, is_known}
 use Rattle.flat_rows.specs.Facts.{Facts}
 use Rattle.flat_rows.specs.Outcome.{step, first_refusal, users_after}
 use Rattle.flat_rows.specs.Verdicts.{is_done}
@@ -79,19 +79,25 @@ module _ (user : List ℕ) (groups : List (List ℕ)) where
   groups_are e = ap (λ (p : Given). p.1) (same_pair e)
 
   pub given : (facts : Facts) (caller : List ℕ) (rows : List Row) (users : Users) (what : Op) → first_refusal facts caller what rows users ≡ None → given_groups what ≡ Some (user, groups)
-      → groups_of (users_after what users) user ≡ groups
+      → lookup (same user) (users_after what users).known ≡ Some groups
   given facts caller rows users (op.AddUser one some) free is =
-      ap (groups_of (users_after (op.AddUser one some) users)) (sym (owner_is is))
-      ∙ ap (λ o. unwrap_or o []) (added_own one some users.known (new_is_unknown (is_some (node_of one)) (is_known users one) free)) ∙ groups_are is
+      ap (λ name. lookup (same name) (users_after (op.AddUser one some) users).known) (sym (owner_is is))
+      ∙ added_own one some users.known (new_is_unknown (is_some (node_of one)) (is_known users one) free) ∙ ap Some (groups_are is)
   given facts caller rows users (op.SetGroups one some) free is =
-      ap (groups_of (users_after (op.SetGroups one some) users)) (sym (owner_is is))
-      ∙ ap (λ o. unwrap_or o []) (set_own one some users.known (old_is_known (is_known users one) free)) ∙ groups_are is
+      ap (λ name. lookup (same name) (users_after (op.SetGroups one some) users).known) (sym (owner_is is))
+      ∙ set_own one some users.known (old_is_known (is_known users one) free) ∙ ap Some (groups_are is)
   given facts caller rows users _ free is = cc
 
-  pub others_keep : (users : Users) (what : Op) (other : List ℕ) → given_groups what ≡ Some (user, groups) → same other user ≡ false → groups_of (users_after what users) other ≡ groups_of users other
-  others_keep users (op.AddUser one some) other is apart = ap (λ o. unwrap_or o []) (added_others one some other (ap (same other) (owner_is is) ∙ apart) users.known)
-  others_keep users (op.SetGroups one some) other is apart = ap (λ o. unwrap_or o []) (set_others one some other (ap (same other) (owner_is is) ∙ apart) users.known)
+  pub others_keep : (users : Users) (what : Op) (other : List ℕ) → given_groups what ≡ Some (user, groups) → same other user ≡ false
+      → lookup (same other) (users_after what users).known ≡ lookup (same other) users.known
+  others_keep users (op.AddUser one some) other is apart = added_others one some other (ap (same other) (owner_is is) ∙ apart) users.known
+  others_keep users (op.SetGroups one some) other is apart = set_others one some other (ap (same other) (owner_is is) ∙ apart) users.known
   others_keep users _ other is apart = cc
+
+pub super_names_stay : (users : Users) (what : Op) → ((users_after what users).superuser ≡ users.superuser) × ((users_after what users).supergroup ≡ users.supergroup)
+super_names_stay users (op.AddUser one some) = (refl, refl)
+super_names_stay users (op.SetGroups one some) = (refl, refl)
+super_names_stay users _ = (refl, refl)
 
 -- what the users of the operation and the users as they were have alike, those after the attempt have
 pub users_either_way : (facts : Facts) (rows : List Row) (users : Users) (caller : List ℕ) (what : Op) (P : Users → Type 0) → P users → P (users_after what users) → P (step facts rows users caller what).users

@@ -1,7 +1,7 @@
 -- What replies hold.
 use Rattle.std.proofs.Common.{◌≡◌, ℕ, ◌+◌, List, length, sym, ap, ◌∙◌}
 use Rattle.block_answers.specs.LocatedBlocks.{OpenedFile}
-use Rattle.hdfs_types.specs.declared.reply.Reply.TheVariants.{Summary, Deleted, Names, Opened, Closed}
+use Rattle.hdfs_types.specs.declared.reply.Reply.TheVariants.{Summary, Deleted, Names, Opened}
 use Rattle.hdfs_types.specs.declared.reply.ContentSummary.{ContentSummary}
 use Rattle.namespace_rows.specs.declared.row.Row.{Row}
 use Rattle.flat_rows.specs.Outcome.{summary_of, bytes_in}
@@ -18,9 +18,6 @@ inner e = cc
 
 pub opened_is : {o p : OpenedFile} → Opened o ≡ Opened p → o ≡ p
 opened_is e = cc
-
-pub bytes_of : {n m : ℕ} → Closed n ≡ Closed m → n ≡ m
-bytes_of e = cc
 
 pub bytes_told : (rows : List Row) (summary : ContentSummary) → summary_of rows ≡ Summary summary → bytes_in rows ≡ summary.bytes
 bytes_told rows summary e = ap (λ (s : ContentSummary). s.bytes) (inner e)

@@ -23,7 +23,7 @@ use Rattle.hdfs_types.specs.declared.reply.FileStatus.{FileStatus}
 use Rattle.hdfs_types.specs.declared.reply.ContentSummary.{ContentSummary}
 use Rattle.hdfs_types.specs.declared.reply.Reply.TheVariants as reply
 use Rattle.hdfs_types.specs.declared.reply.Reply.TheVariants.{Summary, Deleted, Names, Status, Opened}
-use Rattle.principals.specs.Users.{groups_of}
+use Rattle.principals.specs.Users.{groups_of, is_known}
 use Rattle.file_blocks.specs.Blocks.{length_of}
 use Rattle.acl_entries.specs.Acl.{shown_mode}
 use Rattle.namespace_rows.specs.declared.file_row.FileRow.{FileRow}
@@ -118,7 +118,7 @@ FilesShowTheModeAskedFor = (attempt : Attempt) (path : List (List ℕ)) (mode re
     → IsNamespace attempt.rows → IsTrue (is_mode mode) → IsDone attempt → attempt.op ≡ op.Create path mode replication over
     → IsLastAbove attempt above path → above.acl.default ≡ None → row_after attempt path ≡ Some row → shown_mode row.acl ≡ without_sticky mode
 
--- parents that are made on the way let their maker traverse them and write, where the last component that stood above has no default list
+-- parents that are made on the way grant their maker write and traverse, where the last component that stood above has no default list
 abbrev pub MissingParentsServeTheirMakers : Type 0
 MissingParentsServeTheirMakers = (attempt : Attempt) (made path : List (List ℕ)) (above row : Row)
     → IsNamespace attempt.rows → is_rename attempt.op ≡ false → made_path attempt.op ≡ Some made → IsLastAbove attempt above made → above.acl.default ≡ None
@@ -147,15 +147,19 @@ given_groups (op.AddUser user groups) = Some (user, groups)
 given_groups (op.SetGroups user groups) = Some (user, groups)
 given_groups _ = None
 
--- who is given groups then has these and no others
+-- who is given groups is then known, and has these groups and no others
 abbrev pub GroupsAreAsGiven : Type 0
-GroupsAreAsGiven = (attempt : Attempt) (user : List ℕ) (groups : List (List ℕ))
-    → IsDone attempt → given_groups attempt.op ≡ Some (user, groups) → groups_of (attempt_step attempt).users user ≡ groups
+GroupsAreAsGiven = (attempt : Attempt) (user : List ℕ) (groups : List (List ℕ)) → IsDone attempt → given_groups attempt.op ≡ Some (user, groups)
+    → (is_known (attempt_step attempt).users user ≡ true) × (groups_of (attempt_step attempt).users user ≡ groups)
 
--- and those of everybody else stay
+-- everybody else is known as before, with the groups that he had
 abbrev pub GroupsOfOthersStay : Type 0
-GroupsOfOthersStay = (attempt : Attempt) (user other : List ℕ) (groups : List (List ℕ))
-    → given_groups attempt.op ≡ Some (user, groups) → same other user ≡ false → groups_of (attempt_step attempt).users other ≡ groups_of attempt.users other
+GroupsOfOthersStay = (attempt : Attempt) (user other : List ℕ) (groups : List (List ℕ)) → given_groups attempt.op ≡ Some (user, groups) → same other user ≡ false
+    → (is_known (attempt_step attempt).users other ≡ is_known attempt.users other) × (groups_of (attempt_step attempt).users other ≡ groups_of attempt.users other)
+
+-- the names of the superuser and of the supergroup stay
+abbrev pub SuperNamesStay : Type 0
+SuperNamesStay = (attempt : Attempt) → ((attempt_step attempt).users.superuser ≡ attempt.users.superuser) × ((attempt_step attempt).users.supergroup ≡ attempt.users.supergroup)
 
 -- ---- who writes
 
@@ -202,27 +206,27 @@ SummariesCountWhatGoes = (look deletion : Attempt) (path : List (List ℕ)) (rec
     → look.rows ≡ deletion.rows → look.op ≡ op.Summary path → deletion.op ≡ op.Delete path recursive
     → (attempt_step look).verdict ≡ Done (Summary summary) → (attempt_step deletion).verdict ≡ Done (Deleted count) → summary.directories + summary.files ≡ count
 
--- the bytes of all files
+-- the committed bytes of all files, replicas not counted
 abbrev pub bytes_held : List Row → ℕ
 bytes_held rows = sum_by (λ (row : Row). option_map_or (λ (file : FileRow). length_of file.blocks) row.file 0) rows
 
--- and as many bytes go as the summary told
+-- and as many bytes are there fewer as the summary told
 abbrev pub SummariesTellTheBytesThatGo : Type 0
 SummariesTellTheBytesThatGo = (look deletion : Attempt) (path : List (List ℕ)) (recursive : Bool) (summary : ContentSummary)
     → look.rows ≡ deletion.rows → look.op ≡ op.Summary path → deletion.op ≡ op.Delete path recursive
     → (attempt_step look).verdict ≡ Done (Summary summary) → IsDone deletion → bytes_held deletion.rows ≡ bytes_held (attempt_step deletion).rows + summary.bytes
 
--- who opens a file to read is told the length that its status tells
+-- who opens a file to read is told the length that its status tells, over the same rows
 abbrev pub ReadersAreToldTheLength : Type 0
 ReadersAreToldTheLength = (look reading : Attempt) (path : List (List ℕ)) (status : FileStatus) (detail : FileDetail) (opened : OpenedFile)
     → look.rows ≡ reading.rows → look.op ≡ op.Stat path → reading.op ≡ op.Open path
     → (attempt_step look).verdict ≡ Done (Status status) → status.file ≡ Some detail → (attempt_step reading).verdict ≡ Done (Opened opened) → opened.length ≡ detail.length
 
--- who ends a file is told the length that it then has, and it is closed
+-- who completes a file is told the length that it then has, and it is closed
 abbrev pub WritersAreToldTheLength : Type 0
-WritersAreToldTheLength = (attempt : Attempt) (path : List (List ℕ)) (last : Option LastBlock) (bytes : ℕ) (later : Row) (file : FileRow)
-    → attempt.op ≡ op.Complete path last → (attempt_step attempt).verdict ≡ Done (reply.Closed bytes) → row_after attempt path ≡ Some later → later.file ≡ Some file
-    → (length_of file.blocks ≡ bytes) × (file.state ≡ Closed)
+WritersAreToldTheLength = (attempt : Attempt) (path : List (List ℕ)) (last : Option LastBlock) (later : Row) (file : FileRow)
+    → IsDone attempt → attempt.op ≡ op.Complete path last → row_after attempt path ≡ Some later → later.file ≡ Some file
+    → ((attempt_step attempt).verdict ≡ Done (reply.Closed (length_of file.blocks))) × (file.state ≡ Closed)
 
 -- a listing tells a name where something stands by that name in the directory, and no other
 abbrev pub DirectoriesListWhatTheyHold : Type 0
@@ -242,18 +246,18 @@ abbrev pub InstructionsOfOthersStay : Type 0
 InstructionsOfOthersStay = (facts : Blocks) (node other now : ℕ) → (other == node) ≡ false
     → (marks_for other (with_heartbeat_answered facts node now).marks ≡ marks_for other facts.marks) × (led_by other (with_heartbeat_answered facts node now).queued ≡ led_by other facts.queued)
 
--- what is known of a block says that a node is to copy it so: its length is committed, fewer live nodes report it than there are to be replicas, nobody was
+-- what is known of a block says that a node may be told to copy it so: its length is committed, fewer live nodes report it than its replication, nobody was
 -- told to copy it within the retry limit, the node reports it, and the copy is of its newest stamp and goes to a live node that doesn't report it
 abbrev pub is_to_copy : Blocks → ℕ → ℕ → Transfer → ℕ × BlockRecord → Bool
 is_to_copy facts now node copy entry =
     (entry.0 == copy.block) && ((entry.1.stamp == copy.stamp) && (is_some entry.1.committed && (nat_lt (length (filter (reports entry.1) (live_nodes facts.nodes now))) entry.1.replication
     && (option_map_or (λ last. nat_lt facts.retry (now - last)) entry.1.handed_out true && (reports entry.1 node && (is_live facts.nodes now copy.target && not (reports entry.1 copy.target)))))))
 
--- a DataNode is told to make copies that are needed, and that can be made
+-- a DataNode is told to make such copies alone
 abbrev pub CopiesAreNeeded : Type 0
 CopiesAreNeeded = (facts : Blocks) (node now : ℕ) → list_all (λ copy. list_any (is_to_copy (with_node_heard facts node now) now node copy) facts.known.blocks) (instructions_for facts now node).copies ≡ true
 
--- and that it was told is noted, from when on the retry limit runs
+-- and of each of these blocks that is known then the moment is noted, from which the retry limit runs
 abbrev pub CopiesAreNoted : Type 0
 CopiesAreNoted = (facts : Blocks) (node now block : ℕ) (later : BlockRecord)
     → list_any (λ (copy : Transfer). copy.block == block) (instructions_for facts now node).copies ≡ true → known_block (with_heartbeat_answered facts node now) block ≡ Some later

@@ -21,7 +21,7 @@ pub fn deletions_are_as_asked()
 
 /// What is to be made stands there. What appears, but by a rename, is its maker's, and has the group of the last component above that was
 /// there. Where that has no default list, what is made shows the mode that was asked for, a file without the sticky bit, and parents that
-/// are made on the way let their maker traverse them and write (HDFS Permissions Guide, "Overview").
+/// are made on the way grant their maker write and traverse (HDFS Permissions Guide, "Overview").
 pub fn new_rows_belong_to_their_makers()
     ensures made { law.DirectoriesAreMade }
     ensures written { law.FilesAreMade }
@@ -32,14 +32,16 @@ pub fn new_rows_belong_to_their_makers()
     ensures parents { law.MissingParentsServeTheirMakers }
 {}
 
-/// An owner, a group, a mode and a replication are those that were given; who is given groups has these, and everybody else keeps his (HDFS
-/// Permissions Guide, "Overview" and "Group Mapping"; HDFS Architecture, "Data Replication").
+/// An owner, a group, a mode and a replication are those that were given. Who is given groups is known and has these, everybody else keeps
+/// theirs, and the superuser's and the supergroup's names stay (HDFS Permissions Guide, "Overview", "Group Mapping" and "The Super-User";
+/// HDFS Architecture, "Data Replication").
 pub fn what_is_given_stands()
     ensures owners { law.OwnersAreAsGiven }
     ensures modes { law.ModesAreAsGiven }
     ensures replications { law.ReplicationsAreAsGiven }
     ensures groups { law.GroupsAreAsGiven }
     ensures others { law.GroupsOfOthersStay }
+    ensures names { law.SuperNamesStay }
 {}
 
 /// Nobody comes to have a file open but by asking to write it himself. And who has one open keeps it while his lease is live, whatever others
@@ -49,8 +51,9 @@ pub fn live_writers_keep_their_files()
     ensures kept { law.LiveWritersKeepTheirFiles }
 {}
 
-/// A deletion tells how many files and directories there are fewer, which is how many a summary of the path told, and as many bytes go as
-/// that told. Who opens a file is told the length that its status tells, and who ends it the length that it then has. And a listing tells
+/// A deletion tells how many files and directories there are fewer, which is how many a summary of the path told over the same rows, and as
+/// many committed bytes are there fewer as that told. Who opens a file to read is told the length that its status tells over the same rows,
+/// and who completes it the length that it then has. And a listing tells
 /// the names of what stands right beneath a directory, and no others (HDFS Architecture, "The File System Namespace" and "Data
 /// Replication").
 pub fn numbers_and_names_are_true()
@@ -68,9 +71,9 @@ pub fn refusals_have_codes_of_their_own()
     ensures texts { law.CodesStandInFront }
 {}
 
-/// A DataNode is told once what it is to remove and which recoveries it is to lead, and what others are to be told stays. It is told to make
-/// copies that are needed, each from a DataNode that has the block to a live one that hasn't, and that is noted (HDFS Architecture, "Data
-/// Disk Failure, Heartbeats and Re-Replication").
+/// A DataNode is told once what it is to remove and which recoveries it is to lead, and what others are to be told stays. The copies that it
+/// is told to make are of blocks that lack replicas and that it reports, each to a live DataNode that doesn't; and the moment is noted (HDFS
+/// Architecture, "Data Disk Failure, Heartbeats and Re-Replication").
 pub fn instructions_are_told_once()
     ensures once { law.InstructionsAreToldOnce }
     ensures others { law.InstructionsOfOthersStay }

@@ -8,13 +8,14 @@ use Rattle.file_blocks.specs.Blocks.{length_of}
 use Rattle.namespace_rows.specs.Rows.{row_at}
 use Rattle.namespace_rows.specs.Changes.{rows_under, without, child_names}
 use Rattle.flat_rows.specs.Verdicts.{is_done}
+use Rattle.flat_rows.specs.declared.verdict.Verdict.TheVariants.{Done}
 use Rattle.flat_rows.specs.Outcome.{listed_names, own_name, bytes_in}
 use Rattle.flat_rows.specs.BlockOutcome.{blocks_of_row}
 use Rattle.outcome_laws.specs.Laws.{bytes_held}
-use Rattle.outcome_laws.proofs.Doing.{left, told}
+use Rattle.outcome_laws.proofs.Doing.{left, told, answered}
 use Rattle.outcome_laws.proofs.Counting.{fewer}
 use Rattle.outcome_laws.proofs.Listing.{names_told}
-use Rattle.outcome_laws.proofs.Told.{count_of, summary_is, names_of, opened_is, bytes_of, bytes_told}
+use Rattle.outcome_laws.proofs.Told.{count_of, summary_is, names_of, opened_is, bytes_told}
 use Rattle.outcome_laws.proofs.Bytes.{bytes_gone}
 use Rattle.outcome_laws.proofs.Lengths.{length_told, ended}
 use Rattle.outcome_laws.proofs.laws.numbers_and_names_are_true.Goals as goal
@@ -45,6 +46,6 @@ returns-clause-readers c = λ look reading path status detail opened alike looke
     ∙ ap (λ some. length_of (blocks_of_row (row_at path some))) (sym alike) ∙ length_told (row_at path look.rows) status detail (told look (op.Stat path) looked (Status status) stated) file
 
 pub returns-clause-writers : goal.returns-clause-writers
-returns-clause-writers c = λ a path last bytes later file asked verdict after is.
-    let both = ended path a.rows last later file (ap (row_at path) (sym (left a (op.Complete path last) asked (ap is_done verdict))) ∙ after) is in
-    (both.0 ∙ bytes_of (told a (op.Complete path last) asked (Closed bytes) verdict), both.1)
+returns-clause-writers c = λ a path last later file is_done asked after is.
+    let both = ended path a.rows last later file (ap (row_at path) (sym (left a (op.Complete path last) asked is_done)) ∙ after) is in
+    (answered a (op.Complete path last) asked is_done ∙ ap (λ n. Done (Closed n)) (sym both.0), both.1)

@@ -1,11 +1,14 @@
-use Rattle.std.proofs.Common.{◌≡◌, ◌∙◌, refl, sym, ap}
+use Rattle.std.proofs.Common.{◌≡◌, ◌∙◌, [], Some, is_some, unwrap_or, refl, sym, ap}
+use Rattle.std.specs.Map.{lookup}
+use Rattle.hdfs_values.specs.Text.{same}
 use Rattle.hdfs_types.specs.declared.op.Op.TheVariants as op
 use Rattle.namespace_rows.specs.Rows.{row_at}
 use Rattle.outcome_laws.proofs.Doing.{left}
 use Rattle.outcome_laws.proofs.Given.{owner_given, mode_given, replication_given}
-use Rattle.principals.specs.Users.{groups_of}
+use Rattle.principals.specs.Users.{Users}
+use Rattle.permission_laws.specs.Attempt.{attempt_step}
 use Rattle.permission_laws.proofs.Endings.{ended, done}
-use Rattle.outcome_laws.proofs.Groups.{given, others_keep, users_either_way}
+use Rattle.outcome_laws.proofs.Groups.{given, others_keep, super_names_stay, users_either_way}
 use Rattle.outcome_laws.proofs.laws.what_is_given_stands.Goals as goal
 
 pub returns-clause-owners : goal.returns-clause-owners
@@ -22,9 +25,17 @@ returns-clause-modes c = λ a path mode later valid is_done asked after.
 
 pub returns-clause-groups : goal.returns-clause-groups
 returns-clause-groups c = λ a user groups is_done is.
-    ap (λ users. groups_of users user) ((ended a.facts a.rows a.users a.caller a.op).users_left is_done)
-    ∙ given user groups a.facts a.caller a.rows a.users a.op (done a.facts a.rows a.users a.caller a.op is_done).unrefused is
+    let found : lookup (same user) (attempt_step a).users.known ≡ Some groups =
+    ap (λ (users : Users). lookup (same user) users.known) ((ended a.facts a.rows a.users a.caller a.op).users_left is_done)
+    ∙ given user groups a.facts a.caller a.rows a.users a.op (done a.facts a.rows a.users a.caller a.op is_done).unrefused is in
+    (ap is_some found, ap (λ o. unwrap_or o []) found)
 
 pub returns-clause-others : goal.returns-clause-others
 returns-clause-others c = λ a user other groups is apart.
-    users_either_way a.facts a.rows a.users a.caller a.op (λ users. groups_of users other ≡ groups_of a.users other) refl (others_keep user groups a.users a.op other is apart)
+    let kept : lookup (same other) (attempt_step a).users.known ≡ lookup (same other) a.users.known =
+    users_either_way a.facts a.rows a.users a.caller a.op (λ users. lookup (same other) users.known ≡ lookup (same other) a.users.known) refl (others_keep user groups a.users a.op other is apart) in
+    (ap is_some kept, ap (λ o. unwrap_or o []) kept)
+
+pub returns-clause-names : goal.returns-clause-names
+returns-clause-names c = λ a.
+    users_either_way a.facts a.rows a.users a.caller a.op (λ users. (users.superuser ≡ a.users.superuser) × (users.supergroup ≡ a.users.supergroup)) (refl, refl) (super_names_stay a.users a.op)
