@@ -14,7 +14,7 @@ static int refused(void) {
         const char *text = getenv("REFUSE_ALLOCATION");
         at = text ? strtoul(text, NULL, 10) : (unsigned long)-1;
     }
-    if (++made != at) return 0;
+    if (__atomic_add_fetch(&made, 1, __ATOMIC_RELAXED) != at) return 0;
     (void)!write(3, "x", 1);
     return 1;
 }

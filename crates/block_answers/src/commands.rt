@@ -8,7 +8,7 @@ use hdfs_values::ids::{BlockId, Stamp};
 use node_ids::node_id::NodeId;
 use std::alloc::{AllocError, Global};
 use std::marker::Model;
-use std::rc::Rc;
+use std::sync::Arc;
 
 /// What a DataNode is told that is to lead the recovery of a block (HDFS-265, "Block recovery"): the stamp that the block gets, the
 /// nodes that are to hold the block, live or not, and the token that the leading node presents to them.
@@ -79,7 +79,7 @@ struct CommandLists {
 /// is to lead, the replicas that it is to remove, and those that it is to copy (HDFS Architecture, "Data Disk Failure, Heartbeats and
 /// Re-Replication"). Copies of it share the lists.
 pub struct Commands {
-    lists: Rc<CommandLists>,
+    lists: Arc<CommandLists>,
 }
 
 impl Drop for Commands {
@@ -144,7 +144,7 @@ impl Commands {
         let orders = boxed(alloc, recoveries, removals, copies)?;
         let lists = CommandLists { keys, orders };
         Ok(Commands {
-            lists: Rc::new(alloc, lists)?,
+            lists: Arc::new(alloc, lists)?,
         })
     }
 

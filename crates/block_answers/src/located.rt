@@ -5,7 +5,7 @@ use block_records::node_set::NodeSet;
 use hdfs_values::ids::{BlockId, Stamp};
 use std::alloc::{AllocError, Global};
 use std::marker::Model;
-use std::rc::Rc;
+use std::sync::Arc;
 
 // What a writer is given.
 #[derive(Drop)]
@@ -19,7 +19,7 @@ struct AddedParts {
 /// What a writer is given who asks for a new block: its id, its generation stamp, the DataNodes that are to hold it, and the token with
 /// which it is written there (HDFS Architecture, "Replication Pipelining"). Copies of it share its parts.
 pub struct AddedBlock {
-    parts: Rc<AddedParts>,
+    parts: Arc<AddedParts>,
 }
 
 impl Drop for AddedBlock {
@@ -63,7 +63,7 @@ impl AddedBlock {
             token,
         };
         Ok(AddedBlock {
-            parts: Rc::new(alloc, parts)?,
+            parts: Arc::new(alloc, parts)?,
         })
     }
 
@@ -142,7 +142,7 @@ struct OpenedParts {
 /// What a reader is told of a file: its length in bytes, and its blocks whose length is committed, in their order. Copies of it share
 /// its parts.
 pub struct OpenedFile {
-    parts: Rc<OpenedParts>,
+    parts: Arc<OpenedParts>,
 }
 
 impl Drop for OpenedFile {
@@ -174,7 +174,7 @@ impl OpenedFile {
     {
         let parts = OpenedParts { length, blocks };
         Ok(OpenedFile {
-            parts: Rc::new(alloc, parts)?,
+            parts: Arc::new(alloc, parts)?,
         })
     }
 

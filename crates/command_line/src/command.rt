@@ -25,12 +25,25 @@ fn hints_on_lines<'a>(alloc: Global) -> Arg<'a> {
     )
 }
 
+fn workers<'a>(alloc: Global) -> Result<Arg<'a>, AllocError> {
+    Arg::new(alloc, "workers")
+        .long("workers")
+        .value_name("N")
+        .value_parser(value_parser!(u32).range(1..=64))
+        .help(
+            "Has 1 to 64 threads ask the requests beside each other, each caller's in their order; lines of DataNodes are bad then",
+        )
+        .conflicts_with("hints")
+}
+
 fn run_command<'a>(alloc: Global, verbs: &'a str) -> Result<Command<'a>, AllocError> {
+    let workers = workers(alloc)?;
     Command::new(alloc, "run")
         .about("Runs a script, and prints an answer for each line")
         .after_help(verbs)
         .arg(script(alloc))?
-        .arg(hints_on_lines(alloc))
+        .arg(hints_on_lines(alloc))?
+        .arg(workers)
 }
 
 fn line<'a>(alloc: Global) -> Arg<'a> {

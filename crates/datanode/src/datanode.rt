@@ -233,6 +233,14 @@ impl DataNode {
         self.log.clone()
     }
 
+    /// What was noted down so far, in its order, as `log` says of it. Takes no memory.
+    pub fn records(&self) -> &[AccessRecord]
+        ensures log { result.now ≡ self.now.log }
+        ensures covered { AreCovered self.now.log }
+    {
+        self.log.as_slice()
+    }
+
     // Moves the clock on, and drops the keys that have expired by then.
     fn move_on(&mut self, clock: Moment)
         ensures { self.new ≡ spec.moved_on clock self.old }

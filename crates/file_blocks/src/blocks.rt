@@ -7,8 +7,7 @@ ghost use Rattle.file_blocks.specs.Blocks as spec;
 use hdfs_values::ids::BlockId;
 use std::alloc::{AllocError, Global};
 use std::marker::Model;
-use std::rc::Rc;
-use std::sync::OnceLock;
+use std::sync::{Arc, OnceLock};
 
 /// A block of a file (HDFS Architecture, "Data Replication").
 #[derive(Clone, Copy, PartialEq, Eq)]
@@ -34,7 +33,7 @@ struct OwnBlocks {
     // The bytes of those before the last whose length is committed; `None` where their sum doesn't fit in 64 bits.
     front_bytes: Option<u64>,
     // The list as it was shown, which is forgotten when it changes.
-    shown: OnceLock<Rc<Vec<FileBlock>>>,
+    shown: OnceLock<Arc<Vec<FileBlock>>>,
 }
 
 impl Model for OwnBlocks {
@@ -151,17 +150,17 @@ impl OwnBlocks {
     }
 
     // The list that was shown, where one is remembered, else a copy.
-    fn list_of(&self, alloc: Global) -> Result<Rc<Vec<FileBlock>>, AllocError>
+    fn list_of(&self, alloc: Global) -> Result<Arc<Vec<FileBlock>>, AllocError>
         ensures { IfOk result (λ list. list.value.items ≡ self.now) }
     {
         match shared_with(self.shown.get(), &self.list)? {
             Some(list) => Ok(list),
-            None => Ok(Rc::new(alloc, self.list.clone()?)?),
+            None => Ok(Arc::new(alloc, self.list.clone()?)?),
         }
     }
 
     // The same, which is remembered.
-    fn list_shown(&self, alloc: Global) -> Result<Rc<Vec<FileBlock>>, AllocError>
+    fn list_shown(&self, alloc: Global) -> Result<Arc<Vec<FileBlock>>, AllocError>
         ensures { IfOk result (λ list. list.value.items ≡ self.now) }
     {
         let list = self.list_of(alloc)?;
@@ -359,9 +358,9 @@ pub fn are_same_blocks(blocks: &[FileBlock], others: &[FileBlock]) -> bool
 
 /// The list that was shown, shared once more, if one is remembered and has these blocks.
 fn shared_with(
-    shown: Option<&Rc<Vec<FileBlock>>>,
+    shown: Option<&Arc<Vec<FileBlock>>>,
     blocks: &[FileBlock],
-) -> Result<Option<Rc<Vec<FileBlock>>>, AllocError>
+) -> Result<Option<Arc<Vec<FileBlock>>>, AllocError>
     ensures { IfOk result (λ found. IfSome found (λ list. list.value.items ≡ blocks.now)) }
 {
     let Some(shown) = shown else {
@@ -419,7 +418,7 @@ fn with_more(length: Option<u64>, bytes: u64) -> Option<u64>
 
 /// The blocks of a file as they were when they were shown, in the order of the file. Copies of it share them.
 pub struct ShownBlocks {
-    list: Option<Rc<Vec<FileBlock>>>,
+    list: Option<Arc<Vec<FileBlock>>>,
 }
 
 impl Drop for ShownBlocks {

@@ -1,10 +1,12 @@
 //! The program `hdfsns`: its command line, and the standard streams and files that a script is read from and answered to.
 #![tactic(auto)]
 
+ghost use Rattle.std.specs.Prelude.{◌<◌};
+
 use clap::Error;
 use clap::error::ErrorKind;
 use command_line::command::command;
-use command_line::invocation::{Invocation, LineNumber, Script};
+use command_line::invocation::{Invocation, Number, Script};
 use hdfs_cli::audit::audit;
 use hdfs_cli::explain::{Explained, explain};
 use hdfs_cli::explain_hints::hints_on_explained;
@@ -12,9 +14,12 @@ use hdfs_cli::hints::hints_on_script;
 use hdfs_cli::script::{ScriptFault, Status, run_script};
 use hdfs_cli::token::show_token;
 use hdfs_cli::verbs::help_text;
+use hdfs_cli::workers::{WorkersFault, run_workers};
 use std::alloc::AllocError;
 use std::io::Read;
 use std::process::ExitCode;
+use std::sync::Wait;
+use std::thread::Threads;
 use std::{env, fs, io};
 
 /// The exit status where a line of the script, or the token, was ill-formed.
@@ -23,7 +28,8 @@ const ILL_FORMED: u8 = 1;
 /// The exit status for a fault of the command line.
 const BAD_COMMAND_LINE: u8 = 2;
 
-/// The exit status where memory ran out, the script couldn't be read, or not all that is printed was written.
+/// The exit status where memory ran out, the script couldn't be read, or not all that is printed was written; or where what workers were
+/// answered isn't what the history says.
 const FAULT: u8 = 3;
 
 /// Runs the script that a path or `-` names.
@@ -35,6 +41,26 @@ fn run(rt: &HostRuntime, path: &str) -> Result<Status, ScriptFault> {
     match fs::open(rt, path) {
         Ok(mut file) => run_script(rt.alloc(), &mut file, &mut writer),
         Err(_) => Err(ScriptFault::CannotRead),
+    }
+}
+
+/// Has so many workers run the script that a path or `-` names.
+fn run_beside<T: Threads + Wait + Sync>(
+    threads: &T,
+    rt: &HostRuntime,
+    path: &str,
+    count: usize,
+) -> Result<Status, WorkersFault>
+    requires { 0 < count }
+{
+    let alloc = rt.alloc();
+    let mut writer = io::writer(rt);
+    if path == "-" {
+        return run_workers(threads, alloc, &mut rt.reader(), &mut writer, count);
+    }
+    match fs::open(rt, path) {
+        Ok(mut file) => run_workers(threads, alloc, &mut file, &mut writer, count),
+        Err(_) => Err(WorkersFault::Script(ScriptFault::CannotRead)),
     }
 }
 
@@ -229,11 +255,42 @@ fn answer_token(rt: &HostRuntime, digits: &str) -> ExitCode {
     ExitCode::SUCCESS
 }
 
-fn refuse_number(rt: &HostRuntime, word: &str) -> ExitCode {
+fn refuse_number(rt: &HostRuntime, name: &str, word: &str) -> ExitCode {
     let _ = eprintln!(rt;
-        "error: invalid value '{word}' for '<LINE>': invalid digit found in string\n\nFor more information, try '--help'."
+        "error: invalid value '{word}' for '{name}': invalid digit found in string\n\nFor more information, try '--help'."
     );
     ExitCode::from(BAD_COMMAND_LINE)
+}
+
+/// The exit code of a run by workers; a fault is reported.
+fn code_of_workers(rt: &HostRuntime, path: &str, ended: Result<Status, WorkersFault>) -> ExitCode {
+    match ended {
+        Ok(status) => exit_code(status),
+        Err(WorkersFault::Script(fault)) => {
+            report(rt, fault, path);
+            ExitCode::from(FAULT)
+        }
+        Err(other) => {
+            let _ = eprintln!(rt; "hdfsns: {other}");
+            ExitCode::from(FAULT)
+        }
+    }
+}
+
+/// Answers a script that a path or `-` names, by so many workers.
+fn answer_by_workers<T: Threads + Wait + Sync>(
+    threads: &T,
+    rt: &HostRuntime,
+    path: &str,
+    count: Number<'_>,
+) -> ExitCode {
+    match count {
+        Number::Plain(count) if count > 0 => {
+            code_of_workers(rt, path, run_beside(threads, rt, path, count as usize))
+        }
+        Number::Plain(_) => ExitCode::from(BAD_COMMAND_LINE),
+        Number::Signed(word) => refuse_number(rt, "--workers <N>", word),
+    }
 }
 
 fn run_or_hint(rt: &HostRuntime, script: Script<'_>) -> ExitCode {
@@ -252,10 +309,10 @@ fn audit_or_hint(rt: &HostRuntime, script: Script<'_>) -> ExitCode {
     }
 }
 
-fn explain_or_hint(rt: &HostRuntime, script: Script<'_>, line: LineNumber<'_>) -> ExitCode {
+fn explain_or_hint(rt: &HostRuntime, script: Script<'_>, line: Number<'_>) -> ExitCode {
     let number = match line {
-        LineNumber::Number(number) => number,
-        LineNumber::Signed(word) => return refuse_number(rt, word),
+        Number::Plain(number) => number,
+        Number::Signed(word) => return refuse_number(rt, "<LINE>", word),
     };
     if script.has_hints {
         answer_line_with_hints(rt, script.path, number)
@@ -264,9 +321,14 @@ fn explain_or_hint(rt: &HostRuntime, script: Script<'_>, line: LineNumber<'_>) -
     }
 }
 
-fn invoke(rt: &HostRuntime, invocation: Invocation<'_>) -> ExitCode {
+fn invoke<T: Threads + Wait + Sync>(
+    threads: &T,
+    rt: &HostRuntime,
+    invocation: Invocation<'_>,
+) -> ExitCode {
     match invocation {
         Invocation::Run(script) => run_or_hint(rt, script),
+        Invocation::RunWorkers(path, count) => answer_by_workers(threads, rt, path, count),
         Invocation::Explain(script, line) => explain_or_hint(rt, script, line),
         Invocation::Audit(script) => audit_or_hint(rt, script),
         Invocation::Token(digits) => answer_token(rt, digits),
@@ -289,7 +351,7 @@ fn refuse(rt: &HostRuntime, error: &Error) -> ExitCode {
     ExitCode::SUCCESS
 }
 
-fn answer(rt: &HostRuntime, words: &[String]) -> ExitCode {
+fn answer<T: Threads + Wait + Sync>(threads: &T, rt: &HostRuntime, words: &[String]) -> ExitCode {
     let Ok(verbs) = help_text(rt.alloc()) else {
         return no_memory(rt);
     };
@@ -298,7 +360,7 @@ fn answer(rt: &HostRuntime, words: &[String]) -> ExitCode {
     };
     match command.try_get_matches_from(words) {
         Ok(matches) => match Invocation::of(&matches) {
-            Some(invocation) => invoke(rt, invocation),
+            Some(invocation) => invoke(threads, rt, invocation),
             None => ExitCode::from(BAD_COMMAND_LINE),
         },
         Err(error) => refuse(rt, &error),
@@ -315,7 +377,7 @@ fn main(rt: HostRuntime) -> ExitCode {
         }
     };
     match words.collect::<Vec<String>>(rt.alloc()) {
-        Ok(words) => answer(&rt, words.as_slice()),
+        Ok(words) => answer(&rt, &rt, words.as_slice()),
         Err(_) => no_memory(&rt),
     }
 }

@@ -1,6 +1,6 @@
 //! Tests of a DataNode and of what it keeps: its replicas, what is refused and in which order, and what stays promised; tokens over time,
 //! altered tokens, copies, block recovery, and what is noted down; what the records of access logs rest on; and the plans by which blocks
-//! are recovered.
+//! are recovered; and threads that share a node.
 #![tactic(auto)]
 
 #[cfg(test)]
@@ -13,6 +13,8 @@ mod calls;
 mod copies;
 #[cfg(test)]
 mod plans;
+#[cfg(test)]
+mod readers;
 #[cfg(test)]
 mod recovery;
 #[cfg(test)]

@@ -1,0 +1,4 @@
+pub mod Seats
+pub mod Logged
+pub mod Parts
+pub mod Found

@@ -1,0 +1,4 @@
+pub mod Counting
+pub mod Closing
+pub mod Gaining
+pub mod Threads

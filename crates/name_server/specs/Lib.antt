@@ -1,0 +1,5 @@
+pub mod Passes
+pub mod Lent
+pub mod Serving
+pub mod Working
+pub mod Laws

@@ -1,0 +1,4 @@
+pub mod Turns
+pub mod Placing
+pub mod Answering
+pub mod Having
