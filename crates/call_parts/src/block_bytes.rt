@@ -1,12 +1,14 @@
 ghost use Rattle.std.specs.Prelude.{◌≡◌, ◌++◌, length, replicate, IfOk, OnOk, OnErr};
 
+use crate::chunks::Chunks;
 use bytes::Bytes;
 use std::alloc::AllocError;
 use std::marker::Model;
 
-// Bytes that are listed, which copies share, behind a box so that a value is small; or one byte so many times.
+// Bytes that are listed, which copies share, in one piece or in several, behind a box so that a value is small; or one byte so many times.
 enum HeldBytes {
     Listed(Box<Bytes>),
+    Pieces(Box<Chunks>),
     Repeated(u8, u64),
 }
 
@@ -14,6 +16,7 @@ impl Drop for HeldBytes {
     fn drop(self) {
         match self {
             HeldBytes::Listed(part) => drop(part),
+            HeldBytes::Pieces(pieces) => drop(pieces),
             HeldBytes::Repeated(_, _) => {}
         }
     }
@@ -22,7 +25,8 @@ impl Drop for HeldBytes {
 /// Bytes of a block, as a packet of a write pipeline carries them (HDFS Architecture, "Replication Pipelining").
 ///
 /// One byte many times takes no memory, so that a packet can be refused for its length before anything of that length is made. Others are
-/// shared by their copies, of which each takes a few words of memory, so that a packet that is passed on isn't copied.
+/// shared by their copies, of which each takes a few words of memory for a piece, so that a packet that is passed on and a replica that is
+/// sent aren't copied.
 pub struct BlockBytes {
     held: HeldBytes,
 }
@@ -62,6 +66,21 @@ impl BlockBytes {
         })
     }
 
+    /// The bytes of these pieces, which aren't copied.
+    ///
+    /// # Errors
+    /// Out of memory: the pieces are kept in a place of their own.
+    pub fn in_pieces(pieces: Chunks) -> Result<BlockBytes, AllocError>
+        ensures { IfOk result (λ own. own ≡ pieces) }
+    {
+        let alloc = pieces.allocator();
+        // its contract bounds the length
+        let _length = pieces.len();
+        Ok(BlockBytes {
+            held: HeldBytes::Pieces(Box::new(alloc, pieces)?),
+        })
+    }
+
     /// One byte so many times. Takes no memory.
     pub fn repeated(byte: u8, times: u64) -> BlockBytes
         ensures { result ≡ replicate times byte }
@@ -77,34 +96,25 @@ impl BlockBytes {
     {
         match &self.held {
             HeldBytes::Listed(listed) => listed.len() as u64,
+            HeldBytes::Pieces(pieces) => pieces.len(),
             HeldBytes::Repeated(_, times) => *times,
         }
     }
 
-    /// Puts these bytes behind others. Costs them.
+    /// Puts these bytes behind others, in as many pieces as they are in. Costs the pieces; one byte so many times costs the bytes.
     ///
     /// # Errors
     /// Out of memory. Nothing has changed then.
-    pub fn append_to(&self, others: &mut Vec<u8>) -> Result<(), AllocError>
-        ensures ok { OnOk result (others.new.items ≡ others.old.items ++ self.now) }
-        ensures err { OnErr result (others.new.items ≡ others.old.items) }
+    pub fn append_to(&self, others: &mut Chunks) -> Result<(), AllocError>
+        ensures ok { OnOk result (others.new ≡ others.old ++ self.now) }
+        ensures err { OnErr result (others.new ≡ others.old) }
     {
         match &self.held {
-            HeldBytes::Listed(listed) => others.extend_from_slice(listed.as_slice()),
-            HeldBytes::Repeated(byte, times) => append_repeated(others, *byte, *times),
+            HeldBytes::Listed(listed) => others.push(listed.as_ref().clone()?),
+            HeldBytes::Pieces(pieces) => others.append(pieces),
+            HeldBytes::Repeated(byte, times) => others.push_repeated(*byte, *times),
         }
     }
-}
-
-// Puts one byte so many times behind others.
-fn append_repeated(others: &mut Vec<u8>, byte: u8, times: u64) -> Result<(), AllocError>
-    ensures ok { OnOk result (others.new.items ≡ others.old.items ++ replicate times byte) }
-    ensures err { OnErr result (others.new.items ≡ others.old.items) }
-{
-    let Some(length) = others.len().checked_add(times as usize) else {
-        return Err(AllocError);
-    };
-    others.resize(length, byte)
 }
 
 impl Clone for BlockBytes {
@@ -113,6 +123,7 @@ impl Clone for BlockBytes {
     fn clone(&self) -> Result<BlockBytes, AllocError> {
         let held = match &self.held {
             HeldBytes::Listed(listed) => HeldBytes::Listed(listed.clone()?),
+            HeldBytes::Pieces(pieces) => HeldBytes::Pieces(pieces.clone()?),
             HeldBytes::Repeated(byte, times) => HeldBytes::Repeated(*byte, *times),
         };
         Ok(BlockBytes { held })

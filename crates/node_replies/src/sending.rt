@@ -197,7 +197,7 @@ fn copy_to(
 ) -> Result<Messages, AllocError>
     ensures { IfOk result (λ sent. sent ≡ message.Node to (Presenting presented.now (made.TakeCopy (own held.now).bytes)) ∷ []) }
 {
-    let call = TokenCall::TakeCopy(held.copied()?);
+    let call = TokenCall::TakeCopy(held.shared()?);
     pass_on(alloc, presented, to, call)
 }
 

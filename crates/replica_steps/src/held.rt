@@ -48,7 +48,8 @@ impl Held {
         }
     }
 
-    /// From an offset of the replica so many bytes; those that aren't there are left out. Costs the bytes.
+    /// From an offset of the replica so many bytes; those that aren't there are left out. Costs the logarithm of the replica's pieces, and
+    /// those that hold such bytes.
     ///
     /// # Errors
     /// Out of memory.
@@ -57,19 +58,19 @@ impl Held {
     {
         match &self.replica {
             Some(replica) => replica.bytes.read(alloc, offset, count),
-            None => Chunks::copied(alloc, &[]),
+            None => Ok(Chunks::new(alloc)),
         }
     }
 
-    /// A copy of all bytes of the replica; none where there is none. Costs the bytes.
+    /// All bytes of the replica, which share its pieces; none where there is none. Costs the pieces.
     ///
     /// # Errors
     /// Out of memory.
-    pub fn copied(&self) -> Result<BlockBytes, AllocError>
+    pub fn shared(&self) -> Result<BlockBytes, AllocError>
         ensures { IfOk result (λ bytes. bytes ≡ (own self.now).bytes) }
     {
         match &self.replica {
-            Some(replica) => replica.bytes.copied(),
+            Some(replica) => replica.bytes.shared(),
             None => Ok(BlockBytes::repeated(0, 0)),
         }
     }
@@ -114,7 +115,8 @@ impl Held {
         self.promise(stamp);
     }
 
-    /// Does what a call that isn't refused does. Costs the bytes that come.
+    /// Does what a call that isn't refused does. Costs the pieces in which bytes come, and those that go; one byte so many times costs the
+    /// bytes.
     ///
     /// # Errors
     /// Out of memory. Nothing has changed then.
@@ -141,7 +143,8 @@ impl Held {
         Ok(())
     }
 
-    /// Puts bytes behind those of the replica, if there is one. Costs the bytes, amortized.
+    /// Puts bytes behind those of the replica, if there is one. Costs the pieces that they are in, amortized; one byte so many times costs
+    /// the bytes.
     ///
     /// # Errors
     /// Out of memory. Nothing has changed then.
@@ -171,7 +174,8 @@ impl Held {
         self.promised = stamp;
     }
 
-    /// Gives the replica, if there is one, a stamp and at most so many of its bytes, and ends its writing. Takes no memory.
+    /// Gives the replica, if there is one, a stamp and at most so many of its bytes, and ends its writing. Costs the pieces that go, and takes
+    /// no memory.
     pub fn update(&mut self, stamp: Stamp, length: u64)
         ensures { self.new ≡ with_replica_recovered stamp length self.old }
     {

@@ -8,10 +8,10 @@ use node_calls::call::ReplicaState;
 use std::alloc::{AllocError, Global};
 use std::marker::Model;
 
-/// The bytes of a replica.
+/// The bytes of a replica, a piece for each packet that brought some. What is read of them, and copies that are sent, share the pieces.
 #[derive(Drop)]
 pub struct ReplicaBytes {
-    bytes: Vec<u8>,
+    chunks: Chunks,
 }
 
 impl Model for ReplicaBytes {
@@ -19,7 +19,7 @@ impl Model for ReplicaBytes {
 
     ghost Value = { List ℕ };
 
-    ghost view = { λ bytes. bytes.bytes.items };
+    ghost view = { λ bytes. bytes.chunks };
 }
 
 impl ReplicaBytes {
@@ -28,11 +28,11 @@ impl ReplicaBytes {
         ensures { result ≡ [] }
     {
         ReplicaBytes {
-            bytes: Vec::new(alloc),
+            chunks: Chunks::new(alloc),
         }
     }
 
-    /// A copy of these bytes. Costs them.
+    /// These bytes, which share the pieces that they are in. Costs the pieces; one byte so many times costs the bytes.
     ///
     /// # Errors
     /// Out of memory.
@@ -48,10 +48,11 @@ impl ReplicaBytes {
     pub fn len(&self) -> u64
         ensures { result ≡ length self.now }
     {
-        self.bytes.len() as u64
+        self.chunks.len()
     }
 
-    /// Puts bytes behind those that are there. Costs the bytes, amortized.
+    /// Puts bytes behind those that are there, which share the pieces that they are in. Costs the pieces, amortized; one byte so many times
+    /// costs the bytes.
     ///
     /// # Errors
     /// Out of memory. Nothing has changed then.
@@ -59,54 +60,36 @@ impl ReplicaBytes {
         ensures ok { OnOk result (self.new ≡ self.old ++ bytes.now) }
         ensures err { OnErr result (self.new ≡ self.old) }
     {
-        bytes.append_to(&mut self.bytes)
+        bytes.append_to(&mut self.chunks)
     }
 
-    /// Keeps so many bytes, or all where there are no more. Takes no memory.
+    /// Keeps so many bytes, or all where there are no more. Costs the pieces that go, and takes no memory.
     pub fn cut(&mut self, length: u64)
         ensures { self.new ≡ take length self.old }
     {
-        self.bytes.truncate(length as usize);
+        self.chunks.truncate(length);
     }
 
-    /// From an offset so many bytes; those that aren't there are left out. Costs them.
+    /// From an offset so many bytes; those that aren't there are left out. Costs the logarithm of the pieces, and those that hold such bytes;
+    /// no byte is copied.
     ///
     /// # Errors
     /// Out of memory.
     pub fn read(&self, alloc: Global, offset: u64, count: u64) -> Result<Chunks, AllocError>
         ensures { IfOk result (λ chunks. chunks ≡ take count (drop offset self.now)) }
     {
-        let rest = behind(self.bytes.as_slice(), offset);
-        Chunks::copied(alloc, front(rest, count))
+        self.chunks.part(alloc, offset, count)
     }
 
-    /// A copy of all bytes, as a packet or a copy carries them. Costs them.
+    /// All bytes, as a packet or a copy carries them, which share the pieces. Costs the pieces.
     ///
     /// # Errors
     /// Out of memory.
-    pub fn copied(&self) -> Result<BlockBytes, AllocError>
+    pub fn shared(&self) -> Result<BlockBytes, AllocError>
         ensures { IfOk result (λ bytes. bytes ≡ self.now) }
     {
-        BlockBytes::new(self.bytes.clone()?)
+        BlockBytes::in_pieces(self.chunks.clone()?)
     }
-}
-
-// The bytes behind so many, none where there are no more.
-#[tactic(auto, using(std::proofs::lemmas::List::drop_min))]
-fn behind(bytes: &[u8], offset: u64) -> &[u8]
-    ensures { result.now ≡ drop offset bytes.now }
-{
-    let (_, rest) = bytes.split_at((offset as usize).min(bytes.len()));
-    rest
-}
-
-// So many bytes, or all where there are no more.
-#[tactic(auto, using(std::proofs::lemmas::List::take_min))]
-fn front(bytes: &[u8], count: u64) -> &[u8]
-    ensures { result.now ≡ take count bytes.now }
-{
-    let (front, _) = bytes.split_at((count as usize).min(bytes.len()));
-    front
 }
 
 /// A replica of a block: its generation stamp, whether it is being written, and its bytes (HDFS Architecture, "Data Blocks"; HDFS-265,

@@ -1,0 +1,134 @@
+-- Pieces that stand one behind another: what is put behind them, taken from them, and read of them.
+use Rattle.std.proofs.Common.{◌≡◌, ◌≤◌, ◌<◌, ◌+◌, ◌-◌, ◌∙◌, ◌×◌, ℕ, zero, suc, List, [], ◌∷◌, ◌++◌, length, take, drop, Option, Some, refl, sym, ap, subst, slice_get, arith}
+use Rattle.std.specs.Prelude.{unwrap_or}
+use Rattle.std.proofs.lemmas.List.{append-nil, append_assoc, length-append, length-take, length-drop, take-append-drop, take-append-le, take_all, drop_all, take_at}
+use Rattle.std.proofs.lemmas.List.Concat.{flat_map-append}
+use Rattle.call_parts.specs.Chunks.{bytes_of, StandBehind}
+use Rattle.call_parts.specs.declared.chunks.Piece.{Piece}
+
+some_is : {A : Type 0} (x y : A) → Some x ≡ Some y → x ≡ y
+some_is {A} x y e = ap (λ (o : Option A). unwrap_or o x) e
+
+-- ---- of any lists
+
+module _ {A : Type 0} where
+  pub take_both : (n : ℕ) (xs ys : List A) → take n (xs ++ ys) ≡ take n xs ++ take (n - length xs) ys
+  take_both zero xs ys = let e : zero - length xs ≡ zero = omega arith in ap (λ k. take k ys) (sym e)
+  take_both (suc n) [] ys = refl
+  take_both (suc n) (x ∷ xs) ys =
+      let e : suc n - length (x ∷ xs) ≡ n - length xs = omega arith in
+      ap (λ l. x ∷ l) (take_both n xs ys) ∙ ap (λ k. x ∷ (take n xs ++ take k ys)) (sym e)
+
+  pub drop_both : (n : ℕ) (xs ys : List A) → drop n (xs ++ ys) ≡ drop n xs ++ drop (n - length xs) ys
+  drop_both zero xs ys = let e : zero - length xs ≡ zero = omega arith in ap (λ k. xs ++ drop k ys) (sym e)
+  drop_both (suc n) [] ys = refl
+  drop_both (suc n) (x ∷ xs) ys =
+      let e : suc n - length (x ∷ xs) ≡ n - length xs = omega arith in
+      drop_both n xs ys ∙ ap (λ k. drop n xs ++ drop k ys) (sym e)
+
+  -- what is behind more than the first ones
+  pub drop_past : (n : ℕ) (xs ys : List A) → length xs ≤ n → drop n (xs ++ ys) ≡ drop (n - length xs) ys
+  drop_past n xs ys long = drop_both n xs ys ∙ ap (λ l. l ++ drop (n - length xs) ys) (drop_all n xs long)
+
+  -- a part of two lists is a part of the one and then of the other
+  pub part_of_both : (skipped count : ℕ) (xs ys : List A)
+      → take count (drop skipped (xs ++ ys)) ≡ take count (drop skipped xs) ++ take (count - length (take count (drop skipped xs))) (drop (skipped - length xs) ys)
+  part_of_both skipped count xs ys =
+      ap (take count) (drop_both skipped xs ys) ∙ (take_both count front rest ∙ ap (λ k. take count front ++ take k rest) left)
+    where
+      front rest : List A
+      front = drop skipped xs
+      rest = drop (skipped - length xs) ys
+
+      left : count - length front ≡ count - length (take count front)
+      left = omega (arith, length-take count front)
+
+  -- what stands at the front stays there
+  pub front_stays : (xs ys zs : List A) → take (length xs) ys ≡ xs → take (length xs) (ys ++ zs) ≡ xs
+  front_stays xs ys zs is = take-append-le (length xs) ys zs long ∙ is
+    where
+      long : length xs ≤ length ys
+      long = omega (arith, ap length is, length-take (length xs) ys)
+
+-- ---- of pieces
+
+pub bytes_of_both : (xs ys : List Piece) → bytes_of (xs ++ ys) ≡ bytes_of xs ++ bytes_of ys
+bytes_of_both xs ys = flat_map-append (λ (piece : Piece). piece.bytes) xs ys
+
+pub bytes_of_more : (xs : List Piece) (piece : Piece) → bytes_of (xs ++ piece ∷ []) ≡ bytes_of xs ++ piece.bytes
+bytes_of_more xs piece = bytes_of_both xs (piece ∷ []) ∙ ap (λ l. bytes_of xs ++ l) (append-nil piece.bytes)
+
+-- one more behind them
+pub stand_more : (start : ℕ) (xs : List Piece) (piece : Piece) → StandBehind start xs → piece.start ≡ start + length (bytes_of xs) → 0 < length piece.bytes
+    → StandBehind start (xs ++ piece ∷ [])
+stand_more start [] piece stand is some = (is ∙ omega arith, some, tt)
+stand_more start (x ∷ xs) piece stand is some = (stand.0, stand.1, stand_more (start + length x.bytes) xs piece stand.2 (is ∙ omega (arith, length-append x.bytes (bytes_of xs))) some)
+
+pub stand_take : (start k : ℕ) (xs : List Piece) → StandBehind start xs → StandBehind start (take k xs)
+stand_take start zero xs stand = tt
+stand_take start (suc k) [] stand = tt
+stand_take start (suc k) (x ∷ xs) stand = (stand.0, stand.1, stand_take (start + length x.bytes) k xs stand.2)
+
+pub stand_drop : (start k : ℕ) (xs : List Piece) → StandBehind start xs → StandBehind (start + length (bytes_of (take k xs))) (drop k xs)
+stand_drop start zero xs stand = subst (λ n. StandBehind n xs) (omega arith) stand
+stand_drop start (suc k) [] stand = tt
+stand_drop start (suc k) (x ∷ xs) stand = subst (λ n. StandBehind n (drop k xs)) (omega (arith, length-append x.bytes (bytes_of (take k xs)))) (stand_drop (start + length x.bytes) k xs stand.2)
+
+first_start : (start : ℕ) (xs : List Piece) (piece : Piece) → StandBehind start xs → slice_get xs 0 ≡ Some piece → piece.start ≡ start
+first_start start [] piece stand is = cc
+first_start start (x ∷ xs) piece stand is = ap (λ (p : Piece). p.start) (sym (some_is x piece is)) ∙ stand.0
+
+-- where the first of the last ones begins, they do
+pub behind_is : (k offset : ℕ) (xs : List Piece) (piece : Piece) → StandBehind 0 xs → slice_get (drop k xs) 0 ≡ Some piece → piece.start ≤ offset
+    → drop offset (bytes_of xs) ≡ drop (offset - piece.start) (bytes_of (drop k xs))
+behind_is k offset xs piece stand is before =
+    ap (λ l. drop offset (bytes_of l)) (sym (take-append-drop k xs)) ∙ (ap (drop offset) (bytes_of_both (take k xs) (drop k xs))
+    ∙ (drop_past offset (bytes_of (take k xs)) (bytes_of (drop k xs)) (omega (arith, begins, before)) ∙ ap (λ n. drop n (bytes_of (drop k xs))) (omega (arith, begins))))
+  where
+    begins : piece.start ≡ 0 + length (bytes_of (take k xs))
+    begins = first_start (0 + length (bytes_of (take k xs))) (drop k xs) piece (stand_drop 0 k xs stand) is
+
+-- ---- of the last piece
+
+pub split_last : (xs : List Piece) (piece : Piece) → slice_get xs (length xs - 1) ≡ Some piece → xs ≡ take (length xs - 1) xs ++ piece ∷ []
+split_last [] piece is = cc
+split_last (x ∷ []) piece is = ap (λ (p : Piece). p ∷ []) (some_is x piece is)
+split_last (x ∷ y ∷ xs) piece is =
+    ap (λ l. x ∷ l) (split_last (y ∷ xs) piece (ap (λ n. slice_get (x ∷ y ∷ xs) n) (omega arith) ∙ is)) ∙ ap (λ n. take n (x ∷ y ∷ xs) ++ piece ∷ []) (omega arith)
+
+pub last_start : (start : ℕ) (xs : List Piece) (piece : Piece) → StandBehind start (xs ++ piece ∷ []) → piece.start ≡ start + length (bytes_of xs)
+last_start start [] piece stand = stand.0 ∙ omega arith
+last_start start (x ∷ xs) piece stand = last_start (start + length x.bytes) xs piece stand.2 ∙ omega (arith, length-append x.bytes (bytes_of xs))
+
+-- one that begins behind so many bytes has none of them
+pub without_last : (limit : ℕ) (xs : List Piece) (piece : Piece) → StandBehind 0 (xs ++ piece ∷ []) → limit ≤ piece.start
+    → take limit (bytes_of xs) ≡ take limit (bytes_of (xs ++ piece ∷ []))
+without_last limit xs piece stand behind =
+    sym (ap (take limit) (bytes_of_more xs piece) ∙ take-append-le limit (bytes_of xs) piece.bytes (omega (arith, last_start 0 xs piece stand, behind)))
+
+-- with the last one cut
+module _ (limit : ℕ) (xs : List Piece) (piece : Piece) (stand : StandBehind 0 (xs ++ piece ∷ [])) (before : piece.start < limit) where
+  abbrev pub cut : Piece
+  cut = record piece { bytes = take (limit - piece.start) piece.bytes }
+
+  begins : piece.start ≡ 0 + length (bytes_of xs)
+  begins = last_start 0 xs piece stand
+
+  pub cut_bytes : bytes_of (xs ++ cut ∷ []) ≡ take limit (bytes_of (xs ++ piece ∷ []))
+  cut_bytes =
+      bytes_of_more xs cut ∙ sym (ap (take limit) (bytes_of_more xs piece) ∙ (take_both limit (bytes_of xs) piece.bytes
+      ∙ (ap (λ l. l ++ take (limit - length (bytes_of xs)) piece.bytes) (take_all limit (bytes_of xs) (omega (arith, begins, before)))
+      ∙ ap (λ n. bytes_of xs ++ take n piece.bytes) (omega (arith, begins)))))
+
+  last_some : 0 < length piece.bytes
+  last_some = some xs stand
+    where
+      some : {start : ℕ} (ys : List Piece) → StandBehind start (ys ++ piece ∷ []) → 0 < length piece.bytes
+      some [] stand = stand.1
+      some (y ∷ ys) stand = some ys stand.2
+
+  front_stands : StandBehind 0 xs
+  front_stands = subst (StandBehind 0) (take_at xs (piece ∷ []) (length xs) refl) (stand_take 0 (length xs) (xs ++ piece ∷ []) stand)
+
+  pub cut_stands : StandBehind 0 (xs ++ cut ∷ [])
+  cut_stands = stand_more 0 xs cut front_stands begins (omega (arith, length-take (limit - piece.start) piece.bytes, last_some, before))
