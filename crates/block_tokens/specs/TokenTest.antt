@@ -1,6 +1,6 @@
 -- The test of a token that is presented: the first refusal that applies, or none. (HADOOP-4359: a DataNode checks the code,
 -- the expiry, the user, the block and the mode.)
-use Rattle.std.specs.Prelude.{◌≡◌, ℕ, Bool, List, Option, Some, None, Result, Ok, Err, nat_le, ◌==◌, not, if◌then◌else◌}
+use Rattle.std.specs.Prelude.{◌≡◌, ℕ, Bool, true, List, Option, Some, None, Result, Ok, Err, nat_le, ◌==◌, not, if◌then◌else◌}
 use Rattle.permission_bits.specs.Rights.{covers}
 use Rattle.hdfs_values.specs.Text.{same}
 use Rattle.block_tokens.specs.Hmac.{hmac_sha1}
@@ -42,6 +42,18 @@ parts_test keys bytes (Some parts) access = code_test (key_with parts.serial (us
 
 unfoldable pub token_test : KeyList → Access → List ℕ → Option TokenRefusal
 token_test keys access bytes = parts_test keys bytes (parts_of bytes) access
+
+-- the text of a token with these parts, whose code is that of its other bytes under the key that is held with its serial
+pub record IsVerified (keys : KeyList) (bytes : List ℕ) (parts : Body) : Type 0 where
+  pub read : parts_of bytes ≡ Some parts
+  pub held : HeldKey
+  pub known : key_with parts.serial keys ≡ Some held
+  pub code : has_code held.key bytes parts.code ≡ true
+
+-- a token that was verified is tested by its parts
+abbrev pub verified_test : Result Body TokenRefusal → Access → Option TokenRefusal
+verified_test (Ok parts) access = access_test parts access
+verified_test (Err refusal) access = Some refusal
 
 -- what a function answered is what the test says
 abbrev pub TellsTokenRefusal : {X : Type 0} → Result X TokenRefusal → Option TokenRefusal → Type 0

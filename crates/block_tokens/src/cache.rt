@@ -1,7 +1,7 @@
-ghost use Rattle.std.specs.Prelude.{◌≡◌, ◌+◌, [], Some, None, length, IfOk, OnOk, OnErr, option_copied};
+ghost use Rattle.std.specs.Prelude.{◌≡◌, ℕ, ◌+◌, List, [], Some, None, length, IfOk, OnOk, OnErr, option_copied};
 ghost use Rattle.hdfs_values.specs.Text.{same};
 ghost use Rattle.block_tokens.specs.KeyList as spec;
-ghost use Rattle.block_tokens.specs.TokenTest.{TellsTokenRefusal, access_test, token_test};
+ghost use Rattle.block_tokens.specs.TokenTest.{TellsTokenRefusal, IsVerified, access_test, token_test, verified_test};
 
 use crate::code::has_code;
 use crate::hmac::CodeKey;
@@ -196,22 +196,16 @@ impl KeyCache {
         unless_expired(now, self.keys.get(&serial.get()))
     }
 
-    /// Judges a token that a caller presents for a block and a mode: the first refusal that applies. Keys whose known expiry
-    /// has come are ignored. It takes no memory and changes nothing; its time is that of one HMAC over the bytes and a
-    /// look-up. Codes are compared in the same steps wherever they differ; no proof speaks of time.
+    /// The parts of a token whose code is that of its other bytes under the key with its serial. Keys whose known expiry has come are ignored.
+    /// It takes no memory; its time is that of one HMAC over the bytes and a look-up. Codes are compared in the same steps wherever they
+    /// differ; no proof speaks of time.
     ///
     /// # Errors
-    /// The first refusal that applies, in the order of `TokenRefusal`.
+    /// `Malformed`, `UnknownKey`, `CodeMismatch`: the first that applies, whatever is asked.
     #[tactic(auto, unfolding(crate::specs::TokenTest::token_test))]
-    pub fn check(
-        &self,
-        now: Moment,
-        caller: &Who,
-        block: BlockId,
-        mode: Modes,
-        bytes: &[u8],
-    ) -> Result<(), TokenRefusal>
-        ensures { TellsTokenRefusal result (token_test self.now (record { now = now; caller = caller.now; block = block; mode = mode.0 }) bytes.now) }
+    pub fn verify<'a>(&self, now: Moment, bytes: &'a [u8]) -> Result<Body<'a>, TokenRefusal>
+        ensures verified { IfOk result (λ body. IsVerified self.now bytes.now body) }
+        ensures test { (caller : List ℕ) (block mode : ℕ) → token_test self.now (record { now = now; caller = caller; block = block; mode = mode }) bytes.now ≡ verified_test result (record { now = now; caller = caller; block = block; mode = mode }) }
     {
         let Some(body) = decode(bytes) else {
             return Err(TokenRefusal::Malformed);
@@ -222,6 +216,47 @@ impl KeyCache {
         if !has_code(&held.key, bytes, &body.code) {
             return Err(TokenRefusal::CodeMismatch);
         }
+        Ok(body)
+    }
+
+    /// Judges a token that a caller presents for a block and a mode: the first refusal that applies. Keys whose known expiry
+    /// has come are ignored. It takes no memory and changes nothing; its time is that of `verify`.
+    ///
+    /// # Errors
+    /// The first refusal that applies, in the order of `TokenRefusal`.
+    pub fn check(
+        &self,
+        now: Moment,
+        caller: &Who,
+        block: BlockId,
+        mode: Modes,
+        bytes: &[u8],
+    ) -> Result<(), TokenRefusal>
+        ensures { TellsTokenRefusal result (token_test self.now (record { now = now; caller = caller.now; block = block; mode = mode.0 }) bytes.now) }
+    {
+        let body = self.verify(now, bytes)?;
         judge(&body, now, caller, block, mode)
+    }
+
+    /// Judges a token that was verified before, by its parts: what `check` says of its bytes. No byte is hashed; costs a look-up, and takes no
+    /// memory.
+    ///
+    /// # Errors
+    /// The first refusal that applies, in the order of `TokenRefusal`.
+    #[tactic(auto, unfolding(crate::specs::TokenTest::token_test))]
+    pub fn check_parts(
+        &self,
+        now: Moment,
+        caller: &Who,
+        block: BlockId,
+        mode: Modes,
+        parts: &Body,
+    ) -> Result<(), TokenRefusal>
+        ensures { (bytes : List ℕ) → IsVerified self.now bytes parts.now → TellsTokenRefusal result (token_test self.now (record { now = now; caller = caller.now; block = block; mode = mode.0 }) bytes) }
+    {
+        if self.usable_key(now, parts.serial).is_none() {
+            return Err(TokenRefusal::UnknownKey);
+        }
+        judge(parts, now, caller, block, mode)
     }
 }
