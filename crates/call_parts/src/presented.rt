@@ -69,6 +69,13 @@ impl PresentedToken {
     {
         self.bytes.as_slice()
     }
+
+    /// The bytes, for whoever is to share them. Takes no memory.
+    pub fn shared(&self) -> &Bytes
+        ensures { result.now ≡ self.now }
+    {
+        &self.bytes
+    }
 }
 
 impl Clone for PresentedToken {

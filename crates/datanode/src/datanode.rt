@@ -11,7 +11,6 @@ ghost use Rattle.datanode.specs.NodeStep as spec;
 ghost use Rattle.datanode.specs.Served.{held_by, log_by, told_of, told_unless};
 
 use crate::answered::Answered;
-use block_tokens::cache::KeyCache;
 use block_tokens::key::KeyList;
 use block_tokens::refusal::TokenRefusal;
 use call_parts::access_log::{AccessLog, AccessRecord};
@@ -34,6 +33,8 @@ use replica_steps::replica::Replica;
 use replicas::replicas::Replicas;
 use std::alloc::{AllocError, Global};
 use std::marker::Model;
+use std::num::NonZeroUsize;
+use token_cache::cache::TokenCache;
 
 /// A DataNode: its replicas, the keys that the NameNode sent it, and whom it let at them (HDFS Architecture, "NameNode and DataNodes";
 /// HADOOP-4359).
@@ -45,7 +46,7 @@ pub struct DataNode {
     limit: u64,
     // the greatest moment of its calls
     clock: Moment,
-    keys: KeyCache,
+    keys: TokenCache,
     replicas: Replicas,
     log: AccessLog,
     alloc: Global,
@@ -179,11 +180,27 @@ fn serve_held(
 }
 
 impl DataNode {
-    /// No replica, no key, nothing noted down, and the clock at 0. A replica has at most so many bytes.
+    /// No replica, no key, nothing noted down, and the clock at 0. A replica has at most so many bytes. The last 64 tokens that were verified
+    /// aren't hashed again.
     ///
     /// # Errors
     /// Out of memory.
     pub fn new(alloc: Global, id: NodeId, limit: u64) -> Result<DataNode, AllocError>
+        ensures { IfOk result (λ node. node ≡ record { id = id; limit = limit; clock = 0; keys = []; blocks = []; log = [] }) }
+    {
+        DataNode::with_cache(alloc, id, limit, NonZeroUsize::new(64).unwrap())
+    }
+
+    /// As `new`, where so many of the tokens that were verified last aren't hashed again; how many changes no answer.
+    ///
+    /// # Errors
+    /// Out of memory.
+    pub fn with_cache(
+        alloc: Global,
+        id: NodeId,
+        limit: u64,
+        capacity: NonZeroUsize,
+    ) -> Result<DataNode, AllocError>
         ensures { IfOk result (λ node. node ≡ record { id = id; limit = limit; clock = 0; keys = []; blocks = []; log = [] }) }
     {
         Ok(DataNode {
@@ -191,7 +208,7 @@ impl DataNode {
             principal: principal_of(alloc, id)?,
             limit,
             clock: Moment::START,
-            keys: KeyCache::new(alloc),
+            keys: TokenCache::new(alloc, capacity)?,
             replicas: Replicas::new(alloc),
             log: AccessLog::new(alloc),
             alloc,
@@ -260,15 +277,16 @@ impl DataNode {
 
     // What the token of a call is refused for.
     fn judge(
-        &self,
+        &mut self,
         clock: Moment,
         presented: &Presented,
         call: &TokenCall,
-    ) -> Result<(), TokenRefusal>
-        ensures { TellsTokenRefusal result (token_test self.now.keys (spec.access_of clock presented.now call.now) presented.now.token) }
+    ) -> Result<Result<(), TokenRefusal>, AllocError>
+        ensures answer { IfOk result (λ told. TellsTokenRefusal told (token_test self.old.keys (spec.access_of clock presented.now call.now) presented.now.token)) }
+        ensures same { self.new ≡ self.old }
     {
         let mode = asking::mode_of(call);
-        let token = presented.token.as_bytes();
+        let token = presented.token.shared();
         self.keys
             .check(clock, &presented.caller, presented.block, mode, token)
     }
@@ -362,7 +380,7 @@ impl DataNode {
         ensures answer { IfOk result (λ answered. answered ≡ spec.presented_answer self.old clock presented.now call.now) }
         ensures err { OnErr result (self.new ≡ self.old) }
     {
-        if let Err(refusal) = self.judge(clock, presented, call) {
+        if let Err(refusal) = self.judge(clock, presented, call)? {
             return Ok(self.refuse(clock, NodeRefusal::Token(AtWord::of(refusal))));
         }
         let answered = self.serve_taken(clock, presented, call)?;

@@ -4,6 +4,7 @@ ghost use Rattle.permission_bits.specs.Modes.{is_modes};
 use block_tokens::key::Key;
 use block_tokens::refusal::TokenRefusal;
 use block_tokens::ring::KeyRing;
+use call_parts::chunks::Chunks;
 use call_parts::node_list::NodeList;
 use call_parts::presented::{Presented, PresentedToken};
 use datanode::answered::Answered;
@@ -19,6 +20,7 @@ use node_calls::single::Single;
 use node_ids::node_id::NodeId;
 use permission_bits::modes::Modes;
 use std::alloc::{AllocError, Global};
+use std::num::NonZeroUsize;
 
 // What the tests ask of a node, and whether it answers what the rules say. Nothing is said of what these functions return, so that each
 // test is a short proof; and each owns little, so that it is a cheap one.
@@ -33,6 +35,11 @@ pub fn ring(alloc: Global) -> KeyRing {
 
 pub fn node(alloc: Global, id: u32) -> Option<DataNode> {
     DataNode::new(alloc, NodeId::new(id)?, LIMIT).ok()
+}
+
+/// A node that keeps one token that it verified.
+pub fn forgetful(alloc: Global, id: u32) -> Option<DataNode> {
+    DataNode::with_cache(alloc, NodeId::new(id)?, LIMIT, NonZeroUsize::MIN).ok()
 }
 
 pub fn nobody() -> NodeList {
@@ -200,10 +207,20 @@ pub fn is_read(answer: Result<Answered, AllocError>, bytes: &[u8]) -> bool {
 
 fn are_read(reply: Option<&NodeReply>, bytes: &[u8]) -> bool {
     match reply {
-        Some(NodeReply::Read(chunks)) => match chunks.pieces() {
-            [piece] => piece.as_slice() == bytes,
-            _ => false,
-        },
+        Some(NodeReply::Read(chunks)) => are_bytes(chunks, bytes),
         _ => false,
     }
+}
+
+/// Whether these are the bytes, in however many pieces.
+pub fn are_bytes(chunks: &Chunks, bytes: &[u8]) -> bool {
+    let mut rest = bytes;
+    for piece in chunks.pieces() {
+        let (front, behind) = rest.split_at(piece.bytes.len().min(rest.len()));
+        if front != piece.bytes.as_slice() {
+            return false;
+        }
+        rest = behind;
+    }
+    rest.is_empty() && chunks.len() == bytes.len() as u64
 }

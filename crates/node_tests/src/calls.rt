@@ -1,3 +1,4 @@
+use crate::asking::are_bytes;
 use call_parts::block_bytes::BlockBytes;
 use call_parts::node_list::NodeList;
 use hdfs_values::ids::{BlockId, Stamp};
@@ -53,10 +54,7 @@ fn floor_is(replicas: &Replicas, stamp: u64) -> bool {
 // Whether these bytes are read.
 fn reads(replicas: &Replicas, offset: u64, count: u64, bytes: &[u8]) -> bool {
     match replicas.read(offset, count, block()) {
-        Ok(chunks) => match chunks.pieces() {
-            [piece] => piece.as_slice() == bytes,
-            _ => false,
-        },
+        Ok(chunks) => are_bytes(&chunks, bytes),
         Err(_) => false,
     }
 }
@@ -204,6 +202,38 @@ fn slices_are_read(alloc: Global) -> bool {
 #[test]
 fn slices(rt: HostRuntime) {
     assert!(rt; slices_are_read(rt.alloc()));
+}
+
+// How many pieces are read.
+fn pieces(replicas: &Replicas, offset: u64, count: u64) -> usize {
+    match replicas.read(offset, count, block()) {
+        Ok(chunks) => chunks.pieces().len(),
+        Err(_) => 0,
+    }
+}
+
+// A packet is a piece, one without bytes is none, and a recovery cuts in the middle of one.
+fn pieces_are_read_and_cut(alloc: Global) -> bool {
+    let mut replicas = Replicas::new(alloc);
+    done(&mut replicas, 1001, begin())
+        && done(&mut replicas, 1001, packet(0, b'a', 3))
+        && done(&mut replicas, 1001, packet(3, b'b', 0))
+        && done(&mut replicas, 1001, packet(3, b'b', 4))
+        && done(&mut replicas, 1001, packet(7, b'c', 2))
+        && reads(&replicas, 2, 6, b"abbbbc")
+        && pieces(&replicas, 2, 6) == 3
+        && pieces(&replicas, 3, 4) == 1
+        && pieces(&replicas, 9, 1) == 0
+        && done(&mut replicas, 1002, TokenCall::InitRecovery)
+        && done(&mut replicas, 1002, TokenCall::UpdateReplica(5))
+        && reads(&replicas, 0, 9, b"aaabb")
+        && reads(&replicas, 2, 2, b"ab")
+        && pieces(&replicas, 0, 9) == 2
+}
+
+#[test]
+fn three_pieces(rt: HostRuntime) {
+    assert!(rt; pieces_are_read_and_cut(rt.alloc()));
 }
 
 // What was promised stays over a removal: nothing is begun at it again, but a copy is taken.

@@ -1,5 +1,6 @@
 use crate::asking::{
-    at, is_barred, is_read, is_refused, learns, nobody, node, presents, ring, single, token, told,
+    at, forgetful, is_barred, is_read, is_refused, learns, nobody, node, presents, ring, single,
+    token, told,
 };
 use block_tokens::key::Key;
 use block_tokens::refusal::TokenRefusal;
@@ -165,9 +166,9 @@ fn serves(node: &mut DataNode, alloc: Global, ring: &mut KeyRing) -> bool {
     }
 }
 
-fn run(alloc: Global) -> bool {
+fn run(alloc: Global, node: Option<DataNode>) -> bool {
     let mut ring = ring(alloc);
-    match node(alloc, 1) {
+    match node {
         Some(mut node) => {
             learns(&mut node, alloc, &ring, 0, 1)
                 && writes(&mut node, alloc, &ring)
@@ -180,5 +181,11 @@ fn run(alloc: Global) -> bool {
 
 #[test]
 fn tokens_over_time(rt: HostRuntime) {
-    assert!(rt; run(rt.alloc()));
+    assert!(rt; run(rt.alloc(), node(rt.alloc(), 1)));
+}
+
+// The same answers where one verified token is kept: alice's and bob's drive each other out.
+#[test]
+fn one_token_is_kept(rt: HostRuntime) {
+    assert!(rt; run(rt.alloc(), forgetful(rt.alloc(), 1)));
 }

@@ -1,26 +1,24 @@
 -- The digits of bytes that stand in pieces.
-use Rattle.std.proofs.Common.{◌≡◌, ℕ, ◌+◌, ◌/◌, ◌%◌, ◌<◌, true, List, [], ◌∷◌, ◌++◌, take, drop, get_or, length, refl, sym, ap, ◌∙◌, append-nil, append_assoc, ltb, arith}
+use Rattle.std.proofs.Common.{◌≡◌, ℕ, ◌+◌, ◌/◌, ◌%◌, ◌<◌, true, List, [], ◌∷◌, ◌++◌, take, get_or, length, refl, sym, ap, ◌∙◌, append_assoc, ltb, arith}
 use Rattle.std.specs.Prelude.{codes, slice_index}
-use Rattle.std.specs.List.{flat_map}
 use Rattle.std.specs.Str.{IsAscii, IsUtf8}
 use Rattle.std.proofs.lemmas.Bool.{ltb-true}
-use Rattle.std.proofs.lemmas.List.{take_more, drop_more}
-use Rattle.std.proofs.lemmas.List.Concat.{flat_map-append}
+use Rattle.std.proofs.lemmas.List.{take_more}
 use Rattle.std.proofs.lemmas.List.Elements.{All-weaker}
 use Rattle.std.proofs.lemmas.List.Sums.{AllPass-from_list_all}
 use Rattle.std.proofs.lemmas.Str.{IsUtf8-from_ascii}
 use Rattle.std.proofs.lemmas.Str.Ascii.{IsAscii-from_all}
 use Rattle.hex.specs.Hex.{encode_with, encode_lower, lower_digits}
 use Rattle.hex.proofs.HexLemmas.{IsAscii-encode_with}
+use Rattle.call_parts.specs.Chunks.{bytes_of}
+use Rattle.call_parts.specs.declared.chunks.Piece.{Piece}
+use Rattle.call_parts.proofs.Pieces.{bytes_of_more}
 use Rattle.node_text.specs.ReplyText.{word_behind}
 
 encode-append : (table a b : List ℕ) → encode_with table (a ++ b) ≡ encode_with table a ++ encode_with table b
 unfolding encode_with
 encode-append table [] b = refl
 encode-append table (byte ∷ a) b = ap (λ rest. slice_index table (byte / 16) ∷ slice_index table (byte % 16) ∷ rest) (encode-append table a b)
-
-abbrev joined : List (List ℕ) → List ℕ
-joined pieces = flat_map (λ piece. piece) pieces
 
 -- ---- one piece
 
@@ -45,33 +43,23 @@ pub no_digits : encode_lower [] ≡ []
 unfolding encode_with
 no_digits = refl
 
-joined_more : (pieces : List (List ℕ)) (i : ℕ) (d : List ℕ) → i < length pieces → joined (take (i + 1) pieces) ≡ joined (take i pieces) ++ get_or pieces i d
-joined_more pieces i d lt =
-    ap joined (take_more pieces i d lt)
-    ∙ flat_map-append (λ (piece : List ℕ). piece) (take i pieces) (get_or pieces i d ∷ [])
-    ∙ ap (λ last. joined (take i pieces) ++ last) (append-nil (get_or pieces i d))
+bytes_more : (pieces : List Piece) (i : ℕ) (d : Piece) → i < length pieces → bytes_of (take (i + 1) pieces) ≡ bytes_of (take i pieces) ++ (get_or pieces i d).bytes
+bytes_more pieces i d lt = ap bytes_of (take_more pieces i d lt) ∙ bytes_of_more (take i pieces) (get_or pieces i d)
 
 -- the digits of one piece more, behind a front
-pub piece_more : (pieces : List (List ℕ)) (i : ℕ) (piece front old new : List ℕ) → i < length pieces → piece ≡ get_or pieces i piece → old ≡ front ++ encode_lower (joined (take i pieces))
-    → new ≡ old ++ encode_lower piece → new ≡ front ++ encode_lower (joined (take (i + 1) pieces))
+pub piece_more : (pieces : List Piece) (i : ℕ) (piece : Piece) (front old new : List ℕ) → i < length pieces → piece ≡ get_or pieces i piece → old ≡ front ++ encode_lower (bytes_of (take i pieces))
+    → new ≡ old ++ encode_lower piece.bytes → new ≡ front ++ encode_lower (bytes_of (take (i + 1) pieces))
 piece_more pieces i piece front old new lt at before after =
     after
-    ∙ ap (λ digits. digits ++ encode_lower piece) before
-    ∙ append_assoc front (encode_lower (joined (take i pieces))) (encode_lower piece)
+    ∙ ap (λ digits. digits ++ encode_lower piece.bytes) before
+    ∙ append_assoc front (encode_lower (bytes_of (take i pieces))) (encode_lower piece.bytes)
     ∙ ap (λ digits. front ++ digits) more
   where
-    more : encode_lower (joined (take i pieces)) ++ encode_lower piece ≡ encode_lower (joined (take (i + 1) pieces))
+    more : encode_lower (bytes_of (take i pieces)) ++ encode_lower piece.bytes ≡ encode_lower (bytes_of (take (i + 1) pieces))
     more =
-        sym (encode-append lower_digits (joined (take i pieces)) piece)
-        ∙ ap (λ last. encode_lower (joined (take i pieces) ++ last)) at
-        ∙ ap encode_lower (sym (joined_more pieces i piece lt))
-
--- ---- whether there is a byte
-
--- a piece that is left
-pub joined_left : (pieces : List (List ℕ)) (i : ℕ) (piece : List ℕ) → i < length pieces → piece ≡ get_or pieces i piece → joined (drop i pieces) ≡ piece ++ joined (drop (i + 1) pieces)
-joined_left pieces i piece lt at =
-    ap joined (drop_more pieces i piece lt) ∙ ap (λ first. first ++ joined (drop (i + 1) pieces)) (sym at)
+        sym (encode-append lower_digits (bytes_of (take i pieces)) piece.bytes)
+        ∙ ap (λ (last : Piece). encode_lower (bytes_of (take i pieces) ++ last.bytes)) at
+        ∙ ap encode_lower (sym (bytes_more pieces i piece lt))
 
 -- ---- behind a blank
 

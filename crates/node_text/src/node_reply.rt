@@ -1,13 +1,12 @@
 ghost use Rattle.std.specs.Prelude.{◌≡◌, ◌++◌, ◌*◌, ◌<◌, ◌≤◌, ◌==◌, not, length, slice_index, OnOk};
 ghost use Rattle.std.specs.Fmt.{decimal};
-ghost use Rattle.std.specs.List.{flat_map};
+ghost use Rattle.call_parts.specs.Chunks.{bytes_of};
 ghost use Rattle.std.specs.String.{string_bytes};
 ghost use Rattle.hex.specs.Hex.{encode_lower, lower_digits};
 ghost use Rattle.node_calls.specs.declared.reply.NodeReply.TheVariants as reply;
 ghost use Rattle.node_text.specs.ReplyText as spec;
 
-use bytes::Bytes;
-use call_parts::chunks::Chunks;
+use call_parts::chunks::{Chunks, Piece};
 use hdfs_values::ids::Stamp;
 use node_calls::call::ReplicaState;
 use node_calls::refusal::NodeRefusal;
@@ -66,24 +65,12 @@ fn push_digits(bytes: &[u8], line: &mut String) -> Result<(), AllocError>
     push_spelled(rest, &mut room, line)
 }
 
-/// Whether there is a byte in any piece.
-fn has_bytes(pieces: &[Bytes]) -> bool
-    ensures { result ≡ not (length (flat_map (λ piece. piece) pieces.now) == 0) }
-{
-    for piece in pieces {
-        if !piece.is_empty() {
-            return true;
-        }
-    }
-    false
-}
-
 /// Adds the digits of bytes that stand in pieces.
-fn push_pieces(pieces: &[Bytes], line: &mut String) -> Result<(), AllocError>
-    ensures { OnOk result (string_bytes line.new ≡ string_bytes line.old ++ encode_lower (flat_map (λ piece. piece) pieces.now)) }
+fn push_pieces(pieces: &[Piece], line: &mut String) -> Result<(), AllocError>
+    ensures { OnOk result (string_bytes line.new ≡ string_bytes line.old ++ encode_lower (bytes_of pieces.now)) }
 {
     for piece in pieces {
-        push_digits(piece.as_slice(), line)?;
+        push_digits(piece.bytes.as_slice(), line)?;
     }
     Ok(())
 }
@@ -93,12 +80,11 @@ fn print_read(chunks: &Chunks, line: &mut String) -> Result<(), AllocError>
     ensures { OnOk result (string_bytes line.new ≡ string_bytes line.old ++ spec.node_reply_text (reply.Read chunks.now)) }
 {
     line.push_str("ok read")?;
-    let pieces = chunks.pieces();
-    if !has_bytes(pieces) {
+    if chunks.len() == 0 {
         return Ok(());
     }
     line.push_str(" ")?;
-    push_pieces(pieces, line)
+    push_pieces(chunks.pieces(), line)
 }
 
 fn state_word(state: ReplicaState) -> &'static str

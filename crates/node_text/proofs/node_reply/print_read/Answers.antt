@@ -4,13 +4,13 @@ use Rattle.std.specs.String.{string_bytes}
 use Rattle.node_text.proofs.Digits.{nothing_behind, read_text}
 use Rattle.node_text.proofs.node_reply.print_read.Goals as goal
 
-pub returns-then-not-has_bytes : goal.returns-then-not-has_bytes
-returns-then-not-has_bytes c =
+pub returns-then-len : goal.returns-then-len
+returns-then-len c =
     c.in_ok-push_str.ensures.bytes
-    ∙ ap (λ word. string_bytes c.args.line.now ++ (codes "ok read" ++ word)) (sym (nothing_behind c.args.chunks.now (grind (arith, c.pieces-pieces.ensures, c.has_bytes.ensures, c.if-not-has_bytes.true))))
+    ∙ ap (λ word. string_bytes c.args.line.now ++ (codes "ok read" ++ word)) (sym (nothing_behind c.args.chunks.now (grind (arith, c.len.ensures, c.if-len.true))))
 
 pub returns : goal.returns
 returns c = subst
     (λ text. OnOk c.push_pieces.result (string_bytes c.push_pieces.new.line ≡ text))
-    (read_text c.args.chunks.now _ (string_bytes c.args.line.now) _ _ c.pieces-pieces.ensures (grind (arith, c.pieces-pieces.ensures, c.has_bytes.ensures, c.if-not-has_bytes.false)) c.in_ok-push_str.ensures.bytes c.in_ok-push_str-2.ensures.bytes)
+    (read_text c.args.chunks.now _ (string_bytes c.args.line.now) _ _ c.pieces.ensures.bytes (grind (arith, c.len.ensures, c.if-len.false)) c.in_ok-push_str.ensures.bytes c.in_ok-push_str-2.ensures.bytes)
     c.push_pieces.ensures
