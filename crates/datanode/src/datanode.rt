@@ -444,7 +444,8 @@ impl DataNode {
     }
 
     /// Writes bytes behind those of a replica, which are so many as the offset says; these nodes come next in the pipeline. Refused as
-    /// `NoReplica`, `StampDiffers`, `NotWritable`, `OffsetGap`, `OutOfRange`. Costs the bytes.
+    /// `NoReplica`, `StampDiffers`, `NotWritable`, `OffsetGap`, `OutOfRange`. Costs a look-up and these nodes; the bytes are
+    /// shared, but one byte so many times costs the bytes.
     ///
     /// # Errors
     /// Out of memory. Nothing has changed then.
@@ -482,8 +483,8 @@ impl DataNode {
         self.present(now, presented, &TokenCall::Finalize(length, next))
     }
 
-    /// Reads from an offset of a finalized replica so many bytes. Refused as `NoReplica`, `StampDiffers`, `OutOfRange`. Costs the
-    /// bytes.
+    /// Reads from an offset of a finalized replica so many bytes. Refused as `NoReplica`, `StampDiffers`, `OutOfRange`. Costs
+    /// look-ups, and the pieces that hold such bytes, which are shared.
     ///
     /// # Errors
     /// Out of memory. Nothing has changed then.
@@ -519,7 +520,7 @@ impl DataNode {
     }
 
     /// Ends the recovery of a replica: it has this length, and is finalized. The DataNode in whose name this is asked is told. Refused
-    /// as `NoReplica`, `StampDiffers`, `NotWritable`, `OutOfRange`. Costs a look-up, and the bytes that are cut off.
+    /// as `NoReplica`, `StampDiffers`, `NotWritable`, `OutOfRange`. Costs a look-up, and the pieces that are cut off.
     ///
     /// # Errors
     /// Out of memory. Nothing has changed then.
@@ -537,7 +538,7 @@ impl DataNode {
     }
 
     /// Takes a whole replica, at a stamp not below those that were held or promised. Refused as `ReplicaExists`, `StampDiffers`,
-    /// `OutOfRange`. Costs the bytes.
+    /// `OutOfRange`. Costs the pieces that the bytes are in; one byte so many times costs the bytes.
     ///
     /// # Errors
     /// Out of memory. Nothing has changed then.
@@ -555,7 +556,7 @@ impl DataNode {
     }
 
     /// Sends a copy of a finalized replica to another node, in this node's own name. Refused as `NoReplica`, `StampDiffers`. Costs the
-    /// bytes.
+    /// pieces of the replica, which are shared.
     ///
     /// # Errors
     /// Out of memory. Nothing has changed then.

@@ -57,7 +57,7 @@ fn replica_told(held: &Held) -> NodeReply
     NodeReply::Replica(stamp, count, state)
 }
 
-/// What is answered to a call that isn't refused, by what is held before it. Costs the bytes that are read.
+/// What is answered to a call that isn't refused, by what is held before it. Costs the pieces that are read.
 ///
 /// # Errors
 /// Out of memory.
@@ -201,8 +201,8 @@ fn copy_to(
     pass_on(alloc, presented, to, call)
 }
 
-/// The messages that come with the answer to a call that isn't refused, by what is held before it. Costs the bytes that are passed on or
-/// copied.
+/// The messages that come with the answer to a call that isn't refused, by what is held before it. Costs the pieces in which bytes are
+/// passed on or sent.
 ///
 /// # Errors
 /// Out of memory.

@@ -102,7 +102,7 @@ impl Replicas {
         self.get_or(block, &nothing).length()
     }
 
-    /// From an offset of a block's replica so many bytes; those that aren't there are left out. Costs a look-up, and the bytes.
+    /// From an offset of a block's replica so many bytes; those that aren't there are left out. Costs look-ups, and the pieces that hold such bytes.
     ///
     /// # Errors
     /// Out of memory.
@@ -186,7 +186,7 @@ impl Replicas {
         self.place(stamp, ReplicaState::Writing, bytes, block)
     }
 
-    /// Puts a whole replica in its place. Costs a look-up, and the bytes.
+    /// Puts a whole replica in its place. Costs a look-up, and the pieces that its bytes are in; one byte so many times costs the bytes.
     ///
     /// # Errors
     /// Out of memory. Nothing has changed then.
@@ -203,7 +203,8 @@ impl Replicas {
         self.place(stamp, ReplicaState::Finalized, bytes, block)
     }
 
-    /// Puts bytes behind those of a block's replica, if there is one. Costs a look-up, and the bytes, amortized.
+    /// Puts bytes behind those of a block's replica, if there is one. Costs a look-up, and the pieces that they are in, amortized; one byte so many times
+    /// costs the bytes.
     ///
     /// # Errors
     /// Out of memory. Nothing has changed then.
@@ -235,8 +236,8 @@ impl Replicas {
         }
     }
 
-    /// Gives a block's replica, if there is one, a stamp and at most so many of its bytes, and ends its writing. Costs a look-up, and takes
-    /// no memory.
+    /// Gives a block's replica, if there is one, a stamp and at most so many of its bytes, and ends its writing. Costs a look-up and
+    /// the pieces that go, and takes no memory.
     pub fn update(&mut self, count: u64, stamp: Stamp, block: BlockId)
         ensures { self.new ≡ with_held_changed (with_replica_recovered stamp count) block self.old }
     {
@@ -254,7 +255,8 @@ impl Replicas {
         }
     }
 
-    /// Does what a call that isn't refused does to the replicas. Costs a look-up, and the bytes that come.
+    /// Does what a call that isn't refused does to the replicas. Costs a look-up, and the pieces in which bytes come or that go; one byte so
+    /// many times costs the bytes.
     ///
     /// # Errors
     /// Out of memory. Nothing has changed then.
