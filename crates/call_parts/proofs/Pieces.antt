@@ -1,7 +1,7 @@
 -- Pieces that stand one behind another: what is put behind them, taken from them, and read of them.
-use Rattle.std.proofs.Common.{◌≡◌, ◌≤◌, ◌<◌, ◌+◌, ◌-◌, ◌∙◌, ◌×◌, ℕ, zero, suc, List, [], ◌∷◌, ◌++◌, length, take, drop, Option, Some, refl, sym, ap, subst, slice_get, arith}
+use Rattle.std.proofs.Common.{◌≡◌, ◌≤◌, ◌<◌, ◌+◌, ◌-◌, ◌∙◌, ◌×◌, ℕ, zero, suc, List, [], ◌∷◌, ◌++◌, length, take, drop, Option, Some, refl, sym, ap, subst, slice_get, get_or, arith}
 use Rattle.std.specs.Prelude.{unwrap_or}
-use Rattle.std.proofs.lemmas.List.{append-nil, append_assoc, length-append, length-take, length-drop, take-append-drop, take-append-le, take_all, drop_all, take_at}
+use Rattle.std.proofs.lemmas.List.{append-nil, append_assoc, length-append, length-take, length-drop, take-append-drop, take-append-le, take_all, drop_all, drop_more, take_at}
 use Rattle.std.proofs.lemmas.List.Concat.{flat_map-append}
 use Rattle.call_parts.specs.Chunks.{bytes_of, StandBehind}
 use Rattle.call_parts.specs.declared.chunks.Piece.{Piece}
@@ -57,6 +57,25 @@ bytes_of_both xs ys = flat_map-append (λ (piece : Piece). piece.bytes) xs ys
 
 pub bytes_of_more : (xs : List Piece) (piece : Piece) → bytes_of (xs ++ piece ∷ []) ≡ bytes_of xs ++ piece.bytes
 bytes_of_more xs piece = bytes_of_both xs (piece ∷ []) ∙ ap (λ l. bytes_of xs ++ l) (append-nil piece.bytes)
+
+module _ (pieces : List Piece) (i : ℕ) (piece : Piece) (within : i < length pieces) (at : piece ≡ get_or pieces i piece) where
+  left : drop i pieces ≡ piece ∷ drop (i + 1) pieces
+  left = drop_more pieces i piece within ∙ ap (λ (p : Piece). p ∷ drop (i + 1) pieces) (sym at)
+
+  -- a piece of those that are left is put behind others
+  pub pieces_more : (chunks all : List ℕ) → chunks ++ bytes_of (drop i pieces) ≡ all → (chunks ++ piece.bytes) ++ bytes_of (drop (i + 1) pieces) ≡ all
+  pieces_more chunks all before = append_assoc chunks piece.bytes (bytes_of (drop (i + 1) pieces)) ∙ (ap (λ ps. chunks ++ bytes_of ps) (sym left) ∙ before)
+
+  -- a part of it is
+  pub part_more : (skipped count : ℕ) (chunks all part : List ℕ) → part ≡ take count (drop skipped piece.bytes) → chunks ++ take count (drop skipped (bytes_of (drop i pieces))) ≡ all
+      → (chunks ++ part) ++ take (count - length part) (drop (skipped - length piece.bytes) (bytes_of (drop (i + 1) pieces))) ≡ all
+  part_more skipped count chunks all part is before =
+      append_assoc chunks part (take (count - length part) (drop (skipped - length piece.bytes) (bytes_of (drop (i + 1) pieces)))) ∙ (ap (λ l. chunks ++ l) (sym split) ∙ before)
+    where
+      split : take count (drop skipped (bytes_of (drop i pieces))) ≡ part ++ take (count - length part) (drop (skipped - length piece.bytes) (bytes_of (drop (i + 1) pieces)))
+      split = ap (λ ps. take count (drop skipped (bytes_of ps))) left
+          ∙ (part_of_both skipped count piece.bytes (bytes_of (drop (i + 1) pieces))
+          ∙ ap (λ (l : List ℕ). l ++ take (count - length l) (drop (skipped - length piece.bytes) (bytes_of (drop (i + 1) pieces)))) (sym is))
 
 -- one more behind them
 pub stand_more : (start : ℕ) (xs : List Piece) (piece : Piece) → StandBehind start xs → piece.start ≡ start + length (bytes_of xs) → 0 < length piece.bytes
