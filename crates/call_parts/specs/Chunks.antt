@@ -1,5 +1,5 @@
 -- Bytes in pieces that stand one behind another.
-use Rattle.std.specs.Prelude.{◌≡◌, ℕ, ◌+◌, ◌-◌, ◌<◌, ◌×◌, List, [], ◌∷◌, length, IfSome, slice_get}
+use Rattle.std.specs.Prelude.{◌≡◌, ℕ, ◌+◌, ◌-◌, ◌<◌, List, [], ◌∷◌, length, IfSome, slice_get}
 use Rattle.std.specs.Bool.{⊤}
 use Rattle.std.specs.List.{flat_map}
 use Rattle.call_parts.specs.declared.chunks.Piece.{Piece}

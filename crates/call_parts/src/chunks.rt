@@ -23,25 +23,26 @@ impl Drop for Piece {
 /// it. Copies and parts share the pieces: no byte is copied for them.
 pub struct Chunks {
     pieces: Vec<Piece>,
-    length: u64,
+    // how many bytes they have together
+    total: u64,
 }
 
 impl Drop for Chunks {
     fn drop(self) {
-        let Chunks { pieces, length: _ } = self;
+        let Chunks { pieces, total: _ } = self;
         drop(pieces);
     }
 }
 
 impl Model for Chunks {
-    ghost use Rattle.std.specs.Prelude.{List, ℕ, ◌≡◌, ◌×◌, length};
+    ghost use Rattle.std.specs.Prelude.{List, ℕ, ◌≡◌, length};
     ghost use Rattle.call_parts.specs.Chunks.{StandBehind, bytes_of};
 
     ghost Value = { List ℕ };
 
     ghost view = { λ chunks. bytes_of chunks.pieces.items };
 
-    ghost invariant = { λ chunks. StandBehind 0 chunks.pieces.items × (chunks.length ≡ length (bytes_of chunks.pieces.items)) };
+    ghost invariant = { λ chunks. StandBehind 0 chunks.pieces.items × (chunks.total ≡ length (bytes_of chunks.pieces.items)) };
 }
 
 // So many bytes of a piece behind so many, or as many as are there; they aren't copied.
@@ -101,39 +102,39 @@ fn behind(pieces: &[Piece], offset: u64) -> (&[Piece], u64)
 }
 
 // Whether the last piece begins behind so many bytes.
-fn is_behind(pieces: &[Piece], length: u64) -> bool
+fn is_behind(pieces: &[Piece], limit: u64) -> bool
     requires { StandBehind 0 pieces.now }
     ensures some { result ≡ true → 0 < length pieces.now }
-    ensures yes { result ≡ true → take length (bytes_of (take (length pieces.now - 1) pieces.now)) ≡ take length (bytes_of pieces.now) }
-    ensures no { result ≡ false → BeginBefore length pieces.now }
+    ensures yes { result ≡ true → take limit (bytes_of (take (length pieces.now - 1) pieces.now)) ≡ take limit (bytes_of pieces.now) }
+    ensures no { result ≡ false → BeginBefore limit pieces.now }
 {
     match pieces.last() {
-        Some(last) => last.start >= length,
+        Some(last) => last.start >= limit,
         None => false,
     }
 }
 
 // Takes away the pieces that begin behind so many bytes.
-fn drop_behind(pieces: &mut Vec<Piece>, length: u64)
+fn drop_behind(pieces: &mut Vec<Piece>, limit: u64)
     requires { StandBehind 0 pieces.old.items }
-    ensures bytes { take length (bytes_of pieces.new.items) ≡ take length (bytes_of pieces.old.items) }
+    ensures bytes { take limit (bytes_of pieces.new.items) ≡ take limit (bytes_of pieces.old.items) }
     ensures stand { StandBehind 0 pieces.new.items }
-    ensures before { BeginBefore length pieces.new.items }
+    ensures before { BeginBefore limit pieces.new.items }
 {
-    while is_behind(pieces, length) {
+    while is_behind(pieces, limit) {
         pieces.pop();
     }
 }
 
 // Cuts the last piece, so that so many bytes are left at most.
-fn cut_last(pieces: &mut [Piece], length: u64)
+fn cut_last(pieces: &mut [Piece], limit: u64)
     requires stand { StandBehind 0 pieces.old }
-    requires before { BeginBefore length pieces.old }
-    ensures bytes { bytes_of pieces.new ≡ take length (bytes_of pieces.old) }
+    requires before { BeginBefore limit pieces.old }
+    ensures bytes { bytes_of pieces.new ≡ take limit (bytes_of pieces.old) }
     ensures stand { StandBehind 0 pieces.new }
 {
     if let Some(last) = pieces.last_mut() {
-        let kept = length.saturating_sub(last.start);
+        let kept = limit.saturating_sub(last.start);
         last.bytes.truncate(kept as usize);
     }
 }
@@ -145,7 +146,7 @@ impl Chunks {
     {
         Chunks {
             pieces: Vec::new(alloc),
-            length: 0,
+            total: 0,
         }
     }
 
@@ -158,7 +159,7 @@ impl Chunks {
     pub fn len(&self) -> u64
         ensures { result ≡ length self.now }
     {
-        self.length
+        self.total
     }
 
     /// The pieces in their order; none is empty. Takes no memory.
@@ -177,15 +178,15 @@ impl Chunks {
         ensures ok { OnOk result (self.new ≡ self.old ++ bytes) }
         ensures err { OnErr result (self.new ≡ self.old) }
     {
-        let start = self.length;
-        let Some(length) = start.checked_add(bytes.len() as u64) else {
+        let start = self.total;
+        let Some(total) = start.checked_add(bytes.len() as u64) else {
             return Err(AllocError);
         };
-        if length == start {
+        if total == start {
             return Ok(());
         }
         self.pieces.push(Piece { start, bytes })?;
-        self.length = length;
+        self.total = total;
         Ok(())
     }
 
@@ -224,7 +225,7 @@ impl Chunks {
     {
         drop_behind(&mut self.pieces, length);
         cut_last(&mut self.pieces, length);
-        self.length = self.length.min(length);
+        self.total = self.total.min(length);
     }
 
     /// From an offset so many bytes; those that aren't there are left out. Costs the logarithm of the pieces, and those that hold such bytes.
@@ -247,7 +248,7 @@ impl Clone for Chunks {
     fn clone(&self) -> Result<Chunks, AllocError> {
         let mut copy = Chunks {
             pieces: Vec::with_capacity(self.allocator(), self.pieces.len())?,
-            length: 0,
+            total: 0,
         };
         copy.append(self)?;
         Ok(copy)

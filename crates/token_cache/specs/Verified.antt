@@ -1,5 +1,5 @@
 -- Tokens whose codes were found right under the keys that are held. (HADOOP-4359: a DataNode checks a token's code by the key of its serial.)
-use Rattle.std.specs.Prelude.{ℕ, List, ◌×◌}
+use Rattle.std.specs.Prelude.{ℕ, List}
 use Rattle.std.specs.List.{AllByRecursion}
 use Rattle.block_tokens.specs.KeyList.{KeyList}
 use Rattle.block_tokens.specs.TokenText.{Body}

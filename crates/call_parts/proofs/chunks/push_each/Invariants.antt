@@ -1,4 +1,4 @@
-use Rattle.std.proofs.Common.{◌≡◌, ◌×◌, ◌++◌, take, drop, length}
+use Rattle.std.proofs.Common.{◌≡◌, ◌++◌, take, drop, length}
 use Rattle.call_parts.specs.Chunks.{bytes_of}
 use Rattle.call_parts.proofs.chunks.push_each.Given as goal
 
