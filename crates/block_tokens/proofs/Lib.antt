@@ -11,3 +11,4 @@ pub mod Expiries
 pub mod Taking
 pub mod Bringing
 pub mod Vectors
+pub mod Verified

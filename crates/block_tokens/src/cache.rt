@@ -1,4 +1,4 @@
-ghost use Rattle.std.specs.Prelude.{◌≡◌, ℕ, ◌+◌, List, [], Some, None, length, IfOk, OnOk, OnErr, option_copied};
+ghost use Rattle.std.specs.Prelude.{◌≡◌, ℕ, ◌+◌, List, [], Some, None, length, IfOk, IfSome, OnOk, OnErr, option_copied};
 ghost use Rattle.hdfs_values.specs.Text.{same};
 ghost use Rattle.block_tokens.specs.KeyList as spec;
 ghost use Rattle.block_tokens.specs.TokenTest.{TellsTokenRefusal, IsVerified, access_test, token_test, verified_test};
@@ -191,7 +191,8 @@ impl KeyCache {
 
     // The key with a serial, where no known expiry of it has come.
     fn usable_key(&self, now: Moment, serial: Serial) -> Option<&CachedKey>
-        ensures { option_copied result ≡ spec.key_with serial (spec.usable_keys now self.now) }
+        ensures usable { option_copied result ≡ spec.key_with serial (spec.usable_keys now self.now) }
+        ensures known { IfSome result (λ held. spec.key_with serial self.now ≡ Some held.now) }
     {
         unless_expired(now, self.keys.get(&serial.get()))
     }
@@ -254,9 +255,9 @@ impl KeyCache {
     ) -> Result<(), TokenRefusal>
         ensures { (bytes : List ℕ) → IsVerified self.now bytes parts.now → TellsTokenRefusal result (token_test self.now (record { now = now; caller = caller.now; block = block; mode = mode.0 }) bytes) }
     {
-        if self.usable_key(now, parts.serial).is_none() {
+        let Some(_held) = self.usable_key(now, parts.serial) else {
             return Err(TokenRefusal::UnknownKey);
-        }
+        };
         judge(parts, now, caller, block, mode)
     }
 }

@@ -1,7 +1,7 @@
 -- Pieces that stand one behind another: what is put behind them, taken from them, and read of them.
 use Rattle.std.proofs.Common.{◌≡◌, ◌≤◌, ◌<◌, ◌+◌, ◌-◌, ◌∙◌, ℕ, zero, suc, List, [], ◌∷◌, ◌++◌, length, take, drop, set, Option, Some, refl, sym, ap, subst, slice_get, get_or, arith}
 use Rattle.std.specs.Prelude.{unwrap_or, IfSome}
-use Rattle.std.proofs.lemmas.List.{append-nil, append_assoc, length-append, length-take, length-drop, take-append-drop, take-append-le, take_all, drop_all, drop_more, take_at, set_at}
+use Rattle.std.proofs.lemmas.List.{append-nil, append_assoc, length-append, length-take, take-append-drop, take-append-le, take_all, drop_all, drop_more, take_at, set_at}
 use Rattle.std.proofs.lemmas.List.Concat.{flat_map-append}
 use Rattle.std.proofs.lemmas.Option.{slice_get_read}
 use Rattle.call_parts.specs.Chunks.{bytes_of, StandBehind, BeginBefore}
@@ -140,9 +140,10 @@ pub popped : (limit : ℕ) (old shown new all : List Piece) (n : ℕ) → StandB
     → take limit (bytes_of (take (length shown - 1) shown)) ≡ take limit (bytes_of shown) → take limit (bytes_of old) ≡ take limit (bytes_of all)
     → StandBehind 0 new × (take limit (bytes_of new) ≡ take limit (bytes_of all))
 popped limit old shown new all n stand seen size is behind before =
-    let taken : new ≡ take (length old - 1) old = is ∙ ap (λ k. take (k - 1) old) size in
-    (subst (StandBehind 0) (sym taken) (stand_take 0 (length old - 1) old stand),
-     ap (λ ps. take limit (bytes_of ps)) taken ∙ (subst (λ ps. take limit (bytes_of (take (length ps - 1) ps)) ≡ take limit (bytes_of ps)) seen behind ∙ before))
+    let taken : new ≡ take (length old - 1) old = is ∙ ap (λ k. take (k - 1) old) size in (
+      subst (StandBehind 0) (sym taken) (stand_take 0 (length old - 1) old stand),
+      ap (λ ps. take limit (bytes_of ps)) taken ∙ (subst (λ ps. take limit (bytes_of (take (length ps - 1) ps)) ≡ take limit (bytes_of ps)) seen behind ∙ before),
+    )
 
 -- with the last one cut
 module _ (limit : ℕ) (xs : List Piece) (piece : Piece) (stand : StandBehind 0 (xs ++ piece ∷ [])) (before : piece.start < limit) where
