@@ -1,11 +1,12 @@
 -- What holds of each token that is kept, when one is looked up, put in or moved, and when keys come or go.
-use Rattle.std.proofs.Common.{◌≡◌, ◌≤◌, ◌<◌, ◌+◌, ◌-◌, ◌∙◌, ℕ, zero, suc, Bool, true, false, List, [], ◌∷◌, length, take, Option, Some, None, refl, sym, ap, cond, subst, arith}
-use Rattle.std.specs.Prelude.{filter, unwrap_or}
+use Rattle.std.proofs.Common.{◌≡◌, ◌≤◌, ◌-◌, ◌∙◌, ℕ, zero, suc, Bool, true, false, List, [], ◌∷◌, length, take, Option, Some, None, refl, sym, ap, cond, subst, arith}
+use Rattle.std.specs.Prelude.{filter, nat_eq, unwrap_or}
+use Rattle.std.specs.Cmp.Lexicographic.{pointwise, bytes_decides}
 use Rattle.std.specs.List.{AllByRecursion}
 use Rattle.std.specs.Map.{lookup, lookup_entry, remove_entry}
 use Rattle.std.specs.Option.{option_map_or}
-use Rattle.lru.specs.LruCache.{LruCache, lru_cache, promoted, put_entries}
-use Rattle.block_tokens.specs.KeyList.{KeyList, merged_keys, key_with}
+use Rattle.lru.specs.LruCache.{LruCache, promoted, put_entries}
+use Rattle.block_tokens.specs.KeyList.{KeyList, merged_keys, usable_keys, expires_after}
 use Rattle.block_tokens.specs.TokenText.{Body}
 use Rattle.block_tokens.specs.TokenTest.{IsVerified, has_code}
 use Rattle.block_tokens.proofs.Expiries.{key_stays}
@@ -19,28 +20,28 @@ some_is {A} x y e = ap (λ (o : Option A). unwrap_or o x) e
 module _ {K V : Type 0} (P : K × V → Type 0) (test : K → Bool) where
   removed : (entries : List (K × V)) → AllByRecursion P entries → AllByRecursion P (remove_entry test entries)
   removed [] all = tt
-  removed (e ∷ es) all = by (test e.0) refl
+  removed (e ∷ es) all = by (removed es all.1) (test e.0) refl
     where
-      by : (b : Bool) → test e.0 ≡ b → AllByRecursion P (cond (test e.0) es (e ∷ remove_entry test es))
-      by true is = subst (λ b. AllByRecursion P (cond b es (e ∷ remove_entry test es))) (sym is) all.1
-      by false is = subst (λ b. AllByRecursion P (cond b es (e ∷ remove_entry test es))) (sym is) (all.0, removed es all.1)
+      by : AllByRecursion P (remove_entry test es) → (b : Bool) → test e.0 ≡ b → AllByRecursion P (cond (test e.0) es (e ∷ remove_entry test es))
+      by rest true is = subst (λ b. AllByRecursion P (cond b es (e ∷ remove_entry test es))) (sym is) all.1
+      by rest false is = subst (λ b. AllByRecursion P (cond b es (e ∷ remove_entry test es))) (sym is) (all.0, rest)
 
   found : (entries : List (K × V)) (e : K × V) → AllByRecursion P entries → lookup_entry test entries ≡ Some e → P e
   found [] e all is = cc
-  found (x ∷ xs) e all is = by (test x.0) refl
+  found (x ∷ xs) e all is = by (found xs e all.1) (test x.0) refl
     where
-      by : (b : Bool) → test x.0 ≡ b → P e
-      by true at = subst P (some_is x e (ap (λ b. cond b (Some x) (lookup_entry test xs)) (sym at) ∙ is)) all.0
-      by false at = found xs e all.1 (ap (λ b. cond b (Some x) (lookup_entry test xs)) (sym at) ∙ is)
+      by : (lookup_entry test xs ≡ Some e → P e) → (b : Bool) → test x.0 ≡ b → P e
+      by rest true at = subst P (some_is x e (ap (λ b. cond b (Some x) (lookup_entry test xs)) (sym at) ∙ is)) all.0
+      by rest false at = rest (ap (λ b. cond b (Some x) (lookup_entry test xs)) (sym at) ∙ is)
 
   -- whose value is found stands there under a key that passes
   pub value_found : (entries : List (K × V)) (v : V) → AllByRecursion P entries → lookup test entries ≡ Some v → (k : K) × (test k ≡ true) × P (k, v)
   value_found [] v all is = cc
-  value_found (x ∷ xs) v all is = by (test x.0) refl
+  value_found (x ∷ xs) v all is = by (value_found xs v all.1) (test x.0) refl
     where
-      by : (b : Bool) → test x.0 ≡ b → (k : K) × (test k ≡ true) × P (k, v)
-      by true at = (x.0, at, subst (λ w. P (x.0, w)) (some_is x.1 v (ap (λ b. cond b (Some x.1) (lookup test xs)) (sym at) ∙ is)) all.0)
-      by false at = value_found xs v all.1 (ap (λ b. cond b (Some x.1) (lookup test xs)) (sym at) ∙ is)
+      by : (lookup test xs ≡ Some v → (k : K) × (test k ≡ true) × P (k, v)) → (b : Bool) → test x.0 ≡ b → (k : K) × (test k ≡ true) × P (k, v)
+      by rest true at = (x.0, at, subst (λ w. P (x.0, w)) (some_is x.1 v (ap (λ b. cond b (Some x.1) (lookup test xs)) (sym at) ∙ is)) all.0)
+      by rest false at = rest (ap (λ b. cond b (Some x.1) (lookup test xs)) (sym at) ∙ is)
 
   taken : (n : ℕ) (entries : List (K × V)) → AllByRecursion P entries → AllByRecursion P (take n entries)
   taken zero entries all = tt
@@ -55,24 +56,41 @@ module _ {K V : Type 0} (P : K × V → Type 0) (test : K → Bool) where
       by None is = subst (λ o. AllByRecursion P (option_map_or (λ e. e ∷ remove_entry test entries) o entries)) (sym is) all
       by (Some e) is = subst (λ o. AllByRecursion P (option_map_or (λ e. e ∷ remove_entry test entries) o entries)) (sym is) (found entries e all is, removed entries all)
 
+passes : {K V : Type 0} (test : K → Bool) (entries : List (K × V)) (e : K × V) → lookup_entry test entries ≡ Some e → test e.0 ≡ true
+passes test [] e is = cc
+passes {K} {V} test (x ∷ xs) e is = by (passes test xs e) (test x.0) refl
+  where
+    by : (lookup_entry test xs ≡ Some e → test e.0 ≡ true) → (b : Bool) → test x.0 ≡ b → test e.0 ≡ true
+    by rest true same = subst (λ (y : K × V). test y.0 ≡ true) (some_is x e (ap (λ b. cond b (Some x) (lookup_entry test xs)) (sym same) ∙ is)) same
+    by rest false other = rest (ap (λ b. cond b (Some x) (lookup_entry test xs)) (sym other) ∙ is)
+
 -- a pair is put in, where the key that is there under the same name is as good
 module _ {K V : Type 0} (P : K × V → Type 0) (eq : K → K → Bool) (cache : LruCache K V) (k : K) (v : V) where
   pub put : AllByRecursion P cache.entries → P (k, v) → ((other : K) → eq k other ≡ true → P (other, v)) → AllByRecursion P (put_entries eq cache k v)
   put all own same = by (lookup_entry (eq k) cache.entries) refl
     where
-      passes : (entries : List (K × V)) (e : K × V) → lookup_entry (eq k) entries ≡ Some e → eq k e.0 ≡ true
-      passes [] e is = cc
-      passes (x ∷ xs) e is = at (eq k x.0) refl
-        where
-          at : (b : Bool) → eq k x.0 ≡ b → eq k e.0 ≡ true
-          at true yes = subst (λ (y : K × V). eq k y.0 ≡ true) (some_is x e (ap (λ b. cond b (Some x) (lookup_entry (eq k) xs)) (sym yes) ∙ is)) yes
-          at false no = passes xs e (ap (λ b. cond b (Some x) (lookup_entry (eq k) xs)) (sym no) ∙ is)
-
       by : (o : Option (K × V)) → lookup_entry (eq k) cache.entries ≡ o → AllByRecursion P (put_entries eq cache k v)
       by None is = subst (λ o. AllByRecursion P (option_map_or (λ e. (e.0, v) ∷ remove_entry (eq k) cache.entries) o ((k, v) ∷ take (cache.cap - 1) cache.entries))) (sym is)
           (own, taken P (eq k) (cache.cap - 1) cache.entries all)
       by (Some e) is = subst (λ o. AllByRecursion P (option_map_or (λ e. (e.0, v) ∷ remove_entry (eq k) cache.entries) o ((k, v) ∷ take (cache.cap - 1) cache.entries))) (sym is)
-          (same e.0 (passes cache.entries e is), removed P (eq k) cache.entries all)
+          (same e.0 (passes (eq k) cache.entries e is), removed P (eq k) cache.entries all)
+
+-- ---- tokens
+
+module _ (keys : KeyList) (tokens : List (List ℕ × Body)) (token : List ℕ) (all : AreVerified keys tokens) where
+  pub used_one : AreVerified keys (promoted (pointwise nat_eq token) tokens)
+  used_one = used (λ (kept : List ℕ × Body). IsVerified keys kept.0 kept.1) (pointwise nat_eq token) tokens all
+
+  pub kept_one : (parts : Body) → Some parts ≡ lookup (pointwise nat_eq token) tokens → IsVerified keys token parts
+  kept_one parts is =
+      let there = value_found (λ (kept : List ℕ × Body). IsVerified keys kept.0 kept.1) (pointwise nat_eq token) tokens parts all (sym is) in
+      subst (λ bytes. IsVerified keys bytes parts) (sym ((bytes_decides token there.0).0 there.1)) there.2
+
+pub put_one : (keys : KeyList) (cache : LruCache (List ℕ) Body) (token : List ℕ) (parts : Body) → AreVerified keys cache.entries → IsVerified keys token parts
+    → AreVerified keys (put_entries (pointwise nat_eq) cache token parts)
+put_one keys cache token parts all own =
+    put (λ (kept : List ℕ × Body). IsVerified keys kept.0 kept.1) (pointwise nat_eq) cache token parts all own
+        (λ other same. subst (λ bytes. IsVerified keys bytes parts) ((bytes_decides token other).0 same) own)
 
 -- ---- keys
 
@@ -91,19 +109,26 @@ stay keys update (token ∷ tokens) all = (one all.0, stay keys update tokens al
           code = ap (λ key. has_code key token.0 token.1.code) later.2 ∙ verified.code;
         }
 
+shorter : {A : Type 0} (p : A → Bool) (xs : List A) → length (filter p xs) ≤ length xs
+shorter p [] = omega arith
+shorter p (x ∷ xs) = by (shorter p xs) (p x) refl
+  where
+    by : length (filter p xs) ≤ length xs → (b : Bool) → p x ≡ b → length (filter p (x ∷ xs)) ≤ length (x ∷ xs)
+    by rest true same = subst (λ b. length (cond b (x ∷ filter p xs) (filter p xs)) ≤ length (x ∷ xs)) (sym same) (omega (arith, rest))
+    by rest false other = subst (λ b. length (cond b (x ∷ filter p xs) (filter p xs)) ≤ length (x ∷ xs)) (sym other) (omega (arith, rest))
+
 -- where none is left out, all stay
 pub none_dropped : {A : Type 0} (p : A → Bool) (xs : List A) → length xs ≤ length (filter p xs) → filter p xs ≡ xs
 none_dropped p [] long = refl
-none_dropped {A} p (x ∷ xs) long = by (p x) refl
+none_dropped p (x ∷ xs) long = by (none_dropped p xs) (p x) refl
   where
-    shorter : (ys : List A) → length (filter p ys) ≤ length ys
-    shorter [] = omega arith
-    shorter (y ∷ ys) = at (p y) refl
-      where
-        at : (b : Bool) → p y ≡ b → length (filter p (y ∷ ys)) ≤ length (y ∷ ys)
-        at true yes = subst (λ b. length (cond b (y ∷ filter p ys) (filter p ys)) ≤ length (y ∷ ys)) (sym yes) (omega (arith, shorter ys))
-        at false no = subst (λ b. length (cond b (y ∷ filter p ys) (filter p ys)) ≤ length (y ∷ ys)) (sym no) (omega (arith, shorter ys))
+    by : (length xs ≤ length (filter p xs) → filter p xs ≡ xs) → (b : Bool) → p x ≡ b → filter p (x ∷ xs) ≡ x ∷ xs
+    by rest true same =
+        let kept : filter p (x ∷ xs) ≡ x ∷ filter p xs = ap (λ b. cond b (x ∷ filter p xs) (filter p xs)) same in
+        kept ∙ ap (λ l. x ∷ l) (rest (omega (arith, ap length kept, long)))
+    by rest false other =
+        let left : filter p (x ∷ xs) ≡ filter p xs = ap (λ b. cond b (x ∷ filter p xs) (filter p xs)) other in
+        absurd (omega (arith, ap length left, long, shorter p xs))
 
-    by : (b : Bool) → p x ≡ b → filter p (x ∷ xs) ≡ x ∷ xs
-    by true yes = ap (λ b. cond b (x ∷ filter p xs) (filter p xs)) yes ∙ ap (λ l. x ∷ l) (none_dropped p xs (omega (arith, ap length (ap (λ b. cond b (x ∷ filter p xs) (filter p xs)) yes), long)))
-    by false no = absurd (omega (arith, ap length (ap (λ b. cond b (x ∷ filter p xs) (filter p xs)) no), long, shorter xs))
+pub none_expired : (now : ℕ) (keys : KeyList) (tokens : List (List ℕ × Body)) → length keys ≤ length (usable_keys now keys) → AreVerified keys tokens → AreVerified (usable_keys now keys) tokens
+none_expired now keys tokens long all = subst (λ held. AreVerified held tokens) (sym (none_dropped (λ entry. expires_after now entry.1.expiry) keys long)) all

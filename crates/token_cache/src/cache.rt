@@ -78,7 +78,8 @@ impl TokenCache {
         ensures ok { OnOk result (self.new ≡ spec.merged_keys self.old update.now) }
         ensures err { OnErr result (self.new ≡ self.old) }
     {
-        self.keys.merge(update)
+        self.keys.merge(update)?;
+        Ok(())
     }
 
     /// Judges a token that a caller presents for a block and a mode: the first refusal that applies. Keys whose known expiry has come are
