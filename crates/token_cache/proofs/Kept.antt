@@ -90,7 +90,7 @@ pub put_one : (keys : KeyList) (cache : LruCache (List ℕ) Body) (token : List 
     → AreVerified keys (put_entries (pointwise nat_eq) cache token parts)
 put_one keys cache token parts all own =
     put (λ (kept : List ℕ × Body). IsVerified keys kept.0 kept.1) (pointwise nat_eq) cache token parts all own
-        (λ other same. subst (λ bytes. IsVerified keys bytes parts) ((bytes_decides token other).0 same) own)
+    (λ other same. subst (λ bytes. IsVerified keys bytes parts) ((bytes_decides token other).0 same) own)
 
 -- ---- keys
 

@@ -36,8 +36,8 @@ invariant_of-self-in_err-put c = subst (λ (cache : LruCache (List ℕ) Body). A
 pub invariant_of-self-2 : goal.invariant_of-self-2
 invariant_of-self-2 c =
     let all : AreVerified c.self.inside.keys c.get.follows.lender-at-none.entries = subst (λ (cache : LruCache (List ℕ) Body). AreVerified c.self.inside.keys cache.entries) (sym c.get.follows.holds-at-none)
-        (used_one c.self.inside.keys c.self.inside.verified.entries c.args.token.now c.self.invariant) in
+    (used_one c.self.inside.keys c.self.inside.verified.entries c.args.token.now c.self.invariant) in
     let own : IsVerified c.self.inside.keys c.in_ok-clone.field-0 c.in-Ok-of.parts = subst (λ bytes. IsVerified c.self.inside.keys bytes c.in-Ok-of.parts) (sym c.in_ok-clone.ensures.cases)
-        (subst (IsVerified c.self.inside.keys c.args.token.now) (sym c.in-Ok-of.ensures) (subst (λ bytes. IsVerified c.self.inside.keys bytes c.in-Ok.body) c.as_slice.ensures c.in-Ok.ensures.verified)) in
+    (subst (IsVerified c.self.inside.keys c.args.token.now) (sym c.in-Ok-of.ensures) (subst (λ bytes. IsVerified c.self.inside.keys bytes c.in-Ok.body) c.as_slice.ensures c.in-Ok.ensures.verified)) in
     subst (λ (cache : LruCache (List ℕ) Body). AreVerified c.self.inside.keys cache.entries) (sym c.in_ok-put.ensures.entries)
     (put_one c.self.inside.keys c.get.follows.lender-at-none c.in_ok-clone.field-0 c.in-Ok-of.parts all own)
