@@ -3,7 +3,6 @@ use Rattle.std.proofs.Common.{◌≡◌, ℕ, ◌<◌, ◌==◌, Bool, true, fal
 use Rattle.std.proofs.lemmas.Bool.{eqb-true}
 use Rattle.block_tokens.specs.KeyList.{usable_keys, merged_keys}
 use Rattle.block_tokens.specs.TokenTest.{token_test}
-use Rattle.block_tokens.specs.declared.refusal.TokenRefusal.{TokenRefusal}
 use Rattle.node_calls.specs.declared.call.NodeCall.{NodeCall}
 use Rattle.node_calls.specs.declared.call.NodeCall.TheVariants.{Presenting, Invalidate, Keys}
 use Rattle.node_calls.specs.declared.call.TokenCall.{TokenCall}
