@@ -42,6 +42,15 @@ pub fn forgetful(alloc: Global, id: u32) -> Option<DataNode> {
     DataNode::with_cache(alloc, NodeId::new(id)?, LIMIT, NonZeroUsize::MIN).ok()
 }
 
+/// A node, which keeps many of the tokens that it verified, or one.
+pub fn node_with(alloc: Global, id: u32, is_forgetful: bool) -> Option<DataNode> {
+    if is_forgetful {
+        forgetful(alloc, id)
+    } else {
+        node(alloc, id)
+    }
+}
+
 pub fn nobody() -> NodeList {
     NodeList::nothing()
 }

@@ -1,6 +1,6 @@
 use crate::asking::{
-    at, is_barred, is_done, is_read, is_refused, learns, message, nobody, node, presents, ring,
-    token,
+    at, is_barred, is_done, is_read, is_refused, learns, message, nobody, node_with, presents,
+    ring, token,
 };
 use block_tokens::refusal::TokenRefusal;
 use block_tokens::ring::KeyRing;
@@ -143,10 +143,10 @@ struct Nodes {
     third: DataNode,
 }
 
-fn three_nodes(alloc: Global) -> Option<Nodes> {
-    let one = node(alloc, 1)?;
-    let second = node(alloc, 2)?;
-    let third = node(alloc, 3)?;
+fn three_nodes(alloc: Global, are_forgetful: bool) -> Option<Nodes> {
+    let one = node_with(alloc, 1, are_forgetful)?;
+    let second = node_with(alloc, 2, are_forgetful)?;
+    let third = node_with(alloc, 3, are_forgetful)?;
     Some(Nodes { one, second, third })
 }
 
@@ -166,9 +166,9 @@ fn copies(nodes: &mut Nodes, alloc: Global, tokens: &Tokens) -> bool {
         && removes(&mut nodes.third, &tokens.bob)
 }
 
-fn run(alloc: Global) -> bool {
+fn run(alloc: Global, are_forgetful: bool) -> bool {
     let ring = ring(alloc);
-    match (three_nodes(alloc), all_tokens(alloc, &ring)) {
+    match (three_nodes(alloc, are_forgetful), all_tokens(alloc, &ring)) {
         (Some(mut nodes), Some(tokens)) => {
             all_learn(&mut nodes, alloc, &ring) && copies(&mut nodes, alloc, &tokens)
         }
@@ -178,5 +178,11 @@ fn run(alloc: Global) -> bool {
 
 #[test]
 fn copies_and_removals(rt: HostRuntime) {
-    assert!(rt; run(rt.alloc()));
+    assert!(rt; run(rt.alloc(), false));
+}
+
+// The same answers where each node keeps one verified token.
+#[test]
+fn copies_by_forgetful_nodes(rt: HostRuntime) {
+    assert!(rt; run(rt.alloc(), true));
 }

@@ -1,5 +1,5 @@
 use crate::asking::{
-    at, is_done, is_refused, learns, nobody, node, presents, ring, sent, single, token, told,
+    at, is_done, is_refused, learns, nobody, node_with, presents, ring, sent, single, token, told,
 };
 use block_tokens::ring::KeyRing;
 use call_parts::block_bytes::BlockBytes;
@@ -92,9 +92,9 @@ fn run_on(node: &mut DataNode, alloc: Global, ring: &KeyRing) -> bool {
     }
 }
 
-fn run(alloc: Global) -> bool {
+fn run(alloc: Global, is_forgetful: bool) -> bool {
     let ring = ring(alloc);
-    match node(alloc, 2) {
+    match node_with(alloc, 2, is_forgetful) {
         Some(mut node) => learns(&mut node, alloc, &ring, 0, 1) && run_on(&mut node, alloc, &ring),
         None => false,
     }
@@ -102,5 +102,11 @@ fn run(alloc: Global) -> bool {
 
 #[test]
 fn block_recovery(rt: HostRuntime) {
-    assert!(rt; run(rt.alloc()));
+    assert!(rt; run(rt.alloc(), false));
+}
+
+// The same answers where the node keeps one verified token.
+#[test]
+fn block_recovery_of_a_forgetful_node(rt: HostRuntime) {
+    assert!(rt; run(rt.alloc(), true));
 }
