@@ -50,6 +50,10 @@ pub record IsVerified (keys : KeyList) (bytes : List ℕ) (parts : Body) : Type 
   pub known : key_with parts.serial keys ≡ Some held
   pub code : has_code held.key bytes parts.code ≡ true
 
+-- none whose key can still be used
+abbrev pub IsUnverified : KeyList → ℕ → List ℕ → Type 0
+IsUnverified keys now bytes = (parts : Body) → IsVerified keys bytes parts → key_with parts.serial (usable_keys now keys) ≡ None
+
 -- a token that was verified is tested by its parts
 abbrev pub verified_test : Result Body TokenRefusal → Access → Option TokenRefusal
 verified_test (Ok parts) access = access_test parts access

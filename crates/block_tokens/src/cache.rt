@@ -1,7 +1,7 @@
-ghost use Rattle.std.specs.Prelude.{◌≡◌, ℕ, ◌+◌, List, [], Some, None, length, IfOk, IfSome, OnOk, OnErr, option_copied};
+ghost use Rattle.std.specs.Prelude.{◌≡◌, ℕ, ◌+◌, List, [], Some, None, length, IfOk, IfErr, IfSome, OnOk, OnErr, option_copied};
 ghost use Rattle.hdfs_values.specs.Text.{same};
 ghost use Rattle.block_tokens.specs.KeyList as spec;
-ghost use Rattle.block_tokens.specs.TokenTest.{TellsTokenRefusal, IsVerified, access_test, token_test, verified_test};
+ghost use Rattle.block_tokens.specs.TokenTest.{TellsTokenRefusal, IsVerified, IsUnverified, access_test, token_test, verified_test};
 
 use crate::code::has_code;
 use crate::hmac::CodeKey;
@@ -206,6 +206,7 @@ impl KeyCache {
     #[tactic(auto, unfolding(crate::specs::TokenTest::token_test))]
     pub fn verify<'a>(&self, now: Moment, bytes: &'a [u8]) -> Result<Body<'a>, TokenRefusal>
         ensures verified { IfOk result (λ body. IsVerified self.now bytes.now body) }
+        ensures refused { IfErr result (λ refusal. IsUnverified self.now now bytes.now) }
         ensures test { (caller : List ℕ) (block mode : ℕ) → token_test self.now (record { now = now; caller = caller; block = block; mode = mode }) bytes.now ≡ verified_test result (record { now = now; caller = caller; block = block; mode = mode }) }
     {
         let Some(body) = decode(bytes) else {
@@ -253,6 +254,7 @@ impl KeyCache {
         mode: Modes,
         parts: &Body,
     ) -> Result<(), TokenRefusal>
+        requires { (bytes : List ℕ) × IsVerified self.now bytes parts.now }
         ensures { (bytes : List ℕ) → IsVerified self.now bytes parts.now → TellsTokenRefusal result (token_test self.now (record { now = now; caller = caller.now; block = block; mode = mode.0 }) bytes) }
     {
         let Some(_held) = self.usable_key(now, parts.serial) else {

@@ -93,7 +93,7 @@ fn behind(pieces: &[Piece], offset: u64) -> (&[Piece], u64)
     requires { StandBehind 0 pieces.now }
     ensures { drop offset (bytes_of pieces.now) ≡ drop result.1 (bytes_of result.0.now) }
 {
-    let before = pieces.partition_point(|piece| piece.start < offset);
+    let before = pieces.partition_point(|piece| piece.start <= offset);
     let (_, rest) = pieces.split_at(before.saturating_sub(1));
     match rest.first() {
         Some(piece) if piece.start <= offset => (rest, offset - piece.start),
@@ -218,8 +218,8 @@ impl Chunks {
         Ok(())
     }
 
-    /// Keeps so many bytes, or all where there are no more: the last piece that is kept is cut. Costs the pieces that go, and takes no
-    /// memory.
+    /// Keeps so many bytes, or all where there are no more: the last piece that is kept is cut, but its memory stays until the piece goes.
+    /// Costs the pieces that go, and takes no memory.
     pub fn truncate(&mut self, length: u64)
         ensures { self.new ≡ take length self.old }
     {
@@ -228,7 +228,8 @@ impl Chunks {
         self.total = self.total.min(length);
     }
 
-    /// From an offset so many bytes; those that aren't there are left out. Costs the logarithm of the pieces, and those that hold such bytes.
+    /// From an offset so many bytes; those that aren't there are left out. Costs the logarithm of the pieces, and those that hold such bytes,
+    /// each of which stays whole in memory while the part is there.
     ///
     /// # Errors
     /// Out of memory.

@@ -275,7 +275,7 @@ impl DataNode {
         refused(self.alloc, refusal)
     }
 
-    // What the token of a call is refused for.
+    // What the token of a call is refused for. One that is verified is kept.
     fn judge(
         &mut self,
         clock: Moment,

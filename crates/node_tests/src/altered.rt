@@ -1,4 +1,4 @@
-use crate::asking::{at, is_barred, is_read, learns, node, presents, ring, token};
+use crate::asking::{at, is_barred, is_read, learns, node_with, presents, ring, token};
 use crate::tokens::writes;
 use block_tokens::refusal::TokenRefusal;
 use block_tokens::ring::KeyRing;
@@ -74,7 +74,8 @@ fn are_refused(node: &mut DataNode, alloc: Global, token: &[u8; LENGTH]) -> bool
         && is_refused(node, alloc, &with_another_end(token), mismatch)
 }
 
-// Nothing of it is noted down: alice's three calls are, and then bob's read with the bytes as they were granted.
+// Nothing of it is noted down: alice's three calls are, and then bob's reads with the bytes as they were granted. What is altered is refused
+// also while the node keeps these bytes as a verified token.
 fn noted(node: &DataNode) -> usize {
     match node.log() {
         Ok(log) => log.as_slice().len(),
@@ -86,7 +87,9 @@ fn run_with(node: &mut DataNode, alloc: Global, token: &[u8; LENGTH]) -> bool {
     are_refused(node, alloc, token)
         && noted(node) == 3
         && is_served(node, alloc, token)
-        && noted(node) == 4
+        && are_refused(node, alloc, token)
+        && is_served(node, alloc, token)
+        && noted(node) == 5
 }
 
 fn run_on(node: &mut DataNode, alloc: Global) -> bool {
@@ -97,8 +100,8 @@ fn run_on(node: &mut DataNode, alloc: Global) -> bool {
     learns(node, alloc, &ring, 0, 1) && writes(node, alloc, &ring) && run_with(node, alloc, &token)
 }
 
-fn run(alloc: Global) -> bool {
-    match node(alloc, 1) {
+fn run(alloc: Global, is_forgetful: bool) -> bool {
+    match node_with(alloc, 1, is_forgetful) {
         Some(mut node) => run_on(&mut node, alloc),
         None => false,
     }
@@ -106,5 +109,11 @@ fn run(alloc: Global) -> bool {
 
 #[test]
 fn altered_token_bytes(rt: HostRuntime) {
-    assert!(rt; run(rt.alloc()));
+    assert!(rt; run(rt.alloc(), false));
+}
+
+// The same answers where the node keeps one verified token.
+#[test]
+fn altered_token_bytes_for_a_forgetful_node(rt: HostRuntime) {
+    assert!(rt; run(rt.alloc(), true));
 }

@@ -110,6 +110,10 @@ fn over_time(node: &mut DataNode, bob: &Presented) -> bool {
             node.read(at(36_000_200), bob, 0, 2),
             TokenRefusal::UnknownKey,
         )
+        && is_barred(
+            node.read(at(36_000_200), bob, 0, 2),
+            TokenRefusal::UnknownKey,
+        )
 }
 
 fn is_record(
@@ -184,7 +188,7 @@ fn tokens_over_time(rt: HostRuntime) {
     assert!(rt; run(rt.alloc(), node(rt.alloc(), 1)));
 }
 
-// The same answers where one verified token is kept: alice's and bob's drive each other out.
+// The same answers where one verified token is kept: bob's drives alice's out.
 #[test]
 fn one_token_is_kept(rt: HostRuntime) {
     assert!(rt; run(rt.alloc(), forgetful(rt.alloc(), 1)));

@@ -63,7 +63,7 @@ impl ReplicaBytes {
         bytes.append_to(&mut self.chunks)
     }
 
-    /// Keeps so many bytes, or all where there are no more. Costs the pieces that go, and takes no memory.
+    /// Keeps so many bytes, or all where there are no more. Costs the pieces that go, and takes no memory; that of a piece that is cut stays.
     pub fn cut(&mut self, length: u64)
         ensures { self.new ≡ take length self.old }
     {

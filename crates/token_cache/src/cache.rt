@@ -1,6 +1,7 @@
-ghost use Rattle.std.specs.Prelude.{◌≡◌, [], length, IfOk, OnOk, OnErr};
+ghost use Rattle.std.specs.Prelude.{◌≡◌, [], length, IfOk, IfErr, OnOk, OnErr};
 ghost use Rattle.block_tokens.specs.KeyList as spec;
-ghost use Rattle.block_tokens.specs.TokenTest.{TellsTokenRefusal, token_test};
+ghost use Rattle.block_tokens.specs.TokenTest.{TellsTokenRefusal, IsVerified, token_test};
+ghost use Rattle.block_tokens.specs.TokenText.{Body};
 
 use crate::parts::TokenParts;
 use block_tokens::cache::KeyCache;
@@ -82,11 +83,13 @@ impl TokenCache {
         Ok(())
     }
 
-    /// Judges a token that a caller presents for a block and a mode: the first refusal that applies. Keys whose known expiry has come are
-    /// ignored. One that was verified is kept. Costs two look-ups, and where the token isn't kept, one HMAC over its bytes.
+    /// Judges a token that a caller presents for a block and a mode: the first refusal that applies, in the order of `TokenRefusal`. Keys
+    /// whose known expiry has come are ignored. One that was verified is kept, whatever it is refused for. Costs a look-up of the token and one
+    /// of its key, and takes no memory; where the token isn't kept, one HMAC over its bytes, and where it is verified, a copy of the user's
+    /// name. Unlike codes, the bytes of a token are compared with those of a kept one in as many steps as they are alike.
     ///
     /// # Errors
-    /// Out of memory. Else the first refusal that applies, in the order of `TokenRefusal`, is what is answered.
+    /// Out of memory, and only for a token that is verified. It may be kept all the same.
     pub fn check(
         &mut self,
         now: Moment,
@@ -97,6 +100,7 @@ impl TokenCache {
     ) -> Result<Result<(), TokenRefusal>, AllocError>
         ensures answer { IfOk result (λ told. TellsTokenRefusal told (token_test self.old (record { now = now; caller = caller.now; block = block; mode = mode.0 }) token.now)) }
         ensures same { self.new ≡ self.old }
+        ensures err { IfErr result (λ fault. (parts : Body) × IsVerified self.old token.now parts) }
     {
         if let Some(parts) = self.verified.get(token) {
             let body = parts.body();
@@ -107,9 +111,7 @@ impl TokenCache {
             Err(refusal) => return Ok(Err(refusal)),
         };
         let told = self.keys.check_parts(now, caller, block, mode, &body);
-        let Ok(parts) = TokenParts::of(self.alloc, &body) else {
-            return Err(AllocError);
-        };
+        let parts = TokenParts::of(self.alloc, &body)?;
         self.verified.put(token.clone()?, parts)?;
         Ok(told)
     }

@@ -1,11 +1,10 @@
 ghost use Rattle.std.specs.Prelude.{◌≡◌, IfOk};
 
 use block_tokens::token::Body;
-use hdfs_values::fault::ParseFault;
 use hdfs_values::ids::{BlockId, Serial};
 use hdfs_values::who::Who;
 use permission_bits::modes::Modes;
-use std::alloc::Global;
+use std::alloc::{AllocError, Global};
 use std::marker::Model;
 
 /// What a block access token says, as `Body`, but with a user's name of its own: it borrows from no text.
@@ -56,15 +55,19 @@ impl TokenParts {
     ///
     /// # Errors
     /// Out of memory.
-    pub fn of(alloc: Global, body: &Body) -> Result<TokenParts, ParseFault>
+    pub fn of(alloc: Global, body: &Body) -> Result<TokenParts, AllocError>
         ensures { IfOk result (λ parts. parts ≡ body.now) }
     {
+        // a body's user is a name, so that this fails for want of memory alone
+        let Ok(user) = Who::parse(alloc, body.user) else {
+            return Err(AllocError);
+        };
         Ok(TokenParts {
             expiry: body.expiry,
             serial: body.serial,
             block: body.block,
             modes: body.modes,
-            user: Who::parse(alloc, body.user)?,
+            user,
             code: body.code,
         })
     }

@@ -10,6 +10,13 @@ pub invariant_of-self : goal.invariant_of-self
 invariant_of-self c = subst (λ (cache : LruCache (List ℕ) Body). AreVerified c.self.inside.keys cache.entries) (sym c.get.follows.holds-at-none)
     (used_one c.self.inside.keys c.self.inside.verified.entries c.args.token.now c.self.invariant)
 
+pub check_parts-requires : goal.check_parts-requires
+check_parts-requires c = (
+  c.args.token.now,
+  subst (IsVerified c.self.inside.keys c.args.token.now) (sym c.body-body.ensures)
+      (kept_one c.self.inside.keys c.self.inside.verified.entries c.args.token.now c.self.invariant c.in-Some.parts.now c.in-Some.ensures.value),
+)
+
 pub returns-in-Some-clause-answer : goal.returns-in-Some-clause-answer
 returns-in-Some-clause-answer c =
     subst (λ keys. TellsTokenRefusal c.check_parts.result (token_test keys (record { now = c.args.now; caller = c.args.caller.now; block = c.args.block; mode = c.args.mode.0 }) c.args.token.now)) c.self.view_is
@@ -20,8 +27,8 @@ pub invariant_of-self-in-Err : goal.invariant_of-self-in-Err
 invariant_of-self-in-Err c = subst (λ (cache : LruCache (List ℕ) Body). AreVerified c.self.inside.keys cache.entries) (sym c.get.follows.holds-at-none)
     (used_one c.self.inside.keys c.self.inside.verified.entries c.args.token.now c.self.invariant)
 
-pub invariant_of-self-in_default-of : goal.invariant_of-self-in_default-of
-invariant_of-self-in_default-of c = subst (λ (cache : LruCache (List ℕ) Body). AreVerified c.self.inside.keys cache.entries) (sym c.get.follows.holds-at-none)
+pub invariant_of-self-in_err-parts : goal.invariant_of-self-in_err-parts
+invariant_of-self-in_err-parts c = subst (λ (cache : LruCache (List ℕ) Body). AreVerified c.self.inside.keys cache.entries) (sym c.get.follows.holds-at-none)
     (used_one c.self.inside.keys c.self.inside.verified.entries c.args.token.now c.self.invariant)
 
 pub invariant_of-self-in_err-clone : goal.invariant_of-self-in_err-clone
@@ -37,7 +44,7 @@ pub invariant_of-self-2 : goal.invariant_of-self-2
 invariant_of-self-2 c =
     let all : AreVerified c.self.inside.keys c.get.follows.lender-at-none.entries = subst (λ (cache : LruCache (List ℕ) Body). AreVerified c.self.inside.keys cache.entries) (sym c.get.follows.holds-at-none)
     (used_one c.self.inside.keys c.self.inside.verified.entries c.args.token.now c.self.invariant) in
-    let own : IsVerified c.self.inside.keys c.in_ok-clone.field-0 c.in-Ok-of.parts = subst (λ bytes. IsVerified c.self.inside.keys bytes c.in-Ok-of.parts) (sym c.in_ok-clone.ensures.cases)
-    (subst (IsVerified c.self.inside.keys c.args.token.now) (sym c.in-Ok-of.ensures) (subst (λ bytes. IsVerified c.self.inside.keys bytes c.in-Ok.body) c.as_slice.ensures c.in-Ok.ensures.verified)) in
+    let own : IsVerified c.self.inside.keys c.in_ok-clone.field-0 c.in_ok-parts.parts = subst (λ bytes. IsVerified c.self.inside.keys bytes c.in_ok-parts.parts) (sym c.in_ok-clone.ensures.cases)
+    (subst (IsVerified c.self.inside.keys c.args.token.now) (sym c.in_ok-parts.ensures) (subst (λ bytes. IsVerified c.self.inside.keys bytes c.in-Ok.body) c.as_slice.ensures c.in-Ok.ensures.verified)) in
     subst (λ (cache : LruCache (List ℕ) Body). AreVerified c.self.inside.keys cache.entries) (sym c.in_ok-put.ensures.entries)
-    (put_one c.self.inside.keys c.get.follows.lender-at-none c.in_ok-clone.field-0 c.in-Ok-of.parts all own)
+    (put_one c.self.inside.keys c.get.follows.lender-at-none c.in_ok-clone.field-0 c.in_ok-parts.parts all own)
