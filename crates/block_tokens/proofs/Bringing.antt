@@ -17,7 +17,7 @@ use Rattle.block_tokens.proofs.Usable.{usable_key}
 abbrev current : KeyRing → HeldKey
 current ring = record { key = ring.key; expiry = None }
 
-last_serial : (P : ℕ → Type 0) (keys : KeyList) (serial : ℕ) (held : HeldKey) → AllByRecursion P (keys_of (keys ++ (serial, held) ∷ [])) → P serial
+pub last_serial : (P : ℕ → Type 0) (keys : KeyList) (serial : ℕ) (held : HeldKey) → AllByRecursion P (keys_of (keys ++ (serial, held) ∷ [])) → P serial
 last_serial P [] serial held h = h.0
 last_serial P (e ∷ keys) serial held h = last_serial P keys serial held h.1
 

@@ -46,11 +46,11 @@ expiry_stays keys updates serial expiry now ordered h le =
 
 -- ---- what an update brings
 
-some_is_none : {X : Type 0} {x : X} → Some x ≡ None → ⊥
+pub some_is_none : {X : Type 0} {x : X} → Some x ≡ None → ⊥
 some_is_none e = cc
 
 -- a list without the serial changes nothing at it
-untouched : (update keys : KeyList) (serial : ℕ) → key_with serial update ≡ None → key_with serial (merged_keys keys update) ≡ key_with serial keys
+pub untouched : (update keys : KeyList) (serial : ℕ) → key_with serial update ≡ None → key_with serial (merged_keys keys update) ≡ key_with serial keys
 unfolding merged_keys
 untouched [] keys serial h = refl
 untouched (e ∷ update) keys serial h = elim (cases_eq serial e.0) [
@@ -61,7 +61,7 @@ untouched (e ∷ update) keys serial h = elim (cases_eq serial e.0) [
 ]
 
 -- serials above the first
-absent : (keys : KeyList) (serial : ℕ) → AllByRecursion (λ y. nat_cmp serial y ≡ Less) (keys_of keys) → key_with serial keys ≡ None
+pub absent : (keys : KeyList) (serial : ℕ) → AllByRecursion (λ y. nat_cmp serial y ≡ Less) (keys_of keys) → key_with serial keys ≡ None
 absent [] serial h = refl
 absent (e ∷ keys) serial h =
     let other : serial ≢ e.0 = λ same. absurd (omega (arith, less_is serial e.0 h.0)) in

@@ -1,12 +1,15 @@
 -- What a row is given at a path stands there.
-use Rattle.std.proofs.Common.{◌≡◌, ℕ, Bool, true, false, List, Option, Some, None, option_map, refl, sym, ap, ◌∙◌, cond}
+use Rattle.std.proofs.Common.{◌≡◌, ℕ, Bool, true, false, List, Option, Some, None, Result, Ok, Err, option_map, refl, sym, ap, ◌∙◌, cond}
+use Rattle.std.specs.Result.{result_err}
 use Rattle.std.specs.Prelude.{IsTrue, unwrap_or}
 use Rattle.permission_bits.specs.Mode.{is_mode, without_sticky}
 use Rattle.file_paths.specs.PathOrder.{same_path}
 use Rattle.file_states.specs.declared.kind.ObjectKind.{ObjectKind}
 use Rattle.file_states.specs.declared.kind.ObjectKind.TheVariants.{File, Directory}
 use Rattle.acl_entries.specs.Acl.{Acl, shown_mode}
-use Rattle.partial_acl.specs.AclChange.{with_mode}
+use Rattle.permission_specs.specs.declared.acl_change.AclChange.{AclChange}
+use Rattle.refusals.specs.declared.refusal.Refusal.{Refusal}
+use Rattle.partial_acl.specs.AclChange.{acl_change, with_mode}
 use Rattle.namespace_rows.specs.declared.file_row.FileRow.{FileRow}
 use Rattle.namespace_rows.specs.declared.row.Row.{Row}
 use Rattle.namespace_rows.specs.declared.row.Change.{Change}
@@ -14,7 +17,7 @@ use Rattle.namespace_rows.specs.declared.row.Change.TheVariants as change
 use Rattle.namespace_rows.specs.Files.{with_file_replication}
 use Rattle.namespace_rows.specs.Rows.{is_directory, is_directory_kind, row_at}
 use Rattle.namespace_rows.specs.Changes.{row_rewritten, with_change}
-use Rattle.flat_rows.specs.Outcome.{with_mode_at, with_owner_at}
+use Rattle.flat_rows.specs.Outcome.{refused_change, with_acl_at, with_list_at, with_mode_at, with_owner_at}
 use Rattle.flat_rows.proofs.Firsts.{first_found}
 use Rattle.permission_laws.proofs.RowsAt.{at_map}
 use Rattle.outcome_laws.proofs.Modes.{changed_directory, changed_file}
@@ -55,6 +58,20 @@ module _ (path : List (List ℕ)) (rows : List Row) where
         where
           one : {x y : Row} → Some x ≡ Some y → x ≡ y
           one e = cc
+
+  pub list_given : (asked : AclChange) (row later : Row) → row_at path rows ≡ Some row → refused_change asked (row_at path rows) ≡ None → row_at path (with_acl_at path asked (row_at path rows) rows) ≡ Some later
+      → acl_change asked row.kind row.acl ≡ Ok later.acl
+  list_given asked row later at unrefused after = by (acl_change asked row.kind row.acl) refl (ap (refused_change asked) (sym at) ∙ unrefused)
+    where
+      one : {x y : Row} → Some x ≡ Some y → x ≡ y
+      one e = cc
+
+      by : (due : Result Acl Refusal) → acl_change asked row.kind row.acl ≡ due → result_err due ≡ None → acl_change asked row.kind row.acl ≡ Ok later.acl
+      by (Ok acl) is none =
+          let stands : later ≡ with_change (change.List acl) row =
+          one (sym after ∙ ap (λ o. row_at path (with_acl_at path asked o rows)) at ∙ ap (λ due. row_at path (with_list_at path due rows)) is ∙ rewritten_at (change.List acl) (λ r. refl) row at) in
+          is ∙ ap (λ (r : Row). Ok r.acl) (sym stands)
+      by (Err refusal) is none = cc
 
   pub replication_given : (replication : ℕ) (later : Row) (file : FileRow) → row_at path (row_rewritten path (change.Replication replication) rows) ≡ Some later → later.file ≡ Some file → file.replication ≡ replication
   replication_given replication later file after is = by (row_at path rows) refl

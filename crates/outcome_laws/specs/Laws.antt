@@ -1,7 +1,7 @@
 -- Laws of what is done: what has to be there before, what stands there after, and what the caller is told. Each holds of every attempt on a
 -- namespace. They follow from the rules, so a slip in the rules that breaks one is refused, also where code and rule have it together.
 -- (HDFS Architecture, "The File System Namespace" and "Data Replication"; HDFS Permissions Guide, "Overview".)
-use Rattle.std.specs.Prelude.{◌≡◌, ℕ, ◌+◌, ◌-◌, ◌==◌, ◌/◌, ◌%◌, nat_lt, if◌then◌else◌, Bool, true, false, ◌&&◌, not, List, filter, [], ◌∷◌, ◌++◌, length, Option, Some, None, unwrap_or, IsTrue}
+use Rattle.std.specs.Prelude.{◌≡◌, ℕ, ◌+◌, ◌-◌, ◌==◌, ◌/◌, ◌%◌, nat_lt, if◌then◌else◌, Bool, true, false, ◌&&◌, not, List, filter, [], ◌∷◌, ◌++◌, length, Option, Some, None, Ok, unwrap_or, IsTrue}
 use Rattle.std.specs.List.{list_any, list_all, sum_by}
 use Rattle.std.specs.Option.{is_some, option_map_or, IsSomeAnd}
 use Rattle.hdfs_values.specs.Text.{same}
@@ -25,7 +25,9 @@ use Rattle.hdfs_types.specs.declared.reply.Reply.TheVariants as reply
 use Rattle.hdfs_types.specs.declared.reply.Reply.TheVariants.{Summary, Deleted, Names, Status, Opened}
 use Rattle.principals.specs.Users.{groups_of, is_known}
 use Rattle.file_blocks.specs.Blocks.{length_of}
+use Rattle.permission_specs.specs.declared.acl_change.AclChange.{AclChange}
 use Rattle.acl_entries.specs.Acl.{shown_mode}
+use Rattle.partial_acl.specs.AclChange.{acl_change}
 use Rattle.namespace_rows.specs.declared.file_row.FileRow.{FileRow}
 use Rattle.namespace_rows.specs.declared.row.Row.{Row}
 use Rattle.namespace_rows.specs.Namespace.{IsNamespace, is_root}
@@ -135,6 +137,11 @@ abbrev pub ModesAreAsGiven : Type 0
 ModesAreAsGiven = (attempt : Attempt) (path : List (List ℕ)) (mode : ℕ) (later : Row)
     → IsTrue (is_mode mode) → IsDone attempt → attempt.op ≡ op.SetMode path mode → row_after attempt path ≡ Some later
     → shown_mode later.acl ≡ (if is_directory later then mode else without_sticky mode)
+
+-- a change of entries that is done is that of the list that stood there
+abbrev pub ListsAreAsChanged : Type 0
+ListsAreAsChanged = (attempt : Attempt) (path : List (List ℕ)) (change : AclChange) (row later : Row)
+    → IsDone attempt → attempt.op ≡ op.SetAcl path change → row_before attempt path ≡ Some row → row_after attempt path ≡ Some later → acl_change change row.kind row.acl ≡ Ok later.acl
 
 -- a replication that is given is then the file's
 abbrev pub ReplicationsAreAsGiven : Type 0

@@ -32,12 +32,13 @@ pub fn new_rows_belong_to_their_makers()
     ensures parents { law.MissingParentsServeTheirMakers }
 {}
 
-/// An owner, a group, a mode and a replication are those that were given. Who is given groups is known and has these, everybody else keeps
+/// An owner, a group, a mode and a replication are those that were given, and a list that is changed is then the change of what it was. Who is given groups is known and has these, everybody else keeps
 /// theirs, and the superuser's and the supergroup's names stay (HDFS Permissions Guide, "Overview", "Group Mapping" and "The Super-User";
 /// HDFS Architecture, "Data Replication").
 pub fn what_is_given_stands()
     ensures owners { law.OwnersAreAsGiven }
     ensures modes { law.ModesAreAsGiven }
+    ensures lists { law.ListsAreAsChanged }
     ensures replications { law.ReplicationsAreAsGiven }
     ensures groups { law.GroupsAreAsGiven }
     ensures others { law.GroupsOfOthersStay }

@@ -1,10 +1,12 @@
-use Rattle.std.proofs.Common.{◌≡◌, ◌∙◌, [], Some, is_some, unwrap_or, refl, sym, ap}
+use Rattle.std.proofs.Common.{◌≡◌, ◌∙◌, [], ◌∷◌, Some, None, is_some, unwrap_or, refl, sym, ap}
 use Rattle.std.specs.Map.{lookup}
 use Rattle.hdfs_values.specs.Text.{same}
 use Rattle.hdfs_types.specs.declared.op.Op.TheVariants as op
 use Rattle.namespace_rows.specs.Rows.{row_at}
-use Rattle.outcome_laws.proofs.Doing.{left}
-use Rattle.outcome_laws.proofs.Given.{owner_given, mode_given, replication_given}
+use Rattle.outcome_laws.proofs.Doing.{left, unrefused}
+use Rattle.outcome_laws.proofs.Given.{list_given, owner_given, mode_given, replication_given}
+use Rattle.flat_rows.specs.Outcome.{beneath_file, first_some, nothing_at, refused_change}
+use Rattle.permission_laws.proofs.Deciding.{or_none}
 use Rattle.principals.specs.Users.{Users}
 use Rattle.permission_laws.specs.Attempt.{attempt_step}
 use Rattle.permission_laws.proofs.Endings.{ended, done}
@@ -22,6 +24,12 @@ returns-clause-replications c = λ a path replication later file is_done asked a
 pub returns-clause-modes : goal.returns-clause-modes
 returns-clause-modes c = λ a path mode later valid is_done asked after.
     mode_given path a.rows mode later valid (ap (row_at path) (sym (left a (op.SetMode path mode) asked is_done)) ∙ after)
+
+pub returns-clause-lists : goal.returns-clause-lists
+returns-clause-lists c = λ a path change row later is_done asked at after.
+    let none = or_none (beneath_file path a.rows) (first_some (nothing_at (row_at path a.rows) ∷ refused_change change (row_at path a.rows) ∷ [])) (unrefused a (op.SetAcl path change) asked is_done) in
+    let rest = or_none (nothing_at (row_at path a.rows)) (first_some (refused_change change (row_at path a.rows) ∷ [])) none.1 in
+    list_given path a.rows change row later at (or_none (refused_change change (row_at path a.rows)) None rest.1).0 (ap (row_at path) (sym (left a (op.SetAcl path change) asked is_done)) ∙ after)
 
 pub returns-clause-groups : goal.returns-clause-groups
 returns-clause-groups c = λ a user groups is_done is.

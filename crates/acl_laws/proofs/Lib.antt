@@ -1,0 +1,5 @@
+pub mod Bits
+pub mod Finding
+pub mod Changed
+pub mod Inherited
+pub mod Given

@@ -1,0 +1,4 @@
+//! Laws of access control lists that are inherited or changed.
+#![tactic(auto)]
+
+pub mod laws;
