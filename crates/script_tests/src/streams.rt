@@ -162,6 +162,15 @@ fn writes(
     ended == want && writer.taken.len() == count && ANSWERS.as_bytes().starts_with(&writer.taken)
 }
 
+/// One byte at each call up to the one of this number, counted from 0, which fails.
+fn failing_at(number: usize) -> [Step; 20] {
+    let mut steps = [Step::Moves(1); 20];
+    if let Some(step) = steps.get_mut(number) {
+        *step = Step::Fails;
+    }
+    steps
+}
+
 #[test]
 fn an_interrupted_read_goes_on(rt: HostRuntime) -> Result<(), Fail> {
     let steps = [
@@ -183,6 +192,9 @@ fn a_failed_read_is_not_tried_again(rt: HostRuntime) -> Result<(), Fail> {
     for left in 1..SCRIPT.len() {
         let steps = [Step::Moves(left), Step::Fails];
         assert!(rt; reads(&rt, &steps, Err(ScriptFault::CannotRead), ""));
+    }
+    for number in 0..20 {
+        assert!(rt; reads(&rt, &failing_at(number), Err(ScriptFault::CannotRead), ""));
     }
     Ok(())
 }
@@ -207,6 +219,16 @@ fn a_failed_write_is_not_tried_again(rt: HostRuntime) -> Result<(), Fail> {
     for left in 1..ANSWERS.len() {
         let steps = [Step::Moves(left), Step::Fails];
         assert!(rt; writes(&rt, &steps, Err(ScriptFault::CannotWrite), left));
+    }
+    for number in 0..20 {
+        assert!(rt;
+            writes(
+                &rt,
+                &failing_at(number),
+                Err(ScriptFault::CannotWrite),
+                number
+            )
+        );
     }
     Ok(())
 }

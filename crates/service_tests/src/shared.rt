@@ -14,8 +14,8 @@ use std::sync::{Arc, Wait};
 use std::test::*;
 use std::thread::Threads;
 
-// The superuser's lines are 1, 2, 8 and 10, the seventh is bob's, and all others are ann's.
-static LINES: [&str; 10] = [
+/// The superuser's lines are 1, 2, 8 and 10, the seventh is bob's, and all others are ann's.
+pub static LINES: [&str; 10] = [
     "0 hdfs adduser ann g1,g2",
     "0 hdfs mkdirs /o 777",
     "0 ann create /o/f 644 1",
@@ -43,7 +43,8 @@ static OWN_ANSWERS: &str =
 
 static LOOKS: [&str; 2] = ["0 ann stat /", "0 bob stat /"];
 
-fn jobs_of(alloc: Global, lines: &[&str]) -> Result<Vec<Request>, Fail> {
+/// The requests of these lines.
+pub fn jobs_of(alloc: Global, lines: &[&str]) -> Result<Vec<Request>, Fail> {
     let mut jobs = Vec::new(alloc);
     for line in lines {
         jobs.push(request_of(alloc, line)?)?;
