@@ -19,7 +19,7 @@ def function_at(path, module, at, text):
         return None
     name = f"{module}::"
     if names[-1][0]:
-        trait, of = re.findall(r"^impl(?:<[^>]*>)? (?:(\w+)(?:<[^>]*>)? for )?(\w+)", head, re.M)[-1]
+        trait, of = re.findall(r"^impl(?:<[^>]*>)? (?:(?:\w+::)*(\w+)(?:<[^>]*>)? for )?(\w+)", head, re.M)[-1]
         name += f"{of}{trait}::"
     return name + names[-1][1]
 

@@ -36,14 +36,38 @@ fn workers<'a>(alloc: Global) -> Result<Arg<'a>, AllocError> {
         .conflicts_with("hints")
 }
 
+// What has several arguments or subcommands is made by functions that hand on each at once: one that owns a command, and may return early while it
+// owns another part, takes far longer to prove.
+fn with_two<'a>(
+    command: Command<'a>,
+    first: Arg<'a>,
+    last: Arg<'a>,
+) -> Result<Command<'a>, AllocError> {
+    command.arg(first)?.arg(last)
+}
+
+fn with_three<'a>(
+    command: Command<'a>,
+    first: Arg<'a>,
+    second: Arg<'a>,
+    last: Arg<'a>,
+) -> Result<Command<'a>, AllocError> {
+    with_two(command, first, second)?.arg(last)
+}
+
+fn with_subcommand<'a>(
+    command: Command<'a>,
+    subcommand: Result<Command<'a>, AllocError>,
+) -> Result<Command<'a>, AllocError> {
+    command.subcommand(subcommand?)
+}
+
 fn run_command<'a>(alloc: Global, verbs: &'a str) -> Result<Command<'a>, AllocError> {
     let workers = workers(alloc)?;
-    Command::new(alloc, "run")
+    let start = Command::new(alloc, "run")
         .about("Runs a script, and prints an answer for each line")
-        .after_help(verbs)
-        .arg(script(alloc))?
-        .arg(hints_on_lines(alloc))?
-        .arg(workers)
+        .after_help(verbs);
+    with_three(start, script(alloc), hints_on_lines(alloc), workers)
 }
 
 fn line<'a>(alloc: Global) -> Arg<'a> {
@@ -58,22 +82,17 @@ fn explain_command<'a>(alloc: Global) -> Result<Command<'a>, AllocError> {
         alloc,
         "Also says on standard error what the answer leaves open, such as why a line is no request",
     );
-    Command::new(alloc, "explain")
-        .about(
-            "Runs the lines before a line, and prints each need of its request up to the first that fails",
-        )
-        .arg(script(alloc))?
-        .arg(line(alloc))?
-        .arg(hints)
+    let start = Command::new(alloc, "explain").about(
+        "Runs the lines before a line, and prints each need of its request up to the first that fails",
+    );
+    with_three(start, script(alloc), line(alloc), hints)
 }
 
 fn audit_command<'a>(alloc: Global) -> Result<Command<'a>, AllocError> {
-    Command::new(alloc, "audit")
-        .about(
-            "Runs a script, and prints the history of its requests: for each an object of JSON on a line of its own",
-        )
-        .arg(script(alloc))?
-        .arg(hints_on_lines(alloc))
+    let start = Command::new(alloc, "audit").about(
+        "Runs a script, and prints the history of its requests: for each an object of JSON on a line of its own",
+    );
+    with_two(start, script(alloc), hints_on_lines(alloc))
 }
 
 fn digits<'a>(alloc: Global) -> Arg<'a> {
@@ -88,32 +107,17 @@ fn token_command<'a>(alloc: Global) -> Result<Command<'a>, AllocError> {
         .arg(digits(alloc))
 }
 
-// The command line with the first of the subcommands. Each of them is added in a function of its own: a function that has
-// all at once takes far longer to prove.
-fn with_run<'a>(alloc: Global, verbs: &'a str) -> Result<Command<'a>, AllocError> {
-    let run = run_command(alloc, verbs)?;
-    Command::new(alloc, "hdfsns")
-        .about("The namesystem of HDFS, proved")
-        .version(VERSION)
-        .subcommand_required(true)
-        .subcommand(run)
-}
-
-fn with_explain<'a>(alloc: Global, verbs: &'a str) -> Result<Command<'a>, AllocError> {
-    let explain = explain_command(alloc)?;
-    with_run(alloc, verbs)?.subcommand(explain)
-}
-
-fn with_audit<'a>(alloc: Global, verbs: &'a str) -> Result<Command<'a>, AllocError> {
-    let audit = audit_command(alloc)?;
-    with_explain(alloc, verbs)?.subcommand(audit)
-}
-
 /// The command line of the program, with the help on the verbs of scripts behind that of `run`.
 ///
 /// # Errors
 /// Out of memory.
 pub fn command<'a>(alloc: Global, verbs: &'a str) -> Result<Command<'a>, AllocError> {
-    let token = token_command(alloc)?;
-    with_audit(alloc, verbs)?.subcommand(token)
+    let start = Command::new(alloc, "hdfsns")
+        .about("The namesystem of HDFS, proved")
+        .version(VERSION)
+        .subcommand_required(true);
+    let runs = with_subcommand(start, run_command(alloc, verbs))?;
+    let explains = with_subcommand(runs, explain_command(alloc))?;
+    let audits = with_subcommand(explains, audit_command(alloc))?;
+    with_subcommand(audits, token_command(alloc))
 }
