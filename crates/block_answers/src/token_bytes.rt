@@ -1,12 +1,12 @@
 ghost use Rattle.std.specs.Prelude.{◌≡◌, IfOk};
 
-use bytes::{Bytes, BytesMut};
 use std::alloc::AllocError;
 use std::marker::Model;
+use std::sync::Arc;
 
 /// The bytes of a token's text. Whoever holds the token shares them.
 pub struct TokenBytes {
-    bytes: Bytes,
+    bytes: Arc<Vec<u8>>,
 }
 
 impl Drop for TokenBytes {
@@ -21,7 +21,7 @@ impl Model for TokenBytes {
 
     ghost Value = { List ℕ };
 
-    ghost view = { λ token. token.bytes };
+    ghost view = { λ token. token.bytes.items };
 }
 
 impl TokenBytes {
@@ -32,34 +32,17 @@ impl TokenBytes {
     pub fn new(bytes: Vec<u8>) -> Result<TokenBytes, AllocError>
         ensures { IfOk result (λ token. token ≡ bytes.items) }
     {
-        match BytesMut::from_vec(bytes).freeze() {
-            Ok(bytes) => Ok(TokenBytes { bytes }),
-            Err(_) => Err(AllocError),
-        }
-    }
-
-    /// The token with these bytes, which are shared.
-    pub fn of(bytes: Bytes) -> TokenBytes
-        ensures { result ≡ bytes }
-    {
-        TokenBytes { bytes }
+        let alloc = *bytes.allocator();
+        Ok(TokenBytes {
+            bytes: Arc::new(alloc, bytes)?,
+        })
     }
 
     /// The bytes.
     pub fn as_bytes(&self) -> &[u8]
         ensures { result.now ≡ self.now }
     {
-        self.bytes.as_slice()
-    }
-
-    /// The bytes, which are shared with the token and not copied.
-    ///
-    /// # Errors
-    /// Out of memory.
-    pub fn shared(&self) -> Result<Bytes, AllocError>
-        ensures { IfOk result (λ bytes. bytes ≡ self.now) }
-    {
-        self.bytes.clone()
+        &self.bytes
     }
 }
 

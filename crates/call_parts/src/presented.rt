@@ -1,7 +1,6 @@
 ghost use Rattle.std.specs.Prelude.{◌≡◌, IfOk};
 
 use block_answers::token_bytes::TokenBytes;
-use bytes::Bytes;
 use hdfs_values::ids::{BlockId, Stamp};
 use hdfs_values::who::Who;
 use std::alloc::{AllocError, Global};
@@ -10,13 +9,13 @@ use std::marker::Model;
 /// The bytes that a caller presents as a block access token (HADOOP-4359). They may be anything. What passes a call on, and what notes it
 /// down, shares them.
 pub struct PresentedToken {
-    bytes: Bytes,
+    token: TokenBytes,
 }
 
 impl Drop for PresentedToken {
     fn drop(self) {
-        let PresentedToken { bytes } = self;
-        drop(bytes);
+        let PresentedToken { token } = self;
+        drop(token);
     }
 }
 
@@ -25,7 +24,7 @@ impl Model for PresentedToken {
 
     ghost Value = { List ℕ };
 
-    ghost view = { λ token. token.bytes };
+    ghost view = { λ presented. presented.token };
 }
 
 impl PresentedToken {
@@ -37,7 +36,7 @@ impl PresentedToken {
         ensures { IfOk result (λ token. token ≡ bytes.now) }
     {
         Ok(PresentedToken {
-            bytes: Bytes::copy_from_slice(alloc, bytes)?,
+            token: TokenBytes::new(bytes.to_vec(alloc)?)?,
         })
     }
 
@@ -49,7 +48,7 @@ impl PresentedToken {
         ensures { IfOk result (λ presented. presented ≡ token.now) }
     {
         Ok(PresentedToken {
-            bytes: token.shared()?,
+            token: token.clone()?,
         })
     }
 
@@ -60,21 +59,14 @@ impl PresentedToken {
     pub fn to_token(&self) -> Result<TokenBytes, AllocError>
         ensures { IfOk result (λ token. token ≡ self.now) }
     {
-        Ok(TokenBytes::of(self.bytes.clone()?))
+        self.token.clone()
     }
 
     /// The bytes. Takes no memory.
     pub fn as_bytes(&self) -> &[u8]
         ensures { result.now ≡ self.now }
     {
-        self.bytes.as_slice()
-    }
-
-    /// The bytes, for whoever is to share them. Takes no memory.
-    pub fn shared(&self) -> &Bytes
-        ensures { result.now ≡ self.now }
-    {
-        &self.bytes
+        self.token.as_bytes()
     }
 }
 
@@ -83,7 +75,7 @@ impl Clone for PresentedToken {
 
     fn clone(&self) -> Result<PresentedToken, AllocError> {
         Ok(PresentedToken {
-            bytes: self.bytes.clone()?,
+            token: self.token.clone()?,
         })
     }
 }

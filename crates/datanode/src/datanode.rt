@@ -286,7 +286,7 @@ impl DataNode {
         ensures same { self.new ≡ self.old }
     {
         let mode = asking::mode_of(call);
-        let token = presented.token.shared();
+        let token = presented.token.as_bytes();
         self.keys
             .check(clock, &presented.caller, presented.block, mode, token)
     }

@@ -1,10 +1,13 @@
 -- Which groups users have behind an operation that gives somebody groups.
-use Rattle.std.proofs.Common.{◌≡◌, ℕ, Bool, true, false, List, [], ◌∷◌, ◌++◌, Option, Some, None, is_some, refl, sym, ap, ◌∙◌, subst, cond}
+use Rattle.std.proofs.Common.{◌≡◌, ℕ, Bool, true, false, List, [], ◌∷◌, Option, Some, None, is_some, refl, sym, ap, ◌∙◌, subst, cond}
+use Rattle.std.specs.BTreeMap.{insert_entry}
 use Rattle.std.specs.Map.{lookup, set_value}
-use Rattle.hdfs_values.specs.Text.{same}
+use Rattle.std.specs.Ordering.{is_eq, match_ordering}
+use Rattle.std.specs.declared.cmp.Ordering.{Ordering}
+use Rattle.std.specs.declared.cmp.Ordering.TheVariants.{Less, Equal, Greater}
+use Rattle.hdfs_values.specs.Text.{same, text_cmp}
 use Rattle.hdfs_values.proofs.Texts.{same_self, same_is}
-use Rattle.node_ids.specs.NodeId.{node_of}
-use Rattle.refusals.specs.declared.refusal.Refusal.TheVariants.{BadName, Exists, NotFound}
+use Rattle.refusals.specs.declared.refusal.Refusal.TheVariants.{NotFound}
 use Rattle.hdfs_types.specs.declared.op.Op.{Op}
 use Rattle.hdfs_types.specs.declared.op.Op.TheVariants as op
 use Rattle.principals.specs.Users.{Users, is_known}
@@ -29,15 +32,15 @@ module _ (user : List ℕ) (groups : List (List ℕ)) where
       by true t k rest = ap (λ b. cond b (Some groups) (lookup (same user) es)) t
       by false t k rest = ap (λ b. cond b (Some e.1) (lookup (same user) (set_value (same user) es groups))) t ∙ rest k
 
-  added_own : (known : Known) → is_some (lookup (same user) known) ≡ false → lookup (same user) (known ++ (user, groups) ∷ []) ≡ Some groups
-  added_own [] h = ap (λ b. cond b (Some groups) None) (same_self user)
-  added_own (e ∷ es) h = by (same user e.0) h (added_own es)
+  added_own : (known : Known) → lookup (same user) (insert_entry text_cmp known user groups) ≡ Some groups
+  added_own [] = ap (λ b. cond b (Some groups) None) (same_self user)
+  added_own (e ∷ es) = by (text_cmp user e.0) refl (added_own es)
     where
-      by : (b : Bool) → is_some (cond b (Some e.1) (lookup (same user) es)) ≡ false
-          → (is_some (lookup (same user) es) ≡ false → lookup (same user) (es ++ (user, groups) ∷ []) ≡ Some groups)
-          → cond b (Some e.1) (lookup (same user) (es ++ (user, groups) ∷ [])) ≡ Some groups
-      by true k rest = cc
-      by false k rest = rest k
+      by : (o : Ordering) → text_cmp user e.0 ≡ o → lookup (same user) (insert_entry text_cmp es user groups) ≡ Some groups
+          → lookup (same user) (match_ordering o ((user, groups) ∷ e ∷ es) ((e.0, groups) ∷ es) (e ∷ insert_entry text_cmp es user groups)) ≡ Some groups
+      by Less is rest = ap (λ b. cond b (Some groups) (lookup (same user) (e ∷ es))) (same_self user)
+      by Equal is rest = ap (λ o. cond (is_eq o) (Some groups) (lookup (same user) es)) is
+      by Greater is rest = ap (λ o. cond (is_eq o) (Some e.1) (lookup (same user) (insert_entry text_cmp es user groups))) is ∙ rest
 
   module _ (other : List ℕ) (apart : same other user ≡ false) where
     set_others : (known : Known) → lookup (same other) (set_value (same user) known groups) ≡ lookup (same other) known
@@ -51,16 +54,19 @@ module _ (user : List ℕ) (groups : List (List ℕ)) where
             ap (λ b. cond b (Some groups) (lookup (same other) es)) no ∙ sym (ap (λ b. cond b (Some e.1) (lookup (same other) es)) no)
         by false t rest = ap (cond (same other e.0) (Some e.1)) rest
 
-    added_others : (known : Known) → lookup (same other) (known ++ (user, groups) ∷ []) ≡ lookup (same other) known
+    added_others : (known : Known) → lookup (same other) (insert_entry text_cmp known user groups) ≡ lookup (same other) known
     added_others [] = ap (λ b. cond b (Some groups) None) apart
-    added_others (e ∷ es) = ap (cond (same other e.0) (Some e.1)) (added_others es)
+    added_others (e ∷ es) = by (text_cmp user e.0) refl (added_others es)
+      where
+        by : (o : Ordering) → text_cmp user e.0 ≡ o → lookup (same other) (insert_entry text_cmp es user groups) ≡ lookup (same other) es
+            → lookup (same other) (match_ordering o ((user, groups) ∷ e ∷ es) ((e.0, groups) ∷ es) (e ∷ insert_entry text_cmp es user groups)) ≡ cond (same other e.0) (Some e.1) (lookup (same other) es)
+        by Less is rest = ap (λ b. cond b (Some groups) (lookup (same other) (e ∷ es))) apart
+        by Equal is rest =
+            let no : same other e.0 ≡ false = ap (same other) (sym (same_is user e.0 (ap is_eq is))) ∙ apart in
+            ap (λ b. cond b (Some groups) (lookup (same other) es)) no ∙ sym (ap (λ b. cond b (Some e.1) (lookup (same other) es)) no)
+        by Greater is rest = ap (cond (same other e.0) (Some e.1)) rest
 
--- who isn't refused to be made known wasn't, and who isn't refused to be given groups was
-new_is_unknown : (b c : Bool) → cond b (Some BadName) (cond c (Some Exists) None) ≡ None → c ≡ false
-new_is_unknown true c h = cc
-new_is_unknown false true h = cc
-new_is_unknown false false h = refl
-
+-- who isn't refused to be given groups was known
 old_is_known : (c : Bool) → cond c None (Some NotFound) ≡ None → c ≡ true
 old_is_known true h = refl
 old_is_known false h = cc
@@ -82,7 +88,7 @@ module _ (user : List ℕ) (groups : List (List ℕ)) where
       → lookup (same user) (users_after what users).known ≡ Some groups
   given facts caller rows users (op.AddUser one some) free is =
       ap (λ name. lookup (same name) (users_after (op.AddUser one some) users).known) (sym (owner_is is))
-      ∙ added_own one some users.known (new_is_unknown (is_some (node_of one)) (is_known users one) free) ∙ ap Some (groups_are is)
+      ∙ added_own one some users.known ∙ ap Some (groups_are is)
   given facts caller rows users (op.SetGroups one some) free is =
       ap (λ name. lookup (same name) (users_after (op.SetGroups one some) users).known) (sym (owner_is is))
       ∙ set_own one some users.known (old_is_known (is_known users one) free) ∙ ap Some (groups_are is)

@@ -1,15 +1,16 @@
 -- Users with their groups, the superuser and the supergroup.
 -- (HDFS Permissions Guide, "User Identity", "Group Mapping" and "The Super-User".)
-use Rattle.std.specs.Prelude.{ℕ, Bool, ◌||◌, List, [], ◌∷◌, ◌++◌, if◌then◌else◌, Option, Some, None, unwrap_or}
+use Rattle.std.specs.Prelude.{ℕ, Bool, ◌||◌, List, [], if◌then◌else◌, Option, Some, None, unwrap_or}
+use Rattle.std.specs.BTreeMap.{insert_entry}
 use Rattle.std.specs.Map.{lookup, set_value}
 use Rattle.std.specs.Option.{is_some}
-use Rattle.hdfs_values.specs.Text.{same}
+use Rattle.hdfs_values.specs.Text.{same, text_cmp}
 use Rattle.node_ids.specs.NodeId.{node_of}
 use Rattle.refusals.specs.declared.refusal.Refusal.{Refusal}
 use Rattle.refusals.specs.declared.refusal.Refusal.TheVariants.{BadName, Exists, NotFound}
 use Rattle.hdfs_values.specs.Groups.{has_group}
 
--- each known user with the groups last set, in the order in which they were made known, and the two names that a namesystem opens with
+-- each known user with the groups last set, in the order of the names, and the two names that a namesystem opens with
 pub record Users : Type 0 where
   pub known : List (List ℕ × List (List ℕ))
   pub superuser : List ℕ
@@ -43,7 +44,7 @@ abbrev pub refusal_of_known : Users → List ℕ → Option Refusal
 refusal_of_known users user = if is_known users user then None else Some NotFound
 
 abbrev pub with_user : Users → List ℕ → List (List ℕ) → Users
-with_user users user groups = record users { known = users.known ++ (user, groups) ∷ [] }
+with_user users user groups = record users { known = insert_entry text_cmp users.known user groups }
 
 abbrev pub with_groups : Users → List ℕ → List (List ℕ) → Users
 with_groups users user groups = record users { known = set_value (same user) users.known groups }

@@ -6,10 +6,10 @@ ghost use Rattle.principals.specs.Users as spec;
 use crate::caller::Caller;
 use hdfs_values::groups::{Groups, has_group};
 use hdfs_values::who::Who;
-use indexmap::IndexMap;
 use node_ids::node_id::node_of;
 use refusals::refusal::Refusal;
 use std::alloc::{AllocError, AllocFailed, Global};
+use std::collections::BTreeMap;
 use std::marker::Model;
 use thiserror::Error;
 
@@ -41,7 +41,7 @@ impl<T: Drop> From<AllocFailed<T>> for UserFault {
 /// The known users with their groups, the superuser and the supergroup (HDFS Permissions Guide, "Group Mapping" and "The
 /// Super-User").
 pub struct Users {
-    known: IndexMap<Who, Groups>,
+    known: BTreeMap<Who, Groups>,
     superuser: Who,
     supergroup: Who,
 }
@@ -73,7 +73,7 @@ impl Users {
         ensures { result ≡ record { known = []; superuser = superuser; supergroup = supergroup } }
     {
         Users {
-            known: IndexMap::new(alloc),
+            known: BTreeMap::new(alloc),
             superuser,
             supergroup,
         }
@@ -93,7 +93,7 @@ impl Users {
         &self.supergroup
     }
 
-    /// The groups last set for a user; one that isn't known has none. Costs a look-up by hash, and takes no memory.
+    /// The groups last set for a user; one that isn't known has none. Costs a look-up in the order of names, and takes no memory.
     pub fn groups_of(&self, user: &Who) -> &[Who]
         ensures { result.now ≡ spec.groups_of self.now user.now }
     {
@@ -103,15 +103,15 @@ impl Users {
         }
     }
 
-    /// Whether this is the superuser, or a known member of the supergroup. Costs a look-up by hash and the user's groups, and takes
-    /// no memory.
+    /// Whether this is the superuser, or a known member of the supergroup. Costs a look-up in the order of names and the user's groups, and
+    /// takes no memory.
     pub fn is_super(&self, user: &Who) -> bool
         ensures { result ≡ spec.is_super self.now user.now }
     {
         *user == self.superuser || has_group(self.groups_of(user), &self.supergroup)
     }
 
-    /// The caller of this name, with the groups last set for it. Costs a look-up by hash and the caller's groups, and takes no memory.
+    /// The caller of this name, with the groups last set for it. Costs a look-up in the order of names and the caller's groups, and takes no memory.
     pub fn caller<'a>(&'a self, name: &'a Who) -> Caller<'a>
         ensures { result ≡ spec.caller_of self.now name.now }
     {
@@ -120,12 +120,11 @@ impl Users {
         Caller::new(name, groups, is_superuser)
     }
 
-    /// Makes a user known, with these groups. Costs look-ups by hash, and the known users where the table grows.
+    /// Makes a user known, with these groups. Costs look-ups in the order of names.
     ///
     /// # Errors
     /// `BadName` for the name of a DataNode, else `Exists` for a user that is known, else out of memory. Nothing has changed
     /// then.
-    #[tactic(auto, using(crate::proofs::Added::new_last))]
     pub fn add(&mut self, user: Who, groups: Groups) -> Result<(), UserFault>
         ensures ok { OnOk result ((spec.refusal_of_new self.old user ≡ None) × (self.new ≡ spec.with_user self.old user groups)) }
         ensures refused { IfRefused result (λ refusal. spec.refusal_of_new self.old user ≡ Some refusal) }
@@ -141,7 +140,7 @@ impl Users {
         Ok(())
     }
 
-    /// Gives a known user these groups, instead of those that it had. Costs a look-up by hash, and takes no memory.
+    /// Gives a known user these groups, instead of those that it had. Costs a look-up in the order of names, and takes no memory.
     ///
     /// # Errors
     /// `NotFound` for a user that isn't known. Nothing has changed then.

@@ -7,7 +7,6 @@ use crate::parts::TokenParts;
 use block_tokens::cache::KeyCache;
 use block_tokens::key::KeyList;
 use block_tokens::refusal::TokenRefusal;
-use bytes::Bytes;
 use hdfs_values::ids::BlockId;
 use hdfs_values::moment::Moment;
 use hdfs_values::who::Who;
@@ -22,7 +21,7 @@ use std::num::NonZeroUsize;
 #[derive(Drop)]
 pub struct TokenCache {
     keys: KeyCache,
-    verified: LruCache<Bytes, TokenParts>,
+    verified: LruCache<Vec<u8>, TokenParts>,
     alloc: Global,
 }
 
@@ -85,7 +84,7 @@ impl TokenCache {
 
     /// Judges a token that a caller presents for a block and a mode: the first refusal that applies, in the order of `TokenRefusal`. Keys
     /// whose known expiry has come are ignored. One that was verified is kept, whatever it is refused for. Costs a look-up of the token and one
-    /// of its key, and takes no memory; where the token isn't kept, one HMAC over its bytes, and where it is verified, a copy of the user's
+    /// of its key, and takes no memory; where the token isn't kept, one HMAC over its bytes, and where it is verified, a copy of it and of the user's
     /// name. Unlike codes, the bytes of a token are compared with those of a kept one in as many steps as they are alike.
     ///
     /// # Errors
@@ -96,7 +95,7 @@ impl TokenCache {
         caller: &Who,
         block: BlockId,
         mode: Modes,
-        token: &Bytes,
+        token: &[u8],
     ) -> Result<Result<(), TokenRefusal>, AllocError>
         ensures answer { IfOk result (λ told. TellsTokenRefusal told (token_test self.old (record { now = now; caller = caller.now; block = block; mode = mode.0 }) token.now)) }
         ensures same { self.new ≡ self.old }
@@ -106,13 +105,13 @@ impl TokenCache {
             let body = parts.body();
             return Ok(self.keys.check_parts(now, caller, block, mode, &body));
         }
-        let body = match self.keys.verify(now, token.as_slice()) {
+        let body = match self.keys.verify(now, token) {
             Ok(body) => body,
             Err(refusal) => return Ok(Err(refusal)),
         };
         let told = self.keys.check_parts(now, caller, block, mode, &body);
         let parts = TokenParts::of(self.alloc, &body)?;
-        self.verified.put(token.clone()?, parts)?;
+        self.verified.put(token.to_vec(self.alloc)?, parts)?;
         Ok(told)
     }
 }
