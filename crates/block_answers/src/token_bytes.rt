@@ -21,7 +21,7 @@ impl Model for TokenBytes {
 
     ghost Value = { List ℕ };
 
-    ghost view = { λ token. token.bytes.items };
+    ghost view = { λ token. token.bytes.value.items };
 }
 
 impl TokenBytes {
