@@ -1,7 +1,7 @@
 #!/usr/bin/env python3
 """merge_crates.py ROOT NEW TEXT OLD..: makes one crate of several that stand beside each other, so that the libraries below them are loaded once
 
-NEW is the new crate's name, TEXT its line in lib.rt. Modules keep their names, which have to differ. Moved are src/, specs/, proofs/, must-fail/ and
+NEW is the new crate's name, which may be that of one of them, TEXT its line in lib.rt. Modules keep their names, which have to differ. Moved are src/, specs/, proofs/, must-fail/ and
 wrong_bodies/OLD; changed are the paths in all crates, edits, wrong rules and documents, and crates.txt, where NEW stands in the place of the last OLD.
 Rows of tables that name OLD alone (one for each crate) are told on standard error, to be merged by hand. Behind it: `rt fmt` in NEW and in each crate
 that names it, edits.py, ../tools/check-rules, and the proofs of all above."""
@@ -12,18 +12,22 @@ os.chdir(root)
 git = lambda *words: subprocess.run(['git', *words], check=True)
 target = f'crates/{new}'
 libs = {'src': [], 'specs': [], 'proofs': []}
+handed_on = []  # what a crate re-exports of others stays, of those that are merged it is there
 for old in olds:
     for part in libs:
         for name in ('lib.rt', 'Lib.antt'):
             path = f'crates/{old}/{part}/{name}'
             if os.path.isfile(path):
                 libs[part] += [line for line in open(path).read().split('\n') if line.startswith('pub mod')]
+                handed_on += [line for line in open(path).read().split('\n') if line.startswith('pub use') and re.split(r'\W+', line)[2] not in olds]
                 git('rm', '-q', path)
         for path in sorted(glob.glob(f'crates/{old}/{part}/*')):
+            if old == new: continue  # stands there already
             os.makedirs(f'{target}/{part}', exist_ok=True)
             to = f'{target}/{part}/{os.path.basename(path)}'
             assert not os.path.exists(to), to
             git('mv', path, to)
+    if old == new: continue
     for place, to in ((f'crates/{old}/must-fail', f'{target}/must-fail'), (f'wrong_bodies/{old}', f'wrong_bodies/{new}')):
         for path in sorted(glob.glob(f'{place}/*')):
             os.makedirs(to, exist_ok=True)
@@ -35,7 +39,7 @@ for part, lines in libs.items():
     assert len(set(lines)) == len(lines), lines
     if not lines: continue
     if part == 'src':
-        open(f'{target}/src/lib.rt', 'w').write(f'//! {text}\n#![tactic(auto)]\n\n' + '\n'.join(sorted(lines, key=lambda it: it.split()[2])) + '\n')
+        open(f'{target}/src/lib.rt', 'w').write(f'//! {text}\n#![tactic(auto)]\n\n' + '\n'.join(sorted(lines, key=lambda it: it.split()[2])) + '\n' + ''.join(['\n', *(line + '\n' for line in handed_on)] if handed_on else []))
     else:
         open(f'{target}/{part}/Lib.antt', 'w').write('\n'.join(lines) + '\n')
 
@@ -49,7 +53,7 @@ for path in files:
         continue
     now = re.sub(rf'\bRattle\.({any_old})\.', f'Rattle.{new}.', was)
     if path.startswith(f'{target}/src/') or path.startswith((f'{target}/must-fail/', f'wrong_bodies/{new}/')):
-        now = re.sub(rf'\b({any_old})::', 'crate::', now)
+        now = re.sub(rf'(?<![\w.:])({any_old})::', 'crate::', now)
     now = re.sub(rf'(?<![\w.])({any_old})::', f'{new}::', now)
     now = re.sub(rf'(?<![\w.])({any_old})/(?=[a-zA-Z_])', f'{new}/', now)
     if now != was:
@@ -82,5 +86,6 @@ for line in lines:
     out.append(line)
 open('crates.txt', 'w').write('\n'.join(out))
 for old in olds:
+    if old == new: continue
     subprocess.run(['rm', '-rf', f'crates/{old}'])
 git('add', '-A')
