@@ -8,9 +8,9 @@ use Rattle.hdfs_values.specs.Text.{same}
 use Rattle.hdfs_types.specs.declared.op.Request.{Request}
 use Rattle.history.specs.declared.entry.Answer.{Answer}
 use Rattle.name_service.specs.declared.jobs.KeptAt.{KeptAt}
-use Rattle.name_server.specs.declared.pass.AskFault.{AskFault}
+use Rattle.name_service.specs.declared.pass.AskFault.{AskFault}
 use Rattle.name_service.specs.declared.sharing.Worker.{Worker}
-use Rattle.name_server.proofs.Gaining.{gained}
+use Rattle.name_service.proofs.Gaining.{gained}
 use Rattle.name_service.specs.Jobs.{NoneFaulted, ComeBehind, AreWithTheirs, EachHasAsked, HasAsked, HaveAskedTheirs, Placed, callers_of, is_job_of, jobs_of, kept_by, receipts_at, worker_of}
 use Rattle.name_service.specs.Shares.{shared, shared_jobs}
 use Rattle.name_service.proofs.Placing.{get_right, some_is}

@@ -1,7 +1,7 @@
 -- A server that opens for some workers has some.
 use Rattle.std.proofs.Common.{◌≡◌, ◌<◌, ℕ, zero, suc, List, [], ◌∷◌, length, length-append, refl, ap, arith}
 use Rattle.std.proofs.lemmas.List.{length-map}
-use Rattle.name_server.specs.Passes.{Pass, new_pass, new_passes}
+use Rattle.name_service.specs.Passes.{Pass, new_pass, new_passes}
 use Rattle.name_service.specs.declared.sharing.Worker.{Worker}
 use Rattle.name_service.specs.Jobs.{passes_of}
 

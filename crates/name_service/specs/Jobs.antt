@@ -5,10 +5,10 @@ use Rattle.indexmap.specs.IndexSet.{insert_all}
 use Rattle.hdfs_values.specs.Text.{same}
 use Rattle.hdfs_types.specs.declared.op.Request.{Request}
 use Rattle.history.specs.declared.entry.Answer.{Answer}
-use Rattle.name_server.specs.Passes.{Pass}
-use Rattle.name_server.specs.Working.{Asked}
+use Rattle.name_service.specs.Passes.{Pass}
+use Rattle.name_service.specs.Working.{Asked}
 use Rattle.name_service.specs.declared.jobs.KeptAt.{KeptAt}
-use Rattle.name_server.specs.declared.pass.AskFault.{AskFault}
+use Rattle.name_service.specs.declared.pass.AskFault.{AskFault}
 use Rattle.name_service.specs.declared.sharing.Worker.{Worker}
 
 -- the callers of these jobs, each once, where he comes first

@@ -1,16 +1,16 @@
 ghost use Rattle.std.specs.Prelude.{◌≡◌, ◌<◌, ◌⊎◌, [], ◌∷◌, if◌then◌else◌, length, map, nat_eq, option_copied, slice_get, Some, IfErr, IfNone, IfOk, IfSome, IsOk, OnErr, OnOk};
 ghost use Rattle.name_service.specs.Jobs.{AreWithTheirs, ComeBehind, EachHasAsked, HasAsked, HaveAskedTheirs, IsFirstFault, NoneFaulted, Placed, callers_of, kept_by, passes_of, receipts_at};
 ghost use Rattle.name_service.specs.Shares.{shared_jobs};
-ghost use Rattle.name_server.specs.declared.pass.AskFault.TheVariants.{OutOfMemory};
-ghost use Rattle.name_server.specs.Passes.{IsSomeFault};
-ghost use Rattle.name_server.specs.Working.{Asked, GainsAll};
+ghost use Rattle.name_service.specs.declared.pass.AskFault.TheVariants.{OutOfMemory};
+ghost use Rattle.name_service.specs.Passes.{IsSomeFault};
+ghost use Rattle.name_service.specs.Working.{Asked, GainsAll};
 
 use crate::jobs::{KeptAt, places_of};
 use hdfs_types::op::Request;
 use history::entry::Answer;
-use name_server::gate::Gate;
-use name_server::pass::{AskFault, Pass};
-use name_server::server::NameServer;
+use crate::gate::Gate;
+use crate::pass::{AskFault, Pass};
+use crate::server::NameServer;
 use std::alloc::{AllocError, Global};
 use std::sync::Wait;
 use std::thread;

@@ -4,9 +4,9 @@ use Rattle.std.proofs.lemmas.Option.{slice_get-get_or}
 use Rattle.hdfs_types.specs.declared.op.Request.{Request}
 use Rattle.name_service.specs.declared.jobs.KeptAt.{KeptAt}
 use Rattle.name_service.specs.Shares.{shared}
-use Rattle.name_server.specs.Passes.{Pass, IsSomeFault}
-use Rattle.name_server.specs.Working.{GainsAll}
-use Rattle.name_server.proofs.Gaining.{more}
+use Rattle.name_service.specs.Passes.{Pass, IsSomeFault}
+use Rattle.name_service.specs.Working.{GainsAll}
+use Rattle.name_service.proofs.Gaining.{more}
 use Rattle.name_service.proofs.Turns.{shared_from, shared_more, shared_parts}
 use Rattle.name_service.proofs.sharing.ask_shared.Goals as goal
 

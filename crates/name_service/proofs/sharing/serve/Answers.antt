@@ -3,7 +3,7 @@ use Rattle.name_service.specs.declared.jobs.KeptAt.{KeptAt}
 use Rattle.name_service.specs.Jobs.{EachHasAsked}
 use Rattle.name_service.specs.Shares.{shared_jobs}
 use Rattle.name_service.proofs.Answering.{has_worked, placed}
-use Rattle.name_server.proofs.Threads.{server_sync}
+use Rattle.name_service.proofs.Threads.{server_sync}
 use Rattle.name_service.proofs.sharing.serve.Goals as goal
 
 pub work_beside-requires-sync-S : goal.work_beside-requires-sync-S

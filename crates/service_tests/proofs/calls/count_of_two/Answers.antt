@@ -1,4 +1,4 @@
-use Rattle.name_server.proofs.Threads.{server_sync}
+use Rattle.name_service.proofs.Threads.{server_sync}
 use Rattle.service_tests.proofs.gates.Meeting.TheSendSync as gate_laws
 use Rattle.service_tests.specs.contracts.gates.Meeting as gate
 use Rattle.service_tests.proofs.calls.count_of_two.Goals as goal

@@ -1,4 +1,4 @@
-use Rattle.name_server.proofs.Threads.{server_sync}
+use Rattle.name_service.proofs.Threads.{server_sync}
 use Rattle.service_tests.proofs.gates.Counting.TheSendSync as gate_laws
 use Rattle.service_tests.specs.contracts.gates.Counting as gate
 use Rattle.service_tests.proofs.calls.seen_of.Goals as goal

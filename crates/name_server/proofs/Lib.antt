@@ -1,4 +1,0 @@
-pub mod Counting
-pub mod Closing
-pub mod Gaining
-pub mod Threads

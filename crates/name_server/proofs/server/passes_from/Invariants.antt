@@ -1,6 +1,0 @@
-use Rattle.std.proofs.Common.{◌≡◌}
-use Rattle.name_server.specs.Passes.{new_passes}
-use Rattle.name_server.proofs.server.passes_from.Given as goal
-
-abbrev pub invariant-loop-number : goal.invariant-loop-number
-invariant-loop-number l = l.passes.items ≡ new_passes l.number l.seen

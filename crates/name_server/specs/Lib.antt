@@ -1,5 +1,0 @@
-pub mod Passes
-pub mod Lent
-pub mod Serving
-pub mod Working
-pub mod Laws
