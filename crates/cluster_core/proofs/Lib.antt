@@ -1,1 +1,4 @@
+pub mod Naming
+pub mod Answering
+pub mod Delivering
 pub mod Reaching

@@ -25,7 +25,7 @@ use Rattle.cluster_core.specs.Past.{World}
 use Rattle.cluster_core.specs.World.{state_after, with_event, history_of, past_of, IsReached}
 use Rattle.cluster_parts.specs.declared.kept.KeptEvents.{KeptEvents}
 use Rattle.cluster_core.specs.declared.world.World.TheInside.{Inside}
-use Rattle.cluster_steps.proofs.Answering.{taken, not_taken}
+use Rattle.cluster_core.proofs.Answering.{taken, not_taken}
 use Rattle.cluster_parts.proofs.Keeping.{one_more}
 
 -- ---- the NameNode's history grows at its end, if at all

@@ -4,7 +4,7 @@ use Rattle.cluster_trace.specs.declared.event.Event.TheVariants.{Name}
 use Rattle.cluster_parts.specs.Kept.{AreWithin, IsOneMore}
 use Rattle.cluster_parts.specs.declared.kept.KeptEvents.{KeptEvents}
 use Rattle.cluster_core.specs.declared.world.World.TheInside.{Inside}
-use Rattle.cluster_steps.proofs.Answering.{taken}
+use Rattle.cluster_core.proofs.Answering.{taken}
 use Rattle.cluster_core.proofs.Reaching.{Steps, asked_steps, step_reached, still_reached, step_past, step_outcome}
 use Rattle.cluster_core.proofs.world.World.ask.Goals as goal
 

@@ -14,8 +14,8 @@ use Rattle.cluster_parts.specs.Sent.{messages_of}
 use Rattle.cluster_parts.specs.declared.carried.Carried.{Carried}
 use Rattle.cluster_parts.specs.declared.found.Found.{Found}
 use Rattle.cluster_parts.specs.declared.sent.Batch.{Batch}
-use Rattle.cluster_steps.proofs.Naming.{state_with}
-use Rattle.cluster_steps.proofs.Answering.{lent}
+use Rattle.cluster_core.proofs.Naming.{state_with}
+use Rattle.cluster_core.proofs.Answering.{lent}
 
 pub found_is : (entries history : List HistoryEntry) (batches roomy : List Batch) (number : ℕ) (found : Option Found) (own : Option (Bor Found)) → reverse history ≡ entries → roomy ≡ batches
     → option_map message_of_found found ≡ message_at number (messages_of history roomy) → option_copied own ≡ found → found_message own ≡ message_at number (messages_of (reverse entries) batches)

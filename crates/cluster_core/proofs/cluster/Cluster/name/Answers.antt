@@ -3,8 +3,8 @@ use Rattle.grant_ledger.specs.declared.ledger.LedgerRow.{LedgerRow}
 use Rattle.std.proofs.Common.{List}
 use Rattle.cluster_trace.specs.Trace.{Cluster, request_named, left_by, outcome_of}
 use Rattle.cluster_trace.specs.Typed.{GrantsFit}
-use Rattle.cluster_steps.proofs.Naming.{IsNamed, is_named, noted_behind, grants_fit}
-use Rattle.cluster_steps.proofs.cluster.Cluster.name.Goals as goal
+use Rattle.cluster_core.proofs.Naming.{IsNamed, is_named, noted_behind, grants_fit}
+use Rattle.cluster_core.proofs.cluster.Cluster.name.Goals as goal
 
 done : (c : goal.After-place) → IsNamed c.self.inside.core c.append.new.self c.self.inside.nodes c.self.inside.leaders c.self.inside.sent.batches.items c.add-first.new.self.batches.items c.self.inside.sent.count
     c.add-first.new.self.count c.last_count-count.result c.args.request

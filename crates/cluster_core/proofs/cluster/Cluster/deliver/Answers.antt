@@ -10,10 +10,10 @@ use Rattle.cluster_parts.specs.Carried.{found_message, carried_out}
 use Rattle.cluster_parts.specs.Noted.{answer_outcome, led_outcome}
 use Rattle.cluster_parts.specs.declared.sent.Batch.{Batch}
 use Rattle.cluster_parts.specs.declared.carried.Carried.TheVariants as carried
-use Rattle.cluster_steps.proofs.Naming.{state_with}
-use Rattle.cluster_steps.proofs.Answering.{on_ok, if_ok, nowhere_outcome, carried_outcome, carried_led, told_is, told_stays, told_leaves}
-use Rattle.cluster_steps.proofs.Delivering.{found_is, carried_is}
-use Rattle.cluster_steps.proofs.cluster.Cluster.deliver.Goals as goal
+use Rattle.cluster_core.proofs.Naming.{state_with}
+use Rattle.cluster_core.proofs.Answering.{on_ok, if_ok, nowhere_outcome, carried_outcome, carried_led, told_is, told_stays, told_leaves}
+use Rattle.cluster_core.proofs.Delivering.{found_is, carried_is}
+use Rattle.cluster_core.proofs.cluster.Cluster.deliver.Goals as goal
 
 pub returns-in-Nowhere-clause-outcome : goal.returns-in-Nowhere-clause-outcome
 returns-in-Nowhere-clause-outcome c =

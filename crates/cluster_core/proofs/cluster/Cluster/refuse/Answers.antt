@@ -2,8 +2,8 @@ use Rattle.std.proofs.Common.{ℕ, ◌+◌, sym, ap, ◌∙◌}
 use Rattle.cluster_trace.specs.Trace.{Cluster, event_lost, outcome_of}
 use Rattle.cluster_trace.specs.declared.outcome.ClusterRefusal.TheVariants.{NotFromOutside}
 use Rattle.cluster_trace.specs.declared.outcome.EventAnswer.TheVariants.{Lost}
-use Rattle.cluster_steps.proofs.Answering.{lost_outcome, not_taken}
-use Rattle.cluster_steps.proofs.cluster.Cluster.refuse.Goals as goal
+use Rattle.cluster_core.proofs.Answering.{lost_outcome, not_taken}
+use Rattle.cluster_core.proofs.cluster.Cluster.refuse.Goals as goal
 
 pub returns-clause-outcome : goal.returns-clause-outcome
 returns-clause-outcome c =

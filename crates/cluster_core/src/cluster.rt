@@ -79,7 +79,7 @@ impl Model for Cluster {
 
     ghost Value = { Cluster };
 
-    ghost use Rattle.cluster_steps.specs.Cluster.{cluster_of, IsLaid};
+    ghost use Rattle.cluster_core.specs.Cluster.{cluster_of, IsLaid};
 
     ghost view = { cluster_of };
 

@@ -32,7 +32,7 @@ use Rattle.cluster_parts.specs.Sent.{messages_of, AreLaid}
 use Rattle.cluster_parts.specs.declared.carried.Carried.TheVariants as carried
 use Rattle.cluster_parts.specs.declared.found.Found.{Found}
 use Rattle.cluster_parts.specs.declared.sent.Batch.{Batch}
-use Rattle.cluster_steps.proofs.Naming.{state_with, sent_count}
+use Rattle.cluster_core.proofs.Naming.{state_with, sent_count}
 
 -- ---- results
 

@@ -1,8 +1,8 @@
 use Rattle.std.proofs.Common.{ℕ, ap, ◌∙◌}
 use Rattle.cluster_trace.specs.Trace.{Cluster, leader_called, outcome_of}
 use Rattle.cluster_parts.specs.Noted.{led_outcome}
-use Rattle.cluster_steps.proofs.Answering.{led_by_outcome}
-use Rattle.cluster_steps.proofs.cluster.Cluster.lead.Goals as goal
+use Rattle.cluster_core.proofs.Answering.{led_by_outcome}
+use Rattle.cluster_core.proofs.cluster.Cluster.lead.Goals as goal
 
 pub returns-clause-outcome : goal.returns-clause-outcome
 returns-clause-outcome c =

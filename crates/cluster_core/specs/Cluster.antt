@@ -2,7 +2,7 @@
 use Rattle.std.specs.Prelude.{reverse}
 use Rattle.cluster_trace.specs.Trace.{Cluster}
 use Rattle.cluster_parts.specs.Sent.{messages_of, AreLaid}
-use Rattle.cluster_steps.specs.declared.cluster.Cluster.TheInside.{Inside}
+use Rattle.cluster_core.specs.declared.cluster.Cluster.TheInside.{Inside}
 
 abbrev pub cluster_of : Inside → Cluster
 cluster_of own = record {

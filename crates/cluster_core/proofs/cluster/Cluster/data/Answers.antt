@@ -5,8 +5,8 @@ use Rattle.cluster_trace.specs.Trace.{node_called, leader_called, outcome_of, ev
 use Rattle.cluster_trace.specs.declared.data_call.Asked.TheVariants.{Replica, Plan}
 use Rattle.cluster_trace.specs.declared.event.Event.TheVariants.{Data}
 use Rattle.cluster_trace.specs.declared.outcome.Outcome.{Outcome}
-use Rattle.cluster_steps.proofs.Answering.{on_ok, if_ok, data_happens, data_outcome, data_presents}
-use Rattle.cluster_steps.proofs.cluster.Cluster.data.Goals as goal
+use Rattle.cluster_core.proofs.Answering.{on_ok, if_ok, data_happens, data_outcome, data_presents}
+use Rattle.cluster_core.proofs.cluster.Cluster.data.Goals as goal
 
 pub returns-in-Replica-clause-ok : goal.returns-in-Replica-clause-ok
 returns-in-Replica-clause-ok c =

@@ -1,8 +1,8 @@
 use Rattle.std.proofs.Common.{ℕ, ap, ◌∙◌}
 use Rattle.cluster_trace.specs.Trace.{Cluster, node_called, outcome_of}
 use Rattle.cluster_parts.specs.Noted.{answer_outcome}
-use Rattle.cluster_steps.proofs.Answering.{called_outcome}
-use Rattle.cluster_steps.proofs.cluster.Cluster.call.Goals as goal
+use Rattle.cluster_core.proofs.Answering.{called_outcome}
+use Rattle.cluster_core.proofs.cluster.Cluster.call.Goals as goal
 
 pub returns-clause-outcome : goal.returns-clause-outcome
 returns-clause-outcome c =
