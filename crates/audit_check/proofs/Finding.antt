@@ -2,8 +2,8 @@
 use Rattle.std.proofs.Common.{◌≡◌, ℕ, Option, Some, None, Result, Ok, Err, true, false}
 use Rattle.std.specs.Option.{is_some}
 use Rattle.std.specs.Result.{IfOk}
-use Rattle.receipt_checks.specs.declared.pair.Pair.{Pair}
-use Rattle.receipt_checks.specs.Agreement.{Finds}
+use Rattle.history_replay.specs.declared.pair.Pair.{Pair}
+use Rattle.history_replay.specs.Agreement.{Finds}
 
 pub none_found : (holds : ℕ → ℕ → Type 0) (found : Option Pair) → Finds holds found → is_some found ≡ false → (pass index : ℕ) → holds pass index
 none_found holds None says none = says

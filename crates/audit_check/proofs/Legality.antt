@@ -6,7 +6,7 @@ use Rattle.flat_rows.specs.declared.verdict.Verdict.{Verdict}
 use Rattle.history.specs.declared.entry.HistoryEntry.{HistoryEntry}
 use Rattle.history.specs.Config.{Opening}
 use Rattle.history.specs.LegalHistory.{IsLegal, verdict_of}
-use Rattle.receipt_checks.specs.Agreement.{Claims, Agrees, IsLegalAt, replayed_history}
+use Rattle.history_replay.specs.Agreement.{Claims, Agrees, IsLegalAt, replayed_history}
 
 -- a legal history is what its requests give
 replayed_legal : (opening : Opening) (entries : List HistoryEntry) → IsLegal opening entries → replayed_history opening entries ≡ entries

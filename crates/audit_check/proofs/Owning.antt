@@ -4,7 +4,7 @@ use Rattle.std.specs.Option.{option_and_then, option_map_or, IsSomeAnd}
 use Rattle.hdfs_types.specs.Request.{is_look}
 use Rattle.history.specs.declared.entry.HistoryEntry.{HistoryEntry}
 use Rattle.history.specs.declared.entry.Answer.{Answer}
-use Rattle.receipt_checks.specs.Agreement.{Claims, receipt_of, entry_at_place, bound_of, MatchesReceipt}
+use Rattle.history_replay.specs.Agreement.{Claims, receipt_of, entry_at_place, bound_of, MatchesReceipt}
 use Rattle.audit_check.specs.Laws.{AllAgree}
 
 module _ (claims : Claims) (agree : AllAgree claims) where

@@ -3,7 +3,7 @@ use Rattle.std.specs.Prelude.{ℕ, List, length}
 use Rattle.history.specs.declared.entry.HistoryEntry.{HistoryEntry}
 use Rattle.history.specs.declared.entry.Answer.{Answer}
 use Rattle.history.specs.Config as history
-use Rattle.receipt_checks.specs.Agreement.{Claims, Placed, Received, Opened}
+use Rattle.history_replay.specs.Agreement.{Claims, Placed, Received, Opened}
 use Rattle.audit_check.specs.declared.check.Opening.{Opening}
 
 abbrev pub history_opening : Opening → history.Opening

@@ -6,7 +6,7 @@ use Rattle.history.specs.declared.entry.HistoryEntry.{HistoryEntry}
 use Rattle.history.specs.declared.entry.Answer.{Answer}
 use Rattle.history.specs.Config.{Opening}
 use Rattle.history.specs.LegalHistory.{IsLegal}
-use Rattle.receipt_checks.specs.Agreement.{Claims, Agrees, IsLegalAt, MatchesReceipt, entry_at_place, receipt_of}
+use Rattle.history_replay.specs.Agreement.{Claims, Agrees, IsLegalAt, MatchesReceipt, entry_at_place, receipt_of}
 
 -- a history is legal where each of its entries is, by the requests before it alone
 abbrev pub LegalEntriesMakeALegalHistory : Type 0

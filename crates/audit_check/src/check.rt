@@ -1,5 +1,5 @@
 ghost use Rattle.std.specs.Prelude.{◌≡◌, ℕ, Err, IfOk, OnOk};
-ghost use Rattle.receipt_checks.specs.Agreement.{Agrees, Finds};
+ghost use Rattle.history_replay.specs.Agreement.{Agrees, Finds};
 ghost use Rattle.audit_check.specs.Checking.{claims_of, Standing};
 ghost use Rattle.audit_check.specs.declared.check.CheckFault.TheVariants.{Disagreement, OutOfMemory};
 
@@ -7,11 +7,11 @@ use hdfs_types::key::Key;
 use history::config::Config;
 use history::entry::HistoryEntry;
 use history_replay::replayed::find_in_replay;
-use receipt_checks::entries::find_unreceived;
-use receipt_checks::opening::find_lost;
-use receipt_checks::pair::Pair;
-use receipt_checks::placed::find_misplaced;
-use receipt_checks::receipts::Receipts;
+use history_replay::entries::find_unreceived;
+use history_replay::opening::find_lost;
+use history_replay::pair::Pair;
+use history_replay::placed::find_misplaced;
+use history_replay::receipts::Receipts;
 use std::alloc::{AllocError, Global};
 use thiserror::Error;
 

@@ -1,0 +1,4 @@
+pub mod Stepping
+pub mod Placing
+pub mod Looking
+pub mod Replaying

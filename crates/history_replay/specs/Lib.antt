@@ -1,0 +1,4 @@
+pub mod Agreement
+pub mod Placing
+pub mod Looking
+pub mod Replaying

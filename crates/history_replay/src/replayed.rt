@@ -1,15 +1,15 @@
 ghost use Rattle.std.specs.Prelude.{◌≡◌, ◌+◌, length, IfOk};
-ghost use Rattle.receipt_checks.specs.Agreement.{Finds};
-ghost use Rattle.receipt_checks.specs.Looking.{Replayed, HasAllLooks};
+ghost use Rattle.history_replay.specs.Agreement.{Finds};
+ghost use Rattle.history_replay.specs.Looking.{Replayed, HasAllLooks};
 
 use hdfs_types::key::Key;
 use history::config::Config;
 use history::entry::HistoryEntry;
-use receipt_checks::looks::Looks;
-use receipt_checks::pair::Pair;
-use receipt_checks::receipts::Receipts;
-use replay_checks::namenode::NameCore;
-use replay_checks::replay::find_on;
+use crate::looks::Looks;
+use crate::pair::Pair;
+use crate::receipts::Receipts;
+use crate::namenode::NameCore;
+use crate::replay::find_on;
 use std::alloc::{AllocError, Global};
 
 // The core is dropped by a call, on the one way out.

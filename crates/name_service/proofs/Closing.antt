@@ -7,7 +7,7 @@ use Rattle.hdfs_types.specs.Request.{is_look}
 use Rattle.history.specs.declared.entry.HistoryEntry.{HistoryEntry}
 use Rattle.history.specs.declared.entry.Answer.{Answer}
 use Rattle.history.specs.LegalHistory.{IsLegal}
-use Rattle.receipt_checks.specs.Agreement.{Claims, receipt_of, entry_at_place, MatchesReceipt}
+use Rattle.history_replay.specs.Agreement.{Claims, receipt_of, entry_at_place, MatchesReceipt}
 use Rattle.audit_check.specs.Checking.{history_opening, claims_of}
 use Rattle.audit_check.specs.Laws.{AllAgree}
 use Rattle.audit_check.proofs.Legality.{agreed_front, agreed_legal}

@@ -3,7 +3,7 @@ use Rattle.std.specs.Prelude.{◌≡◌, ℕ, ◌+◌, Bool, not, List, length, 
 use Rattle.hdfs_types.specs.Request.{is_look}
 use Rattle.history.specs.declared.entry.Answer.{Answer}
 use Rattle.history.specs.LegalHistory.{IsLegal}
-use Rattle.receipt_checks.specs.Agreement.{Claims}
+use Rattle.history_replay.specs.Agreement.{Claims}
 use Rattle.audit_check.specs.declared.check.Opening.{Opening}
 use Rattle.audit_check.specs.Checking.{history_opening, claims_of}
 use Rattle.audit_check.specs.Laws.{AllAgree}

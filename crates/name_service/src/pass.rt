@@ -9,7 +9,7 @@ ghost use Rattle.name_service.specs.Passes.{ChangeAnswered, LookAnswered, IsFaul
 use hdfs_types::op::Request;
 use history::entry::Answer;
 use name_core::namenode::NameCore;
-use receipt_checks::receipts::Receipts;
+use history_replay::receipts::Receipts;
 use std::alloc::Global;
 use std::marker::Model;
 use thiserror::Error;

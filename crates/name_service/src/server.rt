@@ -1,6 +1,6 @@
 ghost use Rattle.std.specs.Prelude.{◌≡◌, ℕ, ◌≤◌, ◌<◌, Err, length, IfErr, IfOk, OnErr, OnOk};
 ghost use Rattle.std.specs.Borrow.{sem};
-ghost use Rattle.receipt_checks.specs.Agreement.{Agrees};
+ghost use Rattle.history_replay.specs.Agreement.{Agrees};
 ghost use Rattle.audit_check.specs.declared.check.CheckFault.TheVariants.{Disagreement};
 ghost use Rattle.audit_check.specs.Laws.{AllAgree};
 ghost use Rattle.name_service.specs.Lent.{PassGains};
@@ -13,7 +13,7 @@ use audit_check::check::{CheckFault, Opening, check};
 use hdfs_types::op::{Request, is_look};
 use history::entry::Answer;
 use name_core::namenode::NameCore;
-use receipt_checks::receipts::Receipts;
+use history_replay::receipts::Receipts;
 use std::alloc::{AllocError, Global};
 use std::marker::Model;
 use std::sync::{RwLock, Wait};

@@ -6,7 +6,7 @@ use hdfs_types::key::Key;
 use hdfs_types::reply::{ContentSummary, Refusal, Reply};
 use history::config::Config;
 use history::entry::{Answer, HistoryEntry};
-use receipt_checks::receipts::Receipts;
+use history_replay::receipts::Receipts;
 use script_text::line::read_line;
 use std::alloc::Global;
 use std::test::Fail;

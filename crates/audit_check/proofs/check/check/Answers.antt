@@ -1,6 +1,6 @@
 use Rattle.std.proofs.Common.{Option, subst}
-use Rattle.receipt_checks.specs.declared.pair.Pair.{Pair}
-use Rattle.receipt_checks.specs.Agreement.{Agrees, Finds}
+use Rattle.history_replay.specs.declared.pair.Pair.{Pair}
+use Rattle.history_replay.specs.Agreement.{Agrees, Finds}
 use Rattle.audit_check.specs.Checking.{claims_of}
 use Rattle.audit_check.proofs.check.check.Goals as goal
 

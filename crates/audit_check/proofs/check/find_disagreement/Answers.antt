@@ -1,8 +1,8 @@
 use Rattle.std.proofs.Common.{◌∙◌, ℕ, List, length, sym, ap, subst}
 use Rattle.std.specs.Result.{IfOk}
 use Rattle.history.specs.declared.entry.HistoryEntry.{HistoryEntry}
-use Rattle.receipt_checks.specs.Agreement.{Agrees, Finds}
-use Rattle.receipt_checks.specs.Looking.{Replayed}
+use Rattle.history_replay.specs.Agreement.{Agrees, Finds}
+use Rattle.history_replay.specs.Looking.{Replayed}
 use Rattle.audit_check.specs.Checking.{claims_of, history_opening, Standing}
 use Rattle.audit_check.proofs.Finding.{none_found, part_found, last_searched}
 use Rattle.audit_check.proofs.check.find_disagreement.Goals as goal

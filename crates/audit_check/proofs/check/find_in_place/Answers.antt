@@ -1,5 +1,5 @@
 use Rattle.std.proofs.Common.{◌∙◌, sym, length}
-use Rattle.receipt_checks.specs.Agreement.{Placed, Received, Opened}
+use Rattle.history_replay.specs.Agreement.{Placed, Received, Opened}
 use Rattle.audit_check.specs.Checking.{Standing}
 use Rattle.audit_check.proofs.Finding.{none_found, last_found}
 use Rattle.audit_check.proofs.check.find_in_place.Goals as goal

@@ -1,9 +1,9 @@
 use Rattle.std.proofs.Common.{subst}
 use Rattle.std.specs.Result.{IfOk}
 use Rattle.history.specs.Config.{Opening}
-use Rattle.receipt_checks.specs.Agreement.{Finds}
-use Rattle.receipt_checks.specs.Looking.{Replayed}
-use Rattle.replay_checks.proofs.Replaying.{opened_with}
+use Rattle.history_replay.specs.Agreement.{Finds}
+use Rattle.history_replay.specs.Looking.{Replayed}
+use Rattle.history_replay.proofs.Replaying.{opened_with}
 use Rattle.history_replay.proofs.replayed.find_with.Goals as goal
 
 pub returns : goal.returns

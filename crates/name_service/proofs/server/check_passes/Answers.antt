@@ -1,5 +1,5 @@
 use Rattle.std.proofs.Common.{◌∙◌, OnOk, subst}
-use Rattle.receipt_checks.specs.Agreement.{Claims}
+use Rattle.history_replay.specs.Agreement.{Claims}
 use Rattle.audit_check.specs.Laws.{AllAgree}
 use Rattle.name_service.proofs.Closing.{same_claims}
 use Rattle.name_service.proofs.server.check_passes.Goals as goal

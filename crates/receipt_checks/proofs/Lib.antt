@@ -1,3 +1,0 @@
-pub mod Stepping
-pub mod Placing
-pub mod Looking

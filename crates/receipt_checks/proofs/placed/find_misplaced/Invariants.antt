@@ -1,7 +1,0 @@
-use Rattle.std.proofs.Common.{◌≡◌, ℕ, ◌<◌, Some, List, slice_get}
-use Rattle.history.specs.declared.entry.Answer.{Answer}
-use Rattle.receipt_checks.specs.Placing.{PlacedAt}
-use Rattle.receipt_checks.proofs.placed.find_misplaced.Given as goal
-
-abbrev pub invariant-loop-i : goal.invariant-loop-i
-invariant-loop-i l = (pass : ℕ) → pass < l.i → (answers : List Answer) → slice_get l.passes pass ≡ Some answers → (index : ℕ) → PlacedAt l.begun l.history pass answers index

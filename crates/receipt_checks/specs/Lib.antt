@@ -1,3 +1,0 @@
-pub mod Agreement
-pub mod Placing
-pub mod Looking
