@@ -25,7 +25,7 @@ use inode_tree::inode::Inode;
 use inode_tree::tree::Tree;
 use namespace_rows::row::Change;
 use partial_acl::fault::AclChangeFault;
-use path_refusals::refused::{refusal_of_mkdirs, refusal_of_rename};
+use crate::refused::{refusal_of_mkdirs, refusal_of_rename};
 use perm_walk::target::{Target, TargetFile, walk_to, walk_to_file};
 use perm_walk::walk::{Walked, WalkedBoth, walk, walk_along, walk_along_both};
 use permission_bits::mode::Mode;

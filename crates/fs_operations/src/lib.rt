@@ -4,5 +4,5 @@
 
 pub mod apply;
 pub mod change;
-
-pub use fs_reads::read;
+pub mod read;
+pub mod refused;

@@ -1,6 +1,6 @@
 use Rattle.std.proofs.Common.{refl}
 use Rattle.hdfs_types.specs.declared.op.Op.TheVariants as op
-use Rattle.fs_reads.proofs.Stepped.{as_stepped}
+use Rattle.fs_operations.proofs.Stepped.{as_stepped}
 use Rattle.fs_operations.proofs.change.apply_replication.Goals as goal
 
 pub returns-clause-ok : goal.returns-clause-ok

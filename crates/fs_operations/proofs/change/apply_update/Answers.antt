@@ -2,7 +2,7 @@ use Rattle.std.proofs.Common.{refl, ap}
 use Rattle.hdfs_types.specs.Verb.{update_op}
 use Rattle.hdfs_types.specs.declared.op.Op.TheVariants as op
 use Rattle.principals.specs.Users.{caller_of}
-use Rattle.fs_reads.proofs.Stepped.{as_stepped}
+use Rattle.fs_operations.proofs.Stepped.{as_stepped}
 use Rattle.fs_operations.proofs.change.apply_update.Goals as goal
 
 pub returns-in-Mkdirs-clause-ok : goal.returns-in-Mkdirs-clause-ok

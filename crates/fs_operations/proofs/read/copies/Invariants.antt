@@ -1,5 +1,5 @@
 use Rattle.std.proofs.Common.{◌≡◌, map, take}
-use Rattle.fs_reads.proofs.read.copies.Given as goal
+use Rattle.fs_operations.proofs.read.copies.Given as goal
 
 abbrev pub invariant-loop-name : goal.invariant-loop-name
 invariant-loop-name l = l.copies.items ≡ map (λ name. name.now) (take l.name-index l.names)

@@ -1,8 +1,8 @@
 use Rattle.std.proofs.Common.{◌∙◌, [], ◌∷◌, sym, ap}
 use Rattle.std.specs.Option.{option_copied, option_to_list}
 use Rattle.flat_rows.specs.Outcome.{own_name}
-use Rattle.fs_reads.proofs.Counting.{last_got}
-use Rattle.fs_reads.proofs.read.own_name.Goals as goal
+use Rattle.fs_operations.proofs.Counting.{last_got}
+use Rattle.fs_operations.proofs.read.own_name.Goals as goal
 
 pub returns-in_ok-vec-in-Some : goal.returns-in_ok-vec-in-Some
 returns-in_ok-vec-in-Some c =

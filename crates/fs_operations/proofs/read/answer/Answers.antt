@@ -1,8 +1,8 @@
 use Rattle.std.proofs.Common.{ap}
 use Rattle.hdfs_types.specs.Verb.{read_op}
 use Rattle.hdfs_types.specs.declared.op.Op.TheVariants as op
-use Rattle.fs_reads.proofs.Stepped.{as_stepped}
-use Rattle.fs_reads.proofs.read.answer.Goals as goal
+use Rattle.fs_operations.proofs.Stepped.{as_stepped}
+use Rattle.fs_operations.proofs.read.answer.Goals as goal
 
 pub returns-in-Stat : goal.returns-in-Stat
 returns-in-Stat c = λ facts.

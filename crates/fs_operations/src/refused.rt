@@ -4,7 +4,7 @@ ghost use Rattle.namespace_rows.specs.declared.row.Row.{Row};
 ghost use Rattle.flat_rows.specs.Facts.{Facts};
 ghost use Rattle.flat_rows.specs.Outcome as spec;
 ghost use Rattle.perm_walk.specs.Reached.{IsReach};
-ghost use Rattle.path_refusals.specs.Target.{refusal_of_target};
+ghost use Rattle.fs_operations.specs.Target.{refusal_of_target};
 
 use file_paths::path::Path;
 use hdfs_types::op::Op;
