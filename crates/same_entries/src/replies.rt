@@ -11,9 +11,9 @@ use hdfs_types::reply::{
     Reply,
 };
 use hdfs_values::ids::{BlockId, Serial, Stamp};
-use same_values::commands::are_same_commands;
-use same_values::located::{is_same_added, is_same_opened};
-use same_values::names::{are_same_names, is_same_who};
+use crate::commands::are_same_commands;
+use crate::located::{is_same_added, is_same_opened};
+use crate::names::{are_same_names, is_same_who};
 
 fn is_same_detail(detail: &FileDetail, other: &FileDetail) -> bool
     ensures { Decides result (detail.now ≡ other.now) }

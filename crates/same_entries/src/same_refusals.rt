@@ -7,7 +7,7 @@ use hdfs_types::reply::{Counter, Refusal};
 use hdfs_values::fault::AclFault;
 use hdfs_values::ids::Stamp;
 use hdfs_values::who::Who;
-use same_values::names::{is_same_path, is_same_who};
+use crate::names::{is_same_path, is_same_who};
 
 fn is_not_directory(file: &Path, other: &Refusal) -> bool
     ensures { Decides result (made.NotDirectory file.now ≡ other.now) }

@@ -15,10 +15,10 @@ use hdfs_values::replication::Repl;
 use hdfs_values::who::Who;
 use permission_bits::mode::Mode;
 use permission_specs::acl_change::AclChange;
-use same_values::acls::is_same_change;
-use same_values::commands::{are_same_nodes, is_same_key};
-use same_values::names::{are_same_groups, is_same_given, is_same_path, is_same_who};
-use same_values::writes::{is_same_last, is_same_write};
+use crate::acls::is_same_change;
+use crate::commands::{are_same_nodes, is_same_key};
+use crate::names::{are_same_groups, is_same_given, is_same_path, is_same_who};
+use crate::writes::{is_same_last, is_same_write};
 
 fn is_mkdirs(path: &Path, mode: Mode, other: &Op) -> bool
     ensures { Decides result (made.Mkdirs path.now mode ≡ other.now) }

@@ -1,5 +1,5 @@
 use Rattle.std.proofs.Common.{◌≡◌, take}
-use Rattle.same_values.proofs.acls.are_same_named.Given as goal
+use Rattle.same_entries.proofs.acls.are_same_entries.Given as goal
 
 abbrev pub invariant-loop-i : goal.invariant-loop-i
 invariant-loop-i l = take l.i l.entries ≡ take l.i l.others

@@ -1,4 +1,0 @@
-//! Whether two requests are one.
-#![tactic(auto)]
-
-pub mod requests;
