@@ -16,8 +16,8 @@ use Rattle.cluster_trace.specs.declared.event.Event.{Event}
 use Rattle.cluster_trace.specs.declared.event.Event.TheVariants.{Name, Deliver, Data}
 use Rattle.script_words.specs.Values.{◌>>=◌, moment_word, who_word, number_word}
 use Rattle.request_lines.specs.Script.{request_of}
-use Rattle.node_words.specs.Calls.{is_call}
-use Rattle.node_words.specs.Words.{node_word, next_word, bytes_word, token_word}
+use Rattle.cluster_text.specs.Calls.{is_call}
+use Rattle.cluster_text.specs.Words.{node_word, next_word, bytes_word, token_word}
 use Rattle.call_parts.specs.declared.presented.Presented.{Presented}
 use Rattle.cluster_text.specs.declared.event_line.NodeAsker.{NodeAsker}
 use Rattle.cluster_text.specs.declared.event_line.Place.{Place}

@@ -1,2 +1,5 @@
+pub mod Words
+pub mod Calls
+pub mod ReplyText
 pub mod EventLine
 pub mod ToldText

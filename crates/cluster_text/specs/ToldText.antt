@@ -5,7 +5,7 @@ use Rattle.hdfs_values.specs.Faults.{ill_formed_text}
 use Rattle.hdfs_values.specs.declared.fault.IllFormed.{IllFormed}
 use Rattle.flat_rows.specs.declared.verdict.Verdict.{Verdict}
 use Rattle.script_text.specs.AnswerText.{verdict_text}
-use Rattle.node_text.specs.ReplyText.{called_text, led_text}
+use Rattle.cluster_text.specs.ReplyText.{called_text, led_text}
 use Rattle.cluster_trace.specs.Refusals.{cluster_refusal_text}
 use Rattle.cluster_trace.specs.declared.outcome.EventAnswer.{EventAnswer}
 use Rattle.cluster_trace.specs.declared.outcome.EventAnswer.TheVariants.{Named, Called, Led, Lost}

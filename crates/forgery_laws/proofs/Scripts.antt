@@ -14,8 +14,8 @@ use Rattle.history.specs.Grants.{ledger_of}
 use Rattle.script_words.specs.Values.{◌>>=◌, moment_word, number_word}
 use Rattle.script_words.specs.Words.{is_skipped, without_return, words_of}
 use Rattle.request_lines.specs.Script.{request_of}
-use Rattle.node_words.specs.Calls.{is_call}
-use Rattle.node_words.specs.Words.{behind, token_at, token_word, next_word, bytes_word}
+use Rattle.cluster_text.specs.Calls.{is_call}
+use Rattle.cluster_text.specs.Words.{behind, token_at, token_word, next_word, bytes_word}
 use Rattle.call_parts.specs.declared.presented.Presented.{Presented}
 use Rattle.cluster_trace.specs.DataCall.{DataCall, BeginWrite, Packet, Finalize, Read, Decide, Commit}
 use Rattle.cluster_trace.specs.Provenance.{IsIn}

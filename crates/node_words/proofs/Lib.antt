@@ -1,3 +1,0 @@
-pub mod Signs
-pub mod Nodes
-pub mod Spelled
