@@ -25,8 +25,8 @@ use Rattle.cluster_trace.specs.declared.outcome.ClusterRefusal.{ClusterRefusal}
 use Rattle.cluster_trace.specs.declared.outcome.ClusterRefusal.TheVariants.{NoMessage, NoNode, NotFromOutside}
 use Rattle.cluster_trace.specs.declared.outcome.EventAnswer.TheVariants.{Called, Led, Lost}
 use Rattle.cluster_parts.specs.Carried.{message_of_found, found_message, carried_out, nodes_carried, plans_carried}
-use Rattle.node_tables.specs.Leaders.{answer_led}
-use Rattle.node_tables.specs.Nodes.{answer_at}
+use Rattle.cluster_parts.specs.Leaders.{answer_led}
+use Rattle.cluster_parts.specs.Nodes.{answer_at}
 use Rattle.cluster_parts.specs.Noted.{answer_outcome, led_outcome}
 use Rattle.cluster_parts.specs.Sent.{messages_of, AreLaid}
 use Rattle.cluster_parts.specs.declared.carried.Carried.TheVariants as carried

@@ -20,9 +20,9 @@ use history::config::Config;
 pub use name_core::namenode::NameCore;
 use node_calls::call::{NodeCall, PlanCall};
 use node_ids::node_id::NodeId;
-use node_tables::leaders::Leaders;
-use node_tables::nodes::Nodes;
-use node_tables::ranges::{read_call, read_rows};
+use cluster_parts::leaders::Leaders;
+use cluster_parts::nodes::Nodes;
+use cluster_parts::ranges::{read_call, read_rows};
 use std::alloc::{AllocError, Global};
 use std::marker::Model;
 

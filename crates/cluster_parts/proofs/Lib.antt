@@ -1,3 +1,4 @@
+pub mod Tables
 pub mod Gets
 pub mod Laying
 pub mod Finding

@@ -15,8 +15,8 @@ use Rattle.node_calls.specs.Single.{message_of_single}
 use Rattle.datanode.specs.NodeStep.{DataNode}
 use Rattle.block_recovery.specs.Plans.{PlanTable}
 use Rattle.cluster_trace.specs.Trace.{recover_message, removal_message, copy_message, report_request, commit_request}
-use Rattle.node_tables.specs.Leaders.{plans_led, answer_led}
-use Rattle.node_tables.specs.Nodes.{nodes_after, answer_at}
+use Rattle.cluster_parts.specs.Leaders.{plans_led, answer_led}
+use Rattle.cluster_parts.specs.Nodes.{nodes_after, answer_at}
 use Rattle.cluster_parts.specs.declared.found.Found.{Found}
 use Rattle.cluster_parts.specs.declared.found.Found.TheVariants as found
 use Rattle.cluster_parts.specs.declared.carried.Carried.{Carried}

@@ -1,3 +1,5 @@
+pub mod Nodes
+pub mod Leaders
 pub mod Sent
 pub mod Carried
 pub mod Kept

@@ -6,8 +6,8 @@ ghost use Rattle.cluster_trace.specs.Trace.{report_request, commit_request};
 ghost use Rattle.cluster_trace.specs.Typed.{PresentsBytes, CallFits};
 ghost use Rattle.cluster_trace.specs.Provenance.{call_brought};
 ghost use Rattle.cluster_parts.specs.Carried.{message_of_found, found_message, carried_out, nodes_carried, plans_carried};
-ghost use Rattle.node_tables.specs.Leaders.{plans_led, answer_led};
-ghost use Rattle.node_tables.specs.Nodes.{nodes_after, answer_at};
+ghost use Rattle.cluster_parts.specs.Leaders.{plans_led, answer_led};
+ghost use Rattle.cluster_parts.specs.Nodes.{nodes_after, answer_at};
 ghost use Rattle.node_calls.specs.Single.{message_of_single};
 
 use crate::found::Found;
@@ -25,9 +25,9 @@ use node_calls::message::Message;
 use node_calls::principal::principal_of;
 use node_calls::single::Single;
 use node_ids::node_id::NodeId;
-use node_tables::leaders::Leaders;
-use node_tables::nodes::Nodes;
-use node_tables::ranges::read_call;
+use crate::leaders::Leaders;
+use crate::nodes::Nodes;
+use crate::ranges::read_call;
 use plan_steps::answered::PlanAnswered;
 use std::alloc::{AllocError, Global};
 

@@ -5,5 +5,8 @@
 pub mod carried;
 pub mod found;
 pub mod kept;
+pub mod leaders;
+pub mod nodes;
 pub mod noted;
+pub mod ranges;
 pub mod sent;

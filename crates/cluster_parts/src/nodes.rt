@@ -1,7 +1,7 @@
 ghost use Rattle.std.specs.Prelude.{◌≡◌, [], fold, IfOk, OnOk, OnErr, option_copied};
 ghost use Rattle.block_records.specs.Numbers.{entry_at};
 ghost use Rattle.cluster_trace.specs.Trace.{with_new_node};
-ghost use Rattle.node_tables.specs.Nodes.{nodes_after, answer_at};
+ghost use Rattle.cluster_parts.specs.Nodes.{nodes_after, answer_at};
 
 use datanode::answered::Answered;
 use datanode::datanode::DataNode;

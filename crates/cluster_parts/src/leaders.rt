@@ -1,7 +1,7 @@
 ghost use Rattle.std.specs.Prelude.{◌≡◌, [], fold, IfOk, OnOk, OnErr};
 ghost use Rattle.node_calls.specs.declared.call.PlanCall.TheVariants as asked;
 ghost use Rattle.cluster_trace.specs.Trace.{with_no_plan};
-ghost use Rattle.node_tables.specs.Leaders.{plans_led, answer_led};
+ghost use Rattle.cluster_parts.specs.Leaders.{plans_led, answer_led};
 
 use block_recovery::plans::Plans;
 use node_calls::call::PlanCall;

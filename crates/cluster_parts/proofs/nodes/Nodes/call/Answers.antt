@@ -1,5 +1,5 @@
-use Rattle.node_tables.proofs.Tables.{unchanged}
-use Rattle.node_tables.proofs.nodes.Nodes.call.Goals as goal
+use Rattle.cluster_parts.proofs.Tables.{unchanged}
+use Rattle.cluster_parts.proofs.nodes.Nodes.call.Goals as goal
 
 pub returns-in_err-answered-clause-err : goal.returns-in_err-answered-clause-err
 returns-in_err-answered-clause-err c =

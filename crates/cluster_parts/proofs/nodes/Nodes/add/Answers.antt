@@ -3,7 +3,7 @@ use Rattle.std.specs.BTreeMap.{insert_entry}
 use Rattle.std.specs.Ordering.{nat_cmp}
 use Rattle.datanode.specs.NodeStep.{DataNode}
 use Rattle.cluster_trace.specs.Trace.{with_new_node}
-use Rattle.node_tables.proofs.nodes.Nodes.add.Goals as goal
+use Rattle.cluster_parts.proofs.nodes.Nodes.add.Goals as goal
 
 pub returns : goal.returns
 returns c =
