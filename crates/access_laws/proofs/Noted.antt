@@ -15,8 +15,8 @@ use Rattle.node_calls.specs.declared.refusal.NodeRefusal.{NodeRefusal}
 use Rattle.node_calls.specs.declared.refusal.ReplicaRefusal.{ReplicaRefusal}
 use Rattle.replica_steps.specs.ReplicaStep.{Replicas, held_at, own, removal_refusal, replicas_after}
 use Rattle.replica_steps.specs.declared.held.Held.{Held}
-use Rattle.node_replies.specs.Asking.{asked_by, modes_of_call, record_of}
-use Rattle.node_replies.specs.Sending.{call_reply, call_sends, to_primary}
+use Rattle.replicas.specs.Asking.{asked_by, modes_of_call, record_of}
+use Rattle.replicas.specs.Sending.{call_reply, call_sends, to_primary}
 use Rattle.datanode.specs.NodeStep.{DataNode, node_after, node_answer, presented_after, presented_answer, presented_by, told_by, removed_by, clock_with, call_refusal}
 use Rattle.access_laws.specs.Laws.{IsNoted, reads, writes, tells_bytes, sends_bytes}
 

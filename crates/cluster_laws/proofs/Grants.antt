@@ -15,7 +15,7 @@ use Rattle.node_calls.specs.declared.message.Message.{Message}
 use Rattle.node_calls.specs.declared.message.Message.TheVariants as message
 use Rattle.call_parts.specs.declared.presented.Presented.{Presented}
 use Rattle.node_calls.specs.declared.reply.NodeReply.{NodeReply}
-use Rattle.node_replies.specs.Asking.{asked_by, sends_copy}
+use Rattle.replicas.specs.Asking.{asked_by, sends_copy}
 use Rattle.node_ids.specs.NodeId.{node_principal}
 use Rattle.hdfs_types.specs.declared.op.Request.{Request}
 use Rattle.datanode.specs.NodeStep.{DataNode, clock_with}

@@ -18,7 +18,7 @@ use Rattle.call_parts.specs.declared.presented.Presented.{Presented}
 use Rattle.node_calls.specs.declared.refusal.NodeRefusal.{NodeRefusal}
 use Rattle.node_calls.specs.declared.refusal.ReplicaRefusal.{ReplicaRefusal}
 use Rattle.node_calls.specs.declared.reply.NodeReply.{NodeReply}
-use Rattle.node_replies.specs.Asking.{asked_by, record_of}
+use Rattle.replicas.specs.Asking.{asked_by, record_of}
 use Rattle.replica_steps.specs.ReplicaStep.{held_at, removal_refusal}
 use Rattle.datanode.specs.NodeStep.{DataNode, node_after, node_answer, presented_after, presented_answer, presented_by, told_by, removed_by, clock_with, call_refusal}
 use Rattle.block_recovery.specs.Plans.{PlanTable}

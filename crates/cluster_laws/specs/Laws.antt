@@ -19,7 +19,7 @@ use Rattle.node_calls.specs.declared.message.Message.{Message}
 use Rattle.node_calls.specs.declared.message.Message.TheVariants as message
 use Rattle.call_parts.specs.declared.presented.Presented.{Presented}
 use Rattle.node_calls.specs.declared.reply.NodeReply.{NodeReply}
-use Rattle.node_replies.specs.Asking.{asked_by, record_of}
+use Rattle.replicas.specs.Asking.{asked_by, record_of}
 use Rattle.replica_steps.specs.ReplicaStep.{held_at}
 use Rattle.datanode.specs.NodeStep.{DataNode, node_after, node_answer, clock_with}
 use Rattle.cluster_trace.specs.DataCall.{DataCall}

@@ -29,7 +29,7 @@ use Rattle.call_parts.specs.declared.presented.Presented.{Presented}
 use Rattle.node_calls.specs.declared.refusal.NodeRefusal.{NodeRefusal}
 use Rattle.node_calls.specs.declared.refusal.ReplicaRefusal.{ReplicaRefusal}
 use Rattle.node_calls.specs.declared.reply.NodeReply.{NodeReply}
-use Rattle.node_replies.specs.Asking.{asked_by, modes_of_call, sends_copy}
+use Rattle.replicas.specs.Asking.{asked_by, modes_of_call, sends_copy}
 use Rattle.replica_steps.specs.ReplicaStep.{held_at, replica_refusal}
 use Rattle.datanode.specs.NodeStep.{DataNode, node_answer, presented_answer, told_by, clock_with, call_refusal, token_or_replica, access_of}
 use Rattle.block_recovery.specs.Plans.{PlanTable}

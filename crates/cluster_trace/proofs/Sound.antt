@@ -17,8 +17,8 @@ use Rattle.node_calls.specs.declared.message.Message.TheVariants as message
 use Rattle.call_parts.specs.declared.presented.Presented.{Presented}
 use Rattle.node_calls.specs.declared.refusal.NodeRefusal.{NodeRefusal}
 use Rattle.node_calls.specs.declared.refusal.ReplicaRefusal.{ReplicaRefusal}
-use Rattle.node_replies.specs.Asking.{asked_by}
-use Rattle.node_replies.specs.Sending.{call_sends, forward, to_primary}
+use Rattle.replicas.specs.Asking.{asked_by}
+use Rattle.replicas.specs.Sending.{call_sends, forward, to_primary}
 use Rattle.replica_steps.specs.ReplicaStep.{held_at, removal_refusal}
 use Rattle.replica_steps.specs.declared.held.Held.{Held}
 use Rattle.datanode.specs.NodeStep.{DataNode, node_after, node_answer, presented_answer, told_by, removal_told, clock_with, call_refusal}

@@ -20,7 +20,7 @@ use Rattle.node_calls.specs.declared.call.TokenCall.{TokenCall}
 use Rattle.node_calls.specs.declared.message.Message.{Message}
 use Rattle.node_calls.specs.declared.message.Message.TheVariants as message
 use Rattle.call_parts.specs.declared.presented.Presented.{Presented}
-use Rattle.node_replies.specs.Asking.{asked_by, modes_of_call}
+use Rattle.replicas.specs.Asking.{asked_by, modes_of_call}
 use Rattle.datanode.specs.NodeStep.{DataNode, clock_with}
 use Rattle.cluster_trace.specs.DataCall.{as_message}
 use Rattle.cluster_trace.specs.Trace.{Cluster, ClusterOpening, Happened, entry_of, message_at, report_request, commit_request, is_from_outside, event_happened, after}

@@ -10,7 +10,7 @@ use Rattle.node_calls.specs.declared.call.NodeCall.TheVariants.{Presenting, Inva
 use Rattle.node_calls.specs.declared.call.TokenCall.{TokenCall}
 use Rattle.node_calls.specs.declared.refusal.NodeRefusal.{NodeRefusal}
 use Rattle.node_calls.specs.declared.refusal.ReplicaRefusal.{ReplicaRefusal}
-use Rattle.node_replies.specs.Asking.{asked_by, record_of, sends_copy}
+use Rattle.replicas.specs.Asking.{asked_by, record_of, sends_copy}
 use Rattle.replica_steps.specs.ReplicaStep.{held_at, removal_refusal}
 use Rattle.datanode.specs.Kept.{AreCovered, HasFittingToken}
 use Rattle.datanode.specs.NodeStep.{DataNode, node_after, node_answer, presented_after, presented_answer, presented_by, told_by, removed_by, clock_with, call_refusal}

@@ -2,7 +2,7 @@
 use Rattle.std.specs.Prelude.{ℕ, Option, Some, None}
 use Rattle.node_calls.specs.declared.call.NodeCall.{NodeCall}
 use Rattle.node_calls.specs.declared.call.NodeCall.TheVariants.{Presenting, Invalidate, Keys}
-use Rattle.node_replies.specs.Asking.{asked_by}
+use Rattle.replicas.specs.Asking.{asked_by}
 use Rattle.data_service.specs.declared.seat.Parts.{Parts}
 
 abbrev pub parts_in : ℕ → NodeCall → Option Parts

@@ -8,7 +8,7 @@ use Rattle.node_calls.specs.declared.call.NodeCall.TheVariants.{Presenting, Inva
 use Rattle.node_calls.specs.declared.call.TokenCall.{TokenCall}
 use Rattle.node_calls.specs.declared.refusal.NodeRefusal.{NodeRefusal}
 use Rattle.node_calls.specs.declared.reply.NodeReply.{NodeReply}
-use Rattle.node_replies.specs.Asking.{asked_by, modes_of_call}
+use Rattle.replicas.specs.Asking.{asked_by, modes_of_call}
 use Rattle.datanode.specs.Kept.{AreCovered, HasFittingToken}
 use Rattle.datanode.specs.NodeStep.{DataNode, node_after, node_answer}
 use Rattle.datanode.specs.declared.answered.Answered.{Answered}

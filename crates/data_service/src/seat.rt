@@ -15,7 +15,7 @@ use hdfs_values::who::Who;
 use node_calls::call::NodeCall;
 use node_calls::principal::principal_of;
 use node_ids::node_id::NodeId;
-use node_replies::asking;
+use replicas::asking;
 use std::alloc::{AllocError, Global};
 use std::marker::Model;
 

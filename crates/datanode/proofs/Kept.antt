@@ -7,7 +7,7 @@ use Rattle.call_parts.specs.declared.access_log.AccessRecord.{AccessRecord}
 use Rattle.node_calls.specs.declared.refusal.ReplicaRefusal.{ReplicaRefusal}
 use Rattle.node_calls.specs.declared.call.TokenCall.{TokenCall}
 use Rattle.call_parts.specs.declared.presented.Presented.{Presented}
-use Rattle.node_replies.specs.Asking.{record_of}
+use Rattle.replicas.specs.Asking.{record_of}
 use Rattle.replica_steps.specs.ReplicaStep.{Replicas, held_at, replica_refusal, replicas_after, with_no_replica, without_replica_of}
 use Rattle.datanode.specs.Kept.{HasFittingToken, AreCovered, AreBelow}
 use Rattle.datanode.specs.NodeStep.{DataNode, call_refusal, token_or_replica, access_of}

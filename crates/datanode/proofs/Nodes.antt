@@ -8,7 +8,7 @@ use Rattle.node_calls.specs.declared.call.TokenCall.{TokenCall}
 use Rattle.call_parts.specs.declared.presented.Presented.{Presented}
 use Rattle.node_calls.specs.declared.refusal.NodeRefusal.{NodeRefusal}
 use Rattle.node_calls.specs.declared.refusal.ReplicaRefusal.{ReplicaRefusal}
-use Rattle.node_replies.specs.Asking.{asked_by}
+use Rattle.replicas.specs.Asking.{asked_by}
 use Rattle.replica_steps.specs.ReplicaStep.{held_at, replica_refusal, removal_refusal, with_no_replica}
 use Rattle.datanode.specs.NodeStep.{DataNode, node_after, presented_after, presented_by, removed_by, clock_with, call_refusal, token_or_replica, access_of}
 use Rattle.datanode.specs.Laws.{given_length, recovered_length}

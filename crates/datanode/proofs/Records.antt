@@ -14,8 +14,8 @@ use Rattle.node_calls.specs.declared.refusal.ReplicaRefusal.TheVariants.{NoRepli
 use Rattle.node_calls.specs.declared.reply.NodeReply.{NodeReply}
 use Rattle.node_calls.specs.declared.reply.NodeReply.TheVariants as reply
 use Rattle.node_ids.specs.NodeId.{node_principal}
-use Rattle.node_replies.specs.Asking.{asked_by, sends_copy}
-use Rattle.node_replies.specs.Sending.{call_reply}
+use Rattle.replicas.specs.Asking.{asked_by, sends_copy}
+use Rattle.replicas.specs.Sending.{call_reply}
 use Rattle.replica_steps.specs.ReplicaState.{is_writing}
 use Rattle.replica_steps.specs.ReplicaStep.{held_at, refused_or_later, replica_refusal, removal_refusal, packet_limit}
 use Rattle.replica_steps.specs.declared.replica.Replica.{Replica}

@@ -12,7 +12,7 @@ use Rattle.call_parts.specs.declared.presented.Presented.{Presented}
 use Rattle.node_calls.specs.declared.refusal.NodeRefusal.{NodeRefusal}
 use Rattle.node_calls.specs.declared.refusal.NodeRefusal.TheVariants.{Replica}
 use Rattle.node_calls.specs.declared.refusal.ReplicaRefusal.{ReplicaRefusal}
-use Rattle.node_replies.specs.Asking.{record_of}
+use Rattle.replicas.specs.Asking.{record_of}
 use Rattle.replica_steps.specs.ReplicaStep.{held_at, nothing, replica_refusal, replicas_after}
 use Rattle.replica_steps.specs.declared.held.Held.{Held}
 use Rattle.datanode.specs.Kept.{AreCovered, AreBelow}

@@ -18,8 +18,8 @@ use Rattle.node_calls.specs.declared.refusal.NodeRefusal.TheVariants.{Token, Rep
 use Rattle.node_calls.specs.declared.refusal.ReplicaRefusal.{ReplicaRefusal}
 use Rattle.node_calls.specs.declared.reply.NodeReply.TheVariants as reply
 use Rattle.replica_steps.specs.ReplicaStep.{Replicas, held_at, replica_refusal, removal_refusal, replicas_after, without_replica_of}
-use Rattle.node_replies.specs.Asking.{asked_by, modes_of_call, record_of}
-use Rattle.node_replies.specs.Sending.{call_reply, call_sends}
+use Rattle.replicas.specs.Asking.{asked_by, modes_of_call, record_of}
+use Rattle.replicas.specs.Sending.{call_reply, call_sends}
 use Rattle.datanode.specs.declared.answered.Answered.{Answered}
 
 pub record DataNode : Type 0 where

@@ -5,7 +5,7 @@ use Rattle.node_calls.specs.declared.call.TokenCall.{TokenCall}
 use Rattle.call_parts.specs.declared.presented.Presented.{Presented}
 use Rattle.node_calls.specs.declared.refusal.NodeRefusal.TheVariants.{Replica}
 use Rattle.node_calls.specs.declared.refusal.ReplicaRefusal.{ReplicaRefusal}
-use Rattle.node_replies.specs.Sending.{call_reply, call_sends}
+use Rattle.replicas.specs.Sending.{call_reply, call_sends}
 use Rattle.replica_steps.specs.ReplicaStep.{held_after}
 use Rattle.replica_steps.specs.declared.held.Held.{Held}
 use Rattle.datanode.specs.NodeStep.{call_refused}

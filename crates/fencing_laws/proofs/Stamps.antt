@@ -17,7 +17,7 @@ use Rattle.call_parts.specs.declared.presented.Presented.{Presented}
 use Rattle.node_calls.specs.declared.refusal.NodeRefusal.{NodeRefusal}
 use Rattle.node_calls.specs.declared.refusal.ReplicaRefusal.{ReplicaRefusal}
 use Rattle.node_calls.specs.declared.refusal.ReplicaRefusal.TheVariants.{NoReplica, StampDiffers, OutOfRange, NotWritable, ReplicaExists}
-use Rattle.node_replies.specs.Asking.{asked_by}
+use Rattle.replicas.specs.Asking.{asked_by}
 use Rattle.replica_steps.specs.ReplicaStep.{Replicas, nothing, held_at, refused_or_later, replica_refusal, removal_refusal, newly_held, with_bytes_appended, with_replica_finalized, with_promise, with_replica_recovered, with_no_replica, with_held_changed, held_changed_by, replicas_after}
 use Rattle.replica_steps.specs.declared.held.Held.{Held}
 use Rattle.replica_steps.specs.declared.replica.Replica.{Replica}

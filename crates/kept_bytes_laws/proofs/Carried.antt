@@ -24,8 +24,8 @@ use Rattle.call_parts.specs.declared.presented.Presented.{Presented}
 use Rattle.node_calls.specs.declared.refusal.NodeRefusal.{NodeRefusal}
 use Rattle.node_calls.specs.declared.refusal.ReplicaRefusal.TheVariants.{NoReplica}
 use Rattle.node_calls.specs.declared.reply.NodeReply.{NodeReply}
-use Rattle.node_replies.specs.Asking.{asked_by}
-use Rattle.node_replies.specs.Sending.{call_reply}
+use Rattle.replicas.specs.Asking.{asked_by}
+use Rattle.replicas.specs.Sending.{call_reply}
 use Rattle.replica_steps.specs.ReplicaStep as step
 use Rattle.replica_steps.specs.ReplicaStep.{held_at, replica_refusal, replicas_after}
 use Rattle.replica_steps.specs.declared.held.Held.{Held}

@@ -20,8 +20,8 @@ use Rattle.node_calls.specs.declared.refusal.ReplicaRefusal.{ReplicaRefusal}
 use Rattle.node_calls.specs.declared.refusal.ReplicaRefusal.TheVariants.{StampDiffers, OutOfRange, NotWritable, ReplicaExists}
 use Rattle.node_calls.specs.declared.reply.NodeReply.{NodeReply}
 use Rattle.node_calls.specs.declared.reply.NodeReply.TheVariants as reply
-use Rattle.node_replies.specs.Asking.{asked_by, sends_copy}
-use Rattle.node_replies.specs.Sending.{call_reply}
+use Rattle.replicas.specs.Asking.{asked_by, sends_copy}
+use Rattle.replicas.specs.Sending.{call_reply}
 use Rattle.replica_steps.specs.ReplicaStep.{Replicas, nothing, held_at, refused_new_replica, refused_or_later, replica_refusal, removal_refusal, newly_held, with_bytes_appended, with_replica_finalized, with_promise, with_replica_recovered, with_no_replica, with_held_changed, held_changed_by, replicas_after}
 use Rattle.replica_steps.specs.declared.held.Held.{Held}
 use Rattle.replica_steps.specs.declared.replica.Replica.{Replica}

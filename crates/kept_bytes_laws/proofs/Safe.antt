@@ -18,8 +18,8 @@ use Rattle.node_calls.specs.declared.call.ReplicaState.TheVariants.{Writing}
 use Rattle.node_calls.specs.declared.call.TokenCall.{TokenCall}
 use Rattle.node_calls.specs.declared.call.TokenCall.TheVariants as call
 use Rattle.call_parts.specs.declared.presented.Presented.{Presented}
-use Rattle.node_replies.specs.Asking.{asked_by}
-use Rattle.node_replies.specs.Sending.{call_reply}
+use Rattle.replicas.specs.Asking.{asked_by}
+use Rattle.replicas.specs.Sending.{call_reply}
 use Rattle.replica_steps.specs.ReplicaStep as held
 use Rattle.replica_steps.specs.ReplicaStep.{held_at}
 use Rattle.replica_steps.specs.declared.replica.Replica.{Replica}

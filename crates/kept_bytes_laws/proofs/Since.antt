@@ -13,7 +13,7 @@ use Rattle.call_parts.specs.declared.presented.Presented.{Presented}
 use Rattle.node_calls.specs.declared.refusal.NodeRefusal.{NodeRefusal}
 use Rattle.node_calls.specs.declared.refusal.ReplicaRefusal.{ReplicaRefusal}
 use Rattle.node_calls.specs.declared.reply.NodeReply.{NodeReply}
-use Rattle.node_replies.specs.Asking.{asked_by}
+use Rattle.replicas.specs.Asking.{asked_by}
 use Rattle.replica_steps.specs.ReplicaStep.{held_at, removal_refusal}
 use Rattle.replica_steps.specs.declared.held.Held.{Held}
 use Rattle.replica_steps.specs.declared.replica.Replica.{Replica}

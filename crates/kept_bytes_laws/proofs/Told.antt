@@ -26,8 +26,8 @@ use Rattle.node_calls.specs.declared.message.Message.{Message}
 use Rattle.node_calls.specs.declared.message.Message.TheVariants as message
 use Rattle.call_parts.specs.declared.presented.Presented.{Presented}
 use Rattle.node_calls.specs.declared.refusal.NodeRefusal.{NodeRefusal}
-use Rattle.node_replies.specs.Asking.{asked_by, sends_copy}
-use Rattle.node_replies.specs.Sending.{call_reply}
+use Rattle.replicas.specs.Asking.{asked_by, sends_copy}
+use Rattle.replicas.specs.Sending.{call_reply}
 use Rattle.node_ids.specs.NodeId.{node_principal}
 use Rattle.replica_steps.specs.ReplicaStep.{held_at, replica_refusal, replicas_after}
 use Rattle.replica_steps.specs.declared.held.Held.{Held}

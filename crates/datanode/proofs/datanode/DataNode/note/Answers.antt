@@ -1,6 +1,6 @@
 use Rattle.std.proofs.Common.{◌≡◌, ◌<◌, ◌++◌, ◌∷◌, [], None, slice_index, sym, ap, subst, ◌∙◌}
 use Rattle.replica_steps.specs.ReplicaStep.{held_at}
-use Rattle.node_replies.specs.Asking.{record_of}
+use Rattle.replicas.specs.Asking.{record_of}
 use Rattle.datanode.specs.Kept.{AreBelow, AreCovered}
 use Rattle.datanode.specs.NodeStep.{DataNode, call_refusal}
 use Rattle.datanode.proofs.Kept.{applied_below, noted_covered}

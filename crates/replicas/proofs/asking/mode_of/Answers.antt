@@ -1,5 +1,5 @@
 use Rattle.std.proofs.Common.{rules}
-use Rattle.node_replies.proofs.asking.mode_of.Goals as goal
+use Rattle.replicas.proofs.asking.mode_of.Goals as goal
 
 pub returns-in-SendCopy : goal.returns-in-SendCopy
 returns-in-SendCopy c = search rules

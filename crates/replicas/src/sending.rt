@@ -6,7 +6,7 @@ ghost use Rattle.node_calls.specs.declared.call.PlanCall.TheVariants as plan;
 ghost use Rattle.node_calls.specs.declared.message.Message.TheVariants as message;
 ghost use Rattle.node_calls.specs.declared.reply.NodeReply.TheVariants as reply;
 ghost use Rattle.replica_steps.specs.ReplicaStep.{own};
-ghost use Rattle.node_replies.specs.Sending as spec;
+ghost use Rattle.replicas.specs.Sending as spec;
 
 use call_parts::block_bytes::BlockBytes;
 use call_parts::node_list::NodeList;

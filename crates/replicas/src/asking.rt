@@ -1,5 +1,5 @@
 ghost use Rattle.std.specs.Prelude.{◌≡◌};
-ghost use Rattle.node_replies.specs.Asking as spec;
+ghost use Rattle.replicas.specs.Asking as spec;
 
 use node_calls::call::TokenCall;
 use permission_bits::modes::Modes;
