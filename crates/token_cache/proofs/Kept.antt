@@ -1,6 +1,7 @@
 -- What holds of each token that is kept, when one is looked up, put in or moved, and when keys come or go.
 use Rattle.std.proofs.Common.{◌≡◌, ◌≤◌, ◌-◌, ◌∙◌, ℕ, zero, suc, Bool, true, false, List, [], ◌∷◌, length, take, Option, Some, None, refl, sym, ap, cond, subst, arith}
-use Rattle.std.specs.Prelude.{filter, nat_eq, unwrap_or}
+use Rattle.std.specs.Prelude.{filter, nat_eq, unwrap_or, Vec}
+use Rattle.std.specs.declared.alloc.Global.{Global}
 use Rattle.std.specs.Cmp.Lexicographic.{pointwise, bytes_decides}
 use Rattle.std.specs.List.{AllByRecursion}
 use Rattle.std.specs.Map.{lookup, lookup_entry, remove_entry}
@@ -77,36 +78,46 @@ module _ {K V : Type 0} (P : K × V → Type 0) (eq : K → K → Bool) (cache :
 
 -- ---- tokens
 
-module _ (keys : KeyList) (tokens : List (List ℕ × Body)) (token : List ℕ) (all : AreVerified keys tokens) where
-  pub used_one : AreVerified keys (promoted (pointwise nat_eq token) tokens)
-  used_one = used (λ (kept : List ℕ × Body). IsVerified keys kept.0 kept.1) (pointwise nat_eq token) tokens all
+abbrev Kept : Type 0
+Kept = Vec ℕ Global × Body
 
-  pub kept_one : (parts : Body) → Some parts ≡ lookup (pointwise nat_eq token) tokens → IsVerified keys token parts
+-- a kept token is found by its bytes
+abbrev pub has_bytes : List ℕ → Vec ℕ Global → Bool
+has_bytes token kept = pointwise nat_eq token kept.items
+
+abbrev pub same_bytes : Vec ℕ Global → Vec ℕ Global → Bool
+same_bytes own other = pointwise nat_eq own.items other.items
+
+module _ (keys : KeyList) (tokens : List Kept) (token : List ℕ) (all : AreVerified keys tokens) where
+  pub used_one : AreVerified keys (promoted (has_bytes token) tokens)
+  used_one = used (λ (kept : Kept). IsVerified keys kept.0.items kept.1) (has_bytes token) tokens all
+
+  pub kept_one : (parts : Body) → Some parts ≡ lookup (has_bytes token) tokens → IsVerified keys token parts
   kept_one parts is =
-      let there = value_found (λ (kept : List ℕ × Body). IsVerified keys kept.0 kept.1) (pointwise nat_eq token) tokens parts all (sym is) in
-      subst (λ bytes. IsVerified keys bytes parts) (sym ((bytes_decides token there.0).0 there.1)) there.2
+      let there = value_found (λ (kept : Kept). IsVerified keys kept.0.items kept.1) (has_bytes token) tokens parts all (sym is) in
+      subst (λ bytes. IsVerified keys bytes parts) (sym ((bytes_decides token there.0.items).0 there.1)) there.2
 
-pub put_one : (keys : KeyList) (cache : LruCache (List ℕ) Body) (token : List ℕ) (parts : Body) → AreVerified keys cache.entries → IsVerified keys token parts
-    → AreVerified keys (put_entries (pointwise nat_eq) cache token parts)
+pub put_one : (keys : KeyList) (cache : LruCache (Vec ℕ Global) Body) (token : Vec ℕ Global) (parts : Body) → AreVerified keys cache.entries → IsVerified keys token.items parts
+    → AreVerified keys (put_entries same_bytes cache token parts)
 put_one keys cache token parts all own =
-    put (λ (kept : List ℕ × Body). IsVerified keys kept.0 kept.1) (pointwise nat_eq) cache token parts all own
-    (λ other same. subst (λ bytes. IsVerified keys bytes parts) ((bytes_decides token other).0 same) own)
+    put (λ (kept : Kept). IsVerified keys kept.0.items kept.1) same_bytes cache token parts all own
+    (λ other same. subst (λ bytes. IsVerified keys bytes parts) ((bytes_decides token.items other.items).0 same) own)
 
 -- ---- keys
 
 -- a key that is known stays, with all tokens under it
-pub stay : (keys update : KeyList) (tokens : List (List ℕ × Body)) → AreVerified keys tokens → AreVerified (merged_keys keys update) tokens
+pub stay : (keys update : KeyList) (tokens : List Kept) → AreVerified keys tokens → AreVerified (merged_keys keys update) tokens
 stay keys update [] all = tt
 stay keys update (token ∷ tokens) all = (one all.0, stay keys update tokens all.1)
   where
-    one : IsVerified keys token.0 token.1 → IsVerified (merged_keys keys update) token.0 token.1
+    one : IsVerified keys token.0.items token.1 → IsVerified (merged_keys keys update) token.0.items token.1
     one verified =
         let later = key_stays keys (update ∷ []) token.1.serial verified.held verified.known in
         record {
           read = verified.read;
           held = later.0;
           known = later.1;
-          code = ap (λ key. has_code key token.0 token.1.code) later.2 ∙ verified.code;
+          code = ap (λ key. has_code key token.0.items token.1.code) later.2 ∙ verified.code;
         }
 
 shorter : {A : Type 0} (p : A → Bool) (xs : List A) → length (filter p xs) ≤ length xs
@@ -130,5 +141,5 @@ none_dropped p (x ∷ xs) long = by (none_dropped p xs) (p x) refl
         let left : filter p (x ∷ xs) ≡ filter p xs = ap (λ b. cond b (x ∷ filter p xs) (filter p xs)) other in
         absurd (omega (arith, ap length left, long, shorter p xs))
 
-pub none_expired : (now : ℕ) (keys : KeyList) (tokens : List (List ℕ × Body)) → length keys ≤ length (usable_keys now keys) → AreVerified keys tokens → AreVerified (usable_keys now keys) tokens
+pub none_expired : (now : ℕ) (keys : KeyList) (tokens : List Kept) → length keys ≤ length (usable_keys now keys) → AreVerified keys tokens → AreVerified (usable_keys now keys) tokens
 none_expired now keys tokens long all = subst (λ held. AreVerified held tokens) (sym (none_dropped (λ entry. expires_after now entry.1.expiry) keys long)) all

@@ -1,4 +1,6 @@
-use Rattle.std.proofs.Common.{ℕ, List, sym, subst}
+use Rattle.std.proofs.Common.{ℕ, sym, subst}
+use Rattle.std.specs.Prelude.{Vec}
+use Rattle.std.specs.declared.alloc.Global.{Global}
 use Rattle.lru.specs.LruCache.{LruCache}
 use Rattle.block_tokens.specs.TokenText.{Body}
 use Rattle.block_tokens.specs.TokenTest.{IsVerified, TellsTokenRefusal, token_test}
@@ -7,7 +9,7 @@ use Rattle.token_cache.proofs.Kept.{used_one, kept_one, put_one}
 use Rattle.token_cache.proofs.cache.TokenCache.check.Goals as goal
 
 pub invariant_of-self : goal.invariant_of-self
-invariant_of-self c = subst (λ (cache : LruCache (List ℕ) Body). AreVerified c.self.inside.keys cache.entries) (sym c.get.follows.holds-at-none)
+invariant_of-self c = subst (λ (cache : LruCache (Vec ℕ Global) Body). AreVerified c.self.inside.keys cache.entries) (sym c.get.follows.holds-at-none)
     (used_one c.self.inside.keys c.self.inside.verified.entries c.args.token.now c.self.invariant)
 
 pub check_parts-requires : goal.check_parts-requires
@@ -24,27 +26,27 @@ returns-in-Some-clause-answer c =
     (kept_one c.self.inside.keys c.self.inside.verified.entries c.args.token.now c.self.invariant c.in-Some.parts.now c.in-Some.ensures.value)))
 
 pub invariant_of-self-in-Err : goal.invariant_of-self-in-Err
-invariant_of-self-in-Err c = subst (λ (cache : LruCache (List ℕ) Body). AreVerified c.self.inside.keys cache.entries) (sym c.get.follows.holds-at-none)
+invariant_of-self-in-Err c = subst (λ (cache : LruCache (Vec ℕ Global) Body). AreVerified c.self.inside.keys cache.entries) (sym c.get.follows.holds-at-none)
     (used_one c.self.inside.keys c.self.inside.verified.entries c.args.token.now c.self.invariant)
 
 pub invariant_of-self-in_err-parts : goal.invariant_of-self-in_err-parts
-invariant_of-self-in_err-parts c = subst (λ (cache : LruCache (List ℕ) Body). AreVerified c.self.inside.keys cache.entries) (sym c.get.follows.holds-at-none)
+invariant_of-self-in_err-parts c = subst (λ (cache : LruCache (Vec ℕ Global) Body). AreVerified c.self.inside.keys cache.entries) (sym c.get.follows.holds-at-none)
     (used_one c.self.inside.keys c.self.inside.verified.entries c.args.token.now c.self.invariant)
 
-pub invariant_of-self-in_err-clone : goal.invariant_of-self-in_err-clone
-invariant_of-self-in_err-clone c = subst (λ (cache : LruCache (List ℕ) Body). AreVerified c.self.inside.keys cache.entries) (sym c.get.follows.holds-at-none)
+pub invariant_of-self-in_err-to_vec : goal.invariant_of-self-in_err-to_vec
+invariant_of-self-in_err-to_vec c = subst (λ (cache : LruCache (Vec ℕ Global) Body). AreVerified c.self.inside.keys cache.entries) (sym c.get.follows.holds-at-none)
     (used_one c.self.inside.keys c.self.inside.verified.entries c.args.token.now c.self.invariant)
 
 pub invariant_of-self-in_err-put : goal.invariant_of-self-in_err-put
-invariant_of-self-in_err-put c = subst (λ (cache : LruCache (List ℕ) Body). AreVerified c.self.inside.keys cache.entries) (sym c.in_err-put.ensures.err)
-    (subst (λ (cache : LruCache (List ℕ) Body). AreVerified c.self.inside.keys cache.entries) (sym c.get.follows.holds-at-none)
+invariant_of-self-in_err-put c = subst (λ (cache : LruCache (Vec ℕ Global) Body). AreVerified c.self.inside.keys cache.entries) (sym c.in_err-put.ensures.err)
+    (subst (λ (cache : LruCache (Vec ℕ Global) Body). AreVerified c.self.inside.keys cache.entries) (sym c.get.follows.holds-at-none)
     (used_one c.self.inside.keys c.self.inside.verified.entries c.args.token.now c.self.invariant))
 
 pub invariant_of-self-2 : goal.invariant_of-self-2
 invariant_of-self-2 c =
-    let all : AreVerified c.self.inside.keys c.get.follows.lender-at-none.entries = subst (λ (cache : LruCache (List ℕ) Body). AreVerified c.self.inside.keys cache.entries) (sym c.get.follows.holds-at-none)
+    let all : AreVerified c.self.inside.keys c.get.follows.lender-at-none.entries = subst (λ (cache : LruCache (Vec ℕ Global) Body). AreVerified c.self.inside.keys cache.entries) (sym c.get.follows.holds-at-none)
     (used_one c.self.inside.keys c.self.inside.verified.entries c.args.token.now c.self.invariant) in
-    let own : IsVerified c.self.inside.keys c.in_ok-clone.field-0 c.in_ok-parts.parts = subst (λ bytes. IsVerified c.self.inside.keys bytes c.in_ok-parts.parts) (sym c.in_ok-clone.ensures.cases)
-    (subst (IsVerified c.self.inside.keys c.args.token.now) (sym c.in_ok-parts.ensures) (subst (λ bytes. IsVerified c.self.inside.keys bytes c.in-Ok.body) c.as_slice.ensures c.in-Ok.ensures.verified)) in
-    subst (λ (cache : LruCache (List ℕ) Body). AreVerified c.self.inside.keys cache.entries) (sym c.in_ok-put.ensures.entries)
-    (put_one c.self.inside.keys c.get.follows.lender-at-none c.in_ok-clone.field-0 c.in_ok-parts.parts all own)
+    let own : IsVerified c.self.inside.keys c.in_ok-to_vec.field-0.items c.in_ok-parts.parts = subst (λ bytes. IsVerified c.self.inside.keys bytes c.in_ok-parts.parts) (sym (c.in_ok-to_vec.ensures.items_if_clones_equal (λ x y h. h)))
+    (subst (IsVerified c.self.inside.keys c.args.token.now) (sym c.in_ok-parts.ensures) c.in-Ok.ensures.verified) in
+    subst (λ (cache : LruCache (Vec ℕ Global) Body). AreVerified c.self.inside.keys cache.entries) (sym c.in_ok-put.ensures.entries)
+    (put_one c.self.inside.keys c.get.follows.lender-at-none c.in_ok-to_vec.field-0 c.in_ok-parts.parts all own)
