@@ -1,7 +1,8 @@
 //! Scripts of a cluster, lines in and lines of answers out: requests to the NameNode, calls of DataNodes, and deliveries of messages. Empty
-//! lines and comments get no answer.
+//! lines and comments get no answer. And the audits of such a script.
 #![tactic(auto)]
 
+pub mod audit;
 pub mod laws;
 pub mod script;
 pub mod session;

@@ -3,7 +3,7 @@
 //! runs it in the folder of the examples.
 #![tactic(auto)]
 
-use audit_runs::audit::audit;
+use cluster_runs::audit::audit;
 use cluster_runs::script::run_script;
 use std::alloc::AllocError;
 use std::process::ExitCode;

@@ -6,7 +6,7 @@
 pub mod explain_hints;
 pub mod hints;
 
-pub use audit_runs::audit as audit;
+pub use cluster_runs::audit as audit;
 pub use cluster_runs::script as script;
 pub use explanations::explain as explain;
 pub use script_hints::verbs as verbs;

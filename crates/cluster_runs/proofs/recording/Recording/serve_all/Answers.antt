@@ -1,8 +1,8 @@
 use Rattle.std.proofs.Common.{◌≡◌, ℕ, List, [], Bor, refl, subst, map, take, get_or, arith, ◌+◌, ◌<◌, length}
 use Rattle.cluster_runs.specs.Output.{State, after_line, behind_lines}
 use Rattle.script_runs.proofs.Lines.{fold_step}
-use Rattle.audit_runs.specs.Recorded.{Holds}
-use Rattle.audit_runs.proofs.recording.Recording.serve_all.Goals as goal
+use Rattle.cluster_runs.specs.Recorded.{Holds}
+use Rattle.cluster_runs.proofs.recording.Recording.serve_all.Goals as goal
 
 one_more : (state : State) (lines : List (Bor (List ℕ))) (i : ℕ) (d : Bor (List ℕ)) → i < length lines
     → after_line (behind_lines state (take i (map (λ line. line.now) lines))) (get_or lines i d).now ≡ behind_lines state (take (i + 1) (map (λ line. line.now) lines))

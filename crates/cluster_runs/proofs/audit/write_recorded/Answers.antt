@@ -1,7 +1,7 @@
 use Rattle.std.proofs.Common.{Err, ap, subst}
 use Rattle.script_runs.proofs.Endings.{fault_in}
-use Rattle.audit_runs.specs.Audit.{AppendsFirst}
-use Rattle.audit_runs.proofs.audit.write_recorded.Goals as goal
+use Rattle.cluster_runs.specs.Audit.{AppendsFirst}
+use Rattle.cluster_runs.proofs.audit.write_recorded.Goals as goal
 
 pub returns-in-Err-clause-no_memory : goal.returns-in-Err-clause-no_memory
 returns-in-Err-clause-no_memory g c = λ count e.

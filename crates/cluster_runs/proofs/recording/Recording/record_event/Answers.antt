@@ -5,7 +5,7 @@ use Rattle.cluster_core.specs.Past.{World}
 use Rattle.cluster_core.specs.World.{with_event}
 use Rattle.cluster_text.specs.ToldText.{is_bad_line}
 use Rattle.cluster_runs.specs.Output.{Numbered, told_behind}
-use Rattle.audit_runs.proofs.recording.Recording.record_event.Goals as goal
+use Rattle.cluster_runs.proofs.recording.Recording.record_event.Goals as goal
 
 or_false : (b : Bool) → (b || false) ≡ b
 or_false true = refl

@@ -1,7 +1,7 @@
 use Rattle.std.proofs.Common.{map, take}
 use Rattle.cluster_runs.specs.Output.{State, behind_lines}
-use Rattle.audit_runs.specs.Recorded.{Holds}
-use Rattle.audit_runs.proofs.recording.Recording.serve_all.Given as goal
+use Rattle.cluster_runs.specs.Recorded.{Holds}
+use Rattle.cluster_runs.proofs.recording.Recording.serve_all.Given as goal
 
 -- the recording holds what the lines so far leave
 abbrev pub invariant-loop-line : goal.invariant-loop-line

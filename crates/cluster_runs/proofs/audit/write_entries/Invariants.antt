@@ -1,7 +1,7 @@
 use Rattle.std.proofs.Common.{◌-◌, ◌≤◌, length, take}
 use Rattle.std.specs.Io.KnownBytes.{Appends}
 use Rattle.audit_text.specs.AuditText.{audit_text}
-use Rattle.audit_runs.proofs.audit.write_entries.Given as goal
+use Rattle.cluster_runs.proofs.audit.write_entries.Given as goal
 
 -- the lines of the first entries are written
 abbrev pub invariant-loop-done : goal.invariant-loop-done

@@ -1,8 +1,8 @@
 use Rattle.std.proofs.Common.{◌∙◌, ap, map, take}
 use Rattle.cluster_runs.specs.Output.{no_lines, after_lines}
 use Rattle.script_runs.proofs.Endings.{on_err}
-use Rattle.audit_runs.proofs.Growing.{first_lines}
-use Rattle.audit_runs.proofs.recording.Recording.run.Goals as goal
+use Rattle.cluster_runs.proofs.Growing.{first_lines}
+use Rattle.cluster_runs.proofs.recording.Recording.run.Goals as goal
 
 pub returns-in_err-serve_all-clause-err : goal.returns-in_err-serve_all-clause-err
 returns-in_err-serve_all-clause-err c =

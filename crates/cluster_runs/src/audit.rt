@@ -4,9 +4,9 @@ ghost use Rattle.std.specs.Str.{IsUtf8};
 ghost use Rattle.script_runs.specs.Channel.{AppendsFront};
 ghost use Rattle.cluster_runs.specs.Output.{script_status, answers_of};
 ghost use Rattle.audit_text.specs.AuditText.{audit_text};
-ghost use Rattle.audit_runs.specs.Audit as spec;
-ghost use Rattle.audit_runs.specs.Audit.{AppendsFirst};
-ghost use Rattle.audit_runs.specs.Recorded.{AreFirstOf};
+ghost use Rattle.cluster_runs.specs.Audit as spec;
+ghost use Rattle.cluster_runs.specs.Audit.{AppendsFirst};
+ghost use Rattle.cluster_runs.specs.Recorded.{AreFirstOf};
 
 use crate::recording::Recording;
 use audit_text::lines::audit_lines;

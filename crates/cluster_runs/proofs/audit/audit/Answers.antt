@@ -1,8 +1,8 @@
 use Rattle.std.specs.String.{string_bytes}
-use Rattle.audit_runs.specs.Audit.{history_after, history_of_script}
-use Rattle.audit_runs.proofs.Growing.{first_or_all}
-use Rattle.audit_runs.proofs.Writing.{first_of_history, front_of_history, known_first, known_front}
-use Rattle.audit_runs.proofs.audit.audit.Goals as goal
+use Rattle.cluster_runs.specs.Audit.{history_after, history_of_script}
+use Rattle.cluster_runs.proofs.Growing.{first_or_all}
+use Rattle.cluster_runs.proofs.Writing.{first_of_history, front_of_history, known_first, known_front}
+use Rattle.cluster_runs.proofs.audit.audit.Goals as goal
 
 pub returns-clause-no_memory : goal.returns-clause-no_memory
 returns-clause-no_memory g c = λ count e.

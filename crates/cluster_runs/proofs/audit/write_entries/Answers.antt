@@ -1,6 +1,6 @@
 use Rattle.std.proofs.Common.{arith}
-use Rattle.audit_runs.proofs.Writing.{batch_length, batch_written, none_of_batch, front_of_batch}
-use Rattle.audit_runs.proofs.audit.write_entries.Goals as goal
+use Rattle.cluster_runs.proofs.Writing.{batch_length, batch_written, none_of_batch, front_of_batch}
+use Rattle.cluster_runs.proofs.audit.write_entries.Goals as goal
 
 pub returns-in-Err-clause-no_memory : goal.returns-in-Err-clause-no_memory
 returns-in-Err-clause-no_memory g c = λ count e.

@@ -10,8 +10,8 @@ use Rattle.script_runs.specs.Channel.{AppendsFront}
 use Rattle.script_runs.proofs.Known.{Appends-trans}
 use Rattle.script_runs.proofs.Endings.{Front, front_written, appends_none}
 use Rattle.audit_text.specs.AuditText.{entry_line, audit_text}
-use Rattle.audit_runs.specs.Audit.{AppendsFirst, history_of_script, audit_of}
-use Rattle.audit_runs.specs.Recorded.{AreFirstOf}
+use Rattle.cluster_runs.specs.Audit.{AppendsFirst, history_of_script, audit_of}
+use Rattle.cluster_runs.specs.Recorded.{AreFirstOf}
 
 moved : (old new : Option (List ℕ)) (a b : List ℕ) → a ≡ b → Appends old new a → Appends old new b
 moved old new a b e h = subst (λ text. Appends old new text) e h

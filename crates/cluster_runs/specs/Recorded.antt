@@ -4,7 +4,7 @@ use Rattle.std.specs.List.{list_any}
 use Rattle.history.specs.declared.entry.HistoryEntry.{HistoryEntry}
 use Rattle.cluster_text.specs.ToldText.{is_bad_line}
 use Rattle.cluster_runs.specs.Output.{State, behind_lines}
-use Rattle.audit_runs.specs.declared.recording.Recording.{Recording}
+use Rattle.cluster_runs.specs.declared.recording.Recording.{Recording}
 
 pub record Holds (state : State) (recording : Recording) : Type 0 where
   pub world : recording.world ≡ state.past

@@ -1,6 +1,6 @@
 use Rattle.std.proofs.Common.{ap, ◌∙◌, take}
 use Rattle.std.proofs.lemmas.List.{take_min}
-use Rattle.audit_runs.proofs.audit.batch_behind.Goals as goal
+use Rattle.cluster_runs.proofs.audit.batch_behind.Goals as goal
 
 pub returns : goal.returns
 returns c =

@@ -21,8 +21,8 @@ use Rattle.cluster_core.specs.Past.{World}
 use Rattle.cluster_core.specs.World.{state_after, with_event}
 use Rattle.script_words.specs.Words.{lines_of, is_skipped, without_return}
 use Rattle.cluster_runs.specs.Output.{State, no_lines, event_in, line_answered, after_answer, after_line, after_lines}
-use Rattle.audit_runs.specs.Audit.{history_after, history_of_script}
-use Rattle.audit_runs.specs.Recorded.{AreFirstOf}
+use Rattle.cluster_runs.specs.Audit.{history_after, history_of_script}
+use Rattle.cluster_runs.specs.Recorded.{AreFirstOf}
 
 -- entries are only added
 record Adds (before after : List HistoryEntry) : Type 0 where
