@@ -4,7 +4,7 @@ use script_words::acl_words::{wants_none, wants_spec};
 use script_words::values::{moment_word, number_word, replication_word};
 use script_words::words::is_word;
 use std::fmt;
-use word_hints::word::word_at;
+use crate::word::word_at;
 
 /// What is wrong with a line as a whole, or with its moment.
 #[derive(Clone, Copy)]

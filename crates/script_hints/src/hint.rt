@@ -12,10 +12,10 @@ use line_hints::line_hint::{LineHint, line_hint};
 use script_words::words::{is_skipped, without_return, words_in};
 use std::alloc::{AllocError, Global};
 use std::fmt;
-use word_hints::acl_hint::{AclHint, acl_hint};
-use word_hints::mode_hint::{ModeHint, mode_hint};
-use word_hints::name_hint::{NameHint, name_hint};
-use word_hints::path_hint::{PathHint, path_hint};
+use line_hints::acl_hint::{AclHint, acl_hint};
+use line_hints::mode_hint::{ModeHint, mode_hint};
+use line_hints::name_hint::{NameHint, name_hint};
+use line_hints::path_hint::{PathHint, path_hint};
 
 /// What is wrong with an ill-formed line, and what was expected. There is one kind for each answer that such a line gets.
 #[derive(Clone, Copy)]
