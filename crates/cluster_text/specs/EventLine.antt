@@ -15,7 +15,7 @@ use Rattle.cluster_trace.specs.DataCall.{DataCall, BeginWrite, Packet, Finalize,
 use Rattle.cluster_trace.specs.declared.event.Event.{Event}
 use Rattle.cluster_trace.specs.declared.event.Event.TheVariants.{Name, Deliver, Data}
 use Rattle.script_words.specs.Values.{◌>>=◌, moment_word, who_word, number_word}
-use Rattle.request_lines.specs.Script.{request_of}
+use Rattle.script_text.specs.Script.{request_of}
 use Rattle.cluster_text.specs.Calls.{is_call}
 use Rattle.cluster_text.specs.Words.{node_word, next_word, bytes_word, token_word}
 use Rattle.call_parts.specs.declared.presented.Presented.{Presented}

@@ -12,7 +12,7 @@ use Rattle.history.specs.State.{rows_of, users_of}
 use Rattle.explanations.specs.declared.explain.Explained.{Explained}
 use Rattle.explanations.specs.declared.explain.Explained.TheVariants.{Trail, NoRequest}
 use Rattle.script_words.specs.Words.{lines_of, without_return, is_skipped, words_of}
-use Rattle.request_lines.specs.Script.{request_of}
+use Rattle.script_text.specs.Script.{request_of}
 use Rattle.cluster_core.specs.World.{state_after}
 use Rattle.cluster_runs.specs.Output.{State, after_lines, script_status}
 

@@ -13,7 +13,7 @@ use Rattle.history.specs.Config as name
 use Rattle.history.specs.Grants.{ledger_of}
 use Rattle.script_words.specs.Values.{◌>>=◌, moment_word, number_word}
 use Rattle.script_words.specs.Words.{is_skipped, without_return, words_of}
-use Rattle.request_lines.specs.Script.{request_of}
+use Rattle.script_text.specs.Script.{request_of}
 use Rattle.cluster_text.specs.Calls.{is_call}
 use Rattle.cluster_text.specs.Words.{behind, token_at, token_word, next_word, bytes_word}
 use Rattle.call_parts.specs.declared.presented.Presented.{Presented}

@@ -1,3 +1,4 @@
+pub mod Script
 pub mod BlockText
 pub mod AnswerText
 pub mod TokenLine

@@ -7,7 +7,7 @@ use Rattle.hdfs_values.specs.declared.fault.IllFormed.TheVariants.{BadLine}
 use Rattle.hdfs_types.specs.declared.op.Op.{Op}
 use Rattle.hdfs_types.specs.declared.op.Op.TheVariants as op
 use Rattle.hdfs_types.specs.declared.op.Request.{Request}
-use Rattle.request_lines.specs.declared.line.Asker.{Asker}
+use Rattle.script_text.specs.declared.line.Asker.{Asker}
 use Rattle.script_words.specs.Values.{◌>>=◌, moment_word, who_word, path_word, mode_word, replication_word, recursive_word, over_word, key_word, last_words, rename_words, change_word, groups_word, bare_change, change_by, wants_spec, wants_none}
 
 abbrev pub mkdirs_of : List ℕ → List ℕ → Result Op IllFormed

@@ -1,7 +1,7 @@
 ghost use Rattle.std.specs.Prelude.{◌≡◌, ℕ, List, Some, Result, IfOk, map};
 ghost use Rattle.script_words.specs.LineForms.{Forms, FormsOption};
 ghost use Rattle.script_words.specs.Words.{words_of};
-ghost use Rattle.request_lines.specs.Script as spec;
+ghost use Rattle.script_text.specs.Script as spec;
 
 use hdfs_types::given_name::GivenName;
 use hdfs_types::op::{Op, Request};

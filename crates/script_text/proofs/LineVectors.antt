@@ -14,7 +14,7 @@ use Rattle.hdfs_types.specs.declared.op.Op.{Op}
 use Rattle.hdfs_types.specs.declared.op.Op.TheVariants as op
 use Rattle.hdfs_types.specs.declared.op.Request.{Request}
 use Rattle.permission_bits.specs.Rights.{rights}
-use Rattle.request_lines.specs.Script.{request_of}
+use Rattle.script_text.specs.Script.{request_of}
 use Rattle.script_words.specs.Words.{words_of}
 
 abbrev said : List ℕ → Result Request IllFormed

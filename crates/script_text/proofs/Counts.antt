@@ -1,7 +1,7 @@
 -- Lines with another number of words than any verb wants.
 use Rattle.std.proofs.Common.{◌≡◌, ℕ, ◌<◌, List, [], ◌∷◌, Bor, length, map, None, Err, refl, arith}
 use Rattle.hdfs_values.specs.declared.fault.IllFormed.TheVariants.{BadLine}
-use Rattle.request_lines.specs.Script.{op_of_words, request_of}
+use Rattle.script_text.specs.Script.{op_of_words, request_of}
 
 abbrev now : Bor (List ℕ) → List ℕ
 now word = word.now
