@@ -18,7 +18,7 @@ for old in olds:
         for name in ('lib.rt', 'Lib.antt'):
             path = f'crates/{old}/{part}/{name}'
             if os.path.isfile(path):
-                libs[part] += [line for line in open(path).read().split('\n') if line.startswith('pub mod')]
+                libs[part] += [line for line in open(path).read().split('\n') if re.match(r'(pub )?mod ', line)]
                 handed_on += [line for line in open(path).read().split('\n') if line.startswith('pub use') and re.split(r'\W+', line)[2] not in olds]
                 git('rm', '-q', path)
         for path in sorted(glob.glob(f'crates/{old}/{part}/*')):
@@ -39,7 +39,7 @@ for part, lines in libs.items():
     assert len(set(lines)) == len(lines), lines
     if not lines: continue
     if part == 'src':
-        open(f'{target}/src/lib.rt', 'w').write(f'//! {text}\n#![tactic(auto)]\n\n' + '\n'.join(sorted(lines, key=lambda it: it.split()[2])) + '\n' + ''.join(['\n', *(line + '\n' for line in handed_on)] if handed_on else []))
+        open(f'{target}/src/lib.rt', 'w').write(f'//! {text}\n#![tactic(auto)]\n\n' + '\n'.join(sorted(lines, key=lambda it: it.split()[-1])) + '\n' + ''.join(['\n', *(line + '\n' for line in handed_on)] if handed_on else []))
     else:
         open(f'{target}/{part}/Lib.antt', 'w').write('\n'.join(lines) + '\n')
 

@@ -6,12 +6,12 @@ ghost use Rattle.audit_check.specs.declared.check.CheckFault.TheVariants.{Disagr
 use hdfs_types::key::Key;
 use history::config::Config;
 use history::entry::HistoryEntry;
-use history_replay::replayed::find_in_replay;
 use history_replay::entries::find_unreceived;
 use history_replay::opening::find_lost;
 use history_replay::pair::Pair;
 use history_replay::placed::find_misplaced;
 use history_replay::receipts::Receipts;
+use history_replay::replayed::find_in_replay;
 use std::alloc::{AllocError, Global};
 use thiserror::Error;
 

@@ -8,7 +8,10 @@ ghost use Rattle.cluster_trace.specs.Typed.{GrantsFit, PresentsBytes, CallFits};
 
 use cluster_parts::carried::{Carried, carry_out};
 use cluster_parts::found::{entry_count, find};
+use cluster_parts::leaders::Leaders;
+use cluster_parts::nodes::Nodes;
 use cluster_parts::noted::{note_answer, note_led, note_nothing};
+use cluster_parts::ranges::{read_call, read_rows};
 use cluster_parts::sent::{Sent, Source};
 use cluster_trace::data_call::{Asked, DataCall};
 use cluster_trace::outcome::{ClusterRefusal, EventAnswer, Outcome};
@@ -20,9 +23,6 @@ use history::config::Config;
 pub use name_core::namenode::NameCore;
 use node_calls::call::{NodeCall, PlanCall};
 use node_ids::node_id::NodeId;
-use cluster_parts::leaders::Leaders;
-use cluster_parts::nodes::Nodes;
-use cluster_parts::ranges::{read_call, read_rows};
 use std::alloc::{AllocError, Global};
 use std::marker::Model;
 

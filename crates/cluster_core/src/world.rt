@@ -8,9 +8,9 @@ ghost use Rattle.cluster_trace.specs.declared.event.Event.TheVariants as event;
 ghost use Rattle.cluster_laws.specs.Laws.{RecordsOf};
 ghost use Rattle.cluster_core.specs.World.{state_after, with_event, run_past, run_outcomes};
 
-use cluster_parts::kept::{KeptEvents, keep_asked};
 pub use crate::cluster::NameCore;
 use crate::cluster::{Cluster, is_from_outside};
+use cluster_parts::kept::{KeptEvents, keep_asked};
 use cluster_trace::data_call::DataCall;
 use cluster_trace::event::Event;
 use cluster_trace::outcome::Outcome;

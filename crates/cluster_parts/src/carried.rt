@@ -11,6 +11,9 @@ ghost use Rattle.cluster_parts.specs.Nodes.{nodes_after, answer_at};
 ghost use Rattle.node_calls.specs.Single.{message_of_single};
 
 use crate::found::Found;
+use crate::leaders::Leaders;
+use crate::nodes::Nodes;
+use crate::ranges::read_call;
 use block_answers::commands::{CopyOrder, Recover, Removal};
 use block_answers::key_list::KeyList;
 use block_records::node_set::NodeSet;
@@ -25,9 +28,6 @@ use node_calls::message::Message;
 use node_calls::principal::principal_of;
 use node_calls::single::Single;
 use node_ids::node_id::NodeId;
-use crate::leaders::Leaders;
-use crate::nodes::Nodes;
-use crate::ranges::read_call;
 use plan_steps::answered::PlanAnswered;
 use std::alloc::{AllocError, Global};
 

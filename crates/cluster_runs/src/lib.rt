@@ -4,5 +4,6 @@
 
 pub mod audit;
 pub mod laws;
+mod recording;
 pub mod script;
 pub mod session;

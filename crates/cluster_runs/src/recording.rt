@@ -3,8 +3,8 @@ ghost use Rattle.cluster_runs.specs.Output as spec;
 ghost use Rattle.cluster_runs.specs.Audit.{history_after, history_of_script};
 ghost use Rattle.cluster_runs.specs.Recorded.{Holds, HoldsFirst, AreFirstOf};
 
-use cluster_core::world::World;
 use crate::session::open_world;
+use cluster_core::world::World;
 use cluster_text::event_line::read_event_with;
 use cluster_trace::event::Event;
 use hdfs_values::fault::IllFormed;

@@ -3,12 +3,12 @@ ghost use Rattle.std.specs.String.{string_bytes};
 ghost use Rattle.cluster_trace.specs.Refusals.{cluster_refusal_text};
 ghost use Rattle.cluster_text.specs.ToldText as spec;
 
+use crate::node_reply::print_called;
+use crate::plan_reply::print_led;
 use cluster_trace::outcome::{ClusterRefusal, EventAnswer, Outcome};
 use flat_rows::verdict::Verdict;
 use hdfs_values::fault::IllFormed;
 use itoa::Buffer;
-use crate::node_reply::print_called;
-use crate::plan_reply::print_led;
 use script_text::answer::print_verdict;
 use script_text::numbers::push_number;
 use std::alloc::AllocError;

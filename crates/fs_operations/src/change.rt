@@ -9,6 +9,7 @@ ghost use Rattle.inode_tree.specs.Tree.{branch_at};
 ghost use Rattle.perm_walk.specs.Walked.{AreOn};
 ghost use Rattle.perm_walk.specs.JudgedStep.{judged_step};
 
+use crate::refused::{refusal_of_mkdirs, refusal_of_rename};
 use acl_entries::acl::Acl;
 use default_acl::change::changed as changed_list;
 use default_acl::chmod::chmod;
@@ -25,7 +26,6 @@ use inode_tree::inode::Inode;
 use inode_tree::tree::Tree;
 use namespace_rows::row::Change;
 use partial_acl::fault::AclChangeFault;
-use crate::refused::{refusal_of_mkdirs, refusal_of_rename};
 use perm_walk::target::{Target, TargetFile, walk_to, walk_to_file};
 use perm_walk::walk::{Walked, WalkedBoth, walk, walk_along, walk_along_both};
 use permission_bits::mode::Mode;

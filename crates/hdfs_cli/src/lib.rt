@@ -6,8 +6,7 @@
 pub mod explain_hints;
 pub mod hints;
 
-pub use cluster_runs::audit as audit;
-pub use cluster_runs::script as script;
+pub use cluster_runs::{audit as audit, script as script};
 pub use explanations::explain as explain;
 pub use script_hints::verbs as verbs;
 pub use script_text::token as token;

@@ -6,8 +6,8 @@ use crate::pair::Pair;
 use crate::receipts::{Receipts, receipt_of};
 use hdfs_types::op::is_look;
 use history::entry::{Answer, HistoryEntry};
-use same_entries::verdicts::is_same_verdict;
 use same_entries::requests::is_same_request;
+use same_entries::verdicts::is_same_verdict;
 
 /// The pair that an entry names.
 pub fn named(entry: &HistoryEntry) -> Pair

@@ -7,13 +7,13 @@ ghost use Rattle.name_core.specs.NameCore.{with_next_entry};
 ghost use Rattle.history_replay.specs.Agreement.{Finds};
 ghost use Rattle.history_replay.specs.Looking.{ToldHere, FindsAmong, IsLegalBehind, Replayed, HasAllLooks};
 
-use hdfs_types::op::{Request, is_look};
-use history::entry::{Answer, HistoryEntry};
-use name_core::namenode::NameCore;
 use crate::entries::named;
 use crate::looks::Looks;
 use crate::pair::Pair;
 use crate::receipts::{Receipts, receipt_of};
+use hdfs_types::op::{Request, is_look};
+use history::entry::{Answer, HistoryEntry};
+use name_core::namenode::NameCore;
 use same_entries::verdicts::is_same_verdict;
 use std::alloc::AllocError;
 

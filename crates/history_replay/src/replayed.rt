@@ -2,14 +2,14 @@ ghost use Rattle.std.specs.Prelude.{◌≡◌, ◌+◌, length, IfOk};
 ghost use Rattle.history_replay.specs.Agreement.{Finds};
 ghost use Rattle.history_replay.specs.Looking.{Replayed, HasAllLooks};
 
+use crate::looks::Looks;
+use crate::namenode::NameCore;
+use crate::pair::Pair;
+use crate::receipts::Receipts;
+use crate::replay::find_on;
 use hdfs_types::key::Key;
 use history::config::Config;
 use history::entry::HistoryEntry;
-use crate::looks::Looks;
-use crate::pair::Pair;
-use crate::receipts::Receipts;
-use crate::namenode::NameCore;
-use crate::replay::find_on;
 use std::alloc::{AllocError, Global};
 
 // The core is dropped by a call, on the one way out.

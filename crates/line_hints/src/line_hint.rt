@@ -1,10 +1,10 @@
 use crate::node_hint::{NodeHint, delivery_hint, node_hint};
 use crate::verbs::{Verb, node_verb_of, verb_of};
+use crate::word::word_at;
 use script_words::acl_words::{wants_none, wants_spec};
 use script_words::values::{moment_word, number_word, replication_word};
 use script_words::words::is_word;
 use std::fmt;
-use crate::word::word_at;
 
 /// What is wrong with a line as a whole, or with its moment.
 #[derive(Clone, Copy)]

@@ -11,6 +11,6 @@ pub mod sharing;
 pub mod workers;
 
 pub use audit_check::check as check;
+pub use data_service::{check as log_check, seat as seat, server as data_server};
 pub use history::config as config;
 pub use name_core::namenode as namenode;
-pub use data_service::{check as log_check, seat as seat, server as data_server};

@@ -8,8 +8,8 @@ ghost use Rattle.name_service.specs.Passes.{ChangeAnswered, LookAnswered, IsFaul
 
 use hdfs_types::op::Request;
 use history::entry::Answer;
-use name_core::namenode::NameCore;
 use history_replay::receipts::Receipts;
+use name_core::namenode::NameCore;
 use std::alloc::Global;
 use std::marker::Model;
 use thiserror::Error;

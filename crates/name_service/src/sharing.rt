@@ -5,12 +5,12 @@ ghost use Rattle.name_service.specs.declared.pass.AskFault.TheVariants.{OutOfMem
 ghost use Rattle.name_service.specs.Passes.{IsSomeFault};
 ghost use Rattle.name_service.specs.Working.{Asked, GainsAll};
 
-use crate::jobs::{KeptAt, places_of};
-use hdfs_types::op::Request;
-use history::entry::Answer;
 use crate::gate::Gate;
+use crate::jobs::{KeptAt, places_of};
 use crate::pass::{AskFault, Pass};
 use crate::server::NameServer;
+use hdfs_types::op::Request;
+use history::entry::Answer;
 use std::alloc::{AllocError, Global};
 use std::sync::Wait;
 use std::thread;

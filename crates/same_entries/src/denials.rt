@@ -1,11 +1,11 @@
 ghost use Rattle.std.specs.Prelude.{◌≡◌};
 ghost use Rattle.std.specs.Bool.{Decides};
 
+use crate::acls::is_same_entry;
+use crate::names::{are_same_groups, is_same_who};
 use crate::rows::is_same_row;
 use flat_rows::denial::Denial;
 use required_rights::need::{By, Need};
-use crate::acls::is_same_entry;
-use crate::names::{are_same_groups, is_same_who};
 
 fn is_same_need(need: &Need, other: &Need) -> bool
     ensures { Decides result (need.now ≡ other.now) }

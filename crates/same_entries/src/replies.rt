@@ -2,6 +2,9 @@ ghost use Rattle.std.specs.Prelude.{◌≡◌};
 ghost use Rattle.std.specs.Bool.{Decides};
 ghost use Rattle.hdfs_types.specs.declared.reply.Reply.TheVariants as made;
 
+use crate::commands::are_same_commands;
+use crate::located::{is_same_added, is_same_opened};
+use crate::names::{are_same_names, is_same_who};
 use crate::rows::is_same_state;
 use block_answers::commands::Commands;
 use block_answers::located::{AddedBlock, OpenedFile};
@@ -11,9 +14,6 @@ use hdfs_types::reply::{
     Reply,
 };
 use hdfs_values::ids::{BlockId, Serial, Stamp};
-use crate::commands::are_same_commands;
-use crate::located::{is_same_added, is_same_opened};
-use crate::names::{are_same_names, is_same_who};
 
 fn is_same_detail(detail: &FileDetail, other: &FileDetail) -> bool
     ensures { Decides result (detail.now ≡ other.now) }

@@ -3,6 +3,10 @@ ghost use Rattle.std.specs.Bool.{Decides};
 ghost use Rattle.hdfs_types.specs.Verb as verbs;
 ghost use Rattle.hdfs_types.specs.declared.op.Op.TheVariants as made;
 
+use crate::acls::is_same_change;
+use crate::commands::{are_same_nodes, is_same_key};
+use crate::names::{are_same_groups, is_same_given, is_same_path, is_same_who};
+use crate::writes::{is_same_last, is_same_write};
 use file_paths::path::Path;
 use hdfs_types::file::LastBlock;
 use hdfs_types::given_name::GivenName;
@@ -15,10 +19,6 @@ use hdfs_values::replication::Repl;
 use hdfs_values::who::Who;
 use permission_bits::mode::Mode;
 use permission_specs::acl_change::AclChange;
-use crate::acls::is_same_change;
-use crate::commands::{are_same_nodes, is_same_key};
-use crate::names::{are_same_groups, is_same_given, is_same_path, is_same_who};
-use crate::writes::{is_same_last, is_same_write};
 
 fn is_mkdirs(path: &Path, mode: Mode, other: &Op) -> bool
     ensures { Decides result (made.Mkdirs path.now mode ≡ other.now) }

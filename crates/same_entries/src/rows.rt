@@ -1,12 +1,12 @@
 ghost use Rattle.std.specs.Prelude.{◌≡◌};
 ghost use Rattle.std.specs.Bool.{Decides};
 
+use crate::acls::is_same_acl;
+use crate::names::{is_same_path, is_same_who};
 use file_blocks::blocks::are_same_blocks;
 use hdfs_types::file::FileState;
 use namespace_rows::file_row::ShownFile;
 use namespace_rows::row::Row;
-use crate::acls::is_same_acl;
-use crate::names::{is_same_path, is_same_who};
 
 /// Whether two states of a file are one.
 pub fn is_same_state(state: &FileState, other: &FileState) -> bool

@@ -2,12 +2,12 @@ ghost use Rattle.std.specs.Prelude.{◌≡◌};
 ghost use Rattle.std.specs.Bool.{Decides};
 ghost use Rattle.refusals.specs.declared.refusal.Refusal.TheVariants as made;
 
+use crate::names::{is_same_path, is_same_who};
 use file_paths::path::Path;
 use hdfs_types::reply::{Counter, Refusal};
 use hdfs_values::fault::AclFault;
 use hdfs_values::ids::Stamp;
 use hdfs_values::who::Who;
-use crate::names::{is_same_path, is_same_who};
 
 fn is_not_directory(file: &Path, other: &Refusal) -> bool
     ensures { Decides result (made.NotDirectory file.now ≡ other.now) }

@@ -8,14 +8,14 @@ ghost use Rattle.script_words.specs.Words.{words_of};
 use cluster_text::event_line::read_event;
 use grant_ledger::ledger::LedgerRow;
 use hdfs_values::fault::{AclFault, IllFormed};
-use line_hints::line_hint::{LineHint, line_hint};
-use script_words::words::{is_skipped, without_return, words_in};
-use std::alloc::{AllocError, Global};
-use std::fmt;
 use line_hints::acl_hint::{AclHint, acl_hint};
+use line_hints::line_hint::{LineHint, line_hint};
 use line_hints::mode_hint::{ModeHint, mode_hint};
 use line_hints::name_hint::{NameHint, name_hint};
 use line_hints::path_hint::{PathHint, path_hint};
+use script_words::words::{is_skipped, without_return, words_in};
+use std::alloc::{AllocError, Global};
+use std::fmt;
 
 /// What is wrong with an ill-formed line, and what was expected. There is one kind for each answer that such a line gets.
 #[derive(Clone, Copy)]

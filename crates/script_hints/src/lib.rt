@@ -3,5 +3,4 @@
 
 pub mod hint;
 
-pub use line_hints::{line_hint, node_hint, verbs};
-pub use line_hints::{acl_hint, mode_hint, name_hint, path_hint};
+pub use line_hints::{acl_hint, line_hint, mode_hint, name_hint, node_hint, path_hint, verbs};
