@@ -54,7 +54,7 @@ for path in files:
     now = re.sub(rf'\bRattle\.({any_old})\.', f'Rattle.{new}.', was)
     if path.startswith(f'{target}/src/') or path.startswith((f'{target}/must-fail/', f'wrong_bodies/{new}/')):
         now = re.sub(rf'(?<![\w.:])({any_old})::', 'crate::', now)
-    now = re.sub(rf'(?<![\w.])({any_old})::', f'{new}::', now)
+    now = re.sub(rf'(?<![\w.:])({any_old})::', f'{new}::', now)
     now = re.sub(rf'(?<![\w.])({any_old})/(?=[a-zA-Z_])', f'{new}/', now)
     if now != was:
         open(path, 'w').write(now)

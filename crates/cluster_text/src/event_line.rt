@@ -6,7 +6,7 @@ ghost use Rattle.script_words.specs.Words.{words_of};
 ghost use Rattle.cluster_text.specs.EventLine as spec;
 
 use crate::calls::is_call;
-use crate::cluster_text::{next_word, node_word};
+use crate::node_words::{next_word, node_word};
 use crate::payload::bytes_word;
 use crate::tokens::token_word;
 use call_parts::presented::Presented;

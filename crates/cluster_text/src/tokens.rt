@@ -4,7 +4,7 @@ ghost use Rattle.grant_ledger.specs.declared.ledger.LedgerRow.{LedgerRow};
 ghost use Rattle.script_words.specs.LineForms.{Forms};
 ghost use Rattle.cluster_text.specs.Words as spec;
 
-use crate::cluster_text::behind;
+use crate::node_words::behind;
 use call_parts::presented::PresentedToken;
 use grant_ledger::ledger::LedgerRow;
 use hdfs_values::fault::{IllFormed, ParseFault};
