@@ -41,6 +41,7 @@ asked_of (op.SetOwner path owner group) = at_path (codes "chown") path
 asked_of (op.SetAcl path change) = at_path (codes "setfacl") path
 asked_of (op.AddUser user groups) = bare (codes "adduser")
 asked_of (op.SetGroups user groups) = bare (codes "groups")
+asked_of (op.SetChecking on) = bare (codes "permissions")
 asked_of (op.Create path mode replication over) = at_path (codes "create") path
 asked_of (op.Append path) = at_path (codes "append") path
 asked_of (op.AddBlock path last) = at_path (codes "addblock") path

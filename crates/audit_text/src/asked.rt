@@ -63,6 +63,7 @@ pub(crate) fn asked_of(op: &Op) -> Asked<'_>
         Op::SetAcl(path, _) => at_path("setfacl", path),
         Op::AddUser(_, _) => bare("adduser"),
         Op::SetGroups(_, _) => bare("groups"),
+        Op::SetChecking(_) => bare("permissions"),
         Op::Create(path, _, _, _) => at_path("create", path),
         Op::Append(path) => at_path("append", path),
         Op::AddBlock(path, _) => at_path("addblock", path),

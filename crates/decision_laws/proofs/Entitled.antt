@@ -20,11 +20,15 @@ use Rattle.namespace_rows.proofs.Tests.{both}
 use Rattle.required_rights.specs.declared.need.Need.TheVariants.{Rights, Sticky, Owner, Member, Superuser, Node}
 use Rattle.required_rights.specs.RequiredRights.{Demand, access, creation, giving_away, group_demands, listing, membership, node_identity, over_demands, overwriting, owner_demands, ownership, removal, required_rights, sticky_bit, strict_traversal, sub_tree, traversal, write_above}
 use Rattle.namespace_rows.specs.First.{first_answer}
-use Rattle.flat_rows.specs.Decision.{ask_at, asks_of, decision, denial_among, denial_of}
+use Rattle.flat_rows.specs.Decision as judged
+use Rattle.flat_rows.specs.Decision.{ask_at, asks_of, denial_among, denial_of}
+use Rattle.flat_rows.specs.Judging.{is_strict}
+use Rattle.flat_rows.proofs.Judging.{judged_as_decided, while_checking, strictly_decided}
 use Rattle.flat_rows.specs.Facts.{Facts}
 use Rattle.flat_rows.specs.Outcome.{step}
 use Rattle.flat_rows.specs.Verdicts.{is_denied}
 use Rattle.permission_laws.specs.Attempt.{administers}
+use Rattle.permission_laws.proofs.Checked.{decision, while_on, if_strict, administration_strict, nodes_strict}
 use Rattle.permission_laws.proofs.Deciding.{first_met, one_met, path_of_row}
 use Rattle.permission_laws.proofs.Held.{administration_held, all_held, altered_held, counted_held, given_to_own_group, kept_by_owner, listed_held, made_held, managed_held, node_held, parent_held, sticky_held, unless}
 use Rattle.permission_laws.proofs.Stops.{Each, each_stands, stands}
@@ -32,14 +36,22 @@ use Rattle.permission_laws.proofs.Superusers.{never_denied}
 use Rattle.decision_laws.specs.Laws.{AdministrationNeedsASuperuser, AppendNeedsWrite, ChownNeedsTheOwnerAndTheGroup, CreateNeedsWriteAbove, DeleteNeedsAllBeneath, ListNeedsReadAndTraverse, ListsAndModesNeedTheOwner, MkdirsNeedsWriteAbove, NodesNeedTheirName, OpenNeedsRead, RenameNeedsBothDirectories, RenewNeedsNothing, ReplicationNeedsWrite, SummaryNeedsAllBeneath, TheWayIsEnough, has_list_or_mode_set, is_told_by_nodes, looked_at}
 use Rattle.decision_laws.proofs.Passing.{Passes, PassesAt, all_standing, allowed, demand_passes, each_passes, let_in, one_passes, where_passes}
 
+-- where all needs are judged, what none of them denies isn't denied
+module _ (rows : List Row) (users : Users) (name : List ℕ) (what : Op) where
+  turned_on : users.checking ≡ true → decision rows users name what ≡ None → judged.decision rows users name what ≡ None
+  turned_on on none = while_checking rows users name what on ∙ none
+
+  turned_strict : is_strict what ≡ true → decision rows users name what ≡ None → judged.decision rows users name what ≡ None
+  turned_strict strict none = sym (strictly_decided rows users name what strict) ∙ none
+
 -- a superuser isn't denied, and of others is what they have
-pub by_rank : (facts : Facts) (rows : List Row) (users : Users) (name : List ℕ) (what : Op) → is_for_nodes what ≡ false → (is_super users name ≡ false → decision rows users name what ≡ None)
-    → is_denied (step facts rows users name what).verdict ≡ false
-by_rank facts rows users name what plain h = by (is_super users name) refl
+pub by_rank : (facts : Facts) (rows : List Row) (users : Users) (name : List ℕ) (what : Op) → is_for_nodes what ≡ false → (decision rows users name what ≡ None → judged.decision rows users name what ≡ None)
+    → (is_super users name ≡ false → decision rows users name what ≡ None) → is_denied (step facts rows users name what).verdict ≡ false
+by_rank facts rows users name what plain turn h = by (is_super users name) refl
   where
     by : (b : Bool) → is_super users name ≡ b → is_denied (step facts rows users name what).verdict ≡ false
     by true k = never_denied facts rows users name what k plain
-    by false k = let_in facts rows users name what (h k)
+    by false k = let_in facts rows users name what (turn (h k))
 
 module _ (rows : List Row) (users : Users) (name : List ℕ) (plain : is_super users name ≡ false) where
   abbrev who : Caller
@@ -163,28 +175,28 @@ module _ (facts : Facts) (rows : List Row) (users : Users) (name : List ℕ) whe
   Way path = (directory : Row) → row_at directory.path rows ≡ Some directory → is_directory directory ≡ true → is_beneath path directory.path ≡ true
       → (is_super users name || (judgement directory name (groups_of users name) (rights 1)).granted) ≡ true
 
-  way_alone : (namespace : IsNamespace rows) (what : Op) (path other : List (List ℕ)) → is_for_nodes what ≡ false → required_rights what ≡ traversal path ∷ [] → path ≡ other → Way other
+  way_alone : users.checking ≡ true → (namespace : IsNamespace rows) (what : Op) (path other : List (List ℕ)) → is_for_nodes what ≡ false → required_rights what ≡ traversal path ∷ [] → path ≡ other → Way other
       → decision rows users name what ≡ denial_among rows (caller_of users name) (required_rights what) → IsIn what
-  way_alone namespace what path other plain needs is way asked =
-      by_rank facts rows users name what plain (λ k. asked ∙ ap (denial_among rows (caller_of users name)) needs
+  way_alone on namespace what path other plain needs is way asked =
+      by_rank facts rows users name what plain (turned_on rows users name what on) (λ k. asked ∙ ap (denial_among rows (caller_of users name)) needs
       ∙ behind_traversal rows users name k namespace path [] (subst Way (sym is) way) refl)
 
-  reached : IsNamespace rows → (what : Op) (path : List (List ℕ)) → looked_at what ≡ Some path → Way path → IsIn what
-  reached namespace (op.Stat own) path h way = way_alone namespace (op.Stat own) own path refl refl (same_path_of own path h) way refl
-  reached namespace (op.GetAcl own) path h way = way_alone namespace (op.GetAcl own) own path refl refl (same_path_of own path h) way refl
-  reached namespace (op.AddBlock own last) path h way = way_alone namespace (op.AddBlock own last) own path refl refl (same_path_of own path h) way refl
-  reached namespace (op.Complete own last) path h way = way_alone namespace (op.Complete own last) own path refl refl (same_path_of own path h) way refl
-  reached namespace _ path h way = cc
+  reached : users.checking ≡ true → IsNamespace rows → (what : Op) (path : List (List ℕ)) → looked_at what ≡ Some path → Way path → IsIn what
+  reached on namespace (op.Stat own) path h way = way_alone on namespace (op.Stat own) own path refl refl (same_path_of own path h) way refl
+  reached on namespace (op.GetAcl own) path h way = way_alone on namespace (op.GetAcl own) own path refl refl (same_path_of own path h) way refl
+  reached on namespace (op.AddBlock own last) path h way = way_alone on namespace (op.AddBlock own last) own path refl refl (same_path_of own path h) way refl
+  reached on namespace (op.Complete own last) path h way = way_alone on namespace (op.Complete own last) own path refl refl (same_path_of own path h) way refl
+  reached on namespace _ path h way = cc
 
   managing : IsNamespace rows → (what : Op) (path : List (List ℕ)) → has_list_or_mode_set what ≡ Some path → Way path
       → ((row : Row) → row_at path rows ≡ Some row → (is_super users name || same name row.owner) ≡ true) → IsIn what
   managing namespace (op.SetMode top mode) path h way own =
       let is : path ≡ top = sym (same_path_of top path h) in
-      by_rank facts rows users name (op.SetMode top mode) refl (λ k. behind_strict rows users name k namespace top (ownership top ∷ []) (subst Way is way)
+      by_rank facts rows users name (op.SetMode top mode) refl (turned_strict rows users name (op.SetMode top mode) refl) (λ k. behind_strict rows users name k namespace top (ownership top ∷ []) (subst Way is way)
       (behind rows users name k namespace (ownership top) [] (ownership_met rows users name k top (λ row at. own row (ap (λ p. row_at p rows) is ∙ at))) refl))
   managing namespace (op.SetAcl top change) path h way own =
       let is : path ≡ top = sym (same_path_of top path h) in
-      by_rank facts rows users name (op.SetAcl top change) refl (λ k. behind_strict rows users name k namespace top (ownership top ∷ []) (subst Way is way)
+      by_rank facts rows users name (op.SetAcl top change) refl (turned_strict rows users name (op.SetAcl top change) refl) (λ k. behind_strict rows users name k namespace top (ownership top ∷ []) (subst Way is way)
       (behind rows users name k namespace (ownership top) [] (ownership_met rows users name k top (λ row at. own row (ap (λ p. row_at p rows) is ∙ at))) refl))
   managing namespace _ path h way own = cc
 
@@ -206,34 +218,34 @@ module _ (facts : Facts) (rows : List Row) (users : Users) (name : List ℕ) whe
     MayTake = (row directory : Row) → row_at path rows ≡ Some row → directory_of path rows ≡ Some directory → directory.acl.sticky ≡ true
         → (is_super users name || (same name row.owner || same name directory.owner)) ≡ true
 
-    opening : HasThere 4 → IsIn (op.Open path)
-    opening h = by_rank facts rows users name (op.Open path) refl (λ k. behind_traversal rows users name k namespace path (access (rights 4) path ∷ []) way
+    opening : users.checking ≡ true → HasThere 4 → IsIn (op.Open path)
+    opening on h = by_rank facts rows users name (op.Open path) refl (turned_on rows users name (op.Open path) on) (λ k. behind_traversal rows users name k namespace path (access (rights 4) path ∷ []) way
         (behind rows users name k namespace (access (rights 4) path) [] (access_met rows users name k 4 path h) refl))
 
-    appending : HasThere 2 → IsIn (op.Append path)
-    appending h = by_rank facts rows users name (op.Append path) refl (λ k. behind_traversal rows users name k namespace path (access (rights 2) path ∷ []) way
+    appending : users.checking ≡ true → HasThere 2 → IsIn (op.Append path)
+    appending on h = by_rank facts rows users name (op.Append path) refl (turned_on rows users name (op.Append path) on) (λ k. behind_traversal rows users name k namespace path (access (rights 2) path ∷ []) way
         (behind rows users name k namespace (access (rights 2) path) [] (access_met rows users name k 2 path h) refl))
 
-    replicating : (replication : ℕ) → HasThere 2 → IsIn (op.SetReplication path replication)
-    replicating replication h = by_rank facts rows users name (op.SetReplication path replication) refl (λ k. behind_traversal rows users name k namespace path (access (rights 2) path ∷ []) way
+    replicating : users.checking ≡ true → (replication : ℕ) → HasThere 2 → IsIn (op.SetReplication path replication)
+    replicating on replication h = by_rank facts rows users name (op.SetReplication path replication) refl (turned_on rows users name (op.SetReplication path replication) on) (λ k. behind_traversal rows users name k namespace path (access (rights 2) path ∷ []) way
         (behind rows users name k namespace (access (rights 2) path) [] (access_met rows users name k 2 path h) refl))
 
-    listing_in : ((row : Row) → row_at path rows ≡ Some row → is_directory row ≡ true → (is_super users name || (judgement row name (groups_of users name) (rights 5)).granted) ≡ true) → IsIn (op.List path)
-    listing_in h = by_rank facts rows users name (op.List path) refl (λ k. behind_traversal rows users name k namespace path (listing path ∷ []) way
+    listing_in : users.checking ≡ true → ((row : Row) → row_at path rows ≡ Some row → is_directory row ≡ true → (is_super users name || (judgement row name (groups_of users name) (rights 5)).granted) ≡ true) → IsIn (op.List path)
+    listing_in on h = by_rank facts rows users name (op.List path) refl (turned_on rows users name (op.List path) on) (λ k. behind_traversal rows users name k namespace path (listing path ∷ []) way
         (behind rows users name k namespace (listing path) [] (listing_met rows users name k path h) refl))
 
-    counting : HasAllBeneath 5 → IsIn (op.Summary path)
-    counting h = by_rank facts rows users name (op.Summary path) refl (λ k. behind_traversal rows users name k namespace path (sub_tree (rights 5) path ∷ []) way
+    counting : users.checking ≡ true → HasAllBeneath 5 → IsIn (op.Summary path)
+    counting on h = by_rank facts rows users name (op.Summary path) refl (turned_on rows users name (op.Summary path) on) (λ k. behind_traversal rows users name k namespace path (sub_tree (rights 5) path ∷ []) way
         (behind rows users name k namespace (sub_tree (rights 5) path) [] (sub_tree_met rows users name k namespace 5 path h) refl))
 
-    making : (mode : ℕ) → (row_at path rows ≡ None → HasLast 2) → IsIn (op.Mkdirs path mode)
-    making mode h = by_rank facts rows users name (op.Mkdirs path mode) refl (λ k. behind_traversal rows users name k namespace path (creation path ∷ []) way
+    making : users.checking ≡ true → (mode : ℕ) → (row_at path rows ≡ None → HasLast 2) → IsIn (op.Mkdirs path mode)
+    making on mode h = by_rank facts rows users name (op.Mkdirs path mode) refl (turned_on rows users name (op.Mkdirs path mode) on) (λ k. behind_traversal rows users name k namespace path (creation path ∷ []) way
         (behind rows users name k namespace (creation path) [] (creation_met rows users name k path h) refl))
 
-    creating : (mode replication : ℕ) (over : Bool) → HasLast 2
+    creating : users.checking ≡ true → (mode replication : ℕ) (over : Bool) → HasLast 2
         → (over ≡ true → (row : Row) → row_at path rows ≡ Some row → is_directory row ≡ false → (is_super users name || (judgement row name (groups_of users name) (rights 2)).granted) ≡ true)
         → IsIn (op.Create path mode replication over)
-    creating mode replication over h w = by_rank facts rows users name (op.Create path mode replication over) refl (λ k.
+    creating on mode replication over h w = by_rank facts rows users name (op.Create path mode replication over) refl (turned_on rows users name (op.Create path mode replication over) on) (λ k.
         behind_traversal rows users name k namespace path (write_above path ∷ over_demands path over) way
         (behind rows users name k namespace (write_above path) (over_demands path over) (above_met rows users name k path h) (replacing k over w)))
       where
@@ -243,16 +255,16 @@ module _ (facts : Facts) (rows : List Row) (users : Users) (name : List ℕ) whe
         replacing k true w = behind rows users name k namespace (overwriting path) [] (overwriting_met rows users name k path (w refl)) refl
         replacing k false w = refl
 
-    removing : (recursive : Bool) → MayTake → HasHolding 2 → HasAllBeneath 7 → IsIn (op.Delete path recursive)
-    removing recursive free held all = by_rank facts rows users name (op.Delete path recursive) refl (λ k.
+    removing : users.checking ≡ true → (recursive : Bool) → MayTake → HasHolding 2 → HasAllBeneath 7 → IsIn (op.Delete path recursive)
+    removing on recursive free held all = by_rank facts rows users name (op.Delete path recursive) refl (turned_on rows users name (op.Delete path recursive) on) (λ k.
         behind_traversal rows users name k namespace path (sticky_bit path ∷ removal path ∷ sub_tree (rights 7) path ∷ []) way
         (behind rows users name k namespace (sticky_bit path) (removal path ∷ sub_tree (rights 7) path ∷ []) (sticky_met rows users name k path free)
         (behind rows users name k namespace (removal path) (sub_tree (rights 7) path ∷ []) (removal_met rows users name k path held)
         (behind rows users name k namespace (sub_tree (rights 7) path) [] (sub_tree_met rows users name k namespace 7 path all) refl))))
 
-    moving : (to : List (List ℕ)) → Way to → MayTake
+    moving : users.checking ≡ true → (to : List (List ℕ)) → Way to → MayTake
         → ((row : Row) → ancestor to rows ≡ Some row → (is_super users name || (judgement row name (groups_of users name) (rights 2)).granted) ≡ true) → HasHolding 2 → IsIn (op.Rename path to)
-    moving to there free above held = by_rank facts rows users name (op.Rename path to) refl (λ k.
+    moving on to there free above held = by_rank facts rows users name (op.Rename path to) refl (turned_on rows users name (op.Rename path to) on) (λ k.
         behind_traversal rows users name k namespace path (traversal to ∷ sticky_bit path ∷ write_above to ∷ removal path ∷ []) way
         (behind_traversal rows users name k namespace to (sticky_bit path ∷ write_above to ∷ removal path ∷ []) there
         (behind rows users name k namespace (sticky_bit path) (write_above to ∷ removal path ∷ []) (sticky_met rows users name k path free)
@@ -262,7 +274,7 @@ module _ (facts : Facts) (rows : List Row) (users : Users) (name : List ℕ) whe
     giving : (owner group : Option (List ℕ)) → ((row : Row) → row_at path rows ≡ Some row → (is_super users name || same name row.owner) ≡ true)
         → ((user : List ℕ) (row : Row) → owner ≡ Some user → row_at path rows ≡ Some row → (is_super users name || same user row.owner) ≡ true)
         → ((group_name : List ℕ) (row : Row) → group ≡ Some group_name → row_at path rows ≡ Some row → (is_super users name || has_group (groups_of users name) group_name) ≡ true) → IsIn (op.SetOwner path owner group)
-    giving owner group own stays member = by_rank facts rows users name (op.SetOwner path owner group) refl (λ k.
+    giving owner group own stays member = by_rank facts rows users name (op.SetOwner path owner group) refl (turned_strict rows users name (op.SetOwner path owner group) refl) (λ k.
         behind_strict rows users name k namespace path (ownership path ∷ (owner_demands path owner ++ group_demands path group)) way
         (behind rows users name k namespace (ownership path) (owner_demands path owner ++ group_demands path group) (ownership_met rows users name k path own)
         (to_owner k owner group stays (to_group k group member))))
@@ -318,46 +330,46 @@ known : (facts : Facts) (rows : List Row) (users : Users) (name : List ℕ) (wha
 known facts rows users name what own is h = ap (λ o. is_denied (step facts rows users name o).verdict) is ∙ h
 
 -- and what it takes to be let in
-passed : (facts : Facts) (rows : List Row) (users : Users) (name : List ℕ) (what own : Op) → what ≡ own → is_denied (step facts rows users name what).verdict ≡ false → decision rows users name own ≡ None
-passed facts rows users name what own is h = allowed facts rows users name own (ap (λ o. is_denied (step facts rows users name o).verdict) (sym is) ∙ h)
+passed : (facts : Facts) (rows : List Row) (users : Users) (name : List ℕ) (what own : Op) → users.checking ≡ true → what ≡ own → is_denied (step facts rows users name what).verdict ≡ false → decision rows users name own ≡ None
+passed facts rows users name what own on is h = while_on rows users name own None on (allowed facts rows users name own (ap (λ o. is_denied (step facts rows users name o).verdict) (sym is) ∙ h))
 
 pub way_enough : TheWayIsEnough
-way_enough a path namespace h way = reached a.facts a.rows a.users a.caller namespace a.op path h way
+way_enough a path namespace on h way = reached a.facts a.rows a.users a.caller on namespace a.op path h way
 
 pub open_exact : OpenNeedsRead
-open_exact a path namespace is way = (
-  λ h. known a.facts a.rows a.users a.caller a.op (op.Open path) is (opening a.facts a.rows a.users a.caller namespace path way h),
-  λ h row at. access_taken a.rows a.users a.caller 4 path row (passed a.facts a.rows a.users a.caller a.op (op.Open path) is h) at,
+open_exact a path namespace on is way = (
+  λ h. known a.facts a.rows a.users a.caller a.op (op.Open path) is (opening a.facts a.rows a.users a.caller namespace path way on h),
+  λ h row at. access_taken a.rows a.users a.caller 4 path row (passed a.facts a.rows a.users a.caller a.op (op.Open path) on is h) at,
 )
 
 pub append_exact : AppendNeedsWrite
-append_exact a path namespace is way = (
-  λ h. known a.facts a.rows a.users a.caller a.op (op.Append path) is (appending a.facts a.rows a.users a.caller namespace path way h),
-  λ h row at. access_taken a.rows a.users a.caller 2 path row (passed a.facts a.rows a.users a.caller a.op (op.Append path) is h) at,
+append_exact a path namespace on is way = (
+  λ h. known a.facts a.rows a.users a.caller a.op (op.Append path) is (appending a.facts a.rows a.users a.caller namespace path way on h),
+  λ h row at. access_taken a.rows a.users a.caller 2 path row (passed a.facts a.rows a.users a.caller a.op (op.Append path) on is h) at,
 )
 
 pub replication_exact : ReplicationNeedsWrite
-replication_exact a path replication namespace is way = (
-  λ h. known a.facts a.rows a.users a.caller a.op (op.SetReplication path replication) is (replicating a.facts a.rows a.users a.caller namespace path way replication h),
-  λ h row at. access_taken a.rows a.users a.caller 2 path row (passed a.facts a.rows a.users a.caller a.op (op.SetReplication path replication) is h) at,
+replication_exact a path replication namespace on is way = (
+  λ h. known a.facts a.rows a.users a.caller a.op (op.SetReplication path replication) is (replicating a.facts a.rows a.users a.caller namespace path way on replication h),
+  λ h row at. access_taken a.rows a.users a.caller 2 path row (passed a.facts a.rows a.users a.caller a.op (op.SetReplication path replication) on is h) at,
 )
 
 pub list_exact : ListNeedsReadAndTraverse
-list_exact a path namespace is way = (
-  λ h. known a.facts a.rows a.users a.caller a.op (op.List path) is (listing_in a.facts a.rows a.users a.caller namespace path way h),
-  λ h directory at kind. listed_held a.rows a.users a.caller path directory (passed a.facts a.rows a.users a.caller a.op (op.List path) is h) at kind,
+list_exact a path namespace on is way = (
+  λ h. known a.facts a.rows a.users a.caller a.op (op.List path) is (listing_in a.facts a.rows a.users a.caller namespace path way on h),
+  λ h directory at kind. listed_held a.rows a.users a.caller path directory (passed a.facts a.rows a.users a.caller a.op (op.List path) on is h) at kind,
 )
 
 pub summary_exact : SummaryNeedsAllBeneath
-summary_exact a path namespace is way = (
-  λ h. known a.facts a.rows a.users a.caller a.op (op.Summary path) is (counting a.facts a.rows a.users a.caller namespace path way h),
-  λ h directory at kind inside. counted_held a.rows a.users a.caller path directory (passed a.facts a.rows a.users a.caller a.op (op.Summary path) is h) at kind inside,
+summary_exact a path namespace on is way = (
+  λ h. known a.facts a.rows a.users a.caller a.op (op.Summary path) is (counting a.facts a.rows a.users a.caller namespace path way on h),
+  λ h directory at kind inside. counted_held a.rows a.users a.caller path directory (passed a.facts a.rows a.users a.caller a.op (op.Summary path) on is h) at kind inside,
 )
 
 pub mkdirs_exact : MkdirsNeedsWriteAbove
-mkdirs_exact a path mode namespace is way = (
-  λ h. known a.facts a.rows a.users a.caller a.op (op.Mkdirs path mode) is (making a.facts a.rows a.users a.caller namespace path way mode h),
-  λ h missing above at. made_held a.rows a.users a.caller (op.Mkdirs path mode) path above (passed a.facts a.rows a.users a.caller a.op (op.Mkdirs path mode) is h) refl missing at,
+mkdirs_exact a path mode namespace on is way = (
+  λ h. known a.facts a.rows a.users a.caller a.op (op.Mkdirs path mode) is (making a.facts a.rows a.users a.caller namespace path way on mode h),
+  λ h missing above at. made_held a.rows a.users a.caller (op.Mkdirs path mode) path above (passed a.facts a.rows a.users a.caller a.op (op.Mkdirs path mode) on is h) refl missing at,
 )
 
 replaced_taken : (rows : List Row) (users : Users) (name : List ℕ) (path : List (List ℕ)) (mode replication : ℕ) (over : Bool) → decision rows users name (op.Create path mode replication over) ≡ None
@@ -366,16 +378,16 @@ replaced_taken rows users name path mode replication true h is file at kind = al
 replaced_taken rows users name path mode replication false h is file at kind = cc
 
 pub create_exact : CreateNeedsWriteAbove
-create_exact a path mode replication over namespace is way = (
-  λ h. known a.facts a.rows a.users a.caller a.op (op.Create path mode replication over) is (creating a.facts a.rows a.users a.caller namespace path way mode replication over h.0 h.1),
-  λ h. let none = passed a.facts a.rows a.users a.caller a.op (op.Create path mode replication over) is h in
+create_exact a path mode replication over namespace on is way = (
+  λ h. known a.facts a.rows a.users a.caller a.op (op.Create path mode replication over) is (creating a.facts a.rows a.users a.caller namespace path way on mode replication over h.0 h.1),
+  λ h. let none = passed a.facts a.rows a.users a.caller a.op (op.Create path mode replication over) on is h in
       (λ above at. created_taken a.rows a.users a.caller path over above none at, replaced_taken a.rows a.users a.caller path mode replication over none),
 )
 
 pub delete_exact : DeleteNeedsAllBeneath
-delete_exact a path recursive namespace is way = (
-  λ h. known a.facts a.rows a.users a.caller a.op (op.Delete path recursive) is (removing a.facts a.rows a.users a.caller namespace path way recursive h.0 h.1 h.2),
-  λ h. let none = passed a.facts a.rows a.users a.caller a.op (op.Delete path recursive) is h in (
+delete_exact a path recursive namespace on is way = (
+  λ h. known a.facts a.rows a.users a.caller a.op (op.Delete path recursive) is (removing a.facts a.rows a.users a.caller namespace path way on recursive h.0 h.1 h.2),
+  λ h. let none = passed a.facts a.rows a.users a.caller a.op (op.Delete path recursive) on is h in (
     λ row directory at held sticky. sticky_held a.rows a.users a.caller (op.Delete path recursive) path row directory none refl at held sticky,
     λ directory held. parent_held a.rows a.users a.caller (op.Delete path recursive) path directory none refl held,
     λ directory at kind inside. all_held a.rows a.users a.caller path recursive directory none at kind inside,
@@ -383,9 +395,9 @@ delete_exact a path recursive namespace is way = (
 )
 
 pub rename_exact : RenameNeedsBothDirectories
-rename_exact a from to namespace is way there = (
-  λ h. known a.facts a.rows a.users a.caller a.op (op.Rename from to) is (moving a.facts a.rows a.users a.caller namespace from way to there h.0 h.1 h.2),
-  λ h. let none = passed a.facts a.rows a.users a.caller a.op (op.Rename from to) is h in (
+rename_exact a from to namespace on is way there = (
+  λ h. known a.facts a.rows a.users a.caller a.op (op.Rename from to) is (moving a.facts a.rows a.users a.caller namespace from way on to there h.0 h.1 h.2),
+  λ h. let none = passed a.facts a.rows a.users a.caller a.op (op.Rename from to) on is h in (
     λ row directory at held sticky. sticky_held a.rows a.users a.caller (op.Rename from to) from row directory none refl at held sticky,
     λ above at. moved_taken a.rows a.users a.caller from to above none at,
     λ directory held. parent_held a.rows a.users a.caller (op.Rename from to) from directory none refl held,
@@ -398,10 +410,15 @@ owned rows users name (op.SetMode top mode) path h none row at = managed_held ro
 owned rows users name (op.SetAcl top change) path h none row at = managed_held rows users name (op.SetAcl top change) path row none h at
 owned rows users name _ path h none row at = cc
 
+set_strict : (what : Op) (path : List (List ℕ)) → has_list_or_mode_set what ≡ Some path → is_strict what ≡ true
+set_strict (op.SetMode top mode) path h = refl
+set_strict (op.SetAcl top change) path h = refl
+set_strict _ path h = cc
+
 pub lists_exact : ListsAndModesNeedTheOwner
 lists_exact a path namespace h way = (
   λ own. managing a.facts a.rows a.users a.caller namespace a.op path h way own,
-  λ k row at. owned a.rows a.users a.caller a.op path h (allowed a.facts a.rows a.users a.caller a.op k) row at,
+  λ k row at. owned a.rows a.users a.caller a.op path h (if_strict a.rows a.users a.caller a.op None (set_strict a.op path h) (allowed a.facts a.rows a.users a.caller a.op k)) row at,
 )
 
 owner_kept : (rows : List Row) (users : Users) (name : List ℕ) (path : List (List ℕ)) (owner group : Option (List ℕ)) → decision rows users name (op.SetOwner path owner group) ≡ None
@@ -416,7 +433,7 @@ group_own rows users name path owner group h group_name row is at =
 pub chown_exact : ChownNeedsTheOwnerAndTheGroup
 chown_exact a path owner group namespace is way = (
   λ h. known a.facts a.rows a.users a.caller a.op (op.SetOwner path owner group) is (giving a.facts a.rows a.users a.caller namespace path way owner group h.0 h.1 h.2),
-  λ h. let none = passed a.facts a.rows a.users a.caller a.op (op.SetOwner path owner group) is h in (
+  λ h. let none = if_strict a.rows a.users a.caller (op.SetOwner path owner group) None refl (allowed a.facts a.rows a.users a.caller (op.SetOwner path owner group) (ap (λ o. is_denied (step a.facts a.rows a.users a.caller o).verdict) (sym is) ∙ h)) in (
     λ row at. managed_held a.rows a.users a.caller (op.SetOwner path owner group) path row none refl at,
     owner_kept a.rows a.users a.caller path owner group none,
     group_own a.rows a.users a.caller path owner group none,
@@ -424,11 +441,12 @@ chown_exact a path owner group namespace is way = (
 )
 
 pub renew_free : RenewNeedsNothing
-renew_free a is = known a.facts a.rows a.users a.caller a.op op.Renew is (by_rank a.facts a.rows a.users a.caller op.Renew refl (λ k. refl))
+renew_free a is = known a.facts a.rows a.users a.caller a.op op.Renew is (by_rank a.facts a.rows a.users a.caller op.Renew refl (λ none. sym (judged_as_decided a.rows a.users a.caller op.Renew)) (λ k. refl))
 
 no_node_op : (what : Op) → administers what ≡ true → is_for_nodes what ≡ false
 no_node_op (op.AddUser user groups) h = refl
 no_node_op (op.SetGroups user groups) h = refl
+no_node_op (op.SetChecking on) h = refl
 no_node_op (op.RollKey key) h = refl
 no_node_op op.Tick h = refl
 no_node_op _ h = cc
@@ -436,7 +454,7 @@ no_node_op _ h = cc
 pub administration_exact : AdministrationNeedsASuperuser
 administration_exact a namespace h = (
   λ super. never_denied a.facts a.rows a.users a.caller a.op super (no_node_op a.op h),
-  λ k. administration_held a.rows a.users a.caller namespace a.op (allowed a.facts a.rows a.users a.caller a.op k) h,
+  λ k. administration_held a.rows a.users a.caller namespace a.op (if_strict a.rows a.users a.caller a.op None (administration_strict a.op h) (allowed a.facts a.rows a.users a.caller a.op k)) h,
 )
 
 -- whatever stands at the root, its need is met
@@ -444,9 +462,9 @@ node_met : (rows : List Row) (caller : Caller) → is_some (node_of caller.name)
 node_met rows caller h = demand_passes caller rows node_identity [] (one_passes caller rows Node (row_at [] rows) (λ row is. h)) refl
 
 nodes_pass : (facts : Facts) (rows : List Row) (users : Users) (name : List ℕ) (what : Op) → is_told_by_nodes what ≡ true → is_some (node_of name) ≡ true → is_denied (step facts rows users name what).verdict ≡ false
-nodes_pass facts rows users name op.Heartbeat h k = let_in facts rows users name op.Heartbeat (node_met rows (record (caller_of users name) { is_superuser = false }) k)
-nodes_pass facts rows users name (op.Reported replica) h k = let_in facts rows users name (op.Reported replica) (node_met rows (record (caller_of users name) { is_superuser = false }) k)
-nodes_pass facts rows users name (op.CommitRecovery recovered) h k = let_in facts rows users name (op.CommitRecovery recovered) (node_met rows (record (caller_of users name) { is_superuser = false }) k)
+nodes_pass facts rows users name op.Heartbeat h k = let_in facts rows users name op.Heartbeat (turned_strict rows users name op.Heartbeat refl (node_met rows (record (caller_of users name) { is_superuser = false }) k))
+nodes_pass facts rows users name (op.Reported replica) h k = let_in facts rows users name (op.Reported replica) (turned_strict rows users name (op.Reported replica) refl (node_met rows (record (caller_of users name) { is_superuser = false }) k))
+nodes_pass facts rows users name (op.CommitRecovery recovered) h k = let_in facts rows users name (op.CommitRecovery recovered) (turned_strict rows users name (op.CommitRecovery recovered) refl (node_met rows (record (caller_of users name) { is_superuser = false }) k))
 nodes_pass facts rows users name _ h k = cc
 
 for_nodes : (what : Op) → is_told_by_nodes what ≡ true → is_for_nodes what ≡ true
@@ -458,5 +476,5 @@ for_nodes _ h = cc
 pub nodes_exact : NodesNeedTheirName
 nodes_exact a namespace h = (
   λ node. nodes_pass a.facts a.rows a.users a.caller a.op h node,
-  λ k. node_held a.rows a.users a.caller namespace a.op (allowed a.facts a.rows a.users a.caller a.op k) (for_nodes a.op h),
+  λ k. node_held a.rows a.users a.caller namespace a.op (if_strict a.rows a.users a.caller a.op None (nodes_strict a.op (for_nodes a.op h)) (allowed a.facts a.rows a.users a.caller a.op k)) (for_nodes a.op h),
 )

@@ -1,5 +1,5 @@
 -- Laws of the decision, exactly: who reaches the path of an operation is let past all needs where he has these rights, and else denied. `permission_laws` says of what is done
--- that nobody does without; these say it of what is refused later, too, and that no more is asked. Who can't reach a path is turned back there (`permission_laws`).
+-- that nobody does without; these say it of what is refused later, too, and that no more is asked, where it is about rights and the sticky bit while permission checking is on. Who can't reach a path is turned back there (`permission_laws`).
 -- (HDFS Permissions Guide, "Permission Checks", "The Sticky Bit" and "The Super-User".)
 use Rattle.std.specs.Prelude.{◌≡◌, ℕ, Bool, true, false, ◌||◌, List, Option, Some, None}
 use Rattle.std.specs.Option.{is_some}
@@ -14,7 +14,7 @@ use Rattle.namespace_rows.specs.declared.row.Row.{Row}
 use Rattle.namespace_rows.specs.Namespace.{IsNamespace}
 use Rattle.namespace_rows.specs.Rows.{is_directory, ancestor, directory_of}
 use Rattle.flat_rows.specs.Verdicts.{is_denied}
-use Rattle.permission_laws.specs.Attempt.{Attempt, attempt_step, row_before, by_superuser, may, owns, administers}
+use Rattle.permission_laws.specs.Attempt.{Attempt, IsChecked, attempt_step, row_before, by_superuser, may, owns, administers}
 
 -- one holds where the other does
 abbrev pub Exactly : Type 0 → Type 0 → Type 0
@@ -67,44 +67,44 @@ looked_at (op.Complete path last) = Some path
 looked_at _ = None
 
 abbrev pub TheWayIsEnough : Type 0
-TheWayIsEnough = (attempt : Attempt) (path : List (List ℕ)) → IsNamespace attempt.rows → looked_at attempt.op ≡ Some path → Reaches attempt path → IsLetIn attempt
+TheWayIsEnough = (attempt : Attempt) (path : List (List ℕ)) → IsNamespace attempt.rows → IsChecked attempt → looked_at attempt.op ≡ Some path → Reaches attempt path → IsLetIn attempt
 
 abbrev pub OpenNeedsRead : Type 0
-OpenNeedsRead = (attempt : Attempt) (path : List (List ℕ)) → IsNamespace attempt.rows → attempt.op ≡ op.Open path → Reaches attempt path → Exactly (MayAt 4 attempt path) (IsLetIn attempt)
+OpenNeedsRead = (attempt : Attempt) (path : List (List ℕ)) → IsNamespace attempt.rows → IsChecked attempt → attempt.op ≡ op.Open path → Reaches attempt path → Exactly (MayAt 4 attempt path) (IsLetIn attempt)
 
 abbrev pub AppendNeedsWrite : Type 0
-AppendNeedsWrite = (attempt : Attempt) (path : List (List ℕ)) → IsNamespace attempt.rows → attempt.op ≡ op.Append path → Reaches attempt path → Exactly (MayAt 2 attempt path) (IsLetIn attempt)
+AppendNeedsWrite = (attempt : Attempt) (path : List (List ℕ)) → IsNamespace attempt.rows → IsChecked attempt → attempt.op ≡ op.Append path → Reaches attempt path → Exactly (MayAt 2 attempt path) (IsLetIn attempt)
 
 abbrev pub ReplicationNeedsWrite : Type 0
-ReplicationNeedsWrite = (attempt : Attempt) (path : List (List ℕ)) (replication : ℕ) → IsNamespace attempt.rows → attempt.op ≡ op.SetReplication path replication → Reaches attempt path
+ReplicationNeedsWrite = (attempt : Attempt) (path : List (List ℕ)) (replication : ℕ) → IsNamespace attempt.rows → IsChecked attempt → attempt.op ≡ op.SetReplication path replication → Reaches attempt path
     → Exactly (MayAt 2 attempt path) (IsLetIn attempt)
 
 -- and of a file nothing
 abbrev pub ListNeedsReadAndTraverse : Type 0
-ListNeedsReadAndTraverse = (attempt : Attempt) (path : List (List ℕ)) → IsNamespace attempt.rows → attempt.op ≡ op.List path → Reaches attempt path
+ListNeedsReadAndTraverse = (attempt : Attempt) (path : List (List ℕ)) → IsNamespace attempt.rows → IsChecked attempt → attempt.op ≡ op.List path → Reaches attempt path
     → Exactly ((directory : Row) → row_before attempt path ≡ Some directory → is_directory directory ≡ true → may 5 attempt directory ≡ true) (IsLetIn attempt)
 
 abbrev pub SummaryNeedsAllBeneath : Type 0
-SummaryNeedsAllBeneath = (attempt : Attempt) (path : List (List ℕ)) → IsNamespace attempt.rows → attempt.op ≡ op.Summary path → Reaches attempt path → Exactly (MayBeneath 5 attempt path) (IsLetIn attempt)
+SummaryNeedsAllBeneath = (attempt : Attempt) (path : List (List ℕ)) → IsNamespace attempt.rows → IsChecked attempt → attempt.op ≡ op.Summary path → Reaches attempt path → Exactly (MayBeneath 5 attempt path) (IsLetIn attempt)
 
 -- and where something stands nothing
 abbrev pub MkdirsNeedsWriteAbove : Type 0
-MkdirsNeedsWriteAbove = (attempt : Attempt) (path : List (List ℕ)) (mode : ℕ) → IsNamespace attempt.rows → attempt.op ≡ op.Mkdirs path mode → Reaches attempt path
+MkdirsNeedsWriteAbove = (attempt : Attempt) (path : List (List ℕ)) (mode : ℕ) → IsNamespace attempt.rows → IsChecked attempt → attempt.op ≡ op.Mkdirs path mode → Reaches attempt path
     → Exactly (row_before attempt path ≡ None → MayInLastAbove 2 attempt path) (IsLetIn attempt)
 
 -- also where something stands
 abbrev pub CreateNeedsWriteAbove : Type 0
-CreateNeedsWriteAbove = (attempt : Attempt) (path : List (List ℕ)) (mode replication : ℕ) (over : Bool) → IsNamespace attempt.rows → attempt.op ≡ op.Create path mode replication over → Reaches attempt path
+CreateNeedsWriteAbove = (attempt : Attempt) (path : List (List ℕ)) (mode replication : ℕ) (over : Bool) → IsNamespace attempt.rows → IsChecked attempt → attempt.op ≡ op.Create path mode replication over → Reaches attempt path
     → Exactly (MayInLastAbove 2 attempt path × (over ≡ true → (file : Row) → row_before attempt path ≡ Some file → is_directory file ≡ false → may 2 attempt file ≡ true)) (IsLetIn attempt)
 
 -- whether it is recursive or not
 abbrev pub DeleteNeedsAllBeneath : Type 0
-DeleteNeedsAllBeneath = (attempt : Attempt) (path : List (List ℕ)) (recursive : Bool) → IsNamespace attempt.rows → attempt.op ≡ op.Delete path recursive → Reaches attempt path
+DeleteNeedsAllBeneath = (attempt : Attempt) (path : List (List ℕ)) (recursive : Bool) → IsNamespace attempt.rows → IsChecked attempt → attempt.op ≡ op.Delete path recursive → Reaches attempt path
     → Exactly (IsNotHeldBySticky attempt path × MayInDirectoryOf 2 attempt path × MayBeneath 7 attempt path) (IsLetIn attempt)
 
 -- and no right on what moves
 abbrev pub RenameNeedsBothDirectories : Type 0
-RenameNeedsBothDirectories = (attempt : Attempt) (from to : List (List ℕ)) → IsNamespace attempt.rows → attempt.op ≡ op.Rename from to → Reaches attempt from → Reaches attempt to
+RenameNeedsBothDirectories = (attempt : Attempt) (from to : List (List ℕ)) → IsNamespace attempt.rows → IsChecked attempt → attempt.op ≡ op.Rename from to → Reaches attempt from → Reaches attempt to
     → Exactly (IsNotHeldBySticky attempt from × MayInLastAbove 2 attempt to × MayInDirectoryOf 2 attempt from) (IsLetIn attempt)
 
 abbrev pub has_list_or_mode_set : Op → Option (List (List ℕ))

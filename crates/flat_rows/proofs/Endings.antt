@@ -1,5 +1,6 @@
 -- Where the needs that are judged end: at the first denial.
 use Rattle.std.proofs.Common.{◌≡◌, ℕ, Bool, true, false, not, List, [], ◌∷◌, ◌++◌, Option, Some, None, map, refl, ap, ◌∙◌, cond}
+use Rattle.std.specs.Prelude.{filter}
 use Rattle.std.specs.List.{last_or, flat_map}
 use Rattle.std.specs.Option.{is_some, option_or}
 use Rattle.hdfs_types.specs.declared.op.Op.{Op}
@@ -9,9 +10,9 @@ use Rattle.required_rights.specs.declared.need.By.{By}
 use Rattle.required_rights.specs.declared.need.By.TheVariants.{Superuser}
 use Rattle.flat_rows.specs.declared.trail.Judged.{Judged}
 use Rattle.namespace_rows.specs.First.{first_answer}
-use Rattle.required_rights.specs.RequiredRights.{required_rights}
+use Rattle.required_rights.specs.RequiredRights.{Demand, required_rights, is_judged_always, judged_needs}
 use Rattle.flat_rows.specs.Denial.{Denial, Decided, need_decided, denial_at}
-use Rattle.flat_rows.specs.Decision.{Ask, asks_of, denial_of, ask_judged, up_to_denied, asking_caller, decision, trail}
+use Rattle.flat_rows.specs.Decision.{Ask, asks_of, denial_of, ask_judged, ask_passed, demand_judged, up_to_denied, asking_caller, decision, trail}
 use Rattle.flat_rows.specs.Laws.{are_granted, failed_need, ends_failed, is_failed, EndsAs}
 use Rattle.namespace_rows.proofs.Tests.{both, and}
 
@@ -55,10 +56,45 @@ more need None needs (Some denied) met ends = record {
   ends = ap (λ (b : Bool). need ∷ cond b needs []) met ∙ ap (λ (xs : List Judged). need ∷ xs) ends.ends;
 }
 
-up_to_denial : (caller : Caller) (asks : List Ask) → Ends (up_to_denied (map (ask_judged caller) asks)) (first_answer (denial_of caller) asks)
-up_to_denial caller [] = refl
-up_to_denial caller (ask ∷ asks) =
-    more (ask_judged caller ask) (denial_of caller ask) (up_to_denied (map (ask_judged caller) asks)) (first_answer (denial_of caller) asks) (judges caller ask) (up_to_denial caller asks)
+-- asks that are judged in front of needs that end so
+in_front : (caller : Caller) (asks later : List Ask) (needs : List Judged) → Ends (up_to_denied needs) (first_answer (denial_of caller) later)
+    → Ends (up_to_denied (map (ask_judged caller) asks ++ needs)) (first_answer (denial_of caller) (asks ++ later))
+in_front caller [] later needs ends = ends
+in_front caller (ask ∷ asks) later needs ends =
+    more (ask_judged caller ask) (denial_of caller ask) (up_to_denied (map (ask_judged caller) asks ++ needs)) (first_answer (denial_of caller) (asks ++ later)) (judges caller ask)
+    (in_front caller asks later needs ends)
+
+-- asks that aren't
+passed_in_front : (decided : Option Denial) (asks : List Ask) (needs : List Judged) → Ends (up_to_denied needs) decided → Ends (up_to_denied (map ask_passed asks ++ needs)) decided
+passed_in_front decided [] needs ends = ends
+passed_in_front decided (ask ∷ asks) needs ends = more (ask_passed ask) None (up_to_denied (map ask_passed asks ++ needs)) decided refl (passed_in_front decided asks needs ends)
+
+module _ (rows : List Row) (caller : Caller) where
+  abbrev among : List Demand → Option Denial
+  among needs = first_answer (denial_of caller) (flat_map (asks_of rows) needs)
+
+  all_end : (needs : List Demand) → Ends (up_to_denied (flat_map (demand_judged true rows caller) needs)) (among needs)
+  all_end [] = refl
+  all_end (demand ∷ needs) = in_front caller (asks_of rows demand) (flat_map (asks_of rows) needs) (flat_map (demand_judged true rows caller) needs) (all_end needs)
+
+  always_end : (needs : List Demand) → Ends (up_to_denied (flat_map (demand_judged false rows caller) needs)) (among (filter (λ demand. is_judged_always demand.enforcement) needs))
+  always_end [] = refl
+  always_end (demand ∷ needs) = by (is_judged_always demand.enforcement) (always_end needs)
+    where
+      kept : List Demand
+      kept = filter (λ demand. is_judged_always demand.enforcement) needs
+
+      later : List Judged
+      later = flat_map (demand_judged false rows caller) needs
+
+      by : (b : Bool) → Ends (up_to_denied later) (among kept)
+          → Ends (up_to_denied (map (cond b (ask_judged caller) ask_passed) (asks_of rows demand) ++ later)) (among (cond b (demand ∷ kept) kept))
+      by true ends = in_front caller (asks_of rows demand) (flat_map (asks_of rows) kept) later ends
+      by false ends = passed_in_front (among kept) (asks_of rows demand) later ends
+
+  needs_end : (checking : Bool) (needs : List Demand) → Ends (up_to_denied (flat_map (demand_judged checking rows caller) needs)) (among (judged_needs checking needs))
+  needs_end true needs = all_end needs
+  needs_end false needs = always_end needs
 
 -- what stands at the end of a list is its last
 last_behind : {X : Type 0} (first : Option X) (xs : List X) (x : X) → last_or first (xs ++ x ∷ []) ≡ Some x
@@ -75,7 +111,7 @@ last_tells needs (Some denied) ends = ap ends_failed ends.ends ∙ ap is_failed 
 
 module _ (rows : List Row) (users : Users) (caller : List ℕ) (op : Op) where
   trail_ends : Ends (trail rows users caller op) (decision rows users caller op)
-  trail_ends = up_to_denial (asking_caller users caller op) (flat_map (asks_of rows) (required_rights op))
+  trail_ends = needs_end rows (asking_caller users caller op) users.checking (required_rights op)
 
 pub ends_where_decided : (rows : List Row) (users : Users) (caller : List ℕ) (op : Op) → ends_failed (trail rows users caller op) ≡ is_some (decision rows users caller op)
 ends_where_decided rows users caller op = last_tells (trail rows users caller op) (decision rows users caller op) (trail_ends rows users caller op)

@@ -98,6 +98,7 @@ module _ (client : List ℕ) (rows : List Row) (namespace : IsNamespace rows) wh
     kept_done (op.GetAcl path) k e = refl
     kept_done (op.AddUser user groups) k e = refl
     kept_done (op.SetGroups user groups) k e = refl
+    kept_done (op.SetChecking on) k e = refl
     kept_done (op.Open path) k e = cc
     kept_done (op.SetReplication path replication) k e = cc
     kept_done (op.Create path mode replication over) k e = cc

@@ -10,3 +10,4 @@ pub mod Endings
 pub mod Firsts
 pub mod AnyFacts
 pub mod Takeovers
+pub mod Judging

@@ -1,7 +1,7 @@
 -- The decision: the first need of an operation that fails, or none. A need of a component that isn't there is passed over,
 -- and so is one whose condition doesn't hold.
--- (HDFS Permissions Guide, "Permission Checks" and "The Super-User".)
-use Rattle.std.specs.Prelude.{ℕ, Bool, true, false, List, [], ◌∷◌, if◌then◌else◌, Option, None, map}
+-- (HDFS Permissions Guide, "Permission Checks" and "The Super-User"; `dfs.permissions.enabled` of hdfs-default.xml.)
+use Rattle.std.specs.Prelude.{ℕ, Bool, true, false, ◌||◌, List, [], ◌∷◌, if◌then◌else◌, Option, None, map}
 use Rattle.std.specs.List.{flat_map}
 use Rattle.std.specs.Option.{option_to_list}
 use Rattle.hdfs_types.specs.declared.op.Op.{Op}
@@ -17,7 +17,7 @@ use Rattle.required_rights.specs.declared.demand.Condition.TheVariants.{Always, 
 use Rattle.flat_rows.specs.declared.trail.Judged.{Judged}
 use Rattle.namespace_rows.specs.First.{first_answer}
 use Rattle.namespace_rows.specs.Rows.{is_missing, has_directory, has_file, has_sticky_parent, has_other_owner, row_at, directories_above, directories_beneath, ancestor, directory_of, owner_above}
-use Rattle.required_rights.specs.RequiredRights.{Demand, required_rights}
+use Rattle.required_rights.specs.RequiredRights.{Demand, required_rights, is_judged_always, judged_needs}
 use Rattle.flat_rows.specs.Denial.{Decided, Denial, need_decided, denial_at}
 
 -- the rows of the components that have a role on a path, in path order
@@ -71,17 +71,26 @@ without_rank_where false caller = caller
 abbrev pub asking_caller : Users → List ℕ → Op → Caller
 asking_caller users caller op = without_rank_where (is_for_nodes op) (caller_of users caller)
 
+-- While permission checking is off, needs that aren't judged then fail nobody.
 abbrev pub decision : List Row → Users → List ℕ → Op → Option Denial
-decision rows users caller op = denial_among rows (asking_caller users caller op) (required_rights op)
+decision rows users caller op = denial_among rows (asking_caller users caller op) (judged_needs users.checking (required_rights op))
 
 abbrev pub ask_judged : Caller → Ask → Judged
 ask_judged caller ask = let what = ask_decided caller ask in record { path = ask.row.path; need = ask.need; by = what.by; granted = what.granted }
+
+-- what isn't judged
+abbrev pub ask_passed : Ask → Judged
+ask_passed ask = record { path = ask.row.path; need = ask.need; by = by.Unchecked; granted = true }
+
+-- a demand at each of its components, whether it is judged or not
+abbrev pub demand_judged : Bool → List Row → Caller → Demand → List Judged
+demand_judged checking rows caller demand = map (if checking || is_judged_always demand.enforcement then ask_judged caller else ask_passed) (asks_of rows demand)
 
 -- up to the first that isn't granted
 abbrev pub up_to_denied : List Judged → List Judged
 up_to_denied [] = []
 up_to_denied (need ∷ needs) = need ∷ (if need.granted then up_to_denied needs else [])
 
--- the needs that are judged, in their order, up to the first that fails
+-- the needs in their order, up to the first that fails
 abbrev pub trail : List Row → Users → List ℕ → Op → List Judged
-trail rows users caller op = up_to_denied (map (ask_judged (asking_caller users caller op)) (flat_map (asks_of rows) (required_rights op)))
+trail rows users caller op = up_to_denied (flat_map (demand_judged users.checking rows (asking_caller users caller op)) (required_rights op))

@@ -10,3 +10,4 @@ pub mod NodeOutcome
 pub mod BlockOutcome
 pub mod Takeover
 pub mod Outcome
+pub mod Judging

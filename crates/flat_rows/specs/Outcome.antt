@@ -23,7 +23,7 @@ use Rattle.acl_entries.specs.Acl.{Acl, shown_mode, has_acl, entries}
 use Rattle.permission_specs.specs.SpecText.{spec_text}
 use Rattle.partial_acl.specs.AclChange.{acl_change, with_mode}
 use Rattle.default_acl.specs.Inheritance.{inherited_acl}
-use Rattle.principals.specs.Users.{Users, refusal_of_new, refusal_of_known, with_user, with_groups}
+use Rattle.principals.specs.Users.{Users, refusal_of_new, refusal_of_known, with_user, with_groups, with_checking}
 use Rattle.namespace_rows.specs.declared.row.Row.{Row}
 use Rattle.flat_rows.specs.declared.verdict.Verdict.{Verdict}
 use Rattle.flat_rows.specs.declared.verdict.Verdict.TheVariants.{Done, Denied, Refused}
@@ -121,6 +121,7 @@ first_refusal facts caller (op.GetAcl path) rows users = refusal_of_missing path
 first_refusal facts caller (op.SetAcl path change) rows users = first_some (beneath_file path rows ∷ nothing_at (row_at path rows) ∷ refused_change change (row_at path rows) ∷ [])
 first_refusal facts caller (op.AddUser user groups) rows users = refusal_of_new users user
 first_refusal facts caller (op.SetGroups user groups) rows users = refusal_of_known users user
+first_refusal facts caller (op.SetChecking on) rows users = None
 first_refusal facts caller (op.Create path mode replication over) rows users =
     first_some (beneath_file path rows ∷ directory_there (row_at path rows) ∷ file_there over (row_at path rows) ∷ [])
 first_refusal facts caller (op.Append path) rows users = first_some (refusals_of_file path rows ++ of_file (refused_append facts caller) (row_at path rows) ∷ [])
@@ -262,6 +263,7 @@ rows_after facts _ caller rows = rows
 abbrev pub users_after : Op → Users → Users
 users_after (op.AddUser user groups) users = with_user users user groups
 users_after (op.SetGroups user groups) users = with_groups users user groups
+users_after (op.SetChecking on) users = with_checking users on
 users_after _ users = users
 
 abbrev pub refused_or_done : Facts → List Row → Users → List ℕ → Op → Option Refusal → Step

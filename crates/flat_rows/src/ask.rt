@@ -162,7 +162,7 @@ fn add_asks_at<'a>(
 }
 
 /// Adds what a demand asks at each of its components.
-fn add_asks<'a>(
+pub(crate) fn add_asks<'a>(
     alloc: Global,
     asks: &mut Vec<Ask<'a>>,
     rows: &'a [Row],

@@ -9,7 +9,7 @@ use hdfs_values::who::Who;
 use namespace_rows::rows::Rows;
 use principals::caller::Caller;
 use principals::users::Users;
-use required_rights::demand::needs_of;
+use required_rights::demand::judged_needs_of;
 use std::alloc::{AllocError, Global};
 
 /// Who asks for an operation: to be a superuser is of no use for one that is for DataNodes alone. Costs a look-up of the user, and
@@ -53,7 +53,7 @@ fn first_denial(alloc: Global, caller: &Caller, asks: &[Ask]) -> Result<Option<D
 }
 
 /// The first need of the operation that fails for the caller, or none (HDFS Permissions Guide, "Permission Checks"). A
-/// superuser fails none, but that of a DataNode. Scans the rows for each need: the plain program of the decision.
+/// superuser fails none, but that of a DataNode; and while permission checking is off, needs that aren't judged then fail nobody. Scans the rows for each need: the plain program of the decision.
 ///
 /// # Errors
 /// Out of memory.
@@ -66,7 +66,7 @@ pub fn verdict(
 ) -> Result<Option<Denial>, AllocError>
     ensures { IfOk result (λ denial. denial ≡ spec.decision rows.now users.now caller.now op.now) }
 {
-    let needs = needs_of(alloc, op)?;
+    let needs = judged_needs_of(alloc, op, users.is_checking())?;
     let asks = asks_of(alloc, rows.as_slice(), needs.as_slice())?;
     first_denial(alloc, &asking(users, caller, op), &asks)
 }

@@ -10,16 +10,17 @@ ghost use Rattle.flat_rows.specs.Decision as spec;
 ghost use Rattle.flat_rows.specs.DenialText as printed;
 ghost use Rattle.flat_rows.specs.Laws as law;
 
-use crate::ask::{Ask, asks_of};
+use crate::ask::{Ask, add_asks};
 use crate::decision::asking;
 use crate::denial::{by_of, is_met};
 use file_paths::path::Path;
 use hdfs_types::op::Op;
 use hdfs_values::who::Who;
+use namespace_rows::row::Row;
 use namespace_rows::rows::Rows;
 use principals::caller::Caller;
 use principals::users::Users;
-use required_rights::demand::needs_of;
+use required_rights::demand::{Demand, Enforcement, needs_of};
 use required_rights::need::{By, Need};
 use std::alloc::{AllocError, Global};
 use std::fmt;
@@ -82,16 +83,76 @@ fn judge(caller: &Caller, ask: &Ask) -> Result<Judged, AllocError>
     })
 }
 
-fn judged_up_to_denied(
+// What isn't judged, while permission checking is off.
+fn pass(ask: &Ask) -> Result<Judged, AllocError>
+    ensures { IfOk result (λ judged. judged ≡ spec.ask_passed ask.now) }
+{
+    Ok(Judged {
+        path: ask.row().path.clone()?,
+        need: ask.need().clone()?,
+        by: By::Unchecked,
+        granted: true,
+    })
+}
+
+fn add_judged(judged: &mut Vec<Judged>, caller: &Caller, asks: &[Ask]) -> Result<(), AllocError>
+    ensures { OnOk result (judged.new.items ≡ judged.old.items ++ map (spec.ask_judged caller.now) asks.now) }
+{
+    for ask in asks {
+        judged.push(judge(caller, ask)?)?;
+    }
+    Ok(())
+}
+
+fn add_passed(judged: &mut Vec<Judged>, asks: &[Ask]) -> Result<(), AllocError>
+    ensures { OnOk result (judged.new.items ≡ judged.old.items ++ map spec.ask_passed asks.now) }
+{
+    for ask in asks {
+        judged.push(pass(ask)?)?;
+    }
+    Ok(())
+}
+
+fn add_demand(
     alloc: Global,
+    judged: &mut Vec<Judged>,
+    rows: &[Row],
+    checking: bool,
     caller: &Caller,
-    asks: &[Ask],
+    demand: &Demand,
+) -> Result<(), AllocError>
+    ensures { OnOk result (judged.new.items ≡ judged.old.items ++ spec.demand_judged checking rows.now caller.now demand.now) }
+{
+    let mut asks = Vec::new(alloc);
+    add_asks(alloc, &mut asks, rows, demand)?;
+    if checking || demand.enforcement() == Enforcement::Always {
+        add_judged(judged, caller, &asks)
+    } else {
+        add_passed(judged, &asks)
+    }
+}
+
+fn all_judged(
+    alloc: Global,
+    rows: &[Row],
+    checking: bool,
+    caller: &Caller,
+    demands: &[Demand],
 ) -> Result<Vec<Judged>, AllocError>
-    ensures { IfOk result (λ needs. needs.items ≡ spec.up_to_denied (map (spec.ask_judged caller.now) asks.now)) }
+    ensures { IfOk result (λ judged. judged.items ≡ flat_map (spec.demand_judged checking rows.now caller.now) demands.now) }
+{
+    let mut judged = Vec::new(alloc);
+    for demand in demands {
+        add_demand(alloc, &mut judged, rows, checking, caller, demand)?;
+    }
+    Ok(judged)
+}
+
+fn up_to_denied(alloc: Global, all: Vec<Judged>) -> Result<Vec<Judged>, AllocError>
+    ensures { IfOk result (λ needs. needs.items ≡ spec.up_to_denied all.items) }
 {
     let mut needs = Vec::new(alloc);
-    for ask in asks {
-        let need = judge(caller, ask)?;
+    for need in all {
         let granted = need.granted;
         needs.push(need)?;
         if !granted {
@@ -101,8 +162,9 @@ fn judged_up_to_denied(
     Ok(needs)
 }
 
-/// The needs of the operation that are judged for the caller, in their order, up to the first that fails: the page that
-/// answers why a request was denied (HDFS Permissions Guide, "Permission Checks"). Scans the rows for each need.
+/// The needs of the operation as they are judged for the caller, in their order, up to the first that fails: the page that
+/// answers why a request was denied (HDFS Permissions Guide, "Permission Checks"). A need that isn't judged while permission checking is off is met by
+/// `unchecked`. Scans the rows for each need.
 ///
 /// # Errors
 /// Out of memory.
@@ -116,8 +178,14 @@ pub fn trail(
     ensures { IfOk result (λ needs. needs.items ≡ spec.trail rows.now users.now caller.now op.now) }
 {
     let needs = needs_of(alloc, op)?;
-    let asks = asks_of(alloc, rows.as_slice(), needs.as_slice())?;
-    judged_up_to_denied(alloc, &asking(users, caller, op), &asks)
+    let all = all_judged(
+        alloc,
+        rows.as_slice(),
+        users.is_checking(),
+        &asking(users, caller, op),
+        needs.as_slice(),
+    )?;
+    up_to_denied(alloc, all)
 }
 
 /// Prints the needs, a line each, and returns whether all are met.

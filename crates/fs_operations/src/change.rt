@@ -268,6 +268,25 @@ fn set_groups(
     }
 }
 
+/// Switches permission checking on or off.
+fn switch_checking(
+    alloc: Global,
+    tree: &Tree,
+    users: &mut Users,
+    caller: &Who,
+    needs: &Needs,
+    on: bool,
+) -> Result<Verdict, AllocError>
+    ensures ok { (facts : Facts) → IfOk result (λ verdict. record { verdict = verdict; rows = tree.now; users = users.new } ≡ judged_step facts tree.now users.old (caller_of users.old caller.now) needs.now (Op.SetChecking on)) }
+    ensures err { OnErr result (users.new ≡ users.old) }
+{
+    if let Some(denial) = walk(alloc, tree, &users.caller(caller), needs)? {
+        return Ok(Verdict::Denied(denial));
+    }
+    users.set_checking(on);
+    Ok(Verdict::Done(Reply::Empty))
+}
+
 /// Decides a verb that changes the namespace or the users, with its needs: answers the first need that fails, or else the first refusal
 /// of the operation's list that applies, or else does it. A denied or refused one changes nothing. Costs the paths that it names, one look-up in a map for each name, and `rename` the sub-tree only where the new
 /// path is deeper or longer (HDFS Architecture, "The File System Namespace"; HDFS Permissions Guide, "Permission Checks").
@@ -286,15 +305,28 @@ pub fn apply_update(
     ensures ok { (facts : Facts) → IfOk result (λ verdict. record { verdict = verdict; rows = tree.new; users = users.new } ≡ spec.step facts tree.old users.old caller.now (update_op update.now)) }
     ensures err { OnErr result ((tree.new ≡ tree.old) × (users.new ≡ users.old)) }
 {
-    let asking = users.caller(caller);
     match update {
-        Update::Mkdirs(path, mode) => mkdirs(alloc, tree, &asking, needs, path, *mode),
-        Update::Rename(from, to) => rename(alloc, tree, &asking, needs, from, to),
-        Update::SetMode(path, mode) => set_mode(alloc, tree, &asking, needs, path, *mode),
+        Update::Mkdirs(path, mode) => {
+            let asking = users.caller_for_rights(caller);
+            mkdirs(alloc, tree, &asking, needs, path, *mode)
+        }
+        Update::Rename(from, to) => {
+            let asking = users.caller_for_rights(caller);
+            rename(alloc, tree, &asking, needs, from, to)
+        }
+        Update::SetMode(path, mode) => {
+            let asking = users.caller(caller);
+            set_mode(alloc, tree, &asking, needs, path, *mode)
+        }
         Update::SetOwner(path, owner, group) => {
+            let asking = users.caller(caller);
             set_owner(alloc, tree, &asking, needs, path, owner, group)
         }
-        Update::SetAcl(path, change) => set_acl(alloc, tree, &asking, needs, path, change),
+        Update::SetAcl(path, change) => {
+            let asking = users.caller(caller);
+            set_acl(alloc, tree, &asking, needs, path, change)
+        }
+        Update::SetChecking(on) => switch_checking(alloc, tree, users, caller, needs, *on),
         Update::AddUser(user, groups) => add_user(alloc, tree, users, caller, needs, user, groups),
         Update::SetGroups(user, groups) => {
             set_groups(alloc, tree, users, caller, needs, user, groups)
@@ -320,5 +352,6 @@ pub fn apply_replication(
     ensures ok { (facts : Facts) → IfOk result (λ verdict. record { verdict = verdict; rows = tree.new; users = users.now } ≡ spec.step facts tree.old users.now caller.now (Op.SetReplication path.now replication)) }
     ensures err { OnErr result (tree.new ≡ tree.old) }
 {
-    set_replication(alloc, tree, &users.caller(caller), needs, path, replication)
+    let asking = users.caller_for_rights(caller);
+    set_replication(alloc, tree, &asking, needs, path, replication)
 }

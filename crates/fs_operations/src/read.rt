@@ -216,7 +216,7 @@ pub fn answer(
     requires { needs.now ≡ required_rights (read_op read) }
     ensures { (facts : Facts) → IfOk result (λ verdict. record { verdict = verdict; rows = tree.now; users = users.now } ≡ spec.step facts tree.now users.now caller.now (read_op read.entry)) }
 {
-    let asking = users.caller(caller);
+    let asking = users.caller_for_rights(caller);
     match read {
         Read::Stat(path) => stat(alloc, tree, &asking, needs, path),
         Read::List(path) => list(alloc, tree, &asking, needs, path),

@@ -26,6 +26,7 @@ update_op (update.SetOwner path owner group) = op.SetOwner path.now owner.now gr
 update_op (update.SetAcl path change) = op.SetAcl path.now change.now
 update_op (update.AddUser user groups) = op.AddUser user.now groups.now
 update_op (update.SetGroups user groups) = op.SetGroups user.now groups.now
+update_op (update.SetChecking on) = op.SetChecking on
 
 abbrev pub write_op : Write → Op
 write_op (write.Create path mode replication over) = op.Create path.now mode replication over

@@ -41,6 +41,8 @@ pub enum Op {
     AddUser(Who, Groups),
     /// Gives a known user these groups, instead of those that it had.
     SetGroups(Who, Groups),
+    /// Switches permission checking on or off (`dfs.permissions.enabled`).
+    SetChecking(bool),
     /// Makes a file of this mode and replication, and the missing directories above it, and opens it for the caller to write;
     /// whether a file that has the path is deleted first.
     Create(Path, Mode, Repl, bool),
@@ -100,6 +102,7 @@ impl Drop for Op {
                 drop(first);
                 drop(second);
             }
+            Op::SetChecking(_) => {}
             Op::Create(first, _, _, _) => drop(first),
             Op::Append(part) => drop(part),
             Op::AddBlock(first, _) => drop(first),
@@ -248,6 +251,7 @@ impl Clone for Op {
             Op::SetAcl(path, change) => clone_set_acl(path, change),
             Op::AddUser(user, groups) => clone_add_user(user, groups),
             Op::SetGroups(user, groups) => clone_set_groups(user, groups),
+            Op::SetChecking(on) => Ok(Op::SetChecking(*on)),
             Op::Create(path, mode, replication, over) => {
                 clone_create(path, *mode, *replication, *over)
             }
@@ -314,6 +318,7 @@ pub fn is_look(op: &Op) -> bool
         | Op::SetAcl(_, _)
         | Op::AddUser(_, _)
         | Op::SetGroups(_, _)
+        | Op::SetChecking(_)
         | Op::Create(_, _, _, _)
         | Op::Append(_)
         | Op::AddBlock(_, _)

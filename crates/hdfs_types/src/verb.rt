@@ -44,6 +44,8 @@ pub enum Update<'a> {
     AddUser(&'a Who, &'a Groups),
     /// A known user gets these groups.
     SetGroups(&'a Who, &'a Groups),
+    /// Permission checking is switched on or off.
+    SetChecking(bool),
 }
 
 /// A verb that makes or closes a file, or the deletion: who has which file open to write may change.
@@ -116,6 +118,7 @@ impl Op {
             Op::SetReplication(path, replication) => Verb::SetReplication(path, *replication),
             Op::AddUser(user, groups) => Verb::Update(Update::AddUser(user, groups)),
             Op::SetGroups(user, groups) => Verb::Update(Update::SetGroups(user, groups)),
+            Op::SetChecking(on) => Verb::Update(Update::SetChecking(*on)),
             Op::Create(path, mode, replication, over) => {
                 Verb::Write(Write::Create(path, *mode, *replication, *over))
             }

@@ -1,5 +1,5 @@
 -- The users, the namespace and the blocks that a history gives. A history is a list of entries, the newest first.
-use Rattle.std.specs.Prelude.{ℕ, Bool, List, [], ◌∷◌, codes, Option}
+use Rattle.std.specs.Prelude.{ℕ, Bool, true, List, [], ◌∷◌, codes, Option}
 use Rattle.hdfs_types.specs.declared.op.Op.{Op}
 use Rattle.principals.specs.Users.{Users}
 use Rattle.namespace_rows.specs.declared.row.Row.{Row}
@@ -33,7 +33,7 @@ users_by op (Denied denial) users = users
 users_by op (Refused refusal) users = users
 
 abbrev pub users_of : List HistoryEntry → Users
-users_of [] = record { known = []; superuser = superuser; supergroup = supergroup }
+users_of [] = record { known = []; superuser = superuser; supergroup = supergroup; checking = true }
 users_of (entry ∷ earlier) = users_by entry.request.op entry.verdict (users_of earlier)
 
 -- ---- the namespace

@@ -227,6 +227,9 @@ fn hint_on_words<'a>(moment: &'a str, verb: &'a str, others: &[&'a str]) -> Line
     if is_word(verb, "rollkey") {
         return LineHint::Key;
     }
+    if is_word(verb, "permissions") {
+        return LineHint::Instead(word_at(others, 0), "on or off");
+    }
     hint_behind_path(verb, others)
 }
 

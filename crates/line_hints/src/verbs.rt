@@ -13,7 +13,7 @@ pub struct Verb {
 }
 
 /// The verbs of requests to the NameNode.
-pub static VERBS: [Verb; 22] = [
+pub static VERBS: [Verb; 23] = [
     Verb {
         name: "mkdirs",
         words: "P MODE",
@@ -123,6 +123,11 @@ pub static VERBS: [Verb; 22] = [
         name: "groups",
         words: "U GROUPS",
         counts: [2, 2],
+    },
+    Verb {
+        name: "permissions",
+        words: "on|off",
+        counts: [1, 1],
     },
 ];
 

@@ -233,6 +233,13 @@ impl NameCore {
         &self.system.users
     }
 
+    /// Whether permission checking is on now: it is at the opening, and then as the last `permissions` that was done says. Takes no memory.
+    pub fn checking(&self) -> bool
+        ensures { result ≡ (users_of self.now.entries).checking }
+    {
+        self.system.users.is_checking()
+    }
+
     /// What is known of blocks and DataNodes now. Takes no memory.
     pub fn blocks(&self) -> &Blocks
         ensures { result.now ≡ blocks_of self.now.opening self.now.entries }

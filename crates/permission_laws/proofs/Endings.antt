@@ -17,6 +17,7 @@ use Rattle.permission_laws.specs.Attempt.{is_about_users}
 same_after : (op : Op) → is_about_users op ≡ false → (users : Users) → users_after op users ≡ users
 same_after (op.AddUser user groups) h users = cc
 same_after (op.SetGroups user groups) h users = cc
+same_after (op.SetChecking on) h users = cc
 same_after _ h users = refl
 
 module _ (facts : Facts) (rows : List Row) (users : Users) (caller : List ℕ) (op : Op) where

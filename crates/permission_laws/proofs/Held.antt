@@ -31,13 +31,14 @@ use Rattle.namespace_rows.proofs.Tests.{and, both}
 use Rattle.required_rights.specs.declared.need.Need.TheVariants.{Rights, Sticky, Owner, Member, Superuser, Node}
 use Rattle.required_rights.specs.RequiredRights.{Demand, traversal, strict_traversal, sticky_bit, creation, write_above, removal, access, overwriting, over_demands, listing, sub_tree, ownership, giving_away, membership, owner_demands, group_demands, administration, node_identity}
 use Rattle.flat_rows.specs.Denial.{Denial}
-use Rattle.flat_rows.specs.Decision.{ask_at, asks_of, denial_of, denial_among, decision, without_rank_where}
+use Rattle.flat_rows.specs.Decision.{ask_at, asks_of, denial_of, denial_among, without_rank_where}
 use Rattle.flat_rows.specs.FileOutcome.{directory_there, if_some_file, of_file, refused_by_state, refused_write, holder_at}
 use Rattle.flat_rows.specs.BlockOutcome.{refused_unless_last, refused_new, refused_end}
 use Rattle.flat_rows.specs.Facts.{Facts}
 use Rattle.flat_rows.specs.Outcome.{beneath_file, nothing_at, first_some, first_refusal}
 use Rattle.flat_rows.proofs.Firsts.{first_passes}
 use Rattle.permission_laws.specs.Attempt.{taken_path, managed_path, made_path, altered_path, written_path, administers}
+use Rattle.permission_laws.proofs.Checked.{decision}
 use Rattle.permission_laws.proofs.Deciding.{or_none, path_of_row, of_standing, first_met, each_met, one_met}
 
 pub unless : (b x : Bool) → (b ≡ false → x ≡ true) → (b || x) ≡ true

@@ -11,3 +11,4 @@ pub mod Elsewhere
 pub mod LastAbove
 pub mod Parts
 pub mod Judging
+pub mod Checked

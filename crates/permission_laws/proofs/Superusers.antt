@@ -11,7 +11,7 @@ use Rattle.refusals.specs.declared.refusal.Refusal.{Refusal}
 use Rattle.principals.specs.Users.{Users, Caller, caller_of, groups_of, is_super}
 use Rattle.namespace_rows.specs.declared.row.Row.{Row}
 use Rattle.namespace_rows.specs.First.{first_answer}
-use Rattle.required_rights.specs.RequiredRights.{required_rights}
+use Rattle.required_rights.specs.RequiredRights.{required_rights, judged_needs}
 use Rattle.flat_rows.specs.Denial.{denial_at}
 use Rattle.flat_rows.specs.Decision.{Ask, asks_of, denial_of, asking_caller, without_rank_where}
 use Rattle.flat_rows.specs.Facts.{Facts}
@@ -26,7 +26,7 @@ none_denied caller super (ask ∷ asks) =
 module _ (facts : Facts) (rows : List Row) (users : Users) (caller : List ℕ) (op : Op) where
   pub never_denied : is_super users caller ≡ true → is_for_nodes op ≡ false → is_denied (step facts rows users caller op).verdict ≡ false
   never_denied super plain =
-      ap (λ d. is_denied (denied_or_outcome facts rows users caller op d).verdict) (none_denied (asking_caller users caller op) (ap (λ b. (without_rank_where b (caller_of users caller)).is_superuser) plain ∙ super) (flat_map (asks_of rows) (required_rights op)))
+      ap (λ d. is_denied (denied_or_outcome facts rows users caller op d).verdict) (none_denied (asking_caller users caller op) (ap (λ b. (without_rank_where b (caller_of users caller)).is_superuser) plain ∙ super) (flat_map (asks_of rows) (judged_needs users.checking (required_rights op))))
       ∙ by (first_refusal facts caller op rows users)
     where
       by : (o : Option Refusal) → is_denied (refused_or_done facts rows users caller op o).verdict ≡ false

@@ -52,6 +52,10 @@ pub record IsLastAbove (attempt : Attempt) (above : Row) (path : List (List ℕ)
   pub above_path : is_beneath path above.path ≡ true
   pub last : (other : Row) → row_before attempt other.path ≡ Some other → is_beneath path other.path ≡ true → is_prefix other.path above.path ≡ true
 
+-- permission checking is on
+abbrev pub IsChecked : Attempt → Type 0
+IsChecked attempt = attempt.users.checking ≡ true
+
 -- ---- what the caller may do
 
 abbrev pub by_superuser : Attempt → Bool
@@ -149,16 +153,18 @@ abbrev pub is_about_owners : Op → Bool
 is_about_owners (op.SetOwner path owner group) = true
 is_about_owners _ = false
 
--- or about users and their groups
+-- or about users, their groups, and whether they are checked
 abbrev pub is_about_users : Op → Bool
 is_about_users (op.AddUser user groups) = true
 is_about_users (op.SetGroups user groups) = true
+is_about_users (op.SetChecking on) = true
 is_about_users _ = false
 
 -- an operation that is about the NameNode as a whole
 abbrev pub administers : Op → Bool
 administers (op.AddUser user groups) = true
 administers (op.SetGroups user groups) = true
+administers (op.SetChecking on) = true
 administers (op.RollKey key) = true
 administers op.Tick = true
 administers _ = false

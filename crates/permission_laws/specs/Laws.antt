@@ -1,4 +1,4 @@
--- Laws of permissions: what the rules are for, in words of their own. Each holds of every attempt. They follow from the rules, so a
+-- Laws of permissions: what the rules are for, in words of their own. Each holds of every attempt, those about rights, the sticky bit and closed directories while permission checking is on. They follow from the rules, so a
 -- slip in the rules that breaks one is refused, also where code and rule have it together.
 -- (HDFS Permissions Guide, "Overview", "Permission Checks", "The Sticky Bit" and "The Super-User"; HDFS Architecture, the
 -- single-writer model.)
@@ -18,7 +18,7 @@ use Rattle.flat_rows.specs.declared.verdict.Verdict.TheVariants.{Denied}
 use Rattle.flat_rows.specs.Denial.{Denial}
 use Rattle.flat_rows.specs.FileOutcome.{holder_at}
 use Rattle.flat_rows.specs.Verdicts.{is_done, is_denied}
-use Rattle.permission_laws.specs.Attempt.{Attempt, IsRightAbove, IsLastAbove, attempt_step, IsDone, row_before, row_after, by_superuser, may, owns, is_impassable, is_named, is_above_named, is_above_another, taken_path, managed_path, made_path, altered_path, is_about_users, is_about_files, is_about_lists, is_about_owners, administers, written_path, concerns}
+use Rattle.permission_laws.specs.Attempt.{Attempt, IsRightAbove, IsLastAbove, attempt_step, IsDone, IsChecked, row_before, row_after, by_superuser, may, owns, is_impassable, is_named, is_above_named, is_above_another, taken_path, managed_path, made_path, altered_path, is_about_users, is_about_files, is_about_lists, is_about_owners, administers, written_path, concerns}
 
 -- ---- superusers
 
@@ -63,7 +63,7 @@ pub record IsTurnedBack (attempt : Attempt) (path : List (List ℕ)) (closed : R
 -- what is beneath a directory that the caller can't traverse is out of reach
 abbrev pub ClosedDirectoriesTurnBack : Type 0
 ClosedDirectoriesTurnBack = (attempt : Attempt) (path : List (List ℕ)) (directory : Row)
-    → IsNamespace attempt.rows → is_named path attempt.op ≡ true → is_beneath path directory.path ≡ true
+    → IsNamespace attempt.rows → IsChecked attempt → is_named path attempt.op ≡ true → is_beneath path directory.path ≡ true
     → row_before attempt directory.path ≡ Some directory → is_impassable attempt directory ≡ true → IsTurnedBack attempt path directory
 
 -- no denial tells of anything beneath such a directory
@@ -77,7 +77,7 @@ DenialsAreWithinReach = (attempt : Attempt) (denial : Denial) (directory : Row)
 -- from a directory with the sticky bit only the owner of what is taken, the owner of the directory and superusers take something away
 abbrev pub StickyDirectoriesKeepWhatTheyHold : Type 0
 StickyDirectoriesKeepWhatTheyHold = (attempt : Attempt) (path : List (List ℕ)) (row directory : Row)
-    → IsDone attempt → taken_path attempt.op ≡ Some path → row_before attempt path ≡ Some row
+    → IsDone attempt → IsChecked attempt → taken_path attempt.op ≡ Some path → row_before attempt path ≡ Some row
     → IsRightAbove attempt directory path → directory.acl.sticky ≡ true
     → (by_superuser attempt || (owns attempt row || owns attempt directory)) ≡ true
 
@@ -104,12 +104,12 @@ GroupsAreTheGivers = (attempt : Attempt) (path : List (List ℕ)) (owner : Optio
 -- the caller may write the directory that holds the path
 abbrev pub DeletionsWriteTheDirectory : Type 0
 DeletionsWriteTheDirectory = (attempt : Attempt) (path : List (List ℕ)) (directory : Row)
-    → IsDone attempt → taken_path attempt.op ≡ Some path → IsRightAbove attempt directory path → may 2 attempt directory ≡ true
+    → IsDone attempt → IsChecked attempt → taken_path attempt.op ≡ Some path → IsRightAbove attempt directory path → may 2 attempt directory ≡ true
 
 -- and may read, write and traverse each directory that goes
 abbrev pub DeletionsHaveAllRights : Type 0
 DeletionsHaveAllRights = (attempt : Attempt) (path : List (List ℕ)) (recursive : Bool) (directory : Row)
-    → IsDone attempt → attempt.op ≡ op.Delete path recursive → row_before attempt directory.path ≡ Some directory → is_directory directory ≡ true
+    → IsDone attempt → IsChecked attempt → attempt.op ≡ op.Delete path recursive → row_before attempt directory.path ≡ Some directory → is_directory directory ≡ true
     → is_prefix path directory.path ≡ true → may 7 attempt directory ≡ true
 
 -- ---- what is made, read and altered
@@ -117,27 +117,27 @@ DeletionsHaveAllRights = (attempt : Attempt) (path : List (List ℕ)) (recursive
 -- who makes something, or moves it there, may write the last component above it that was there
 abbrev pub MakersWriteTheDirectory : Type 0
 MakersWriteTheDirectory = (attempt : Attempt) (path : List (List ℕ)) (above : Row)
-    → IsNamespace attempt.rows → IsDone attempt → made_path attempt.op ≡ Some path → row_before attempt path ≡ None → IsLastAbove attempt above path → may 2 attempt above ≡ true
+    → IsNamespace attempt.rows → IsChecked attempt → IsDone attempt → made_path attempt.op ≡ Some path → row_before attempt path ≡ None → IsLastAbove attempt above path → may 2 attempt above ≡ true
 
 -- who opens a file may read it
 abbrev pub OpenersMayRead : Type 0
 OpenersMayRead = (attempt : Attempt) (path : List (List ℕ)) (file : Row)
-    → IsDone attempt → attempt.op ≡ op.Open path → row_before attempt path ≡ Some file → may 4 attempt file ≡ true
+    → IsDone attempt → IsChecked attempt → attempt.op ≡ op.Open path → row_before attempt path ≡ Some file → may 4 attempt file ≡ true
 
 -- who appends to a file, gives it another replication or replaces it may write it
 abbrev pub AlterersMayWrite : Type 0
 AlterersMayWrite = (attempt : Attempt) (path : List (List ℕ)) (file : Row)
-    → IsDone attempt → altered_path attempt.op ≡ Some path → row_before attempt path ≡ Some file → is_directory file ≡ false → may 2 attempt file ≡ true
+    → IsDone attempt → IsChecked attempt → altered_path attempt.op ≡ Some path → row_before attempt path ≡ Some file → is_directory file ≡ false → may 2 attempt file ≡ true
 
 -- who lists a directory may read and traverse it
 abbrev pub ListersMayLook : Type 0
 ListersMayLook = (attempt : Attempt) (path : List (List ℕ)) (directory : Row)
-    → IsDone attempt → attempt.op ≡ op.List path → row_before attempt path ≡ Some directory → is_directory directory ≡ true → may 5 attempt directory ≡ true
+    → IsDone attempt → IsChecked attempt → attempt.op ≡ op.List path → row_before attempt path ≡ Some directory → is_directory directory ≡ true → may 5 attempt directory ≡ true
 
 -- and who counts what is beneath one, also each directory beneath it
 abbrev pub CountersMayLook : Type 0
 CountersMayLook = (attempt : Attempt) (path : List (List ℕ)) (directory : Row)
-    → IsDone attempt → attempt.op ≡ op.Summary path → row_before attempt directory.path ≡ Some directory → is_directory directory ≡ true
+    → IsDone attempt → IsChecked attempt → attempt.op ≡ op.Summary path → row_before attempt directory.path ≡ Some directory → is_directory directory ≡ true
     → is_prefix path directory.path ≡ true → may 5 attempt directory ≡ true
 
 -- ---- writers

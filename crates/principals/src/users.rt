@@ -1,4 +1,4 @@
-ghost use Rattle.std.specs.Prelude.{◌≡◌, [], Some, None, OnOk, OnErr, IfErr};
+ghost use Rattle.std.specs.Prelude.{◌≡◌, [], true, Some, None, OnOk, OnErr, IfErr};
 ghost use Rattle.principals.specs.Faults.{IfRefused};
 ghost use Rattle.principals.specs.declared.users.UserFault.TheVariants.{OutOfMemory};
 ghost use Rattle.principals.specs.Users as spec;
@@ -44,6 +44,8 @@ pub struct Users {
     known: BTreeMap<Who, Groups>,
     superuser: Who,
     supergroup: Who,
+    // whether rights and the sticky bit are judged
+    checking: bool,
 }
 
 impl Drop for Users {
@@ -52,6 +54,7 @@ impl Drop for Users {
             known,
             superuser,
             supergroup,
+            checking: _,
         } = self;
         drop(known);
         drop(superuser);
@@ -64,18 +67,19 @@ impl Model for Users {
 
     ghost Value = { Users };
 
-    ghost view = { λ users. record { known = users.known.entries; superuser = users.superuser; supergroup = users.supergroup } };
+    ghost view = { λ users. record { known = users.known.entries; superuser = users.superuser; supergroup = users.supergroup; checking = users.checking } };
 }
 
 impl Users {
-    /// No user is known, and these are the superuser and the supergroup. Takes no memory.
+    /// No user is known, these are the superuser and the supergroup, and permission checking is on. Takes no memory.
     pub fn new(alloc: Global, superuser: Who, supergroup: Who) -> Users
-        ensures { result ≡ record { known = []; superuser = superuser; supergroup = supergroup } }
+        ensures { result ≡ record { known = []; superuser = superuser; supergroup = supergroup; checking = true } }
     {
         Users {
             known: BTreeMap::new(alloc),
             superuser,
             supergroup,
+            checking: true,
         }
     }
 
@@ -91,6 +95,21 @@ impl Users {
         ensures { result.now ≡ self.now.supergroup }
     {
         &self.supergroup
+    }
+
+    /// Whether permission checking is on: where it isn't, rights and the sticky bit are judged for nobody, but for a change of a mode, an owner or an access
+    /// control list (`dfs.permissions.enabled` of hdfs-default.xml). Takes no memory.
+    pub fn is_checking(&self) -> bool
+        ensures { result ≡ self.now.checking }
+    {
+        self.checking
+    }
+
+    /// Switches permission checking on or off. Takes no memory.
+    pub fn set_checking(&mut self, on: bool)
+        ensures { self.new ≡ spec.with_checking self.old on }
+    {
+        self.checking = on;
     }
 
     /// The groups last set for a user; one that isn't known has none. Costs a look-up in the order of names, and takes no memory.
@@ -118,6 +137,17 @@ impl Users {
         let groups = self.groups_of(name);
         let is_superuser = *name == self.superuser || has_group(groups, &self.supergroup);
         Caller::new(name, groups, is_superuser)
+    }
+
+    /// The caller of this name, as he is judged where rights and the sticky bit alone are needed: while permission checking is off, with a superuser's rank. Costs
+    /// as `caller` does, and takes no memory.
+    pub fn caller_for_rights<'a>(&'a self, name: &'a Who) -> Caller<'a>
+        ensures { result ≡ spec.caller_for_rights self.now name.now }
+    {
+        if self.checking {
+            return self.caller(name);
+        }
+        Caller::new(name, self.groups_of(name), true)
     }
 
     /// Makes a user known, with these groups. Costs look-ups in the order of names.

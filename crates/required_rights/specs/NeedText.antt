@@ -27,3 +27,4 @@ by_text (by.Owners owner above) = codes "owner:" ++ (owner ++ (codes " dir:" ++ 
 by_text (by.Group group) = codes "group:" ++ group
 by_text by.Superuser = codes "superuser"
 by_text by.Node = codes "node"
+by_text by.Unchecked = codes "unchecked"

@@ -1,6 +1,6 @@
 -- The needs of each operation, in the order in which they are judged.
 -- (HDFS Permissions Guide, "Permission Checks".)
-use Rattle.std.specs.Prelude.{ℕ, Bool, true, false, List, [], ◌∷◌, ◌++◌, Option, Some, None}
+use Rattle.std.specs.Prelude.{ℕ, Bool, true, false, List, [], ◌∷◌, ◌++◌, filter, Option, Some, None}
 use Rattle.permission_bits.specs.Rights.{rights}
 use Rattle.permission_bits.specs.declared.rights.Rights as bits
 use Rattle.hdfs_types.specs.declared.op.Op.{Op}
@@ -117,6 +117,7 @@ required_rights (op.GetAcl path) = traversal path ∷ []
 required_rights (op.SetAcl path change) = strict_traversal path ∷ ownership path ∷ []
 required_rights (op.AddUser user groups) = administration ∷ []
 required_rights (op.SetGroups user groups) = administration ∷ []
+required_rights (op.SetChecking on) = administration ∷ []
 required_rights (op.Create path mode replication over) = traversal path ∷ write_above path ∷ over_demands path over
 required_rights (op.Append path) = traversal path ∷ access (rights 2) path ∷ []
 required_rights (op.AddBlock path last) = traversal path ∷ []
@@ -129,3 +130,14 @@ required_rights op.Tick = administration ∷ []
 required_rights op.Heartbeat = node_identity ∷ []
 required_rights (op.Reported replica) = node_identity ∷ []
 required_rights (op.CommitRecovery recovered) = node_identity ∷ []
+
+-- ---- while permission checking is off
+
+abbrev pub is_judged_always : Enforcement → Bool
+is_judged_always enforced.WhileChecking = false
+is_judged_always enforced.Always = true
+
+-- all needs while checking is on, else those alone that are judged always
+abbrev pub judged_needs : Bool → List Demand → List Demand
+judged_needs true needs = needs
+judged_needs false needs = filter (λ demand. is_judged_always demand.enforcement) needs

@@ -1,4 +1,4 @@
-ghost use Rattle.std.specs.Prelude.{◌≡◌, ◌∷◌, ◌++◌, [], Some, IfOk, OnOk};
+ghost use Rattle.std.specs.Prelude.{◌≡◌, ◌∷◌, ◌++◌, [], false, filter, Some, IfOk, OnOk};
 ghost use Rattle.permission_bits.specs.Rights.{rights};
 ghost use Rattle.required_rights.specs.Demands.{listed_demands};
 ghost use Rattle.required_rights.specs.RequiredRights as spec;
@@ -495,9 +495,27 @@ fn demands_of<'a>(alloc: Global, op: &'a Op) -> Result<Listed<'a>, AllocError>
         Op::Renew => Ok(Listed::Several(Vec::new(alloc))),
         Op::AddUser(_, _) => Ok(needs_of_administration()),
         Op::SetGroups(_, _) => Ok(needs_of_administration()),
-        Op::RollKey(_) | Op::Tick => Ok(needs_of_administration()),
+        Op::SetChecking(_) | Op::RollKey(_) | Op::Tick => Ok(needs_of_administration()),
         Op::Heartbeat | Op::Reported(_) | Op::CommitRecovery(_) => Ok(needs_of_node()),
     }
+}
+
+/// The need, where it is judged also while permission checking is off.
+fn one_always<'a>(alloc: Global, demand: Demand<'a>) -> Listed<'a>
+    ensures { listed_demands result ≡ spec.judged_needs false (demand ∷ []) }
+{
+    match demand.enforcement() {
+        Enforcement::Always => Listed::One(demand),
+        Enforcement::WhileChecking => Listed::Several(Vec::new(alloc)),
+    }
+}
+
+/// Those of the needs that are judged also while permission checking is off.
+fn always_judged(mut demands: Vec<Demand<'_>>) -> Vec<Demand<'_>>
+    ensures { result.items ≡ filter (λ demand. spec.is_judged_always demand.enforcement) demands.items }
+{
+    demands.retain(|demand| demand.enforcement() == Enforcement::Always);
+    demands
 }
 
 /// The needs of an operation, with its paths borrowed. Takes no memory where there is one need.
@@ -510,4 +528,35 @@ pub fn needs_of<'a>(alloc: Global, op: &'a Op) -> Result<Needs<'a>, AllocError>
     Ok(Needs {
         demands: demands_of(alloc, op)?,
     })
+}
+
+fn always<'a>(alloc: Global, needs: Needs<'a>) -> Needs<'a>
+    ensures { result ≡ spec.judged_needs false needs }
+{
+    let Needs { demands } = needs;
+    let demands = match demands {
+        Listed::One(demand) => one_always(alloc, demand),
+        Listed::Several(demands) => Listed::Several(always_judged(demands)),
+    };
+    Needs { demands }
+}
+
+/// Those needs of an operation that are judged: all while permission checking is on; while it is off neither rights nor the sticky bit, but for a
+/// change of a mode, of an owner or group, or of an access control list, whose needs are judged in whole (`dfs.permissions.enabled` of hdfs-default.xml). Takes no
+/// memory where the operation has one need and it is judged.
+///
+/// # Errors
+/// Out of memory.
+pub fn judged_needs_of<'a>(
+    alloc: Global,
+    op: &'a Op,
+    checking: bool,
+) -> Result<Needs<'a>, AllocError>
+    ensures { IfOk result (λ needs. needs ≡ spec.judged_needs checking (spec.required_rights op.now)) }
+{
+    let needs = needs_of(alloc, op)?;
+    if checking {
+        return Ok(needs);
+    }
+    Ok(always(alloc, needs))
 }

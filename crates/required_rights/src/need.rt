@@ -71,6 +71,8 @@ pub enum By {
     Superuser,
     /// Whether the caller is the principal of a DataNode.
     Node,
+    /// Nothing: the need isn't judged while permission checking is off.
+    Unchecked,
 }
 
 impl Clone for By {
@@ -84,6 +86,7 @@ impl Clone for By {
             By::Group(group) => Ok(By::Group(group.clone()?)),
             By::Superuser => Ok(By::Superuser),
             By::Node => Ok(By::Node),
+            By::Unchecked => Ok(By::Unchecked),
         }
     }
 }
@@ -103,6 +106,7 @@ impl fmt::Display for By {
             By::Group(group) => write!(f, "group:{group}"),
             By::Superuser => write!(f, "superuser"),
             By::Node => write!(f, "node"),
+            By::Unchecked => write!(f, "unchecked"),
         }
     }
 }

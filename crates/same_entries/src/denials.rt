@@ -33,7 +33,8 @@ fn is_same_by(by: &By, other: &By) -> bool
             is_same_who(owner, other) && is_same_who(above, others)
         }
         (By::Group(group), By::Group(other)) => is_same_who(group, other),
-        (By::Superuser, By::Superuser) | (By::Node, By::Node) => true,
+        (By::Superuser, By::Superuser) | (By::Node, By::Node) | (By::Unchecked, By::Unchecked) =>
+            true,
         _ => false,
     }
 }

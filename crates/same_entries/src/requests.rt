@@ -206,6 +206,15 @@ fn is_same_read(read: &Read<'_>, other: &Op) -> bool
     }
 }
 
+fn is_set_checking(on: bool, other: &Op) -> bool
+    ensures { Decides result (made.SetChecking on ≡ other.now) }
+{
+    match other {
+        Op::SetChecking(same) => on == *same,
+        _ => false,
+    }
+}
+
 fn is_same_update(update: &Update<'_>, other: &Op) -> bool
     ensures { Decides result (verbs.update_op update.now ≡ other.now) }
 {
@@ -217,6 +226,7 @@ fn is_same_update(update: &Update<'_>, other: &Op) -> bool
         Update::SetAcl(path, change) => is_set_acl(path, change, other),
         Update::AddUser(user, groups) => is_add_user(user, groups, other),
         Update::SetGroups(user, groups) => is_set_groups(user, groups, other),
+        Update::SetChecking(on) => is_set_checking(*on, other),
     }
 }
 

@@ -1,6 +1,6 @@
 -- The request that a line of a script makes: `MOMENT CALLER VERB WORDS`, or how it is ill-formed.
 -- An unknown verb and a wrong number of words come first, and then the first ill-formed word.
-use Rattle.std.specs.Prelude.{ℕ, false, not, ◌&&◌, List, [], ◌∷◌, if◌then◌else◌, Option, Some, None, Result, Ok, Err, codes}
+use Rattle.std.specs.Prelude.{ℕ, Bool, true, false, not, ◌&&◌, List, [], ◌∷◌, if◌then◌else◌, Option, Some, None, Result, Ok, Err, codes}
 use Rattle.hdfs_values.specs.Text.{same}
 use Rattle.hdfs_values.specs.declared.fault.IllFormed.{IllFormed}
 use Rattle.hdfs_values.specs.declared.fault.IllFormed.TheVariants.{BadLine}
@@ -142,6 +142,15 @@ rollkey_of digits = do
   k ← key_word digits
   Ok (op.RollKey k)
 
+-- `on` or `off`
+abbrev pub switch_word : List ℕ → Result Bool IllFormed
+switch_word word = if same word (codes "on") then Ok true else (if same word (codes "off") then Ok false else Err BadLine)
+
+abbrev pub permissions_of : List ℕ → Result Op IllFormed
+permissions_of word = do
+  on ← switch_word word
+  Ok (op.SetChecking on)
+
 -- the operation that a verb alone says
 abbrev pub op_of_none : List ℕ → Option (Result Op IllFormed)
 op_of_none verb =
@@ -161,7 +170,8 @@ op_of_one verb word =
     if same verb (codes "addblock") then Some (addblock_of word) else
     if same verb (codes "complete") then Some (complete_of word) else
     if same verb (codes "open") then Some (open_of word) else
-    if same verb (codes "rollkey") then Some (rollkey_of word) else None
+    if same verb (codes "rollkey") then Some (rollkey_of word) else
+    if same verb (codes "permissions") then Some (permissions_of word) else None
 
 abbrev pub op_of_two : List ℕ → List ℕ → List ℕ → Option (Result Op IllFormed)
 op_of_two verb first second =

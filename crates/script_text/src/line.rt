@@ -202,6 +202,25 @@ fn rollkey_of(digits: &str) -> Result<Op, ParseFault>
     Ok(Op::RollKey(key_word(digits)?))
 }
 
+/// Whether a word switches something on or off.
+fn switch_word(word: &str) -> Result<bool, ParseFault>
+    ensures { Forms result (spec.switch_word word.now) }
+{
+    if is_word(word, "on") {
+        Ok(true)
+    } else if is_word(word, "off") {
+        Ok(false)
+    } else {
+        Err(ParseFault::IllFormed(IllFormed::BadLine))
+    }
+}
+
+fn permissions_of(word: &str) -> Result<Op, ParseFault>
+    ensures { Forms result (spec.permissions_of word.now) }
+{
+    Ok(Op::SetChecking(switch_word(word)?))
+}
+
 fn op_of_none(verb: &str) -> Option<Result<Op, ParseFault>>
     ensures { FormsOption result (spec.op_of_none verb.now) }
 {
@@ -239,6 +258,8 @@ fn op_of_one(alloc: Global, verb: &str, word: &str) -> Option<Result<Op, ParseFa
         Some(open_of(alloc, word))
     } else if is_word(verb, "rollkey") {
         Some(rollkey_of(word))
+    } else if is_word(verb, "permissions") {
+        Some(permissions_of(word))
     } else {
         None
     }

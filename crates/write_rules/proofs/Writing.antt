@@ -20,7 +20,9 @@ use Rattle.flat_rows.specs.Takeover.{refused_append, appended_reply, unfinished_
 use Rattle.flat_rows.specs.BlockOutcome.{replication_of, replication_at, refused_unless_last, refused_new, refused_end, added_reply, added_to, opened_reply, blocks_of_file, blocks_of_row, bytes_behind, bytes_behind_at}
 use Rattle.flat_rows.specs.Facts.{Facts}
 use Rattle.required_rights.specs.RequiredRights.{Demand, required_rights}
-use Rattle.flat_rows.specs.Decision.{asking_caller, denial_among}
+use Rattle.flat_rows.specs.Decision.{denial_among, decision, without_rank_where}
+use Rattle.flat_rows.specs.Judging.{is_strict, judged_caller}
+use Rattle.flat_rows.proofs.Judging.{strictly_decided}
 use Rattle.flat_rows.specs.Outcome.{Step, step, first_some, beneath_file, nothing_at, refusals_of_file, first_refusal, reply_of, refused_or_done, denied_or_outcome}
 use Rattle.perm_walk.specs.Target.{file_at_row, IsFileThere}
 use Rattle.perm_walk.specs.JudgedStep.{judged_step}
@@ -139,6 +141,18 @@ module _ (facts : Facts) (path : List (List ℕ)) (rows : List Row) (users : Use
       (ap (opened_reply facts.token caller.name facts.blocks) (sym (blocks_of_this (row_at path rows) file there.at))) (sym there.free)
 
 -- the verdict on what is judged with its needs is that of the step
-pub as_judged : (facts : Facts) (rows : List Row) (users : Users) (caller : List ℕ) (who : Caller) (needs : List Demand) (what taken : Op) → who ≡ asking_caller users caller taken → needs ≡ required_rights what → what ≡ taken
+pub as_judged : (facts : Facts) (rows : List Row) (users : Users) (caller : List ℕ) (who : Caller) (needs : List Demand) (what taken : Op) → who ≡ judged_caller users caller taken → needs ≡ required_rights what → what ≡ taken
     → (judged_step facts rows users who needs taken).verdict ≡ (step facts rows users caller what).verdict
 as_judged facts rows users caller who needs what taken him all is = ap (λ (s : Step). s.verdict) (as_step facts rows users caller who needs what taken him all is)
+
+-- ---- needs that are judged always, alone
+
+pub rights_decided : (rows : List Row) (users : Users) (caller : List ℕ) (who : Caller) (needs : List Demand) → who ≡ caller_of users caller → (what : Op) → is_strict what ≡ true → is_for_nodes what ≡ false → needs ≡ required_rights what
+    → denial_among rows who needs ≡ decision rows users caller what
+rights_decided rows users caller who needs him what strict users_alone all =
+    rw (him, all) (ap (λ b. denial_among rows (without_rank_where b (caller_of users caller)) (required_rights what)) (sym users_alone) ∙ strictly_decided rows users caller what strict)
+
+pub nodes_decided : (rows : List Row) (users : Users) (caller : List ℕ) (who : Caller) (needs : List Demand) → who ≡ without_rank_where true (caller_of users caller) → (what : Op) → is_strict what ≡ true → is_for_nodes what ≡ true
+    → needs ≡ required_rights what → denial_among rows who needs ≡ decision rows users caller what
+nodes_decided rows users caller who needs him what strict nodes_alone all =
+    rw (him, all) (ap (λ b. denial_among rows (without_rank_where b (caller_of users caller)) (required_rights what)) (sym nodes_alone) ∙ strictly_decided rows users caller what strict)

@@ -101,5 +101,5 @@ pub fn judge_append(
     ensures verdict { (facts : Facts) → IfOk result (λ judged. verdict_of_append facts judged ≡ (step facts tree.now users.now caller.now (Append path.now)).verdict) }
     ensures found { IfOk result (IsJudgedAt path.now tree.now) }
 {
-    append_judged(alloc, tree, &users.caller(caller), needs, path)
+    append_judged(alloc, tree, &users.caller_for_rights(caller), needs, path)
 }

@@ -139,7 +139,7 @@ pub fn judge_add_block(
         alloc,
         tree,
         blocks,
-        &users.caller(caller),
+        &users.caller_for_rights(caller),
         needs,
         path,
         last,
@@ -165,5 +165,5 @@ pub fn judge_open<'a>(
     ensures verdict { (facts : Facts) → IfOk result (λ judged. verdict_of_open facts.token caller.now facts.blocks judged ≡ (step facts tree.now users.now caller.now (Op.Open path.now)).verdict) }
     ensures undone { IfOk result DoesNothing }
 {
-    open_judged(alloc, tree, &users.caller(caller), needs, path)
+    open_judged(alloc, tree, &users.caller_for_rights(caller), needs, path)
 }

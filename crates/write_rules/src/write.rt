@@ -4,6 +4,7 @@ ghost use Rattle.principals.specs.Users.{Users};
 ghost use Rattle.namespace_rows.specs.declared.row.Row.{Row};
 ghost use Rattle.required_rights.specs.RequiredRights.{required_rights};
 ghost use Rattle.flat_rows.specs.Decision.{decision};
+ghost use Rattle.flat_rows.specs.Judging.{is_strict};
 ghost use Rattle.flat_rows.specs.Facts.{Facts};
 ghost use Rattle.flat_rows.specs.Outcome as spec;
 ghost use Rattle.flat_rows.specs.Outcome.{is_alone};
@@ -224,7 +225,7 @@ pub fn judge(
     ensures files { has_files.new ≡ false → spec_tree.has_files (spec_tree.rows_deleted (write_op write.now) tree.now) ≡ false }
     ensures verdict { (facts : Facts) → facts.blocks ≡ blocks.now → IfOk result (λ verdict. verdict ≡ (spec.step facts tree.now users.now caller.now (write_op write.now)).verdict) }
 {
-    let asking = users.caller(caller);
+    let asking = users.caller_for_rights(caller);
     match write {
         Write::Create(path, _, _, over) => {
             judge_create(alloc, tree, &asking, needs, path, *over)
@@ -238,7 +239,7 @@ pub fn judge(
     }
 }
 
-/// Judges an operation for users by its needs alone, where nothing else refuses it, or what does isn't known here: the denial, or
+/// Judges an operation for users by its needs alone, which are judged also while permission checking is off, where nothing else refuses it, or what does isn't known here: the denial, or
 /// none. Costs a descent along the paths of the needs, and for a need of a sub-tree the directories there.
 ///
 /// # Errors
@@ -250,7 +251,7 @@ pub fn judge_rights(
     caller: &Who,
     needs: &Needs,
 ) -> Result<Option<Denial>, AllocError>
-    ensures { (op : Op) → is_for_nodes op ≡ false → needs.now ≡ required_rights op → IfOk result (λ denial. denial ≡ decision tree.now users.now caller.now op) }
+    ensures { (op : Op) → is_strict op ≡ true → is_for_nodes op ≡ false → needs.now ≡ required_rights op → IfOk result (λ denial. denial ≡ decision tree.now users.now caller.now op) }
 {
     walk(alloc, tree, &users.caller(caller), needs)
 }
@@ -267,7 +268,7 @@ pub fn judge_node(
     caller: &Who,
     needs: &Needs,
 ) -> Result<Option<Denial>, AllocError>
-    ensures { (op : Op) → is_for_nodes op ≡ true → needs.now ≡ required_rights op → IfOk result (λ denial. denial ≡ decision tree.now users.now caller.now op) }
+    ensures { (op : Op) → is_strict op ≡ true → is_for_nodes op ≡ true → needs.now ≡ required_rights op → IfOk result (λ denial. denial ≡ decision tree.now users.now caller.now op) }
 {
     if node_of(caller).is_some() {
         return Ok(None);

@@ -7,13 +7,13 @@ use Rattle.fs_operations.proofs.change.apply_update.Goals as goal
 
 pub returns-in-Mkdirs-clause-ok : goal.returns-in-Mkdirs-clause-ok
 returns-in-Mkdirs-clause-ok c = λ facts.
-    as_stepped facts c.args.tree.now c.mkdirs.new.tree c.args.users.now c.args.users.now c.args.caller.now c.caller-asking.result c.args.needs.now (update_op c.args.update.now) (op.Mkdirs c.in-Mkdirs.path.now c.in-Mkdirs.mode) c.mkdirs.result
-    c.caller-asking.ensures c.requires (ap update_op c.in-Mkdirs.is) (c.mkdirs.ensures.ok facts c.args.users.now)
+    as_stepped facts c.args.tree.now c.mkdirs.new.tree c.args.users.now c.args.users.now c.args.caller.now c.caller_for_rights-asking.result c.args.needs.now (update_op c.args.update.now) (op.Mkdirs c.in-Mkdirs.path.now c.in-Mkdirs.mode) c.mkdirs.result
+    c.caller_for_rights-asking.ensures c.requires (ap update_op c.in-Mkdirs.is) (c.mkdirs.ensures.ok facts c.args.users.now)
 
 pub returns-in-Rename-clause-ok : goal.returns-in-Rename-clause-ok
 returns-in-Rename-clause-ok c = λ facts.
-    as_stepped facts c.args.tree.now c.rename.new.tree c.args.users.now c.args.users.now c.args.caller.now c.caller-asking.result c.args.needs.now (update_op c.args.update.now) (op.Rename c.in-Rename.from.now c.in-Rename.to.now) c.rename.result
-    c.caller-asking.ensures c.requires (ap update_op c.in-Rename.is) (c.rename.ensures.ok facts c.args.users.now)
+    as_stepped facts c.args.tree.now c.rename.new.tree c.args.users.now c.args.users.now c.args.caller.now c.caller_for_rights-asking.result c.args.needs.now (update_op c.args.update.now) (op.Rename c.in-Rename.from.now c.in-Rename.to.now) c.rename.result
+    c.caller_for_rights-asking.ensures c.requires (ap update_op c.in-Rename.is) (c.rename.ensures.ok facts c.args.users.now)
 
 pub returns-in-SetMode-clause-ok : goal.returns-in-SetMode-clause-ok
 returns-in-SetMode-clause-ok c = λ facts.
@@ -39,3 +39,8 @@ pub returns-in-SetGroups-clause-ok : goal.returns-in-SetGroups-clause-ok
 returns-in-SetGroups-clause-ok c = λ facts.
     as_stepped facts c.args.tree.now c.args.tree.now c.args.users.now c.set_groups.new.users c.args.caller.now (caller_of c.args.users.now c.args.caller.now) c.args.needs.now (update_op c.args.update.now) (op.SetGroups c.in-SetGroups.user.now c.in-SetGroups.groups.now) c.set_groups.result
     refl c.requires (ap update_op c.in-SetGroups.is) (c.set_groups.ensures.ok facts)
+
+pub returns-in-SetChecking-clause-ok : goal.returns-in-SetChecking-clause-ok
+returns-in-SetChecking-clause-ok c = λ facts.
+    as_stepped facts c.args.tree.now c.args.tree.now c.args.users.now c.switch_checking.new.users c.args.caller.now (caller_of c.args.users.now c.args.caller.now) c.args.needs.now (update_op c.args.update.now) (op.SetChecking c.in-SetChecking.on) c.switch_checking.result
+    refl c.requires (ap update_op c.in-SetChecking.is) (c.switch_checking.ensures.ok facts)

@@ -1,4 +1,4 @@
-use Rattle.std.proofs.Common.{◌∙◌, [], None, sym, ap, subst}
+use Rattle.std.proofs.Common.{◌∙◌, true, [], None, sym, ap, subst}
 use Rattle.std.specs.Prelude.{is_some}
 use Rattle.hdfs_types.specs.declared.op.Op.TheVariants.{Mkdirs}
 use Rattle.hdfs_types.specs.declared.reply.Reply.TheVariants.{Empty}
@@ -12,7 +12,7 @@ use Rattle.fs_operations.proofs.Making.{made_missing, made_there, unrefused_mkdi
 use Rattle.fs_operations.proofs.change.mkdirs.Goals as goal
 
 nobody : Users
-nobody = record { known = []; superuser = []; supergroup = [] }
+nobody = record { known = []; superuser = []; supergroup = []; checking = true }
 
 pub returns-in-Some-clause-ok : goal.returns-in-Some-clause-ok
 returns-in-Some-clause-ok c = λ facts users.

@@ -1,4 +1,4 @@
-use Rattle.std.proofs.Common.{◌∙◌, [], None, sym, ap, subst}
+use Rattle.std.proofs.Common.{◌∙◌, true, [], None, sym, ap, subst}
 use Rattle.hdfs_types.specs.declared.op.Op.TheVariants.{Rename}
 use Rattle.hdfs_types.specs.declared.reply.Reply.TheVariants.{Empty}
 use Rattle.principals.specs.Users.{Users}
@@ -10,7 +10,7 @@ use Rattle.fs_operations.proofs.Renaming.{unrefused_rename, parent_there}
 use Rattle.fs_operations.proofs.change.rename.Goals as goal
 
 nobody : Users
-nobody = record { known = []; superuser = []; supergroup = [] }
+nobody = record { known = []; superuser = []; supergroup = []; checking = true }
 
 pub returns-in-Some-clause-ok : goal.returns-in-Some-clause-ok
 returns-in-Some-clause-ok c = λ facts users.

@@ -8,5 +8,5 @@ pub returns-clause-verdict : goal.returns-clause-verdict
 returns-clause-verdict c = λ facts.
     let what = op.Append c.args.path.now in
     IfOk-weaker c.append_judged.result _ _
-    (λ judged is. is ∙ as_judged facts c.args.tree.now c.args.users.now c.args.caller.now c.caller.result c.args.needs.now what what c.caller.ensures c.requires refl)
+    (λ judged is. is ∙ as_judged facts c.args.tree.now c.args.users.now c.args.caller.now c.caller_for_rights.result c.args.needs.now what what c.caller_for_rights.ensures c.requires refl)
     (c.append_judged.ensures.verdict facts c.args.users.now)

@@ -10,5 +10,5 @@ pub returns-clause-verdict : goal.returns-clause-verdict
 returns-clause-verdict c = λ facts.
     let what = op.Open c.args.path.now in
     IfOk-weaker c.open_judged.result _ _
-    (λ judged is. ap (λ who. verdict_of_open facts.token who facts.blocks judged) (sym (ap (λ (u : Caller). u.name) c.caller.ensures)) ∙ is ∙ as_judged facts c.args.tree.now c.args.users.now c.args.caller.now c.caller.result c.args.needs.now what what c.caller.ensures c.requires refl)
+    (λ judged is. ap (λ who. verdict_of_open facts.token who facts.blocks judged) (sym (ap (λ (u : Caller). u.name) c.caller_for_rights.ensures)) ∙ is ∙ as_judged facts c.args.tree.now c.args.users.now c.args.caller.now c.caller_for_rights.result c.args.needs.now what what c.caller_for_rights.ensures c.requires refl)
     (c.open_judged.ensures.verdict facts c.args.users.now)

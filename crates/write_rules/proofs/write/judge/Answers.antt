@@ -9,19 +9,19 @@ use Rattle.write_rules.proofs.write.judge.Goals as goal
 pub returns-in-Create-clause-verdict : goal.returns-in-Create-clause-verdict
 returns-in-Create-clause-verdict c = λ facts same.
     IfOk-weaker c.judge_create.result _ _
-    (λ verdict is. is ∙ as_judged facts c.args.tree.now c.args.users.now c.args.caller.now c.caller-asking.result c.args.needs.now (write_op c.args.write.now) (op.Create c.in-Create.path.now c.in-Create.field-1 c.in-Create.field-2 c.in-Create.over) c.caller-asking.ensures c.requires.needs (ap write_op c.in-Create.is))
+    (λ verdict is. is ∙ as_judged facts c.args.tree.now c.args.users.now c.args.caller.now c.caller_for_rights-asking.result c.args.needs.now (write_op c.args.write.now) (op.Create c.in-Create.path.now c.in-Create.field-1 c.in-Create.field-2 c.in-Create.over) c.caller_for_rights-asking.ensures c.requires.needs (ap write_op c.in-Create.is))
     (c.judge_create.ensures facts c.args.users.now c.in-Create.field-1 c.in-Create.field-2)
 
 pub returns-in-Complete-clause-verdict : goal.returns-in-Complete-clause-verdict
 returns-in-Complete-clause-verdict c = λ facts same.
     IfOk-weaker c.judge_complete.result _ _
-    (λ verdict is. is ∙ as_judged facts c.args.tree.now c.args.users.now c.args.caller.now c.caller-asking.result c.args.needs.now (write_op c.args.write.now) (op.Complete c.in-Complete.path.now c.in-Complete.last) c.caller-asking.ensures c.requires.needs (ap write_op c.in-Complete.is))
+    (λ verdict is. is ∙ as_judged facts c.args.tree.now c.args.users.now c.args.caller.now c.caller_for_rights-asking.result c.args.needs.now (write_op c.args.write.now) (op.Complete c.in-Complete.path.now c.in-Complete.last) c.caller_for_rights-asking.ensures c.requires.needs (ap write_op c.in-Complete.is))
     (c.judge_complete.ensures facts c.args.users.now same)
 
 pub returns-in-Delete-clause-verdict : goal.returns-in-Delete-clause-verdict
 returns-in-Delete-clause-verdict c = λ facts same.
     IfOk-weaker c.judge_delete.result _ _
-    (λ verdict is. is ∙ as_judged facts c.args.tree.now c.args.users.now c.args.caller.now c.caller-asking.result c.args.needs.now (write_op c.args.write.now) (op.Delete c.in-Delete.path.now c.in-Delete.recursive) c.caller-asking.ensures c.requires.needs (ap write_op c.in-Delete.is))
+    (λ verdict is. is ∙ as_judged facts c.args.tree.now c.args.users.now c.args.caller.now c.caller_for_rights-asking.result c.args.needs.now (write_op c.args.write.now) (op.Delete c.in-Delete.path.now c.in-Delete.recursive) c.caller_for_rights-asking.ensures c.requires.needs (ap write_op c.in-Delete.is))
     (c.judge_delete.ensures.verdict facts c.args.users.now)
 
 pub returns-in-Delete-clause-files : goal.returns-in-Delete-clause-files
