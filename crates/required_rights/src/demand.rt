@@ -502,7 +502,7 @@ fn demands_of<'a>(alloc: Global, op: &'a Op) -> Result<Listed<'a>, AllocError>
 
 /// The need, where it is judged also while permission checking is off.
 fn one_always<'a>(alloc: Global, demand: Demand<'a>) -> Listed<'a>
-    ensures { listed_demands result ≡ spec.judged_needs false (demand ∷ []) }
+    ensures { listed_demands result ≡ spec.judged_needs false (demand.entry ∷ []) }
 {
     match demand.enforcement() {
         Enforcement::Always => Listed::One(demand),
@@ -512,7 +512,7 @@ fn one_always<'a>(alloc: Global, demand: Demand<'a>) -> Listed<'a>
 
 /// Those of the needs that are judged also while permission checking is off.
 fn always_judged(mut demands: Vec<Demand<'_>>) -> Vec<Demand<'_>>
-    ensures { result.items ≡ filter (λ demand. spec.is_judged_always demand.enforcement) demands.items }
+    ensures { result.items ≡ filter (λ demand. spec.is_judged_always demand.enforcement) demands.entry.items }
 {
     demands.retain(|demand| demand.enforcement() == Enforcement::Always);
     demands
@@ -531,7 +531,7 @@ pub fn needs_of<'a>(alloc: Global, op: &'a Op) -> Result<Needs<'a>, AllocError>
 }
 
 fn always<'a>(alloc: Global, needs: Needs<'a>) -> Needs<'a>
-    ensures { result ≡ spec.judged_needs false needs }
+    ensures { result ≡ spec.judged_needs false needs.entry }
 {
     let Needs { demands } = needs;
     let demands = match demands {
