@@ -1,4 +1,4 @@
-//! What DataNodes report, and what they are told; the keys, and who lives.
+//! What DataNodes report, and what they are told; the keys, and who lives; and whether permissions are checked.
 
 use crate::steps::{Case, Step, tell};
 use history::config::Counters;
@@ -10,7 +10,32 @@ const TWO_KEYS: &[Step] = &[Step::Lines(
      0 hdfs rollkey 1616161616161616161616161616161616161616",
 )];
 
-static CASES: [Case; 6] = [
+static CASES: [Case; 7] = [
+    // Superusers alone switch permission checking, and it is on at first.
+    Case {
+        name: "superusers switch permission checking",
+        first: None,
+        steps: &[
+            Step::Checking,
+            Step::Lines("0 bob permissions off"),
+            Step::Checking,
+            Step::Lines("0 hdfs permissions off"),
+            Step::Checking,
+            Step::Lines("0 bob permissions on"),
+            Step::Checking,
+            Step::Lines("0 hdfs permissions on"),
+            Step::Checking,
+        ],
+        told: "checking on\n\
+               denied / superuser by superuser\n\
+               checking on\n\
+               ok\n\
+               checking off\n\
+               denied / superuser by superuser\n\
+               checking off\n\
+               ok\n\
+               checking on\n",
+    },
     // A node reports a replica of a block that isn't known twice, another node another one of it, and then they beat. No superuser reports.
     Case {
         name: "a replica of no known block is removed once",

@@ -33,6 +33,8 @@ pub enum Step {
     Lives(u64),
     /// How many tokens were granted.
     Granted,
+    /// Whether permission checking is on.
+    Checking,
     /// Nothing is written, and what was written before is forgotten.
     Forget,
 }
@@ -103,6 +105,14 @@ fn nodes_of(alloc: Global, ids: &[u32]) -> Result<NodeSet, Fail> {
         nodes.push(NodeId::new(*id).ok_or("a node")?)?;
     }
     Ok(NodeSet::from_ascending(nodes).ok_or("nodes by their ids")?)
+}
+
+fn checking_line(core: &NameCore) -> &'static str {
+    if core.checking() {
+        "checking on\n"
+    } else {
+        "checking off\n"
+    }
 }
 
 // Appends what no line of a script says, and writes what it is answered: a report of a replica, or, where DataNodes are named which then hold
@@ -182,6 +192,7 @@ fn perform(
             }
             Step::Lives(now) => write_lives(core, now, text)?,
             Step::Granted => write!(text, "granted {}\n", core.ledger().len())?,
+            Step::Checking => text.push_str(checking_line(core))?,
             Step::Forget => text.clear(),
         }
     }
