@@ -20,7 +20,7 @@ use namespace_rows::row::Row;
 use namespace_rows::rows::Rows;
 use principals::caller::Caller;
 use principals::users::Users;
-use required_rights::demand::{Demand, Enforcement, needs_of};
+use required_rights::demand::{Demand, needs_of};
 use required_rights::need::{By, Need};
 use std::alloc::{AllocError, Global};
 use std::fmt;
@@ -125,7 +125,7 @@ fn add_demand(
 {
     let mut asks = Vec::new(alloc);
     add_asks(alloc, &mut asks, rows, demand)?;
-    if checking || demand.enforcement() == Enforcement::Always {
+    if checking || demand.enforcement().is_always() {
         add_judged(judged, caller, &asks)
     } else {
         add_passed(judged, &asks)

@@ -55,6 +55,18 @@ pub enum Enforcement {
     Always,
 }
 
+impl Enforcement {
+    /// Whether the need is judged also while permission checking is off.
+    pub fn is_always(self) -> bool
+        ensures { result ≡ spec.is_judged_always self }
+    {
+        match self {
+            Enforcement::WhileChecking => false,
+            Enforcement::Always => true,
+        }
+    }
+}
+
 /// A need of the components that have a role on a path.
 #[derive(Drop)]
 pub struct Demand<'a> {
@@ -514,7 +526,7 @@ fn one_always<'a>(alloc: Global, demand: Demand<'a>) -> Listed<'a>
 fn always_judged(mut demands: Vec<Demand<'_>>) -> Vec<Demand<'_>>
     ensures { result.items ≡ filter (λ demand. spec.is_judged_always demand.enforcement) demands.entry.items }
 {
-    demands.retain(|demand| demand.enforcement() == Enforcement::Always);
+    demands.retain(|demand| demand.enforcement().is_always());
     demands
 }
 
