@@ -1,4 +1,4 @@
-ghost use Rattle.std.specs.Prelude.{◌≡◌, ◌++◌, ℕ, true, List, Some, None, IfOk, OnOk, map};
+ghost use Rattle.std.specs.Prelude.{◌≡◌, ◌++◌, ℕ, true, List, Some, None, IfOk, OnOk, map, take};
 ghost use Rattle.std.specs.List.{flat_map, list_all};
 ghost use Rattle.std.specs.Option.{is_some};
 ghost use Rattle.std.specs.String.{string_bytes};
@@ -113,13 +113,13 @@ fn add_passed(judged: &mut Vec<Judged>, asks: &[Ask]) -> Result<(), AllocError>
     Ok(())
 }
 
-fn add_demand(
+fn add_demand<'a>(
     alloc: Global,
     judged: &mut Vec<Judged>,
-    rows: &[Row],
+    rows: &'a [Row],
     checking: bool,
     caller: &Caller,
-    demand: &Demand,
+    demand: &'a Demand,
 ) -> Result<(), AllocError>
     ensures { OnOk result (judged.new.items ≡ judged.old.items ++ spec.demand_judged checking rows.now caller.now demand.now) }
 {
@@ -132,12 +132,12 @@ fn add_demand(
     }
 }
 
-fn all_judged(
+fn all_judged<'a>(
     alloc: Global,
-    rows: &[Row],
+    rows: &'a [Row],
     checking: bool,
     caller: &Caller,
-    demands: &[Demand],
+    demands: &'a [Demand],
 ) -> Result<Vec<Judged>, AllocError>
     ensures { IfOk result (λ judged. judged.items ≡ flat_map (spec.demand_judged checking rows.now caller.now) demands.now) }
 {
@@ -148,18 +148,18 @@ fn all_judged(
     Ok(judged)
 }
 
-fn up_to_denied(alloc: Global, all: Vec<Judged>) -> Result<Vec<Judged>, AllocError>
-    ensures { IfOk result (λ needs. needs.items ≡ spec.up_to_denied all.items) }
+// How many needs there are up to the first that isn't met.
+fn count_to_denied(needs: &[Judged]) -> usize
+    ensures { take result needs.now ≡ spec.up_to_denied needs.now }
 {
-    let mut needs = Vec::new(alloc);
-    for need in all {
-        let granted = need.granted;
-        needs.push(need)?;
-        if !granted {
-            return Ok(needs);
+    let mut count = 0;
+    for need in needs {
+        count += 1;
+        if !need.granted {
+            return count;
         }
     }
-    Ok(needs)
+    count
 }
 
 /// The needs of the operation as they are judged for the caller, in their order, up to the first that fails: the page that
@@ -178,14 +178,16 @@ pub fn trail(
     ensures { IfOk result (λ needs. needs.items ≡ spec.trail rows.now users.now caller.now op.now) }
 {
     let needs = needs_of(alloc, op)?;
-    let all = all_judged(
+    let mut judged = all_judged(
         alloc,
         rows.as_slice(),
         users.is_checking(),
         &asking(users, caller, op),
         needs.as_slice(),
     )?;
-    up_to_denied(alloc, all)
+    let count = count_to_denied(&judged);
+    judged.truncate(count);
+    Ok(judged)
 }
 
 /// Prints the needs, a line each, and returns whether all are met.
