@@ -103,6 +103,7 @@ module _ (user : List ℕ) (groups : List (List ℕ)) where
 pub super_names_stay : (users : Users) (what : Op) → ((users_after what users).superuser ≡ users.superuser) × ((users_after what users).supergroup ≡ users.supergroup)
 super_names_stay users (op.AddUser one some) = (refl, refl)
 super_names_stay users (op.SetGroups one some) = (refl, refl)
+super_names_stay users (op.SetChecking on) = (refl, refl)
 super_names_stay users _ = (refl, refl)
 
 -- what the users of the operation and the users as they were have alike, those after the attempt have

@@ -197,6 +197,7 @@ module _ (rows : List Row) (users : Users) (name : List ℕ) where
   pub administration_held : IsNamespace rows → (what : Op) → decision rows users name what ≡ None → administers what ≡ true → is_super users name ≡ true
   administration_held namespace (op.AddUser user groups) h t = administered namespace h
   administration_held namespace (op.SetGroups user groups) h t = administered namespace h
+  administration_held namespace (op.SetChecking on) h t = administered namespace h
   administration_held namespace (op.RollKey key) h t = administered namespace h
   administration_held namespace op.Tick h t = administered namespace h
   administration_held namespace _ h t = cc

@@ -236,6 +236,7 @@ module _ (rows : List Row) (namespace : IsNamespace rows) (users : Users) (name 
   reached (op.SetAcl path change) = managed path [] (λ free. nothing)
   reached (op.AddUser user groups) = administered
   reached (op.SetGroups user groups) = administered
+  reached (op.SetChecking on) = administered
   reached (op.Create path mode replication over) =
       along path (write_above path ∷ over_demands path over) (λ free.
       after (write_above path) (over_demands path over) (near (write_above path) free (ancestor_inside path)) (λ h. overwritten path over free))
