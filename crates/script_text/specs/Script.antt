@@ -158,6 +158,12 @@ op_of_none verb =
     if same verb (codes "tick") then Some (Ok op.Tick) else
     if same verb (codes "heartbeat") then Some (Ok op.Heartbeat) else None
 
+-- the operation that a verb says whose one word is no path
+abbrev pub op_without_path : List ℕ → List ℕ → Option (Result Op IllFormed)
+op_without_path verb word =
+    if same verb (codes "rollkey") then Some (rollkey_of word) else
+    if same verb (codes "permissions") then Some (permissions_of word) else None
+
 -- the operation that a verb and its one word say
 abbrev pub op_of_one : List ℕ → List ℕ → Option (Result Op IllFormed)
 op_of_one verb word =
@@ -169,9 +175,7 @@ op_of_one verb word =
     if same verb (codes "append") then Some (append_of word) else
     if same verb (codes "addblock") then Some (addblock_of word) else
     if same verb (codes "complete") then Some (complete_of word) else
-    if same verb (codes "open") then Some (open_of word) else
-    if same verb (codes "rollkey") then Some (rollkey_of word) else
-    if same verb (codes "permissions") then Some (permissions_of word) else None
+    if same verb (codes "open") then Some (open_of word) else op_without_path verb word
 
 abbrev pub op_of_two : List ℕ → List ℕ → List ℕ → Option (Result Op IllFormed)
 op_of_two verb first second =

@@ -235,6 +235,19 @@ fn op_of_none(verb: &str) -> Option<Result<Op, ParseFault>>
     }
 }
 
+/// The operation of a verb whose one word is no path.
+fn op_without_path(verb: &str, word: &str) -> Option<Result<Op, ParseFault>>
+    ensures { FormsOption result (spec.op_without_path verb.now word.now) }
+{
+    if is_word(verb, "rollkey") {
+        Some(rollkey_of(word))
+    } else if is_word(verb, "permissions") {
+        Some(permissions_of(word))
+    } else {
+        None
+    }
+}
+
 fn op_of_one(alloc: Global, verb: &str, word: &str) -> Option<Result<Op, ParseFault>>
     ensures { FormsOption result (spec.op_of_one verb.now word.now) }
 {
@@ -256,12 +269,8 @@ fn op_of_one(alloc: Global, verb: &str, word: &str) -> Option<Result<Op, ParseFa
         Some(complete_of(alloc, word))
     } else if is_word(verb, "open") {
         Some(open_of(alloc, word))
-    } else if is_word(verb, "rollkey") {
-        Some(rollkey_of(word))
-    } else if is_word(verb, "permissions") {
-        Some(permissions_of(word))
     } else {
-        None
+        op_without_path(verb, word)
     }
 }
 
