@@ -12,8 +12,8 @@ returns-in-Mkdirs-clause-ok c = λ facts.
 
 pub returns-in-Rename-clause-ok : goal.returns-in-Rename-clause-ok
 returns-in-Rename-clause-ok c = λ facts.
-    as_stepped facts c.args.tree.now c.rename.new.tree c.args.users.now c.args.users.now c.args.caller.now c.caller_for_rights-asking.result c.args.needs.now (update_op c.args.update.now) (op.Rename c.in-Rename.from.now c.in-Rename.to.now) c.rename.result
-    c.caller_for_rights-asking.ensures c.requires (ap update_op c.in-Rename.is) (c.rename.ensures.ok facts c.args.users.now)
+    as_stepped facts c.args.tree.now c.rename.new.tree c.args.users.now c.args.users.now c.args.caller.now c.caller_for_rights-asking-in-Rename.result c.args.needs.now (update_op c.args.update.now) (op.Rename c.in-Rename.from.now c.in-Rename.to.now) c.rename.result
+    c.caller_for_rights-asking-in-Rename.ensures c.requires (ap update_op c.in-Rename.is) (c.rename.ensures.ok facts c.args.users.now)
 
 pub returns-in-SetMode-clause-ok : goal.returns-in-SetMode-clause-ok
 returns-in-SetMode-clause-ok c = λ facts.
@@ -22,13 +22,13 @@ returns-in-SetMode-clause-ok c = λ facts.
 
 pub returns-in-SetOwner-clause-ok : goal.returns-in-SetOwner-clause-ok
 returns-in-SetOwner-clause-ok c = λ facts.
-    as_stepped facts c.args.tree.now c.set_owner.new.tree c.args.users.now c.args.users.now c.args.caller.now c.caller-asking.result c.args.needs.now (update_op c.args.update.now) (op.SetOwner c.in-SetOwner.path.now c.in-SetOwner.owner.now c.in-SetOwner.group.now) c.set_owner.result
-    c.caller-asking.ensures c.requires (ap update_op c.in-SetOwner.is) (c.set_owner.ensures.ok facts c.args.users.now)
+    as_stepped facts c.args.tree.now c.set_owner.new.tree c.args.users.now c.args.users.now c.args.caller.now c.caller-asking-in-SetOwner.result c.args.needs.now (update_op c.args.update.now) (op.SetOwner c.in-SetOwner.path.now c.in-SetOwner.owner.now c.in-SetOwner.group.now) c.set_owner.result
+    c.caller-asking-in-SetOwner.ensures c.requires (ap update_op c.in-SetOwner.is) (c.set_owner.ensures.ok facts c.args.users.now)
 
 pub returns-in-SetAcl-clause-ok : goal.returns-in-SetAcl-clause-ok
 returns-in-SetAcl-clause-ok c = λ facts.
-    as_stepped facts c.args.tree.now c.set_acl.new.tree c.args.users.now c.args.users.now c.args.caller.now c.caller-asking.result c.args.needs.now (update_op c.args.update.now) (op.SetAcl c.in-SetAcl.path.now c.in-SetAcl.change.now) c.set_acl.result
-    c.caller-asking.ensures c.requires (ap update_op c.in-SetAcl.is) (c.set_acl.ensures.ok facts c.args.users.now)
+    as_stepped facts c.args.tree.now c.set_acl.new.tree c.args.users.now c.args.users.now c.args.caller.now c.caller-asking-in-SetAcl.result c.args.needs.now (update_op c.args.update.now) (op.SetAcl c.in-SetAcl.path.now c.in-SetAcl.change.now) c.set_acl.result
+    c.caller-asking-in-SetAcl.ensures c.requires (ap update_op c.in-SetAcl.is) (c.set_acl.ensures.ok facts c.args.users.now)
 
 pub returns-in-AddUser-clause-ok : goal.returns-in-AddUser-clause-ok
 returns-in-AddUser-clause-ok c = λ facts.
