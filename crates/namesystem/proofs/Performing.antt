@@ -26,6 +26,7 @@ use Rattle.namespace_rows.specs.Namespace.{IsNamespace}
 use Rattle.flat_rows.specs.Facts.{Facts}
 use Rattle.namespace_rows.specs.Changes.{row_rewritten}
 use Rattle.flat_rows.specs.BlockOutcome.{ids_at}
+use Rattle.flat_rows.proofs.Judging.{judged_as_decided}
 use Rattle.flat_rows.specs.Outcome.{Step, step, first_refusal, denied_or_outcome, refused_or_done, refused_where, reply_of, rows_after, users_after}
 use Rattle.flat_rows.proofs.Keeping.{kept_replication}
 use Rattle.flat_rows.proofs.Blocks.{ids_stay}
@@ -177,7 +178,9 @@ performed_update last now caller update old new verdict namespace same_writers s
 
 renewal_step : (facts : Facts) (rows : List Row) (users : Users) (caller : List ℕ) (b : Bool) → has_open_file caller rows ≡ b
     → step facts rows users caller op.Renew ≡ refused_or_done facts rows users caller op.Renew (refused_where (not b) NoLease)
-renewal_step facts rows users caller b h = ap (λ c. refused_or_done facts rows users caller op.Renew (refused_where (not c) NoLease)) h
+renewal_step facts rows users caller b h =
+    ap (denied_or_outcome facts rows users caller op.Renew) (sym (judged_as_decided rows users caller op.Renew))
+    ∙ ap (λ c. refused_or_done facts rows users caller op.Renew (refused_where (not c) NoLease)) h
 
 none_counted : (n r : ℕ) → r ≡ n → r ≡ 0 → nat_lt 0 n ≡ false
 none_counted n r is zero = ap (nat_lt 0) (sym is ∙ zero)

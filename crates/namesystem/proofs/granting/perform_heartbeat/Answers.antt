@@ -13,11 +13,11 @@ pub returns-in-Some-clause-ok : goal.returns-in-Some-clause-ok
 returns-in-Some-clause-ok c = λ last exact.
     where_ok c.with_copy.result (IsTold (Denied c.in-Some.denial)) (λ (told : Told). IsPerformed last c.args.now c.args.caller.now op.Heartbeat c.args.system.now told.verdict c.args.system.now)
     (λ told is. subst (λ v. IsPerformed last c.args.now c.args.caller.now op.Heartbeat c.args.system.now v c.args.system.now) (sym is.verdict_is)
-    (denied_node last c.args.now c.args.caller.now c.args.system.now exact op.Heartbeat c.in-Some.denial (sym (c.in_ok-denial.ensures op.Heartbeat refl c.requires) ∙ c.in-Some.is))) c.with_copy.ensures.ok
+    (denied_node last c.args.now c.args.caller.now c.args.system.now exact op.Heartbeat c.in-Some.denial (sym (c.in_ok-denial.ensures op.Heartbeat refl refl c.requires) ∙ c.in-Some.is))) c.with_copy.ensures.ok
 
 pub returns-in_default-node_of-clause-ok : goal.returns-in_default-node_of-clause-ok
 returns-in_default-node_of-clause-ok c = λ last exact.
     where_ok c.with_copy-in_default-node_of.result (IsTold (Done reply.Empty)) (λ (told : Told). IsPerformed last c.args.now c.args.caller.now op.Heartbeat c.args.system.now told.verdict c.args.system.now)
     (λ told is. subst (λ v. IsPerformed last c.args.now c.args.caller.now op.Heartbeat c.args.system.now v c.args.system.now) (sym is.verdict_is)
-    (done_beat last c.args.now c.args.caller.now c.args.system.now exact None reply.Empty c.args.system.now.blocks (sym (c.in_ok-denial.ensures op.Heartbeat refl c.requires) ∙ c.in_default.is) (sym c.in_default-node_of.is ∙ c.node_of.ensures) refl refl refl))
+    (done_beat last c.args.now c.args.caller.now c.args.system.now exact None reply.Empty c.args.system.now.blocks (sym (c.in_ok-denial.ensures op.Heartbeat refl refl c.requires) ∙ c.in_default.is) (sym c.in_default-node_of.is ∙ c.node_of.ensures) refl refl refl))
     c.with_copy-in_default-node_of.ensures.ok
