@@ -16,7 +16,7 @@ use Rattle.flat_rows.specs.Outcome.{step, first_refusal, users_after}
 use Rattle.flat_rows.specs.Verdicts.{is_done}
 use Rattle.permission_laws.proofs.Endings.{ended}
 use Rattle.namespace_rows.specs.declared.row.Row.{Row}
-use Rattle.outcome_laws.specs.Laws.{given_groups}
+use Rattle.outcome_laws.specs.Laws.{given_groups, asked_checking}
 
 abbrev Known : Type 0
 Known = List (List ℕ × List (List ℕ))
@@ -105,6 +105,19 @@ super_names_stay users (op.AddUser one some) = (refl, refl)
 super_names_stay users (op.SetGroups one some) = (refl, refl)
 super_names_stay users (op.SetChecking on) = (refl, refl)
 super_names_stay users _ = (refl, refl)
+
+same_checking : {a b : Bool} → Some a ≡ Some b → a ≡ b
+same_checking e = cc
+
+pub checking_asked : (users : Users) (what : Op) (on : Bool) → asked_checking what ≡ Some on → (users_after what users).checking ≡ on
+checking_asked users (op.SetChecking own) on h = same_checking h
+checking_asked users _ on h = cc
+
+pub checking_unasked : (users : Users) (what : Op) → asked_checking what ≡ None → (users_after what users).checking ≡ users.checking
+checking_unasked users (op.AddUser one some) h = refl
+checking_unasked users (op.SetGroups one some) h = refl
+checking_unasked users (op.SetChecking own) h = cc
+checking_unasked users _ h = refl
 
 -- what the users of the operation and the users as they were have alike, those after the attempt have
 pub users_either_way : (facts : Facts) (rows : List Row) (users : Users) (caller : List ℕ) (what : Op) (P : Users → Type 0) → P users → P (users_after what users) → P (step facts rows users caller what).users

@@ -34,6 +34,7 @@ use Rattle.namespace_rows.specs.Namespace.{IsNamespace, is_root}
 use Rattle.namespace_rows.specs.Rows.{is_directory}
 use Rattle.namespace_rows.specs.Files.{new_file, is_open_by}
 use Rattle.flat_rows.specs.declared.verdict.Verdict.TheVariants.{Done}
+use Rattle.flat_rows.specs.Verdicts.{is_done}
 use Rattle.block_records.specs.Marks.{marks_for}
 use Rattle.recovery_queue.specs.Queue.{led_by}
 use Rattle.block_records.specs.declared.block_record.BlockRecord.{BlockRecord}
@@ -167,6 +168,20 @@ GroupsOfOthersStay = (attempt : Attempt) (user other : List ℕ) (groups : List 
 -- the names of the superuser and of the supergroup stay
 abbrev pub SuperNamesStay : Type 0
 SuperNamesStay = (attempt : Attempt) → ((attempt_step attempt).users.superuser ≡ attempt.users.superuser) × ((attempt_step attempt).users.supergroup ≡ attempt.users.supergroup)
+
+-- the state of permission checking that an operation asks for
+abbrev pub asked_checking : Op → Option Bool
+asked_checking (op.SetChecking on) = Some on
+asked_checking _ = None
+
+-- permission checking is then as was asked for
+abbrev pub CheckingIsAsAskedFor : Type 0
+CheckingIsAsAskedFor = (attempt : Attempt) (on : Bool) → IsDone attempt → asked_checking attempt.op ≡ Some on → (attempt_step attempt).users.checking ≡ on
+
+-- and it stays as it is where nobody asks, or it isn't done
+abbrev pub CheckingStays : Type 0
+CheckingStays = (attempt : Attempt) → (asked_checking attempt.op ≡ None → (attempt_step attempt).users.checking ≡ attempt.users.checking)
+    × (is_done (attempt_step attempt).verdict ≡ false → (attempt_step attempt).users.checking ≡ attempt.users.checking)
 
 -- ---- who writes
 

@@ -33,7 +33,7 @@ pub fn new_rows_belong_to_their_makers()
 {}
 
 /// An owner, a group, a mode and a replication are those that were given, and a list that is changed is then the change of what it was. Who is given groups is known and has these, everybody else keeps
-/// theirs, and the superuser's and the supergroup's names stay (HDFS Permissions Guide, "Overview", "Group Mapping" and "The Super-User";
+/// theirs, the superuser's and the supergroup's names stay, and permissions are checked or not as was last asked for (HDFS Permissions Guide, "Overview", "Group Mapping" and "The Super-User";
 /// HDFS Architecture, "Data Replication").
 pub fn what_is_given_stands()
     ensures owners { law.OwnersAreAsGiven }
@@ -43,6 +43,8 @@ pub fn what_is_given_stands()
     ensures groups { law.GroupsAreAsGiven }
     ensures others { law.GroupsOfOthersStay }
     ensures names { law.SuperNamesStay }
+    ensures checking { law.CheckingIsAsAskedFor }
+    ensures unasked { law.CheckingStays }
 {}
 
 /// Nobody comes to have a file open but by asking to write it himself. And who has one open keeps it while his lease is live, whatever others

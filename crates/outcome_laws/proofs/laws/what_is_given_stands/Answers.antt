@@ -9,8 +9,8 @@ use Rattle.flat_rows.specs.Outcome.{beneath_file, first_some, nothing_at, refuse
 use Rattle.permission_laws.proofs.Deciding.{or_none}
 use Rattle.principals.specs.Users.{Users}
 use Rattle.permission_laws.specs.Attempt.{attempt_step}
-use Rattle.permission_laws.proofs.Endings.{ended, done}
-use Rattle.outcome_laws.proofs.Groups.{given, others_keep, super_names_stay, users_either_way}
+use Rattle.permission_laws.proofs.Endings.{ended, done, unchanged_users}
+use Rattle.outcome_laws.proofs.Groups.{given, others_keep, super_names_stay, checking_asked, checking_unasked, users_either_way}
 use Rattle.outcome_laws.proofs.laws.what_is_given_stands.Goals as goal
 
 pub returns-clause-owners : goal.returns-clause-owners
@@ -47,3 +47,13 @@ returns-clause-others c = λ a user other groups is apart.
 pub returns-clause-names : goal.returns-clause-names
 returns-clause-names c = λ a.
     users_either_way a.facts a.rows a.users a.caller a.op (λ users. (users.superuser ≡ a.users.superuser) × (users.supergroup ≡ a.users.supergroup)) (refl, refl) (super_names_stay a.users a.op)
+
+pub returns-clause-checking : goal.returns-clause-checking
+returns-clause-checking c = λ a on is_done asked.
+    ap (λ (users : Users). users.checking) ((ended a.facts a.rows a.users a.caller a.op).users_left is_done) ∙ checking_asked a.users a.op on asked
+
+pub returns-clause-unasked : goal.returns-clause-unasked
+returns-clause-unasked c = λ a. (
+  λ unasked. users_either_way a.facts a.rows a.users a.caller a.op (λ users. users.checking ≡ a.users.checking) refl (checking_unasked a.users a.op unasked),
+  λ undone. ap (λ (users : Users). users.checking) (unchanged_users a.facts a.rows a.users a.caller a.op undone),
+)
